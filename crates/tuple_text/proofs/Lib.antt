@@ -1,0 +1,4 @@
+pub mod GrammarLaws
+pub mod Numbers
+pub mod Pieces
+pub mod ValueLemmas

@@ -1,0 +1,93 @@
+-- Numbers in decimal digits.
+use Rattle.std.proofs.Common.{◌≡◌, ℕ, ◌^◌, ◌<◌, Bool, true, false, ltb, eqb, not, ◌&&◌, ◌||◌, List, length, get_or, Some, Result, Ok, Err, rules, arith, refl, sym, ap, ◌∙◌, inl, inr}
+use Rattle.std.specs.Char.{is_ascii_digit}
+use Rattle.std.specs.Fmt.{decimal}
+use Rattle.std.specs.List.{list_all}
+use Rattle.std.specs.Result.{result_ok}
+use Rattle.std.specs.Str.Parse.{digits_value, ParsesUnsigned}
+use Rattle.std.proofs.lemmas.Bool.{ltb-true, lt-ltb, eqb-false, ne_eqb, and_parts, and_from, or_cases, or_left, or_right, not_from_false, cases_Bool, cases_lt}
+use Rattle.std.proofs.lemmas.Fmt.{digits_decimal, digits_value-decimal, decimal-digits_value, decimal_nonempty, decimal_digit, first_decimal}
+use Rattle.std.proofs.lemmas.Option.{cond_some}
+use Rattle.std.proofs.lemmas.Str.Parse.{IsNumeralModel, numerals_by_value, parse_digits}
+use Rattle.tuple_text.specs.Forms.{is_plain, plain_number}
+
+pub own : IsNumeralModel (λ ds. list_all is_ascii_digit ds ≡ true) (digits_value 10)
+own = numerals_by_value (λ ds. list_all is_ascii_digit ds ≡ true) (search rules)
+
+not_true : (b : Bool) → not b ≡ true → b ≡ false
+not_true true e = absurd cc
+not_true false e = refl
+
+-- the three tests of a plain number
+pub record Plain (bs : List ℕ) : Type 0 where
+  pub digits : list_all is_ascii_digit bs ≡ true
+  pub some : 0 < length bs
+  pub front : get_or bs 0 0 ≡ 48 → length bs ≡ 1
+
+short : (bs : List ℕ) → 0 < length bs → (ltb (length bs) 2 || not (eqb (get_or bs 0 0) 48)) ≡ true → get_or bs 0 0 ≡ 48 → length bs ≡ 1
+short bs some e zero_first =
+    elim (or_cases (ltb (length bs) 2) (not (eqb (get_or bs 0 0) 48)) e) [
+      | inl h ↦ let lt : length bs < 2 = ltb-true _ _ h in omega arith
+      | inr h ↦ absurd (eqb-false _ _ (not_true _ h) zero_first)
+    ]
+
+pub plain_is : (bs : List ℕ) → is_plain bs ≡ true → Plain bs
+plain_is bs e =
+    let a = and_parts (list_all is_ascii_digit bs && not (eqb (length bs) 0)) (ltb (length bs) 2 || not (eqb (get_or bs 0 0) 48)) e in
+    let b = and_parts (list_all is_ascii_digit bs) (not (eqb (length bs) 0)) a.0 in
+    let ne : length bs ≡ 0 → ⊥ = eqb-false _ _ (not_true _ b.1) in
+    let some : 0 < length bs = omega (arith, ne) in
+    record { digits = b.0; some = some; front = short bs some a.1 }
+
+one_or_other : (bs : List ℕ) → (get_or bs 0 0 ≡ 48 → length bs ≡ 1) → (ltb (length bs) 2 || not (eqb (get_or bs 0 0) 48)) ≡ true
+one_or_other bs h =
+    elim (cases_lt (length bs) 2) [
+      | inl lt ↦ or_left (ltb (length bs) 2) (not (eqb (get_or bs 0 0) 48)) (lt-ltb _ _ lt)
+      | inr le ↦ or_right (ltb (length bs) 2) (not (eqb (get_or bs 0 0) 48)) (not_from_false _ (ne_eqb _ _ (λ z. let one : length bs ≡ 1 = h z in omega arith)))
+    ]
+
+pub is_plain_from : (bs : List ℕ) → Plain bs → is_plain bs ≡ true
+is_plain_from bs p =
+    and_from (list_all is_ascii_digit bs && not (eqb (length bs) 0)) (ltb (length bs) 2 || not (eqb (get_or bs 0 0) 48))
+    (and_from (list_all is_ascii_digit bs) (not (eqb (length bs) 0)) p.digits (not_from_false _ (ne_eqb _ _ (λ e. let lt : 0 < length bs = p.some in omega arith))))
+    (one_or_other bs p.front)
+
+-- what `parse` gives for a plain number
+pub number_is : {E : Type 0} (bs : List ℕ) (r : Result ℕ E) → is_plain bs ≡ true → ParsesUnsigned 64 10 bs r → result_ok r ≡ plain_number bs
+unfolding plain_number
+number_is {E} bs (Ok x) plain h =
+    let p = plain_is bs plain in
+    let o = parse_digits own {E = E} 64 bs (Ok x) h p.digits in
+    let lt : ltb (digits_value 10 bs) (2 ^ 64) ≡ true = lt-ltb _ _ o.0.1 in
+    rw (plain, lt, o.1) refl
+number_is {E} bs (Err e) plain h =
+    let p = plain_is bs plain in
+    let o = parse_digits own {E = E} 64 bs (Err e) h p.digits in
+    elim (cases_Bool (ltb (digits_value 10 bs) (2 ^ 64))) [
+      | inl lt ↦ absurd (o (p.some, ltb-true _ _ lt))
+      | inr ge ↦ rw (plain, ge) refl
+    ]
+
+pub plain_takes : (bs : List ℕ) (n : ℕ) → plain_number bs ≡ Some n → (bs ≡ decimal n) × (n < 2 ^ 64)
+unfolding plain_number
+plain_takes bs n e =
+    let s = cond_some (is_plain bs && ltb (digits_value 10 bs) (2 ^ 64)) (digits_value 10 bs) n e in
+    let a = and_parts (is_plain bs) (ltb (digits_value 10 bs) (2 ^ 64)) s.0 in
+    let p = plain_is bs a.0 in
+    let lt = ltb-true _ _ a.1 in
+    (sym (decimal-digits_value own bs p.digits p.some p.front lt) ∙ ap decimal s.1, rw (← s.1) lt)
+
+decimal_front : (n : ℕ) → n < 2 ^ 64 → get_or (decimal n) 0 0 ≡ 48 → length (decimal n) ≡ 1
+decimal_front n small e =
+    elim (cases_lt 0 n) [
+      | inl lt ↦ let above : 48 < get_or (decimal n) 0 0 = first_decimal n lt small in absurd (omega arith)
+      | inr le ↦ ap length (decimal_digit n (omega arith))
+    ]
+
+pub plain_again : (n : ℕ) → n < 2 ^ 64 → plain_number (decimal n) ≡ Some n
+unfolding plain_number
+plain_again n small =
+    let plain : is_plain (decimal n) ≡ true = is_plain_from (decimal n) (record { digits = digits_decimal own n small; some = decimal_nonempty n small; front = decimal_front n small }) in
+    let value : digits_value 10 (decimal n) ≡ n = digits_value-decimal own n small in
+    let lt : ltb n (2 ^ 64) ≡ true = lt-ltb _ _ small in
+    rw (plain, value, lt) refl

@@ -1,0 +1,11 @@
+use Rattle.std.proofs.Common.{◌≡◌, ap, sym, ◌∙◌, subst, Ok}
+use Rattle.tuple_text.specs.Faults.{Gives}
+use Rattle.tuple_text.specs.Reading.{fact_at}
+use Rattle.tuple_text.proofs.GrammarLaws.{fact_found, fact_again}
+use Rattle.tuple_text.proofs.reading.parse_fact.Goals as goal
+
+pub returns-clause-found : goal.returns-clause-found
+returns-clause-found c = fact_found c.args.text.now c.fact_from.result c.fact_from.ensures
+
+pub returns-clause-only : goal.returns-clause-only
+returns-clause-only c = λ v fits same. rw (← fact_again v fits, ← same) c.fact_from.ensures

@@ -1,0 +1,10 @@
+pub mod Faults
+pub mod Forms
+pub mod Grammar
+pub mod Order
+pub mod OrderLaws
+pub mod Parts
+pub mod Reading
+pub mod Refs
+pub mod Sets
+pub mod Tuples

@@ -1,0 +1,33 @@
+//! Relation tuples as texts: `namespace:object_id#relation@user`, where a user is an id or a userset
+//! (Zanzibar, section 2.1).
+//!
+//! A [`Userset`], a [`Tuple`] and a [`Fact`] are valid by their type: whoever holds one knows that each of
+//! its parts is in the form of the grammar. Contracts see them as records of byte lists: a userset as
+//! `SetValue`, a tuple as `TupleValue`, a fact as `FactValue`, and a user as the enum itself.
+//! [`SetRef`] and [`UserRef`] borrow the parts and promise nothing of them.
+//!
+//! Callers may rely on this: reading answers a value exactly where the text is the value's text, each
+//! value has one spelling, a refusal names the leftmost part that fails and the byte at which it begins,
+//! and writing appends the text or changes nothing. Equality is equality of values. The order goes by the
+//! bytes of namespace, object id and relation, and then by the user, ids first and as numbers.
+//! Memory is asked for by reading, `of`, clones and writing alone.
+#![tactic(auto)]
+
+mod facts;
+mod fault;
+mod forms;
+mod reading;
+mod sets;
+#[cfg(test)]
+mod tests;
+mod tuples;
+mod users;
+mod writing;
+
+pub use facts::Fact;
+pub use fault::TupleFault;
+pub use reading::{parse_fact, parse_tuple, parse_userset};
+pub use sets::{SetRef, Userset};
+pub use tuples::Tuple;
+pub use users::{User, UserRef};
+pub use writing::{write_fact, write_tuple};

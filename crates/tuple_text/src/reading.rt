@@ -1,0 +1,133 @@
+//! Reading texts.
+
+ghost use Rattle.std.specs.Prelude.{◌≡◌, ◌≤◌, IfOk, Ok, true, length};
+ghost use Rattle.tuple_text.specs.Faults.{Gives, Tells};
+ghost use Rattle.tuple_text.specs.Forms.{IsUserset, is_name};
+ghost use Rattle.tuple_text.specs.Grammar.{userset_text, tuple_text, fact_text, IsHead, IsTuple, IsFact};
+ghost use Rattle.tuple_text.specs.Reading.{userset_at, user_at, head_at, tuple_at, fact_at};
+ghost use Rattle.tuple_text.specs.Refs.{set_value};
+ghost use Rattle.tuple_text.specs.Sets.{SetValue};
+ghost use Rattle.tuple_text.specs.Tuples.{TupleValue, FactValue};
+
+use crate::facts::Fact;
+use crate::fault::TupleFault;
+use crate::forms::{id_before, is_user_relation, name_before, plain_number};
+use crate::sets::{SetRef, Userset};
+use crate::tuples::Tuple;
+use crate::users::User;
+use std::alloc::Global;
+
+#[tactic(auto, unfolding(crate::specs::Reading::userset_at))]
+fn userset_from(text: &str) -> Result<SetRef<'_>, TupleFault>
+    ensures read { Tells set_value result (userset_at text.now) }
+    ensures form { IfOk result (λ s. IsUserset (set_value s)) }
+{
+    let (namespace, rest) = name_before(text, ':', TupleFault::Namespace { at: 0 })?;
+    let at = text.len() - rest.len();
+    let (id, relation) = id_before(rest, '#', TupleFault::ObjectId { at })?;
+    if !is_user_relation(relation) {
+        return Err(TupleFault::Relation {
+            at: text.len() - relation.len(),
+        });
+    }
+    Ok(SetRef {
+        namespace,
+        id,
+        relation,
+    })
+}
+
+fn set_from(alloc: Global, text: &str) -> Result<Userset, TupleFault>
+    ensures { Gives (λ s. s) result (userset_at text.now) }
+{
+    Userset::from_parts(alloc, userset_from(text)?)
+}
+
+#[tactic(auto, unfolding(crate::specs::Reading::user_at))]
+fn user_from(alloc: Global, text: &str, at: usize) -> Result<User, TupleFault>
+    ensures { Gives (λ u. u) result (user_at at text.now) }
+{
+    if let Some(id) = plain_number(text) {
+        return Ok(User::Id(id));
+    }
+    match userset_from(text) {
+        Ok(set) => Ok(User::Set(Userset::from_parts(alloc, set)?)),
+        Err(_) => Err(TupleFault::User { at }),
+    }
+}
+
+/// What stands before the user, and the text of the user.
+#[tactic(auto, unfolding(crate::specs::Reading::head_at))]
+fn head_from(text: &str) -> Result<(SetRef<'_>, &str), TupleFault>
+    ensures read { Tells (λ h. (set_value h.0, h.1.now)) result (head_at text.now) }
+    ensures within { IfOk result (λ h. length h.1.now ≤ length text.now) }
+    ensures form { IfOk result (λ h. IsHead (set_value h.0)) }
+{
+    let (namespace, rest) = name_before(text, ':', TupleFault::Namespace { at: 0 })?;
+    let at = text.len() - rest.len();
+    let (id, rest) = id_before(rest, '#', TupleFault::ObjectId { at })?;
+    let at = text.len() - rest.len();
+    let (relation, user) = name_before(rest, '@', TupleFault::Relation { at })?;
+    let set = SetRef {
+        namespace,
+        id,
+        relation,
+    };
+    Ok((set, user))
+}
+
+#[tactic(auto, unfolding(crate::specs::Reading::tuple_at))]
+fn tuple_from(alloc: Global, text: &str) -> Result<Tuple, TupleFault>
+    ensures { Gives (λ t. t) result (tuple_at text.now) }
+{
+    let (set, user) = head_from(text)?;
+    let user = user_from(alloc, user, text.len() - user.len())?;
+    Tuple::from_parts(alloc, set, user)
+}
+
+#[tactic(auto, unfolding(crate::specs::Reading::fact_at))]
+fn fact_from(alloc: Global, text: &str) -> Result<Fact, TupleFault>
+    ensures { Gives (λ f. f) result (fact_at text.now) }
+{
+    let (set, user) = head_from(text)?;
+    let at = text.len() - user.len();
+    match plain_number(user) {
+        Some(user) => Fact::from_parts(alloc, set, user),
+        None => Err(TupleFault::User { at }),
+    }
+}
+
+/// Reads a tuple, `namespace:object_id#relation@user`.
+///
+/// The namespace ends before the first `:`, the object id before the first `#` after it, the relation
+/// before the first `@` after that, and the user is the rest. Where a delimiter is missing, the part that
+/// it should end is refused.
+pub fn parse_tuple(alloc: Global, text: &str) -> Result<Tuple, TupleFault>
+    // What is read is spelled so.
+    ensures found { IfOk result (λ t. IsTuple t × (text.now ≡ tuple_text t)) }
+    // What is spelled so is read, unless memory runs out.
+    ensures only { (t : TupleValue) → IsTuple t → text.now ≡ tuple_text t → Gives (λ t. t) result (Ok t) }
+    // Which part is at fault, and where it begins.
+    ensures exact { Gives (λ t. t) result (tuple_at text.now) }
+{
+    tuple_from(alloc, text)
+}
+
+/// Reads a userset as it may stand as a user, `namespace:object_id#relation`, where the relation may be `...`.
+/// Its parts end as those of a tuple do, and the relation is the rest.
+pub fn parse_userset(alloc: Global, text: &str) -> Result<Userset, TupleFault>
+    ensures found { IfOk result (λ s. IsUserset s × (text.now ≡ userset_text s)) }
+    ensures only { (s : SetValue) → IsUserset s → text.now ≡ userset_text s → Gives (λ s. s) result (Ok s) }
+    ensures exact { Gives (λ s. s) result (userset_at text.now) }
+{
+    set_from(alloc, text)
+}
+
+/// Reads a tuple whose user is an id. Another user, also a userset in form, is refused as `User`.
+pub fn parse_fact(alloc: Global, text: &str) -> Result<Fact, TupleFault>
+    ensures found { IfOk result (λ f. IsFact f × (text.now ≡ fact_text f)) }
+    ensures only { (f : FactValue) → IsFact f → text.now ≡ fact_text f → Gives (λ f. f) result (Ok f) }
+    ensures exact { Gives (λ f. f) result (fact_at text.now) }
+{
+    fact_from(alloc, text)
+}

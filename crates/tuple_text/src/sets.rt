@@ -1,0 +1,161 @@
+//! Usersets.
+
+ghost use Rattle.std.specs.Prelude.{◌≡◌, ◌↔◌, ◌≢◌, IfOk, OnOk, Ok, IsTrue};
+ghost use Rattle.std.specs.Ordering.{as_partial_cmp};
+ghost use Rattle.tuple_text.specs.Faults.{Gives};
+ghost use Rattle.tuple_text.specs.Forms.{IsUserset};
+ghost use Rattle.tuple_text.specs.Parts.{checked_userset};
+ghost use Rattle.tuple_text.specs.Refs.{set_value};
+
+use crate::fault::TupleFault;
+use crate::forms::{is_name, is_object_id, is_user_relation};
+use std::alloc::{AllocError, Global};
+use std::cmp::Ordering;
+use std::marker::Model;
+
+/// The parts of a userset, borrowed. Nothing is promised of their form.
+#[derive(Clone, Copy, Debug, PartialEq, Eq, PartialOrd, Ord)]
+pub struct SetRef<'a> {
+    pub namespace: &'a str,
+    pub id: &'a str,
+    pub relation: &'a str,
+}
+
+/// The users that have a relation to an object: `namespace:object_id#relation`. It is one that may stand as
+/// a user, so its relation may be `...` (Zanzibar, section 2.1).
+#[derive(Debug, Drop)]
+pub struct Userset {
+    namespace: String,
+    id: String,
+    relation: String,
+}
+
+impl Model for Userset {
+    ghost use Rattle.std.specs.Prelude.{string_bytes};
+    ghost use Rattle.tuple_text.specs.Sets.{SetValue};
+    ghost use Rattle.tuple_text.specs.Forms.{IsUserset};
+
+    ghost Value = { SetValue };
+
+    ghost view = { λ s. record { namespace = string_bytes s.namespace; id = string_bytes s.id; relation = string_bytes s.relation } };
+
+    ghost invariant = { λ s. IsUserset (record { namespace = string_bytes s.namespace; id = string_bytes s.id; relation = string_bytes s.relation }) };
+}
+
+impl Clone for Userset {
+    ghost is_clone = { λ s copy. copy ≡ s };
+
+    fn clone(&self) -> Result<Self, AllocError> {
+        Ok(Userset {
+            namespace: self.namespace.clone()?,
+            id: self.id.clone()?,
+            relation: self.relation.clone()?,
+        })
+    }
+}
+
+impl PartialEq for Userset {
+    ghost use Rattle.std.proofs.Common.{rules};
+    ghost use Rattle.std.specs.Cmp.Rules.{comparing};
+    ghost use Rattle.tuple_text.specs.Sets.{set_eq};
+
+    ghost eq = { set_eq };
+
+    ghost laws = { Prim.search (comparing, rules) };
+
+    fn eq(&self, other: &Self) -> bool {
+        self.namespace == other.namespace && self.id == other.id && self.relation == other.relation
+    }
+}
+
+impl Eq for Userset {
+    ghost use Rattle.std.proofs.Common.{rules};
+    ghost use Rattle.std.specs.Cmp.Rules.{comparing};
+
+    ghost laws = { Prim.search (comparing, rules) };
+}
+
+impl PartialOrd for Userset {
+    ghost use Rattle.std.proofs.Common.{rules};
+    ghost use Rattle.std.specs.Cmp.Rules.{comparing};
+    ghost use Rattle.std.specs.Cmp.{partial_order_from_own_ties};
+    ghost use Rattle.std.specs.Ordering.{as_partial_cmp};
+    ghost use Rattle.tuple_text.specs.Sets.{set_cmp};
+
+    ghost partial_cmp = { as_partial_cmp set_cmp };
+
+    ghost laws = { partial_order_from_own_ties (Prim.search (comparing, rules)) (Prim.search (comparing, rules)) };
+
+    fn partial_cmp(&self, other: &Self) -> Option<Ordering> {
+        Some(self.cmp(other))
+    }
+}
+
+impl Ord for Userset {
+    ghost use Rattle.std.proofs.Common.{rules};
+    ghost use Rattle.std.specs.Cmp.Rules.{comparing};
+    ghost use Rattle.tuple_text.specs.Sets.{set_cmp};
+
+    ghost cmp = { set_cmp };
+
+    ghost total = { Prim.search (comparing, rules) };
+
+    ghost matches_partial_cmp = { Prim.search (comparing, rules) };
+
+    ghost matches_eq = { Prim.search (comparing, rules) };
+
+    fn cmp(&self, other: &Self) -> Ordering {
+        self.namespace.cmp(&other.namespace).then(
+            self.id
+                .cmp(&other.id)
+                .then(self.relation.cmp(&other.relation)),
+        )
+    }
+}
+
+impl Userset {
+    /// The userset of these parts, which may be one that stands as a user. A refusal gives the offset that
+    /// the part would have in the written text.
+    pub fn of(alloc: Global, set: SetRef<'_>) -> Result<Userset, TupleFault>
+        ensures exact { Gives (λ s. s) result (checked_userset (set_value set.entry)) }
+    {
+        if !is_name(set.namespace) {
+            return Err(TupleFault::Namespace { at: 0 });
+        }
+        if !is_object_id(set.id) {
+            return Err(TupleFault::ObjectId {
+                at: set.namespace.len() + 1,
+            });
+        }
+        if !is_user_relation(set.relation) {
+            return Err(TupleFault::Relation {
+                at: set.namespace.len() + 1 + set.id.len() + 1,
+            });
+        }
+        Userset::from_parts(alloc, set)
+    }
+
+    /// The userset of parts that are known to be in form.
+    pub(crate) fn from_parts(alloc: Global, set: SetRef<'_>) -> Result<Userset, TupleFault>
+        requires { IsUserset (set_value set) }
+        ensures { Gives (λ s. s) result (Ok (set_value set.entry)) }
+    {
+        Ok(Userset {
+            namespace: String::from_str(alloc, set.namespace)?,
+            id: String::from_str(alloc, set.id)?,
+            relation: String::from_str(alloc, set.relation)?,
+        })
+    }
+
+    /// The parts of the userset.
+    pub fn as_ref(&self) -> SetRef<'_>
+        ensures parts { set_value result ≡ self.now }
+        ensures form { IsUserset self.now }
+    {
+        SetRef {
+            namespace: self.namespace.as_str(),
+            id: self.id.as_str(),
+            relation: self.relation.as_str(),
+        }
+    }
+}

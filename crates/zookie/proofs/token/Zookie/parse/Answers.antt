@@ -1,0 +1,8 @@
+use Rattle.zookie.proofs.Spellings.{token_found, token_only}
+use Rattle.zookie.proofs.token.Zookie.parse.Goals as goal
+
+pub returns-clause-found : goal.returns-clause-found
+returns-clause-found c = token_found c.args.text.now c.read.result (rw c.as_bytes.ensures.value at c.read.ensures.spells)
+
+pub returns-clause-only : goal.returns-clause-only
+returns-clause-only c = token_only c.args.text.now c.read.result (rw c.as_bytes.ensures.value at c.read.ensures.spells) c.read.ensures.fits
