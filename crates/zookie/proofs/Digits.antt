@@ -12,7 +12,8 @@ use Rattle.hex.proofs.HexLemmas.{length-encode_with, decode_of-encode_lower}
 use Rattle.hex.specs.Hex.{IsBytes, decode_of, decode_pairs, decode_sized, digit_or_error, encode_with, encode_lower, hex_digit_value, lower_digits, pair_value, value_at, ◌>>=◌}
 use Rattle.hex.proofs.Pairs.{cons_byte, decode_pairs-ok_pair}
 use Rattle.zookie.specs.Tokens.{sixteen_digits}
-use Rattle.zookie.specs.Reading.{is_digit}
+use Rattle.std.specs.Result.{result_unwrap_or}
+use Rattle.zookie.specs.Reading.{is_digit, digits_value}
 
 -- ---- no place passes, so all fail
 
@@ -219,3 +220,9 @@ sixteen_digits-same m n small_m small_n e =
     let read_n = decode_of-encode_lower (to_be_bytes w64 n) (high_first 8 n).1 in
     let bytes : to_be_bytes w64 m ≡ to_be_bytes w64 n = ok_is (sym read_m ∙ ap decode_of e ∙ read_n) in
     sym (from_be_bytes-to_be_bytes_8 m small_m) ∙ ap (from_be_bytes w64) bytes ∙ from_be_bytes-to_be_bytes_8 n small_n
+
+-- a number of 64 bits is what its digits write
+pub digits_value-sixteen : (n : ℕ) → n < 2 ^ 64 → digits_value (sixteen_digits n) ≡ n
+digits_value-sixteen n small =
+    ap (λ (r : Result (List ℕ) FromHexError). from_be_bytes w64 (result_unwrap_or r [])) (decode_of-encode_lower (to_be_bytes w64 n) (high_first 8 n).1)
+    ∙ from_be_bytes-to_be_bytes_8 n small

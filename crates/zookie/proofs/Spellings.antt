@@ -6,12 +6,12 @@ use Rattle.std.specs.Cmp.{unsigned_Decides}
 use Rattle.std.proofs.lemmas.Bool.{cases_Bool, eqb-true}
 use Rattle.std.proofs.lemmas.Slice.Eq.{starts_is}
 use Rattle.zookie.specs.Tokens.{Token, kind_text, front, sixteen_digits, token_text}
-use Rattle.zookie.specs.Reading.{Spelling, Spells, spelled, is_digit, kind_of, digit_fault, with_digits, first_version, with_kind, second_version, read_token}
+use Rattle.zookie.specs.Reading.{Spelling, Spells, spelled, is_digit, kind_of, digit_fault, with_digits, first_version, with_kind, second_version, read_token, valued, token_at}
 use Rattle.zookie.specs.declared.fault.ZookieFault.{ZookieFault}
 use Rattle.zookie.specs.declared.fault.ZookieFault.TheVariants.{Length, Prefix}
 use Rattle.zookie.specs.declared.token.TokenKind.{TokenKind}
 use Rattle.zookie.specs.declared.token.TokenKind.TheVariants.{AclWrite, ContentVersion, ReadSnapshot}
-use Rattle.zookie.proofs.Digits.{sixteen_pass, sixteen_digits-same}
+use Rattle.zookie.proofs.Digits.{sixteen_pass, sixteen_digits-same, digits_value-sixteen}
 
 -- the text of a spelling
 abbrev written : Spelling → List ℕ
@@ -136,3 +136,11 @@ token_only text (Err f) h small t fits e = absurd (err_ok (sym h ∙ ap read_tok
   where
     err_ok : Err f ≡ done (spelled t) → ⊥
     err_ok x = cc x
+
+pub token_exact : (text : List ℕ) (r : Result Token ZookieFault) → Spells r (read_token text) → IfOk r (λ z. z.at < 2 ^ 64) → r ≡ token_at text
+token_exact text (Ok z) h small =
+    ap (λ (n : ℕ). as_token z.kind n) (sym (digits_value-sixteen z.at small)) ∙ sym (ap valued h)
+  where
+    as_token : Option TokenKind → ℕ → Result Token ZookieFault
+    as_token kind n = Ok (record { kind = kind; at = n })
+token_exact text (Err e) h small = sym (ap valued h)

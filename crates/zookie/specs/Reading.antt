@@ -1,6 +1,9 @@
 -- Reading a zookie: by its version, up to the least-numbered fault.
 use Rattle.std.specs.Prelude.{◌≡◌, ℕ, ◌+◌, ◌==◌, ◌&&◌, ◌||◌, not, Bool, List, [], ◌∷◌, length, drop, Option, Some, None, Result, Ok, Err, codes, nat_eq, nat_le, position, if◌then◌else◌}
 use Rattle.std.specs.List.{starts_with}
+use Rattle.std.specs.Int.{w64, from_be_bytes}
+use Rattle.std.specs.Result.{result_unwrap_or}
+use Rattle.hex.specs.Hex.{decode_of}
 use Rattle.zookie.specs.Tokens.{Token, sixteen_digits}
 use Rattle.zookie.specs.declared.fault.ZookieFault.{ZookieFault}
 use Rattle.zookie.specs.declared.fault.ZookieFault.TheVariants.{Length, Prefix, Digit, KindByte}
@@ -50,6 +53,18 @@ read_token text =
     if starts_with nat_eq text (codes "z2-") then second_version (drop 3 text)
     else (if starts_with nat_eq text (codes "z1-") then first_version (drop 3 text)
     else (if length text == 19 then Err Prefix else Err Length))
+
+-- the number that hexadecimal digits write
+abbrev pub digits_value : List ℕ → ℕ
+digits_value digits = from_be_bytes w64 (result_unwrap_or (decode_of digits) [])
+
+abbrev pub valued : Result Spelling ZookieFault → Result Token ZookieFault
+valued (Ok s) = Ok (record { kind = s.kind; at = digits_value s.digits })
+valued (Err e) = Err e
+
+-- the token that a text spells
+abbrev pub token_at : List ℕ → Result Token ZookieFault
+token_at text = valued (read_token text)
 
 -- what a function answered is what the text spells, or its fault
 abbrev pub Spells : Result Token ZookieFault → Result Spelling ZookieFault → Type 0

@@ -1,7 +1,7 @@
 //! Zookies and their texts.
 
 ghost use Rattle.std.specs.Prelude.{◌≡◌, ℕ, ◌<◌, ◌^◌, ◌-◌, ◌++◌, Some, None, IfOk, length, replicate, not, position, Ok, take};
-ghost use Rattle.zookie.specs.Reading.{is_digit, kind_of, first_version, second_version, read_token, Spells};
+ghost use Rattle.zookie.specs.Reading.{is_digit, kind_of, first_version, second_version, read_token, token_at, Spells};
 ghost use Rattle.zookie.specs.Tokens.{Token, token_text, sixteen_digits};
 
 use crate::fault::ZookieFault;
@@ -165,7 +165,7 @@ impl Zookie {
         // What is spelled so is read.
         ensures only { (t : Token) → t.at < 2 ^ 64 → text.now ≡ token_text t → result ≡ Ok t }
         // Which fault it is.
-        ensures exact { Spells result (read_token text.now) }
+        ensures exact { result ≡ token_at text.now }
     {
         read(text.as_bytes())
     }

@@ -1,0 +1,7 @@
+pub mod JsonLines
+pub mod Led
+pub mod LineCauses
+pub mod Places
+pub mod ReadFaults
+pub mod Shown
+pub mod StepLoops

@@ -1,0 +1,61 @@
+//! Reading the evidence for a trace.
+
+ghost use Rattle.std.specs.Prelude.{◌≡◌, ◌+◌, ◌^◌, ◌<◌, ℕ, List, length, true, false, Err, IfSome, IfErr, IfOk};
+ghost use Rattle.std.specs.Io.KnownBytes.{Consumes};
+ghost use Rattle.trace_lines.specs.Counts.{one_more};
+ghost use Rattle.evidence_check.specs.Evidences.{evidence_value};
+ghost use Rattle.evidence_check.specs.Reading.{cause_of, evidence_of, GivesEvidence};
+ghost use Rattle.evidence_check.specs.declared.cause.EvidenceCause.TheVariants.{Read};
+
+use crate::cause::{EvidenceCause, EvidenceFault};
+use crate::evidence::Evidence;
+use crate::recorder::Recorder;
+use std::alloc::Global;
+use trace_lines::{InputFault, LineFault, Source, Stop, Trace, read_lines};
+
+fn fault_of(fault: LineFault<EvidenceCause>) -> EvidenceFault
+    ensures { result ≡ record { line = fault.line; cause = cause_of fault.stop } }
+{
+    let cause = match fault.stop {
+        Stop::Line(cause) => cause,
+        Stop::Input(InputFault::Read) => EvidenceCause::Read,
+        Stop::Input(InputFault::TooLong) => EvidenceCause::TooLong,
+        Stop::Input(InputFault::OutOfMemory) => EvidenceCause::OutOfMemory,
+    };
+    EvidenceFault {
+        line: fault.line,
+        cause,
+    }
+}
+
+/// Reads the evidence for a trace: a record for an entry on each line that is not blank, in any order. Lines and
+/// limits are those of a trace.
+pub fn read_evidence<R: Source>(
+    alloc: Global,
+    reader: &mut R,
+    trace: &Trace,
+) -> Result<Evidence, EvidenceFault>
+    // Of a reader that does not fail.
+    ensures exact { IfSome (R.remaining reader.old) (λ input. R.failures reader.new ≡ R.failures reader.old
+        → R.failures reader.old + 1 < 2 ^ 64 → GivesEvidence evidence_value result (evidence_of trace.now.entries true input)) }
+    // Of a reader that failed, by the bytes that it gave before.
+    ensures failed { IfErr result (λ e. e.cause ≡ Read → IfSome (R.remaining reader.old) (λ input.
+        (given : List ℕ) × Consumes (R.remaining reader.old) (R.remaining reader.new) given
+        × (evidence_of trace.now.entries false given ≡ Err e))) }
+    // A reader's failure is told, and nothing else is called one.
+    ensures counted { IfErr result (λ e. e.cause ≡ Read → R.failures reader.new ≡ one_more (R.failures reader.old)) }
+{
+    let mut recorder = match Recorder::new(alloc, trace) {
+        Ok(recorder) => recorder,
+        Err(_) => return Err(EvidenceFault {
+            line: 1,
+            cause: EvidenceCause::OutOfMemory,
+        }),
+    };
+    match read_lines(alloc, reader, &mut recorder) {
+        Ok(()) => Ok(Evidence {
+            steps: recorder.into_steps(),
+        }),
+        Err(fault) => Err(fault_of(fault)),
+    }
+}

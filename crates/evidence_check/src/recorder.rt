@@ -1,0 +1,180 @@
+//! The records that are read so far.
+
+ghost use Rattle.std.specs.Prelude.{◌≡◌, ◌≤◌, ℕ, length, replicate, map, option_map, slice_get, slice_set, None, Some, IfOk, IfErr, OnOk};
+ghost use Rattle.std.specs.List.Sorted.{IsStrictlyIncreasing};
+ghost use Rattle.serde_json.specs.View.{view};
+ghost use Rattle.trace_lines.specs.Values.{entry_lines};
+ghost use Rattle.evidence_check.specs.Causes.{Gives};
+ghost use Rattle.evidence_check.specs.Reading.{place_of, is_taken, put_steps, record_line, json_line, no_records};
+ghost use Rattle.evidence_check.specs.Evidences.{shown_steps, all_shown};
+ghost use Rattle.evidence_check.specs.Steps.{step_values};
+
+use crate::cause::EvidenceCause;
+use crate::records::{are_known, steps_at, steps_in};
+use crate::step::Steps;
+use serde_json::Value;
+use std::alloc::{AllocError, Global};
+use std::marker::Model;
+use trace_lines::{InputFault, Stop, TakeLine, Trace, fields::number_at, is_blank};
+
+/// The lines of the entries, and the steps that were given for each.
+#[derive(Drop)]
+pub(crate) struct Recorder {
+    alloc: Global,
+    lines: Vec<u64>,
+    steps: Vec<Option<Steps>>,
+}
+
+impl Model for Recorder {
+    ghost use Rattle.std.specs.List.Sorted.{IsStrictlyIncreasing};
+    ghost use Rattle.evidence_check.specs.Records.{Records};
+    ghost use Rattle.evidence_check.specs.EvidenceCode.{records_code};
+    ghost use Rattle.evidence_check.specs.Evidences.{all_shown};
+
+    ghost Value = { Records };
+
+    ghost coded = { records_code };
+
+    ghost view = { λ r. record { lines = r.lines.items; steps = all_shown r.steps.items } };
+
+    ghost invariant = { λ r. IsStrictlyIncreasing r.lines.items };
+}
+
+/// The lines that the entries of a trace stand on.
+fn lines_of(alloc: Global, trace: &Trace) -> Result<Vec<u64>, AllocError>
+    ensures lines { IfOk result (λ v. v.items ≡ entry_lines trace.now.entries) }
+    ensures rising { IfOk result (λ v. IsStrictlyIncreasing v.items) }
+{
+    let mut lines = Vec::new(alloc);
+    for i in 0..trace.len() {
+        lines.push(trace.entry(i).line)?;
+    }
+    Ok(lines)
+}
+
+fn no_steps(alloc: Global, count: usize) -> Result<Vec<Option<Steps>>, AllocError>
+    ensures { IfOk result (λ v. all_shown v.items ≡ replicate count None) }
+{
+    let mut steps = Vec::new(alloc);
+    for _ in 0..count {
+        steps.push(None)?;
+    }
+    Ok(steps)
+}
+
+/// The place of a line among lines that rise.
+fn place_of(lines: &[u64], line: u64) -> Option<usize>
+    requires { IsStrictlyIncreasing lines.now }
+    ensures { result ≡ place_of line lines.now }
+{
+    lines.binary_search(&line).ok()
+}
+
+impl Recorder {
+    pub(crate) fn new(alloc: Global, trace: &Trace) -> Result<Recorder, AllocError>
+        ensures { IfOk result (λ r. r ≡ no_records trace.now.entries) }
+    {
+        let lines = lines_of(alloc, trace)?;
+        let steps = no_steps(alloc, trace.len())?;
+        Ok(Recorder {
+            alloc,
+            lines,
+            steps,
+        })
+    }
+
+    /// The steps for each entry.
+    pub(crate) fn into_steps(self) -> Vec<Option<Steps>>
+        ensures { all_shown result.items ≡ self.steps }
+    {
+        self.steps
+    }
+
+    fn place(&self, line: u64) -> Option<usize>
+        ensures { result ≡ place_of line self.now.lines }
+    {
+        place_of(&self.lines, line)
+    }
+
+    fn is_taken(&self, place: usize) -> bool
+        ensures { result ≡ is_taken (slice_get self.now.steps place) }
+    {
+        match self.steps.get(place) {
+            Some(Some(_)) => true,
+            Some(None) => false,
+            None => false,
+        }
+    }
+
+    fn set(&mut self, place: usize, steps: Steps)
+        ensures { self.new ≡ record self.old { steps = slice_set self.old.steps place (Some (step_values steps.items)) } }
+    {
+        if place < self.steps.len() {
+            self.steps[place] = Some(steps);
+        }
+    }
+
+    #[tactic(auto, unfolding(crate::specs::Reading::put_steps))]
+    fn put(&mut self, place: usize, steps: Steps) -> Result<(), EvidenceCause>
+        ensures { Gives (λ _. self.new) result (put_steps self.old place (step_values steps.items)) }
+    {
+        if self.is_taken(place) {
+            return Err(EvidenceCause::RepeatedLine);
+        }
+        if steps.len() > 100000 {
+            return Err(EvidenceCause::TooMany);
+        }
+        self.set(place, steps);
+        Ok(())
+    }
+
+    #[tactic(auto, unfolding(crate::specs::Reading::record_line))]
+    fn take_record(&mut self, record: &Value) -> Result<(), EvidenceCause>
+        ensures { Gives (λ _. self.new) result (record_line self.old (view record.now)) }
+    {
+        let line = number_at(record, "line").ok_or(EvidenceCause::Shape)?;
+        let items = steps_at(record).ok_or(EvidenceCause::Shape)?;
+        let steps = steps_in(self.alloc, items)?;
+        if !are_known(items) {
+            return Err(EvidenceCause::UnknownStep);
+        }
+        let place = self.place(line).ok_or(EvidenceCause::StrayLine)?;
+        self.put(place, steps)
+    }
+
+    /// Takes a line that is not blank.
+    fn take_json(&mut self, bytes: &[u8]) -> Result<(), EvidenceCause>
+        ensures { Gives (λ _. self.new) result (json_line self.old bytes.now) }
+    {
+        match Value::from_slice(self.alloc, bytes) {
+            Ok(value) => self.take_record(&value),
+            Err(e) => Err(if e.is_memory() {
+                EvidenceCause::OutOfMemory
+            } else {
+                EvidenceCause::NotJson
+            }),
+        }
+    }
+}
+
+impl TakeLine for Recorder {
+    ghost use Rattle.std.specs.Prelude.{ℕ};
+    ghost use Rattle.evidence_check.specs.Reading.{taken_line};
+
+    type Cause = EvidenceCause;
+
+    ghost next = { λ _. 0 };
+
+    ghost taken = { taken_line };
+
+    fn take_line(&mut self, _number: u64, line: &[u8]) -> Result<(), Stop<EvidenceCause>> {
+        if is_blank(line) {
+            return Ok(());
+        }
+        match self.take_json(line) {
+            Ok(()) => Ok(()),
+            Err(EvidenceCause::OutOfMemory) => Err(Stop::Input(InputFault::OutOfMemory)),
+            Err(cause) => Err(Stop::Line(cause)),
+        }
+    }
+}

@@ -1,0 +1,14 @@
+pub mod Walks
+pub mod Shapes
+pub mod Names
+pub mod Tables
+pub mod Indexes
+pub mod Versions
+pub mod Growth
+pub mod Kept
+pub mod Times
+pub mod Numbers
+pub mod Points
+pub mod Fields
+pub mod Declared
+pub mod Copies

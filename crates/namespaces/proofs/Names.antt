@@ -1,0 +1,61 @@
+-- Names: their equality, and lists in which none stands twice.
+use Rattle.std.proofs.Common.{◌≡◌, ℕ, Bool, true, false, ◌||◌, ◌&&◌, List, [], ◌∷◌, ◌++◌, refl, sym, ◌∙◌, subst, true≢false}
+use Rattle.std.specs.Str.{bytes_eq}
+use Rattle.std.specs.List.{list_any}
+use Rattle.std.proofs.lemmas.Slice.Eq.{bytes_eq-Decides}
+use Rattle.namespaces.specs.Adding.{has_repeats}
+use Rattle.namespaces.specs.Lookup.{with_name}
+
+pub by_bool : {A : Type 0} (b : Bool) → (b ≡ true → A) → (b ≡ false → A) → A
+by_bool true t f = t refl
+by_bool false t f = f refl
+
+pub clash : {A : Type 0} (b : Bool) → b ≡ true → b ≡ false → A
+clash b t f = absurd (true≢false (sym t ∙ f))
+
+pub same_name : (xs : List ℕ) → bytes_eq xs xs ≡ true
+same_name xs = (bytes_eq-Decides xs xs).1 refl
+
+pub one_name : (xs ys : List ℕ) → bytes_eq xs ys ≡ true → xs ≡ ys
+one_name xs ys h = (bytes_eq-Decides xs ys).0 h
+
+pub other_name : (x y : List ℕ) → bytes_eq x y ≡ false → bytes_eq y x ≡ false
+other_name x y h = by_bool (bytes_eq y x) (λ t. clash (bytes_eq x y) (subst (λ z. bytes_eq z y ≡ true) (one_name y x t) (same_name y)) h) (λ f. f)
+
+pub or_false : (a b : Bool) → (a || b) ≡ false → (a ≡ false) × (b ≡ false)
+or_false true b h = cc
+or_false false b h = (refl, h)
+
+pub and_true : (a b : Bool) → (a && b) ≡ true → (a ≡ true) × (b ≡ true)
+and_true true b h = (refl, h)
+and_true false b h = cc
+
+pub list_any-append : {X : Type 0} (p : X → Bool) (xs ys : List X) → list_any p (xs ++ ys) ≡ (list_any p xs || list_any p ys)
+list_any-append p [] ys = refl
+list_any-append p (x ∷ xs) ys = by_bool (p x) (λ h. rw h refl) (λ h. rw h (list_any-append p xs ys))
+
+or_true : (a : Bool) → (a || true) ≡ true
+or_true true = refl
+or_true false = refl
+
+or_none : (a : Bool) → (a || false) ≡ a
+or_none true = refl
+or_none false = refl
+
+-- a name that stands before stands twice
+pub has_repeats-there : (xs ys : List (List ℕ)) (q : List ℕ) → list_any (bytes_eq q) xs ≡ true → has_repeats (xs ++ q ∷ ys) ≡ true
+has_repeats-there [] ys q h = cc
+has_repeats-there (x ∷ xs) ys q h = by_bool (bytes_eq q x)
+    (λ t. rw (list_any-append (bytes_eq x) xs (q ∷ ys), ← one_name q x t, same_name q, or_true (list_any (bytes_eq q) xs)) refl)
+    (λ f. rw (has_repeats-there xs ys q (rw f at h), or_true (list_any (bytes_eq x) (xs ++ q ∷ ys))) refl)
+
+-- a name that does not stand before stands once
+pub has_repeats-push : (xs : List (List ℕ)) (q : List ℕ) → has_repeats xs ≡ false → list_any (bytes_eq q) xs ≡ false → has_repeats (xs ++ q ∷ []) ≡ false
+has_repeats-push [] q once new = refl
+has_repeats-push (x ∷ xs) q once new =
+    let o = or_false (list_any (bytes_eq x) xs) (has_repeats xs) once in
+    let n = or_false (bytes_eq q x) (list_any (bytes_eq q) xs) new in
+    rw (list_any-append (bytes_eq x) xs (q ∷ []), o.0, other_name q x n.0) (has_repeats-push xs q o.1 n.1)
+
+pub has_repeats-with_name : (xs : List (List ℕ)) (q : List ℕ) → has_repeats xs ≡ false → has_repeats (with_name xs q) ≡ false
+has_repeats-with_name xs q once = by_bool (list_any (bytes_eq q) xs) (λ t. rw t once) (λ f. rw f (has_repeats-push xs q once f))

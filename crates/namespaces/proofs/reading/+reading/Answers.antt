@@ -1,0 +1,85 @@
+use Rattle.std.proofs.Common.{sym, codes, arith, rules}
+use Rattle.serde_json.specs.View.{view}
+use Rattle.namespaces.specs.declared.rewrite.Rewrite.{the_lemmas}
+use Rattle.namespaces.specs.Shape.{only_form}
+use Rattle.namespaces.proofs.Shapes.{expression-get, exclusion-get, below_get, below_member_of, below_array}
+use Rattle.namespaces.proofs.reading.+reading.Goals as goal
+
+pub exclusion-returns-in_err-member : goal.exclusion-returns-in_err-member
+exclusion-returns-in_err-member t c = rw (exclusion-get (view c.args.value.now)) (search (rules, the_lemmas))
+
+pub exclusion-returns-in_err-base : goal.exclusion-returns-in_err-base
+exclusion-returns-in_err-base t c = rw (exclusion-get (view c.args.value.now)) (search (rules, the_lemmas))
+
+pub exclusion-returns-in_err-member-2 : goal.exclusion-returns-in_err-member-2
+exclusion-returns-in_err-member-2 t c = rw (exclusion-get (view c.args.value.now)) (search (rules, the_lemmas))
+
+pub exclusion-returns-in_err-subtract : goal.exclusion-returns-in_err-subtract
+exclusion-returns-in_err-subtract t c = rw (exclusion-get (view c.args.value.now)) (search (rules, the_lemmas))
+
+pub exclusion-returns : goal.exclusion-returns
+exclusion-returns t c = rw (exclusion-get (view c.args.value.now)) (search (rules, the_lemmas))
+
+pub exclusion-expression-requires : goal.exclusion-expression-requires
+exclusion-expression-requires t c = (omega (arith, below_member_of (codes "base") (view c.args.value.now) (view c.in_ok-member.field-0.now) c.in_ok-member.ensures), tt)
+
+pub exclusion-expression-requires-2 : goal.exclusion-expression-requires-2
+exclusion-expression-requires-2 t c = (omega (arith, below_member_of (codes "subtract") (view c.args.value.now) (view c.in_ok-member-2.field-0.now) c.in_ok-member-2.ensures), tt)
+
+pub expression-returns-then-count_forms-ne1 : goal.expression-returns-then-count_forms-ne1
+unfolding only_form
+expression-returns-then-count_forms-ne1 t c = rw (expression-get (view c.args.value.now)) (search (rules, the_lemmas))
+
+pub expression-returns-then-has : goal.expression-returns-then-has
+unfolding only_form
+expression-returns-then-has t c = rw (expression-get (view c.args.value.now)) (search (rules, the_lemmas))
+
+pub expression-returns-in_err-text_at : goal.expression-returns-in_err-text_at
+unfolding only_form
+expression-returns-in_err-text_at t c = rw (expression-get (view c.args.value.now)) (search (rules, the_lemmas))
+
+pub expression-returns-then-has-2 : goal.expression-returns-then-has-2
+unfolding only_form
+expression-returns-then-has-2 t c = rw (expression-get (view c.args.value.now)) (search (rules, the_lemmas))
+
+pub expression-returns-in-Some : goal.expression-returns-in-Some
+unfolding only_form
+expression-returns-in-Some t c = rw (expression-get (view c.args.value.now)) (search (rules, the_lemmas))
+
+pub expression-returns-in_err-child_list : goal.expression-returns-in_err-child_list
+unfolding only_form
+expression-returns-in_err-child_list t c = rw (expression-get (view c.args.value.now)) (search (rules, the_lemmas))
+
+pub expression-returns-in-Some-get : goal.expression-returns-in-Some-get
+unfolding only_form
+expression-returns-in-Some-get t c = rw (expression-get (view c.args.value.now)) (search (rules, the_lemmas))
+
+pub expression-returns-in_err-child_list-2 : goal.expression-returns-in_err-child_list-2
+unfolding only_form
+expression-returns-in_err-child_list-2 t c = rw (expression-get (view c.args.value.now)) (search (rules, the_lemmas))
+
+pub expression-returns-in-Some-get-2 : goal.expression-returns-in-Some-get-2
+unfolding only_form
+expression-returns-in-Some-get-2 t c = rw (expression-get (view c.args.value.now)) (search (rules, the_lemmas))
+
+pub expression-returns-in_err-member : goal.expression-returns-in_err-member
+unfolding only_form
+expression-returns-in_err-member t c = rw (expression-get (view c.args.value.now)) (search (rules, the_lemmas))
+
+pub expression-returns : goal.expression-returns
+unfolding only_form
+expression-returns t c = rw (expression-get (view c.args.value.now)) (search (rules, the_lemmas))
+
+pub expression-child_list-requires : goal.expression-child_list-requires
+expression-child_list-requires t c = (omega (arith, below_get (codes "union") (view c.args.value.now) (view c.in-Some-get.list.now) (sym c.in-Some-get.ensures)), tt)
+
+pub expression-child_list-requires-in-Some-get-2 : goal.expression-child_list-requires-in-Some-get-2
+expression-child_list-requires-in-Some-get-2 t c = (omega (arith, below_get (codes "intersection") (view c.args.value.now) (view c.in-Some-get-2.list.now) (sym c.in-Some-get-2.ensures)), tt)
+
+pub expression-exclusion-requires : goal.expression-exclusion-requires
+expression-exclusion-requires t c = (omega (arith, below_member_of (codes "exclusion") (view c.args.value.now) (view c.in_ok-member.field-0.now) c.in_ok-member.ensures), tt)
+
+pub child_list-expression-requires : goal.child_list-expression-requires
+child_list-expression-requires t c =
+    let listed = rw (← c.deref-value-items.ensures.value) at c.in_ok-values.ensures in
+    (omega (arith, below_array (view c.args.value.now) _ _ _ listed c.loop-value-test.true c.value-item.is), tt)

@@ -1,0 +1,10 @@
+use Rattle.std.proofs.Common.{◌≡◌, drop}
+use Rattle.std.specs.List.{list_all}
+use Rattle.namespaces.specs.Expression.{names_in_all}
+use Rattle.namespaces.specs.Adding.{is_name}
+use Rattle.namespaces.specs.View.{expressions_of}
+use Rattle.namespaces.proofs.rewrite.+has_good_names.Given as goal
+
+-- what decides are the names of the children that are left
+abbrev pub invariant-all_have_good_names-loop-child : goal.invariant-all_have_good_names-loop-child
+invariant-all_have_good_names-loop-child l = list_all is_name (names_in_all (expressions_of l.child-items)) ≡ list_all is_name (names_in_all (expressions_of (drop l.child-index l.child-items)))

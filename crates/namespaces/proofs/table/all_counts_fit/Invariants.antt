@@ -1,0 +1,9 @@
+use Rattle.std.proofs.Common.{◌≡◌}
+use Rattle.std.specs.List.{list_all}
+use Rattle.namespaces.specs.Expression.{counts_fit}
+use Rattle.namespaces.specs.Shown.{show_relations}
+use Rattle.namespaces.proofs.table.all_counts_fit.Given as goal
+
+-- what decides are the relations that are left
+abbrev pub invariant-loop-relation : goal.invariant-loop-relation
+invariant-loop-relation l = list_all (λ r. counts_fit r.expression) (show_relations l.relations.entries) ≡ list_all (λ r. counts_fit r.expression) (show_relations l.relation-iterator)

@@ -1,0 +1,15 @@
+pub mod Expression
+pub mod ExpressionCode
+pub mod View
+pub mod Declaration
+pub mod Lookup
+pub mod Fault
+pub mod Shape
+pub mod Adding
+pub mod Changing
+pub mod WellFormed
+pub mod Shown
+pub mod Index
+pub mod Consistent
+pub mod Drafts
+pub mod Kept

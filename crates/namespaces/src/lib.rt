@@ -1,0 +1,30 @@
+//! Namespaces, their relations and the rules of those, with the timestamps from which they are in force (Zanzibar, sections 2.3.1 and
+//! 3.2.2).
+//!
+//! [`Rules`] reads a namespace from a JSON value by `add` (in force from 0) and `change` (in force from a timestamp on). Contracts see it
+//! as the list of its declarations: every accepted value in order, each with its timestamp, name, and relations (name, stratum, rule).
+//! A [`Rewrite`] is seen as the `Expression` that the meaning of the rules is defined over.
+//!
+//! Callers may rely on this: a value is accepted, or refused with the first fault that applies, exactly as the definitions over its JSON
+//! data say, want of memory apart; after a refusal the rules hold what they held before; every look-up answers by the list. `IsWellFormed`,
+//! a clause of `namespace` and `relation`, says what holds of that list at any time: names that are distinct, the limits, and that a later
+//! declaration of a namespace begins with the relations of the earlier ones, each with its stratum. A look-up takes no memory, and none
+//! goes through the declarations one by one. A table has 256 names at most, so the choice of names cannot make it slow.
+#![tactic(auto)]
+
+mod fault;
+mod index;
+mod name;
+mod number;
+mod reading;
+mod rewrite;
+mod rules;
+mod table;
+
+pub use fault::RulesFault;
+pub use number::RelNo;
+pub use rewrite::Rewrite;
+pub use rules::Rules;
+
+#[cfg(test)]
+mod tests;

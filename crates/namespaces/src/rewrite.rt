@@ -1,0 +1,161 @@
+//! The rules for the members of a relation.
+ghost use Rattle.std.specs.Prelude.{◌≡◌, nat_lt};
+ghost use Rattle.std.specs.List.{list_all};
+ghost use Rattle.namespaces.specs.Adding.{is_name};
+ghost use Rattle.namespaces.specs.Fault.{Gives};
+ghost use Rattle.namespaces.specs.Expression as expression;
+ghost use Rattle.namespaces.specs.View.{expression_of, expressions_of};
+
+use crate::fault::RulesFault;
+use crate::name::is_name;
+use std::alloc::Global;
+
+/// How many children a union or an intersection may have.
+const MAX_CHILDREN: usize = 64;
+
+/// A rule that says who the members of a relation are (Zanzibar, section 2.3.1).
+#[derive(Drop)]
+pub enum Rewrite {
+    /// The users of the relation's stored tuples, and the members of the usersets in them.
+    This,
+    /// The members of another relation of the same object.
+    Computed(String),
+    /// For each userset stored in the relation `tupleset` of the object, the members of that userset's object under `computed`.
+    TupleTo { tupleset: String, computed: String },
+    /// The members of at least one child.
+    Union(Vec<Rewrite>),
+    /// The members of every child.
+    Inter(Vec<Rewrite>),
+    /// The members of the first rule that are not members of the second.
+    Minus(Box<Rewrite>, Box<Rewrite>),
+}
+
+/// A copy of a rule.
+#[cycle(copied)]
+pub(crate) fn copied(alloc: Global, rewrite: &Rewrite) -> Result<Rewrite, RulesFault>
+    ensures { Gives expression_of result (Ok (expression_of rewrite.now)) }
+{
+    match rewrite {
+        Rewrite::This => Ok(Rewrite::This),
+        Rewrite::Computed(relation) => Ok(Rewrite::Computed(relation.clone()?)),
+        Rewrite::TupleTo { tupleset, computed } => Ok(Rewrite::TupleTo {
+            tupleset: tupleset.clone()?,
+            computed: computed.clone()?,
+        }),
+        Rewrite::Union(children) => Ok(Rewrite::Union(all_copied(alloc, children)?)),
+        Rewrite::Inter(children) => Ok(Rewrite::Inter(all_copied(alloc, children)?)),
+        Rewrite::Minus(base, subtract) => {
+            let base = copied(alloc, base)?;
+            let subtract = copied(alloc, subtract)?;
+            Ok(Rewrite::Minus(
+                Box::new(alloc, base)?,
+                Box::new(alloc, subtract)?,
+            ))
+        }
+    }
+}
+
+#[cycle(copied)]
+fn all_copied(alloc: Global, children: &Vec<Rewrite>) -> Result<Vec<Rewrite>, RulesFault>
+    ensures { Gives (λ v. expressions_of v.items) result (Ok (expressions_of children.now.items)) }
+{
+    let mut copies = Vec::new(alloc);
+    for child in children {
+        copies.push(copied(alloc, child)?)?;
+    }
+    Ok(copies)
+}
+
+/// Whether a rule nests deeper than `limit`.
+#[cycle(is_deeper)]
+#[tactic(auto, using(crate::proofs::Walks::depth_positive))]
+pub(crate) fn is_deeper(rewrite: &Rewrite, limit: u8) -> bool
+    ensures { result ≡ nat_lt limit (expression.depth (expression_of rewrite.now)) }
+{
+    if limit == 0 {
+        return true;
+    }
+    match rewrite {
+        Rewrite::This | Rewrite::Computed(_) | Rewrite::TupleTo { .. } => false,
+        Rewrite::Union(children) | Rewrite::Inter(children) => is_any_deeper(children, limit - 1),
+        Rewrite::Minus(base, subtract) => {
+            is_deeper(base, limit - 1) || is_deeper(subtract, limit - 1)
+        }
+    }
+}
+
+#[cycle(is_deeper)]
+#[tactic(auto, using(crate::proofs::Walks::children_step))]
+fn is_any_deeper(children: &Vec<Rewrite>, limit: u8) -> bool
+    ensures { result ≡ nat_lt limit (expression.greatest_depth (expressions_of children.now.items)) }
+{
+    for child in children {
+        if is_deeper(child, limit) {
+            return true;
+        }
+    }
+    false
+}
+
+/// Whether each union and each intersection has 1 to 64 children.
+#[cycle(counts_fit)]
+pub(crate) fn counts_fit(rewrite: &Rewrite) -> bool
+    ensures { result ≡ expression.counts_fit (expression_of rewrite.now) }
+{
+    match rewrite {
+        Rewrite::This | Rewrite::Computed(_) | Rewrite::TupleTo { .. } => true,
+        Rewrite::Union(children) | Rewrite::Inter(children) => {
+            has_good_count(children) && all_counts_fit(children)
+        }
+        Rewrite::Minus(base, subtract) => counts_fit(base) && counts_fit(subtract),
+    }
+}
+
+#[cycle(counts_fit)]
+#[tactic(auto, using(crate::proofs::Walks::children_step))]
+fn all_counts_fit(children: &Vec<Rewrite>) -> bool
+    ensures { result ≡ expression.counts_fit_all (expressions_of children.now.items) }
+{
+    for child in children {
+        if !counts_fit(child) {
+            return false;
+        }
+    }
+    true
+}
+
+#[tactic(auto, using(crate::proofs::Walks::children_counted))]
+fn has_good_count(children: &Vec<Rewrite>) -> bool
+    ensures { result ≡ expression.is_child_count (expression.child_count (expressions_of children.now.items)) }
+{
+    1 <= children.len() && children.len() <= MAX_CHILDREN
+}
+
+/// Whether each name in a rule is one.
+#[cycle(has_good_names)]
+pub(crate) fn has_good_names(rewrite: &Rewrite) -> bool
+    ensures { result ≡ list_all is_name (expression.names_in (expression_of rewrite.now)) }
+{
+    match rewrite {
+        Rewrite::This => true,
+        Rewrite::Computed(relation) => is_name(relation.as_str()),
+        Rewrite::TupleTo { tupleset, computed } => {
+            is_name(tupleset.as_str()) && is_name(computed.as_str())
+        }
+        Rewrite::Union(children) | Rewrite::Inter(children) => all_have_good_names(children),
+        Rewrite::Minus(base, subtract) => has_good_names(base) && has_good_names(subtract),
+    }
+}
+
+#[cycle(has_good_names)]
+#[tactic(auto, using(crate::proofs::Walks::children_step))]
+fn all_have_good_names(children: &Vec<Rewrite>) -> bool
+    ensures { result ≡ list_all is_name (expression.names_in_all (expressions_of children.now.items)) }
+{
+    for child in children {
+        if !has_good_names(child) {
+            return false;
+        }
+    }
+    true
+}

@@ -1,0 +1,359 @@
+//! The declared namespaces, by name, by number and at a timestamp.
+ghost use Rattle.std.specs.Prelude.{◌≡◌, ℕ, ◌<◌, ◌≤◌, [], ◌∷◌, ◌++◌, length, option_map, slice_get, string_bytes, IfSome, OnOk, OnErr, IfErr};
+ghost use Rattle.tuple_text.specs.Refs.{set_value};
+ghost use Rattle.namespaces.specs.Declaration.{declared};
+ghost use Rattle.namespaces.specs.Lookup.{rule_of, rule_at, relation_of, relations_of, number_of, place_of, namespace_names, namespace_numbered, relation_numbered, history_numbered};
+ghost use Rattle.namespaces.specs.View.{expression_of};
+ghost use Rattle.namespaces.specs.WellFormed.{IsWellFormed};
+
+use crate::fault::RulesFault;
+use crate::index::{Version, note, version_at, version_with};
+use crate::number::RelNo;
+use crate::reading::{Draft, read_draft};
+use crate::rewrite::Rewrite;
+use crate::table::{Namespace, Relation, copied_namespace, keeps_names, keeps_strata, tested};
+use indexmap::IndexMap;
+use serde_json::Value;
+use std::alloc::Global;
+use std::marker::Model;
+use tuple_text::SetRef;
+
+/// How many namespaces there may be.
+const MAX_NAMESPACES: usize = 256;
+
+/// How many changes may be made.
+const MAX_CHANGES: u16 = 4096;
+
+/// The timestamp than which there is no later one.
+const LAST_TIMESTAMP: u64 = u64::MAX;
+
+/// A declaration.
+#[derive(Drop)]
+pub(crate) struct Line {
+    at: u64,
+    is_change: bool,
+    namespace: Namespace,
+}
+
+/// The declared namespaces with their rules, which contracts see as the list of their declarations in order.
+#[derive(Drop)]
+pub struct Rules {
+    // every declaration, in order
+    lines: Vec<Line>,
+    // each namespace in order of its first declaration, and where its declarations stand
+    namespaces: IndexMap<String, Vec<Version>>,
+    // how many of the declarations are changes
+    changes: u16,
+}
+
+impl Model for Rules {
+    ghost use Rattle.std.specs.Prelude.{List};
+    ghost use Rattle.std.specs.Coded.{coded_list};
+    ghost use Rattle.namespaces.specs.Declaration.{Declaration, declaration_code};
+
+    ghost Value = { List Declaration };
+
+    ghost coded = { coded_list declaration_code };
+
+    ghost use Rattle.namespaces.specs.Shown.{show_lines};
+    ghost use Rattle.namespaces.specs.Consistent.{AreConsistent};
+
+    ghost view = { λ r. show_lines r.lines.items };
+
+    ghost invariant = { λ r. AreConsistent r.lines.items r.namespaces.entries r.changes };
+}
+
+impl Rules {
+    ghost use Rattle.serde_json.specs.View.{view};
+    ghost use Rattle.namespaces.specs.Adding as adding;
+    ghost use Rattle.namespaces.specs.Adding.{rules_add};
+    ghost use Rattle.namespaces.specs.Changing as changing;
+    ghost use Rattle.namespaces.specs.Changing.{rules_change, change_answer, IsLater};
+    ghost use Rattle.namespaces.specs.Fault.{Gives};
+    ghost use Rattle.namespaces.specs.Shown.{show_namespace, show_relations};
+    ghost use Rattle.namespaces.specs.Index.{versions_of, relations_at};
+
+    /// No namespaces. Nothing is allocated before the first is declared.
+    pub fn new(alloc: Global) -> Rules
+        ensures { result ≡ [] }
+    {
+        Rules {
+            lines: Vec::new(alloc),
+            namespaces: IndexMap::new(alloc),
+            changes: 0,
+        }
+    }
+
+    /// Declares the namespace that a JSON value describes, in force from 0 (Zanzibar, section 2.3.1). Its `kind` is not looked at.
+    ///
+    /// Of the refusals that apply the one with the least number is answered: 1 Shape, 2 Name, 3 RepeatedNamespace, 4 RepeatedRelation,
+    /// 5 UndeclaredRelation, 6 TooDeep, 7 TooMany. OutOfMemory comes where memory was refused, whatever else applies. After a refusal
+    /// the rules hold what they held before.
+    pub fn add(&mut self, value: &Value) -> Result<(), RulesFault>
+        ensures exact { Gives (λ _. self.new) result (rules_add self.old (view value.now)) }
+        ensures unchanged { OnErr result (self.new ≡ self.old) }
+        ensures later { (at : ℕ) → IsLater at self.old → IsLater at self.new }
+    {
+        let alloc = *self.lines.allocator();
+        let namespace = self.added(alloc, value)?;
+        self.push(alloc, 0, false, namespace)
+    }
+
+    /// Declares a new namespace, or gives a declared one a new list of relations, in force from a timestamp on (Zanzibar, section 3.2.2).
+    /// What was declared before stays in force for earlier timestamps.
+    ///
+    /// Of the refusals that apply the one with the least number is answered: those of `add` without RepeatedNamespace, where the 4,097th
+    /// change is TooMany, then 9 RelationsChanged (the list does not begin with the relations declared already, in their order) and 10
+    /// StratumChanged. OutOfMemory comes where memory was refused, whatever else applies. After a refusal the rules hold what they held
+    /// before.
+    pub fn change(&mut self, at: u64, value: &Value) -> Result<(), RulesFault>
+        requires { IsLater at self.old }
+        ensures exact { Gives (λ _. self.new) result (rules_change self.old at (view value.now)) }
+        ensures unchanged { OnErr result (self.new ≡ self.old) }
+        ensures later { (next : ℕ) → at < next → IsLater next self.new }
+    {
+        let alloc = *self.lines.allocator();
+        let namespace = self.changed(alloc, value)?;
+        self.push(alloc, at, true, namespace)
+    }
+
+    /// Whether `change` would accept a value, or which refusal it would answer. Memory may be refused here and not there.
+    pub fn try_change(&self, value: &Value) -> Result<(), RulesFault>
+        ensures { Gives (λ u. u) result (change_answer self.now (view value.now)) }
+    {
+        let alloc = *self.lines.allocator();
+        let _ = self.changed(alloc, value)?;
+        Ok(())
+    }
+
+    /// The rules as they would be if `change` took a value after all others, to be looked at before it is taken. They are a copy, so this
+    /// is for once in a while.
+    ///
+    /// Refusals are those of `change`. Memory may be refused here and not there.
+    pub fn with_change(&self, value: &Value) -> Result<Rules, RulesFault>
+        ensures { Gives (λ rules. rules) result (rules_change self.now LAST_TIMESTAMP (view value.now)) }
+    {
+        let alloc = *self.lines.allocator();
+        let namespace = self.changed(alloc, value)?;
+        let mut rules = self.copied(alloc)?;
+        rules.push(alloc, LAST_TIMESTAMP, true, namespace)?;
+        Ok(rules)
+    }
+
+    /// The rule of a relation that is in force at a timestamp: that of the last declaration of its namespace by then (Zanzibar, section
+    /// 3.2.2). `None` where the relation is not declared by then. The object id of the userset is not looked at.
+    pub fn body(&self, set: SetRef<'_>, at: u64) -> Option<&Rewrite>
+        ensures { option_map (λ r. expression_of r.now) result
+            ≡ option_map (λ r. r.expression) (rule_of (rule_at self.now at) (set_value set.entry)) }
+    {
+        let relations = self.in_force(set.namespace, at)?;
+        let relation = relations.get(set.relation)?;
+        Some(&relation.rewrite)
+    }
+
+    /// Rule number `k` of a relation, counted from 0 in order of declaration, or `None` where there is none.
+    pub fn rule(&self, number: RelNo, k: usize) -> Option<&Rewrite>
+        ensures { option_map (λ r. expression_of r.now) result
+            ≡ option_map (λ r. r.expression) (slice_get (history_numbered number self.now) k) }
+    {
+        let (_, versions) = self.numbered(number.namespace)?;
+        let index = number.relation.checked_sub(1)? as usize;
+        let version = version_with(versions.as_slice(), index, k)?;
+        let (_, relation) = self.relations_in(version)?.get_index(index)?;
+        Some(&relation.rewrite)
+    }
+
+    /// The stratum of a relation, from 0 to 255, or `None` where it is not declared so far. It is the same in each of its declarations.
+    pub fn stratum(&self, set: SetRef<'_>) -> Option<u8>
+        ensures { result
+            ≡ option_map (λ r. r.stratum) (relation_of set.entry.namespace.now set.entry.relation.now self.now) }
+    {
+        let relations = self.newest(set.namespace)?;
+        let relation = relations.get(set.relation)?;
+        Some(relation.stratum)
+    }
+
+    /// The number of a relation, or `None` where it is not declared so far.
+    pub fn number(&self, set: SetRef<'_>) -> Option<RelNo>
+        ensures { result ≡ number_of set.entry.namespace.now set.entry.relation.now self.now }
+    {
+        let namespace = self.place(set.namespace)?;
+        let relation = self.newest(set.namespace)?.get_index_of(set.relation)?;
+        Some(RelNo {
+            namespace,
+            relation: relation as u16 + 1,
+        })
+    }
+
+    /// The name of the namespace that has this number, or `None` where there is none.
+    pub fn namespace(&self, number: u16) -> Option<&str>
+        ensures value { option_map (λ s. s.now) result ≡ namespace_numbered number self.now }
+        ensures well_formed { IsWellFormed self.now }
+    {
+        let (name, _) = self.numbered(number)?;
+        Some(name)
+    }
+
+    /// The name of the relation that has this number, or `None` where there is none.
+    pub fn relation(&self, number: RelNo) -> Option<&str>
+        ensures value { option_map (λ s. s.now) result ≡ option_map (λ r. r.name) (relation_numbered number self.now) }
+        ensures well_formed { IsWellFormed self.now }
+    {
+        let (_, versions) = self.numbered(number.namespace)?;
+        let index = number.relation.checked_sub(1)?;
+        let newest = versions.last().copied()?;
+        let (name, _) = self.relations_in(newest)?.get_index(index as usize)?;
+        Some(name.as_str())
+    }
+
+    /// A copy of the rules.
+    fn copied(&self, alloc: Global) -> Result<Rules, RulesFault>
+        ensures { Gives (λ rules. rules) result (Ok self.now) }
+    {
+        let mut rules = Rules::new(alloc);
+        for line in &self.lines {
+            let namespace = copied_namespace(alloc, &line.namespace)?;
+            rules.push(alloc, line.at, line.is_change, namespace)?;
+        }
+        Ok(rules)
+    }
+
+    /// The name and the versions of the namespace that has this number.
+    fn numbered(&self, number: u16) -> Option<(&str, &Vec<Version>)>
+        ensures name { option_map (λ p. p.0.now) result ≡ namespace_numbered number self.now }
+        ensures versions { IfSome result (λ p. p.1.now.items ≡ versions_of p.0.now self.now) }
+        ensures well_formed { IsWellFormed self.now }
+    {
+        let namespaces = &self.namespaces;
+        let index = number.checked_sub(1)?;
+        let (name, versions) = namespaces.get_index(index as usize)?;
+        Some((name.as_str(), versions))
+    }
+
+    /// The relations of the declaration that a version stands for.
+    fn relations_in(&self, version: Version) -> Option<&IndexMap<String, Relation>>
+        ensures { option_map (λ m. show_relations m.now.entries) result
+            ≡ option_map (λ d. d.relations) (slice_get self.now version.line) }
+    {
+        let line = self.lines.get(version.line)?;
+        Some(&line.namespace.relations)
+    }
+
+    /// The relations of a namespace by its last declaration.
+    fn newest(&self, namespace: &str) -> Option<&IndexMap<String, Relation>>
+        ensures relations { option_map (λ m. show_relations m.now.entries) result ≡ relations_of namespace.now self.now }
+        ensures limit { IfSome result (λ m. length m.now.entries ≤ 256) }
+    {
+        let newest = self.namespaces.get(namespace)?.last().copied()?;
+        self.relations_in(newest)
+    }
+
+    /// The relations of a namespace by the last declaration in force at a timestamp.
+    fn in_force(&self, namespace: &str, at: u64) -> Option<&IndexMap<String, Relation>>
+        ensures relations { option_map (λ m. show_relations m.now.entries) result ≡ relations_at at namespace.now self.now }
+        ensures well_formed { IsWellFormed self.now }
+    {
+        let versions = self.namespaces.get(namespace)?;
+        let version = version_at(versions.as_slice(), at)?;
+        self.relations_in(version)
+    }
+
+    /// The place of a namespace, counted from 1.
+    fn place(&self, namespace: &str) -> Option<u16>
+        ensures { result ≡ place_of namespace.now (namespace_names self.now) }
+    {
+        let index = self.namespaces.get_index_of(namespace)?;
+        Some(index as u16 + 1)
+    }
+
+    /// The namespace that `add` would declare.
+    fn added(&self, alloc: Global, value: &Value) -> Result<Namespace, RulesFault>
+        ensures { Gives show_namespace result (adding.added self.now (view value.now)) }
+    {
+        let draft = read_draft(alloc, value)?;
+        let repeated = self.is_declared(draft.name.as_str());
+        tested(alloc, draft, repeated, self.is_full())
+    }
+
+    /// The namespace that `change` would declare.
+    fn changed(&self, alloc: Global, value: &Value) -> Result<Namespace, RulesFault>
+        ensures { Gives show_namespace result (changing.changed self.now (view value.now)) }
+    {
+        let draft = read_draft(alloc, value)?;
+        let full = self.is_full_for(draft.name.as_str());
+        let namespace = tested(alloc, draft, false, full)?;
+        self.check_kept(&namespace)?;
+        Ok(namespace)
+    }
+
+    /// Whether the namespace keeps the relations that it had.
+    #[tactic(auto, unfolding(crate::specs::Changing::continued))]
+    fn check_kept(&self, namespace: &Namespace) -> Result<(), RulesFault>
+        ensures { Gives (λ _. show_namespace namespace.now) result
+            (changing.continued (relations_of (string_bytes namespace.now.name) self.now) (show_namespace namespace.now)) }
+    {
+        let Some(old) = self.newest(namespace.name.as_str()) else {
+            return Ok(());
+        };
+        if !keeps_names(old, &namespace.relations) {
+            return Err(RulesFault::RelationsChanged);
+        }
+        if !keeps_strata(old, &namespace.relations) {
+            return Err(RulesFault::StratumChanged);
+        }
+        Ok(())
+    }
+
+    /// Whether there is no room for a further namespace.
+    fn is_full(&self) -> bool
+        ensures { result ≡ adding.is_full self.now }
+    {
+        self.namespaces.len() >= MAX_NAMESPACES
+    }
+
+    /// Whether there is no room for a change of this namespace.
+    fn is_full_for(&self, namespace: &str) -> bool
+        ensures { result ≡ changing.is_full_for namespace.now self.now }
+    {
+        self.changes >= MAX_CHANGES || !self.is_declared(namespace) && self.is_full()
+    }
+
+    fn is_declared(&self, namespace: &str) -> bool
+        ensures { result ≡ adding.is_declared namespace.now self.now }
+    {
+        self.namespaces.contains_key(namespace)
+    }
+
+    /// Puts a declaration last.
+    fn push(
+        &mut self,
+        alloc: Global,
+        at: u64,
+        is_change: bool,
+        namespace: Namespace,
+    ) -> Result<(), RulesFault>
+        requires { IsWellFormed (self.old ++ declared at is_change (show_namespace namespace) ∷ []) }
+        ensures ok { OnOk result (self.new ≡ self.old ++ declared at is_change (show_namespace namespace) ∷ []) }
+        ensures memory { IfErr result (λ e. e ≡ RulesFault.OutOfMemory) }
+        ensures unchanged { OnErr result (self.new ≡ self.old) }
+    {
+        let version = Version {
+            at,
+            relations: namespace.relations.len(),
+            line: self.lines.len(),
+        };
+        let name = namespace.name.clone()?;
+        let changes = self.changes + u16::from(is_change);
+        self.lines.push(Line {
+            at,
+            is_change,
+            namespace,
+        })?;
+        if let Err(fault) = note(alloc, &mut self.namespaces, name, version) {
+            let _ = self.lines.pop();
+            return Err(fault);
+        }
+        self.changes = changes;
+        Ok(())
+    }
+}

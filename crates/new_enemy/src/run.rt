@@ -1,0 +1,70 @@
+//! The program, over any reader and writers.
+
+use crate::audit::{AuditFault, Verdict};
+use crate::joined::audit_joined;
+use evidence_check::{EvidenceCause, EvidenceFault};
+use std::alloc::{AllocError, Global};
+use trace_lines::{Cause, Sink, Source, TraceFault, send};
+
+/// The exit status of a fault.
+fn status_of(fault: &AuditFault) -> u8 {
+    match fault {
+        AuditFault::Trace(TraceFault {
+            cause: Cause::Read, ..
+        }) => 5,
+        AuditFault::Trace(_) => 2,
+        AuditFault::Evidence(EvidenceFault {
+            cause: EvidenceCause::Read,
+            ..
+        }) => 5,
+        AuditFault::Evidence(_) => 2,
+        AuditFault::Write { .. } => 5,
+        AuditFault::OutOfMemory => 4,
+        AuditFault::Limits => 3,
+        AuditFault::Joined => 2,
+        AuditFault::Input => 5,
+    }
+}
+
+fn fault_text(alloc: Global, fault: &AuditFault) -> Result<String, AllocError> {
+    let mut text = String::new(alloc);
+    writeln!(text, "{fault}")?;
+    Ok(text)
+}
+
+/// Writes one line; a failure of the writer changes nothing else.
+fn tell<E: Sink>(alloc: Global, err: &mut E, fault: &AuditFault) {
+    match fault_text(alloc, fault) {
+        Ok(text) => {
+            let _ = send(err, text.as_bytes());
+        }
+        Err(_) => {
+            let _ = send(err, b"out of memory\n");
+        }
+    }
+}
+
+/// Runs the program on the words after its name, and answers its exit status: 0 for clean, 1 for dirty, 2 for
+/// refused input, 3 for usage, 4 for want of memory, 5 for a device that failed.
+///
+/// Without words it audits joined input. Any word is a fault of usage, until there are commands.
+pub fn run_words<R: Source, W: Sink, E: Sink>(
+    alloc: Global,
+    words: &[String],
+    input: &mut R,
+    out: &mut W,
+    err: &mut E,
+) -> u8 {
+    if !words.is_empty() {
+        let _ = send(err, b"usage: new_enemy < JOINED_INPUT\n");
+        return 3;
+    }
+    match audit_joined(alloc, input, out) {
+        Ok(Verdict::Clean) => 0,
+        Ok(Verdict::Dirty) => 1,
+        Err(fault) => {
+            tell(alloc, err, &fault);
+            status_of(&fault)
+        }
+    }
+}

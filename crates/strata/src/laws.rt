@@ -1,0 +1,32 @@
+//! Laws of the meaning, each for valid strata over one store. The functions compute nothing: a law is its
+//! function's contract, over the definitions alone.
+
+ghost use Rattle.std.specs.Prelude.{◌≡◌, ℕ, List, Some, ◌↔◌};
+ghost use Rattle.tuple_text.specs.Tuples.{TupleValue, FactValue};
+ghost use Rattle.namespaces.specs.Lookup.{Lookup, Rule, rule_of};
+ghost use Rattle.strata.specs.Meaning.{Member, HasLeastRound};
+ghost use Rattle.strata.specs.Laws.{IsStable, IsClosed};
+ghost use Rattle.strata.specs.Strata.{HasValidStrata, HasNames, HaveSameExpressions};
+
+/// A fact of a stratum is settled there: no higher stratum changes it.
+pub fn stable()
+    ensures { (rules : Lookup) (store : List TupleValue) → HasValidStrata rules store → IsStable rules store }
+{}
+
+/// What a rule derives from members and from those who are none is a member.
+pub fn closed()
+    ensures { (rules : Lookup) (store : List TupleValue) → HasValidStrata rules store → IsClosed rules store }
+{}
+
+/// A member has a least round at its stratum, and its rule derives it from the round before and the strata below.
+pub fn supported()
+    ensures { (rules : Lookup) (store : List TupleValue) → HasValidStrata rules store →
+        (names : List (List ℕ)) → HasNames rules names →
+        (f : FactValue) (r : Rule) → rule_of rules f.set ≡ Some r → Member rules store f → HasLeastRound rules store f r }
+{}
+
+/// Renumbering the strata changes no member, where both numberings are valid.
+pub fn same_meaning()
+    ensures { (old new : Lookup) (store : List TupleValue) → HasValidStrata old store → HasValidStrata new store →
+        HaveSameExpressions old new → (f : FactValue) → (Member old store f ↔ Member new store f) }
+{}

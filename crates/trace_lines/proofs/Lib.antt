@@ -1,0 +1,10 @@
+pub mod Cuts
+pub mod Failures
+pub mod Folds
+pub mod JsonLines
+pub mod LineCauses
+pub mod ReadFaults
+pub mod RisingLines
+pub mod Sent
+pub mod Steps
+pub mod TextLoops

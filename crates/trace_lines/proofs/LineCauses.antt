@@ -1,0 +1,147 @@
+-- A line is never refused as a failure of the reader, nor as too long.
+use Rattle.std.proofs.Common.{◌≡◌, ℕ, ◌&&◌, ◌||◌, Bool, true, false, cond, List, Option, Some, None, Result, Ok, Err, length, eqb, not, is_some, ap, sym, subst}
+use Rattle.std.specs.Prelude.{codes, bytes_eq, option_and_then}
+use Rattle.std.specs.List.{list_all}
+use Rattle.std.specs.Str.{is_utf8}
+use Rattle.serde_json.specs.Data.{Data, Items, no_items, item}
+use Rattle.serde_json.specs.Find.{get, as_str}
+use Rattle.serde_json.specs.Read.{read}
+use Rattle.tuple_text.specs.declared.fault.TupleFault.{TupleFault}
+use Rattle.tuple_text.specs.Tuples.{TupleValue, FactValue}
+use Rattle.tuple_text.specs.Reading.{tuple_at, fact_at}
+use Rattle.zookie.specs.declared.fault.ZookieFault.{ZookieFault}
+use Rattle.zookie.specs.Tokens.{Token}
+use Rattle.zookie.specs.Reading.{token_at}
+use Rattle.namespaces.specs.declared.fault.RulesFault.{RulesFault}
+use Rattle.namespaces.specs.Declaration.{Declaration}
+use Rattle.namespaces.specs.Adding.{rules_add}
+use Rattle.version_chains.specs.Commits.{Commit}
+use Rattle.version_chains.specs.Appends.{append_fault}
+use Rattle.version_chains.specs.declared.fault.AppendFault.{AppendFault}
+use Rattle.trace_lines.specs.Fields.{number_at, flag_at, text_at, optional_text_at, strings_at}
+use Rattle.trace_lines.specs.Reading.{◌>>=◌}
+use Rattle.trace_lines.specs.Causes.{needed, text_cause, token_cause, namespace_cause}
+use Rattle.trace_lines.specs.Texts.{tuple_of_text, tuples_of, goal_of, some_token, token_of, label_at}
+use Rattle.trace_lines.specs.Plain.{is_plain}
+use Rattle.trace_lines.specs.Values.{EntryValue, TraceValue}
+use Rattle.trace_lines.specs.Traces.{is_begun, with_declarations, namespace_line, commit_of, changes_of, appended_at, with_commit, are_declared, commit_line, check_of, is_declared, with_entry, check_line, of_kind, value_line, of_json, json_line, is_blank, taken_line}
+use Rattle.trace_lines.specs.declared.cause.Cause.{Cause}
+use Rattle.trace_lines.specs.declared.cause.Cause.TheVariants as causes
+
+abbrev pub IsOfLine : Cause → Type 0
+IsOfLine causes.Read = ⊥
+IsOfLine causes.TooLong = ⊥
+IsOfLine causes.NotJson = Unit {0}
+IsOfLine causes.Kind = Unit {0}
+IsOfLine causes.Shape = Unit {0}
+IsOfLine (causes.Text e) = Unit {0}
+IsOfLine (causes.Token e) = Unit {0}
+IsOfLine (causes.Namespace e) = Unit {0}
+IsOfLine causes.Late = Unit {0}
+IsOfLine causes.Unknown = Unit {0}
+IsOfLine (causes.Strata e) = Unit {0}
+IsOfLine (causes.Commit e) = Unit {0}
+IsOfLine causes.RepeatedVersion = Unit {0}
+IsOfLine causes.OutOfMemory = Unit {0}
+
+abbrev OfLine : {A : Type 0} → Result A Cause → Type 0
+OfLine (Ok x) = Unit {0}
+OfLine (Err c) = IsOfLine c
+
+bound : {A B : Type 0} (r : Result A Cause) (f : A → Result B Cause) → OfLine r → ((x : A) → OfLine (f x)) → OfLine (r >>= f)
+bound (Ok x) f h k = k x
+bound (Err c) f h k = h
+
+either : {A : Type 0} (b : Bool) (r s : Result A Cause) → OfLine r → OfLine s → OfLine (cond b r s)
+either true r s h k = h
+either false r s h k = k
+
+of_needed : {A : Type 0} (o : Option A) → OfLine (needed o)
+of_needed (Some x) = tt
+of_needed None = tt
+
+of_text : {A : Type 0} (r : Result A TupleFault) → OfLine (text_cause r)
+of_text (Ok x) = tt
+of_text (Err e) = tt
+
+of_some_token : (r : Result Token ZookieFault) → OfLine (some_token (token_cause r))
+of_some_token (Ok x) = tt
+of_some_token (Err e) = tt
+
+of_token : (o : Option (List ℕ)) → OfLine (token_of o)
+of_token None = tt
+of_token (Some text) = of_some_token (token_at text)
+
+of_rules : (r : Result (List Declaration) RulesFault) → OfLine (namespace_cause r)
+of_rules (Ok x) = tt
+of_rules (Err e) = tt
+
+of_tuples : (items : Items) → OfLine (tuples_of items)
+of_tuples no_items = tt
+of_tuples (item d ds) =
+    bound (tuple_of_text (as_str d)) _ (bound (needed (as_str d)) (λ t. text_cause (tuple_at t)) (of_needed (as_str d)) (λ t. of_text (tuple_at t)))
+    (λ t. bound (tuples_of ds) _ (of_tuples ds) (λ ts. tt))
+
+of_namespace_line : (t : TraceValue) (d : Data) → OfLine (namespace_line t d)
+unfolding namespace_line
+of_namespace_line t d =
+    either (is_plain d) _ _ (bound (namespace_cause (rules_add t.declarations d)) (with_declarations t) (of_rules (rules_add t.declarations d))
+    (λ ds. either (is_begun t) _ _ tt tt)) tt
+
+of_commit : (d : Data) → OfLine (commit_of d)
+unfolding commit_of
+of_commit d =
+    bound (needed (number_at (codes "at") d)) _ (of_needed _)
+    (λ at. bound (needed (strings_at (codes "add") d)) _ (of_needed _)
+    (λ add. bound (needed (strings_at (codes "remove") d)) _ (of_needed _)
+    (λ remove. bound (tuples_of add) _ (of_tuples add)
+    (λ adds. bound (tuples_of remove) _ (of_tuples remove) (λ removes. tt)))))
+
+of_appended : (n : ℕ) (t : TraceValue) (c : Commit) (o : Option AppendFault) → OfLine (appended_at n t c o)
+of_appended n t c None = tt
+of_appended n t c (Some e) = tt
+
+of_with_commit : (n : ℕ) (t : TraceValue) (c : Commit) → OfLine (with_commit n t c)
+unfolding with_commit
+of_with_commit n t c =
+    either (are_declared t.declarations c.adds && are_declared t.declarations c.removes) _ _ (of_appended n t c (append_fault (changes_of t) c.at c.adds c.removes)) tt
+
+of_check : (n before : ℕ) (d : Data) → OfLine (check_of n before d)
+unfolding check_of
+of_check n before d =
+    bound (needed (text_at (codes "goal") d)) _ (of_needed _)
+    (λ text. bound (needed (number_at (codes "snapshot") d)) _ (of_needed _)
+    (λ snapshot. bound (needed (flag_at (codes "reply") d)) _ (of_needed _)
+    (λ reply. bound (needed (optional_text_at (codes "zookie") d)) _ (of_needed _)
+    (λ zookie. bound (needed (label_at d)) _ (of_needed _)
+    (λ version. bound (goal_of text) _ (of_text (fact_at text))
+    (λ goal. bound (token_of zookie) _ (of_token zookie) (λ token. tt)))))))
+
+of_with_entry : (t : TraceValue) (e : EntryValue) → OfLine (with_entry t e)
+unfolding with_entry
+of_with_entry t e = either (is_declared t.declarations e.goal.set) _ _ tt tt
+
+of_a_kind : (n : ℕ) (t : TraceValue) (d : Data) (kind : Option (List ℕ)) → OfLine (of_kind n t d kind)
+of_a_kind n t d None = tt
+of_a_kind n t d (Some kind) =
+    either (bytes_eq kind (codes "namespace")) _ _ (of_namespace_line t d)
+    (either (bytes_eq kind (codes "commit")) _ _ (bound (commit_of d) (with_commit n t) (of_commit d) (of_with_commit n t))
+    (either (bytes_eq kind (codes "check")) _ _ (bound (check_of n (length t.commits) d) (with_entry t) (of_check n (length t.commits) d) (of_with_entry t)) tt))
+
+of_value_line : (n : ℕ) (t : TraceValue) (d : Data) → OfLine (value_line n t d)
+unfolding value_line
+of_value_line n t d = of_a_kind n t d (option_and_then as_str (get (codes "kind") d))
+
+of_a_json : (n : ℕ) (t : TraceValue) (o : Option Data) → OfLine (of_json n t o)
+of_a_json n t None = tt
+of_a_json n t (Some d) = of_value_line n t d
+
+of_json_line : (n : ℕ) (t : TraceValue) (line : List ℕ) → OfLine (json_line n t line)
+unfolding json_line
+of_json_line n t line = either (is_utf8 line) _ _ (of_a_json n t (read line)) tt
+
+of_taken_line : (n : ℕ) (t : TraceValue) (line : List ℕ) → OfLine (taken_line n t line)
+of_taken_line n t line = either (is_blank line) _ _ tt (of_json_line n t line)
+
+pub refused_by_line : (n : ℕ) (t : TraceValue) (line : List ℕ) (c : Cause) → taken_line n t line ≡ Err c → IsOfLine c
+refused_by_line n t line c e = subst (λ (r : Result TraceValue Cause). OfLine r) e (of_taken_line n t line)

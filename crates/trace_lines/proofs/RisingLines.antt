@@ -1,0 +1,144 @@
+-- Entries stand on lines that rise.
+use Rattle.std.proofs.Common.{◌≡◌, ℕ, ◌+◌, ◌-◌, ◌<◌, ◌≤◌, ◌&&◌, ◌||◌, Bool, true, false, cond, List, [], ◌∷◌, ◌++◌, length, map, get_or, Option, Some, None, Result, Ok, Err, arith, refl, sym, ap, subst, ◌∙◌, inl, inr}
+use Rattle.std.specs.Prelude.{codes, bytes_eq, option_and_then, slice_get}
+use Rattle.std.specs.List.Sorted.{IsStrictlyIncreasing}
+use Rattle.std.specs.Str.{is_utf8}
+use Rattle.std.proofs.Math.ListN.{get_or-append}
+use Rattle.std.proofs.Math.Seq.{get_or-append_seam}
+use Rattle.std.proofs.lemmas.Bool.{cases_lt}
+use Rattle.std.proofs.lemmas.List.{length-append, map-append}
+use Rattle.std.proofs.lemmas.Option.{slice_get-get_or}
+use Rattle.serde_json.specs.Data.{Data}
+use Rattle.serde_json.specs.Find.{get, as_str}
+use Rattle.serde_json.specs.Read.{read}
+use Rattle.namespaces.specs.Declaration.{Declaration}
+use Rattle.namespaces.specs.Adding.{rules_add}
+use Rattle.version_chains.specs.Commits.{Commit}
+use Rattle.version_chains.specs.Appends.{append_fault}
+use Rattle.version_chains.specs.declared.fault.AppendFault.{AppendFault}
+use Rattle.trace_lines.specs.Fields.{number_at, flag_at, text_at, optional_text_at}
+use Rattle.trace_lines.specs.Reading.{◌>>=◌}
+use Rattle.trace_lines.specs.Causes.{needed, namespace_cause}
+use Rattle.trace_lines.specs.Texts.{goal_of, token_of, label_at}
+use Rattle.trace_lines.specs.Plain.{is_plain}
+use Rattle.trace_lines.specs.Values.{EntryValue, entry_value, TraceValue, entry_lines, after_last, next_line}
+use Rattle.trace_lines.specs.declared.entry.Entry.{Entry}
+use Rattle.trace_lines.specs.Traces.{is_begun, with_declarations, namespace_line, commit_of, changes_of, appended_at, with_commit, are_declared, check_of, is_declared, with_entry, of_kind, value_line, of_json, json_line, is_blank, taken_line}
+use Rattle.trace_lines.specs.declared.cause.Cause.{Cause}
+
+last_of : (x : ℕ) (xs : List ℕ) → after_last (x ∷ xs) ≡ get_or (x ∷ xs) (length xs) 0 + 1
+last_of x xs =
+    let place : length (x ∷ xs) - 1 ≡ length xs = omega arith in
+    rw (place, slice_get-get_or (x ∷ xs) (length xs) 0 (omega arith)) refl
+
+-- the next number goes behind numbers that rise
+pub rising_push : (ns : List ℕ) (n : ℕ) → IsStrictlyIncreasing ns → after_last ns ≤ n → IsStrictlyIncreasing (ns ++ n ∷ [])
+rising_push [] n up le k h = absurd (omega arith)
+rising_push (x ∷ xs) n up le k h =
+    let len = length-append (x ∷ xs) (n ∷ []) in
+    elim (cases_lt (k + 1) (length (x ∷ xs))) [
+      | inl lt ↦ rw (get_or-append (x ∷ xs) (n ∷ []) 0 k (omega arith), get_or-append (x ∷ xs) (n ∷ []) 0 (k + 1) lt) (up k lt)
+      | inr ge ↦
+          let end : k + 1 ≡ length (x ∷ xs) = omega (arith, len) in
+          let here : k ≡ length xs = omega (arith, end) in
+          let last = last_of x xs in
+          rw (get_or-append (x ∷ xs) (n ∷ []) 0 k (omega (arith, end)), end, get_or-append_seam (x ∷ xs) n [] 0, here) (omega (arith, last, le))
+    ]
+
+after_push : (ns : List ℕ) (n : ℕ) → after_last (ns ++ n ∷ []) ≡ n + 1
+after_push ns n =
+    let place : length (ns ++ n ∷ []) - 1 ≡ length ns = omega (arith, length-append ns (n ∷ [])) in
+    rw (place, slice_get-get_or (ns ++ n ∷ []) (length ns) 0 (omega (arith, length-append ns (n ∷ []))), get_or-append_seam ns n [] 0) refl
+
+-- ---- what each line leaves
+
+abbrev OkHas : {A : Type 0} → (A → Type 0) → Result A Cause → Type 0
+OkHas P (Ok x) = P x
+OkHas P (Err c) = Unit {0}
+
+passes : {A B : Type 0} (P : B → Type 0) (r : Result A Cause) (f : A → Result B Cause) → ((x : A) → OkHas P (f x)) → OkHas P (r >>= f)
+passes P (Ok x) f k = k x
+passes P (Err c) f k = tt
+
+passes_with : {A B : Type 0} (Q : A → Type 0) (P : B → Type 0) (r : Result A Cause) (f : A → Result B Cause) → OkHas Q r → ((x : A) → Q x → OkHas P (f x)) → OkHas P (r >>= f)
+passes_with Q P (Ok x) f h k = k x h
+passes_with Q P (Err c) f h k = tt
+
+either : {A : Type 0} (P : A → Type 0) (b : Bool) (r s : Result A Cause) → OkHas P r → OkHas P s → OkHas P (cond b r s)
+either P true r s h k = h
+either P false r s h k = k
+
+abbrev Fits : ℕ → TraceValue → Type 0
+Fits n t = next_line t ≤ n + 1
+
+keeps_entries : (n : ℕ) (t : TraceValue) → next_line t ≤ n → Fits n t
+keeps_entries n t le = omega (arith, le)
+
+fits_namespace : (n : ℕ) (t : TraceValue) (d : Data) → next_line t ≤ n → OkHas (Fits n) (namespace_line t d)
+unfolding namespace_line
+fits_namespace n t d le =
+    either (Fits n) (is_plain d) _ _ (passes (Fits n) (namespace_cause (rules_add t.declarations d)) (with_declarations t)
+    (λ ds. either (Fits n) (is_begun t) _ (Ok (record t { declarations = ds })) tt (keeps_entries n t le))) tt
+
+fits_appended : (n : ℕ) (t : TraceValue) (c : Commit) (o : Option AppendFault) → next_line t ≤ n → OkHas (Fits n) (appended_at n t c o)
+fits_appended n t c None le = keeps_entries n t le
+fits_appended n t c (Some e) le = tt
+
+fits_commit : (n : ℕ) (t : TraceValue) (c : Commit) → next_line t ≤ n → OkHas (Fits n) (with_commit n t c)
+unfolding with_commit
+fits_commit n t c le =
+    either (Fits n) (are_declared t.declarations c.adds && are_declared t.declarations c.removes) _ _ (fits_appended n t c (append_fault (changes_of t) c.at c.adds c.removes) le) tt
+
+on_line : (n before : ℕ) (d : Data) → OkHas (λ (e : EntryValue). e.line ≡ n) (check_of n before d)
+unfolding check_of
+on_line n before d =
+    passes _ (needed (text_at (codes "goal") d)) _
+    (λ text. passes _ (needed (number_at (codes "snapshot") d)) _
+    (λ snapshot. passes _ (needed (flag_at (codes "reply") d)) _
+    (λ reply. passes _ (needed (optional_text_at (codes "zookie") d)) _
+    (λ zookie. passes _ (needed (label_at d)) _
+    (λ version. passes _ (goal_of text) _
+    (λ goal. passes _ (token_of zookie) _ (λ token. refl)))))))
+
+fits_entry : (n : ℕ) (t : TraceValue) (e : EntryValue) → e.line ≡ n → OkHas (Fits n) (with_entry t e)
+unfolding with_entry
+fits_entry n t e line =
+    either (Fits n) (is_declared t.declarations e.goal.set) (Ok (record t { entries = t.entries ++ e ∷ [] })) _
+    (let lines : entry_lines (t.entries ++ e ∷ []) ≡ entry_lines t.entries ++ e.line ∷ [] = map-append (λ (x : EntryValue). x.line) t.entries (e ∷ []) in
+    let after = after_push (entry_lines t.entries) e.line in
+    rw lines (omega (arith, after, line)))
+    tt
+
+fits_kind : (n : ℕ) (t : TraceValue) (d : Data) (kind : Option (List ℕ)) → next_line t ≤ n → OkHas (Fits n) (of_kind n t d kind)
+fits_kind n t d None le = tt
+fits_kind n t d (Some kind) le =
+    either (Fits n) (bytes_eq kind (codes "namespace")) _ _ (fits_namespace n t d le)
+    (either (Fits n) (bytes_eq kind (codes "commit")) _ _ (passes (Fits n) (commit_of d) (with_commit n t) (λ c. fits_commit n t c le))
+    (either (Fits n) (bytes_eq kind (codes "check")) _ _ (passes_with (λ (e : EntryValue). e.line ≡ n) (Fits n) (check_of n (length t.commits) d) (with_entry t) (on_line n (length t.commits) d) (fits_entry n t)) tt))
+
+fits_value : (n : ℕ) (t : TraceValue) (d : Data) → next_line t ≤ n → OkHas (Fits n) (value_line n t d)
+unfolding value_line
+fits_value n t d le = fits_kind n t d (option_and_then as_str (get (codes "kind") d)) le
+
+fits_json : (n : ℕ) (t : TraceValue) (o : Option Data) → next_line t ≤ n → OkHas (Fits n) (of_json n t o)
+fits_json n t None le = tt
+fits_json n t (Some d) le = fits_value n t d le
+
+fits_line : (n : ℕ) (t : TraceValue) (line : List ℕ) → next_line t ≤ n → OkHas (Fits n) (json_line n t line)
+unfolding json_line
+fits_line n t line le = either (Fits n) (is_utf8 line) _ _ (fits_json n t (read line) le) tt
+
+-- a line leaves room for the next
+pub line_further : (n : ℕ) (t u : TraceValue) (line : List ℕ) → next_line t ≤ n → json_line n t line ≡ Ok u → next_line u ≤ n + 1
+line_further n t u line le e = subst (λ (r : Result TraceValue Cause). OkHas (Fits n) r) e (fits_line n t line le)
+
+pub checked_line : (n before : ℕ) (d : Data) (e : EntryValue) → check_of n before d ≡ Ok e → e.line ≡ n
+checked_line n before d e h = subst (λ (r : Result EntryValue Cause). OkHas (λ (x : EntryValue). x.line ≡ n) r) h (on_line n before d)
+
+-- the lines go on to rise with a further entry
+pub entries_rise : (es new : List Entry) (e : Entry) (n : ℕ) → IsStrictlyIncreasing (entry_lines (map entry_value es)) → after_last (entry_lines (map entry_value es)) ≤ n → e.line ≡ n
+    → new ≡ es ++ e ∷ [] → IsStrictlyIncreasing (entry_lines (map entry_value new))
+entries_rise es new e n up le line is =
+    let values : map entry_value (es ++ e ∷ []) ≡ map entry_value es ++ entry_value e ∷ [] = map-append entry_value es (e ∷ []) in
+    let lines : entry_lines (map entry_value es ++ entry_value e ∷ []) ≡ entry_lines (map entry_value es) ++ e.line ∷ [] = map-append (λ (x : EntryValue). x.line) (map entry_value es) (entry_value e ∷ []) in
+    rw (is, values, lines, line) (rising_push (entry_lines (map entry_value es)) n up le)

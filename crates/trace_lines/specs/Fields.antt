@@ -1,0 +1,52 @@
+-- The fields of an object of JSON, by their types. None is a wrong shape.
+use Rattle.std.specs.Prelude.{ℕ, Bool, true, false, List, ◌&&◌, Option, Some, None, option_and_then, if◌then◌else◌}
+use Rattle.serde_json.specs.Data.{Data, null, boolean, number, string, array, object, Items, no_items, item}
+use Rattle.serde_json.specs.Find.{get, as_number, as_u64, as_bool, as_str}
+
+abbrev pub number_at : List ℕ → Data → Option ℕ
+number_at name d = option_and_then as_u64 (option_and_then as_number (get name d))
+
+abbrev pub flag_at : List ℕ → Data → Option Bool
+flag_at name d = option_and_then as_bool (get name d)
+
+abbrev pub text_at : List ℕ → Data → Option (List ℕ)
+text_at name d = option_and_then as_str (get name d)
+
+abbrev pub if_there : {A : Type 0} → A → (Data → Option A) → Option Data → Option A
+if_there absent f None = Some absent
+if_there absent f (Some d) = f d
+
+abbrev pub text_or_null : Data → Option (Option (List ℕ))
+text_or_null null = Some None
+text_or_null (boolean b) = None
+text_or_null (number n) = None
+text_or_null (string s) = Some (Some s)
+text_or_null (array ds) = None
+text_or_null (object ms) = None
+
+unfoldable pub optional_text_at : List ℕ → Data → Option (Option (List ℕ))
+optional_text_at name d = if_there None text_or_null (get name d)
+
+abbrev pub is_string : Data → Bool
+is_string null = false
+is_string (boolean b) = false
+is_string (number n) = false
+is_string (string s) = true
+is_string (array ds) = false
+is_string (object ms) = false
+
+abbrev pub are_strings : Items → Bool
+are_strings no_items = true
+are_strings (item d ds) = is_string d && are_strings ds
+
+abbrev pub strings_or_null : Data → Option Items
+strings_or_null null = Some no_items
+strings_or_null (boolean b) = None
+strings_or_null (number n) = None
+strings_or_null (string s) = None
+strings_or_null (array ds) = if are_strings ds then Some ds else None
+strings_or_null (object ms) = None
+
+-- a list of texts
+unfoldable pub strings_at : List ℕ → Data → Option Items
+strings_at name d = if_there no_items strings_or_null (get name d)

@@ -1,0 +1,11 @@
+pub mod Causes
+pub mod Counts
+pub mod Fields
+pub mod Lines
+pub mod Plain
+pub mod Reading
+pub mod Results
+pub mod Texts
+pub mod TraceCode
+pub mod Traces
+pub mod Values

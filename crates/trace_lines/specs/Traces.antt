@@ -1,0 +1,143 @@
+-- What a line makes of a trace, and the trace of an input.
+use Rattle.std.specs.Prelude.{ℕ, ◌-◌, ◌^◌, ◌==◌, ◌&&◌, ◌||◌, not, Bool, true, List, [], ◌∷◌, ◌++◌, length, Option, None, Some, is_some, option_and_then, Result, Ok, Err, codes, bytes_eq, if◌then◌else◌}
+use Rattle.std.specs.List.{list_all}
+use Rattle.std.specs.Str.{is_utf8}
+use Rattle.serde_json.specs.Data.{Data}
+use Rattle.serde_json.specs.Find.{get, as_str}
+use Rattle.serde_json.specs.Read.{read}
+use Rattle.tuple_text.specs.Sets.{SetValue}
+use Rattle.tuple_text.specs.Tuples.{TupleValue}
+use Rattle.namespaces.specs.Declaration.{Declaration}
+use Rattle.namespaces.specs.Lookup.{relation_of}
+use Rattle.namespaces.specs.Adding.{rules_add}
+use Rattle.version_chains.specs.Commits.{Commit, Changes}
+use Rattle.version_chains.specs.Appends.{append_fault}
+use Rattle.version_chains.specs.declared.fault.AppendFault.{AppendFault}
+use Rattle.trace_lines.specs.Fields.{number_at, flag_at, text_at, optional_text_at, strings_at}
+use Rattle.trace_lines.specs.Reading.{◌>>=◌, read_all}
+use Rattle.trace_lines.specs.Causes.{needed, namespace_cause}
+use Rattle.trace_lines.specs.Texts.{tuples_of, goal_of, token_of, label_at}
+use Rattle.trace_lines.specs.Plain.{is_plain}
+use Rattle.trace_lines.specs.Values.{EntryValue, TraceValue, empty_trace}
+use Rattle.trace_lines.specs.declared.entry.EntryKind.TheVariants.{Check}
+use Rattle.trace_lines.specs.declared.cause.Cause.{Cause}
+use Rattle.trace_lines.specs.declared.cause.Cause.TheVariants as causes
+use Rattle.trace_lines.specs.declared.cause.TraceFault.{TraceFault}
+use Rattle.trace_lines.specs.declared.lines.InputFault.TheVariants as inputs
+use Rattle.trace_lines.specs.declared.reading.Stop.{Stop}
+use Rattle.trace_lines.specs.declared.reading.Stop.TheVariants.{Input, Line}
+use Rattle.trace_lines.specs.declared.reading.LineFault.{LineFault}
+use Rattle.namespaces.specs.declared.fault.RulesFault.TheVariants.{Shape}
+
+-- declared on an earlier line
+abbrev pub is_declared : List Declaration → SetValue → Bool
+is_declared ds s = is_some (relation_of s.namespace s.relation ds)
+
+abbrev pub are_declared : List Declaration → List TupleValue → Bool
+are_declared ds ts = list_all (λ t. is_declared ds t.set) ts
+
+-- ---- namespace lines
+
+-- a commit or an entry stands on an earlier line
+abbrev pub is_begun : TraceValue → Bool
+is_begun t = not (length t.commit_lines == 0) || not (length t.entries == 0)
+
+abbrev pub with_declarations : TraceValue → List Declaration → Result TraceValue Cause
+with_declarations t ds = if is_begun t then Err causes.Late else Ok (record t { declarations = ds })
+
+unfoldable pub namespace_line : TraceValue → Data → Result TraceValue Cause
+namespace_line t d = if is_plain d then (namespace_cause (rules_add t.declarations d) >>= with_declarations t) else Err (causes.Namespace Shape)
+
+-- ---- commit lines
+
+unfoldable pub commit_of : Data → Result Commit Cause
+commit_of d = do
+  at ← needed (number_at (codes "at") d)
+  add ← needed (strings_at (codes "add") d)
+  remove ← needed (strings_at (codes "remove") d)
+  adds ← tuples_of add
+  removes ← tuples_of remove
+  Ok (record { at = at; adds = adds; removes = removes })
+
+-- the store takes at most 2^32 - 1 touches
+abbrev pub changes_of : TraceValue → Changes
+changes_of t = record { limit = 2 ^ 32 - 1; commits = t.commits }
+
+abbrev pub appended_at : ℕ → TraceValue → Commit → Option AppendFault → Result TraceValue Cause
+appended_at n t c None = Ok (record t { commits = t.commits ++ c ∷ []; commit_lines = t.commit_lines ++ n ∷ [] })
+appended_at n t c (Some e) = Err (causes.Commit e)
+
+unfoldable pub with_commit : ℕ → TraceValue → Commit → Result TraceValue Cause
+with_commit n t c =
+    if are_declared t.declarations c.adds && are_declared t.declarations c.removes
+    then appended_at n t c (append_fault (changes_of t) c.at c.adds c.removes)
+    else Err causes.Unknown
+
+abbrev pub commit_line : ℕ → TraceValue → Data → Result TraceValue Cause
+commit_line n t d = commit_of d >>= with_commit n t
+
+-- ---- check lines
+
+unfoldable pub check_of : ℕ → ℕ → Data → Result EntryValue Cause
+check_of n before d = do
+  text ← needed (text_at (codes "goal") d)
+  snapshot ← needed (number_at (codes "snapshot") d)
+  reply ← needed (flag_at (codes "reply") d)
+  zookie ← needed (optional_text_at (codes "zookie") d)
+  version ← needed (label_at d)
+  goal ← goal_of text
+  token ← token_of zookie
+  Ok (record { kind = Check; line = n; goal = goal; snapshot = snapshot; reply = reply; zookie = token; version = version; before = before })
+
+unfoldable pub with_entry : TraceValue → EntryValue → Result TraceValue Cause
+with_entry t e = if is_declared t.declarations e.goal.set then Ok (record t { entries = t.entries ++ e ∷ [] }) else Err causes.Unknown
+
+abbrev pub check_line : ℕ → TraceValue → Data → Result TraceValue Cause
+check_line n t d = check_of n (length t.commits) d >>= with_entry t
+
+-- ---- lines
+
+abbrev pub is_blank_byte : ℕ → Bool
+is_blank_byte b = (b == 32) || (b == 9) || (b == 13)
+
+-- spaces, tabs and carriage returns alone
+abbrev pub is_blank : List ℕ → Bool
+is_blank line = list_all is_blank_byte line
+
+abbrev pub of_kind : ℕ → TraceValue → Data → Option (List ℕ) → Result TraceValue Cause
+of_kind n t d None = Err causes.Kind
+of_kind n t d (Some kind) =
+    if bytes_eq kind (codes "namespace") then namespace_line t d
+    else (if bytes_eq kind (codes "commit") then commit_line n t d
+    else (if bytes_eq kind (codes "check") then check_line n t d
+    else Err causes.Kind))
+
+unfoldable pub value_line : ℕ → TraceValue → Data → Result TraceValue Cause
+value_line n t d = of_kind n t d (option_and_then as_str (get (codes "kind") d))
+
+abbrev pub of_json : ℕ → TraceValue → Option Data → Result TraceValue Cause
+of_json n t None = Err causes.NotJson
+of_json n t (Some d) = value_line n t d
+
+unfoldable pub json_line : ℕ → TraceValue → List ℕ → Result TraceValue Cause
+json_line n t line = if is_utf8 line then of_json n t (read line) else Err causes.NotJson
+
+-- what line number n makes of a trace
+abbrev pub taken_line : ℕ → TraceValue → List ℕ → Result TraceValue Cause
+taken_line n t line = if is_blank line then Ok t else json_line n t line
+
+-- ---- the trace
+
+abbrev pub cause_of : Stop Cause → Cause
+cause_of (Line cause) = cause
+cause_of (Input inputs.Read) = causes.Read
+cause_of (Input inputs.TooLong) = causes.TooLong
+cause_of (Input inputs.OutOfMemory) = causes.OutOfMemory
+
+abbrev pub faulted : Result TraceValue (LineFault Cause) → Result TraceValue TraceFault
+faulted (Ok t) = Ok t
+faulted (Err e) = Err (record { line = e.line; cause = cause_of e.stop })
+
+-- The trace that an input says, or its first fault. Whole says that the input ended, and did not fail.
+abbrev pub trace_of : Bool → List ℕ → Result TraceValue TraceFault
+trace_of whole input = faulted (read_all taken_line whole empty_trace input)

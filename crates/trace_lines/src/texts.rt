@@ -1,0 +1,89 @@
+//! The texts in a line of a trace.
+
+ghost use Rattle.std.specs.Prelude.{◌≡◌, option_map, string_bytes, Ok};
+ghost use Rattle.serde_json.specs.View.{view, items_view};
+ghost use Rattle.trace_lines.specs.Causes.{Gives};
+ghost use Rattle.trace_lines.specs.Texts.{tuple_of_text, tuples_of, goal_of, token_of, is_label, label_at};
+
+use crate::cause::Cause;
+use crate::fields::optional_text_at;
+use serde_json::Value;
+use std::alloc::Global;
+use tuple_text::{Fact, Tuple, TupleFault, parse_fact, parse_tuple};
+use zookie::Zookie;
+
+fn tuple_of_text(alloc: Global, text: Option<&str>) -> Result<Tuple, Cause>
+    ensures { Gives (λ t. t) result (tuple_of_text (option_map (λ s. s.now) text.entry)) }
+{
+    let Some(text) = text else {
+        return Err(Cause::Shape);
+    };
+    match parse_tuple(alloc, text) {
+        Ok(tuple) => Ok(tuple),
+        Err(TupleFault::OutOfMemory) => Err(Cause::OutOfMemory),
+        Err(fault) => Err(Cause::Text(fault)),
+    }
+}
+
+/// The tuples of a list of texts.
+pub(crate) fn tuples_of(alloc: Global, items: &[Value]) -> Result<Vec<Tuple>, Cause>
+    ensures { Gives (λ v. v.items) result (tuples_of (items_view items.now)) }
+{
+    let mut tuples = Vec::new(alloc);
+    for item in items {
+        tuples.push(tuple_of_text(alloc, item.as_str())?)?;
+    }
+    Ok(tuples)
+}
+
+/// The goal that a text is.
+pub(crate) fn goal_of(alloc: Global, text: &str) -> Result<Fact, Cause>
+    ensures { Gives (λ f. f) result (goal_of text.now) }
+{
+    match parse_fact(alloc, text) {
+        Ok(fact) => Ok(fact),
+        Err(TupleFault::OutOfMemory) => Err(Cause::OutOfMemory),
+        Err(fault) => Err(Cause::Text(fault)),
+    }
+}
+
+/// The zookie that a text is, where there is one.
+pub(crate) fn token_of(text: Option<&str>) -> Result<Option<Zookie>, Cause>
+    ensures { Gives (λ z. z) result (token_of (option_map (λ s. s.now) text.entry)) }
+{
+    let Some(text) = text else {
+        return Ok(None);
+    };
+    match Zookie::parse(text) {
+        Ok(zookie) => Ok(Some(zookie)),
+        Err(fault) => Err(Cause::Token(fault)),
+    }
+}
+
+fn is_label(text: &str) -> bool
+    ensures { result ≡ is_label text.now }
+{
+    1 <= text.len() && text.len() <= 128
+}
+
+/// The label of a version, where there is one; None where it is of another shape.
+#[tactic(auto, unfolding(crate::specs::Texts::label_at))]
+pub(crate) fn label_at(value: &Value) -> Option<Option<&str>>
+    ensures { option_map (option_map (λ s. s.now)) result ≡ label_at (view value.now) }
+{
+    match optional_text_at(value, "version") {
+        None => None,
+        Some(None) => Some(None),
+        Some(Some(text)) => if is_label(text) { Some(Some(text)) } else { None },
+    }
+}
+
+/// A label of its own.
+pub(crate) fn label_of(alloc: Global, text: Option<&str>) -> Result<Option<String>, Cause>
+    ensures { Gives (option_map (λ s. string_bytes s)) result (Ok (option_map (λ s. s.now) text.entry)) }
+{
+    match text {
+        None => Ok(None),
+        Some(text) => Ok(Some(String::from_str(alloc, text)?)),
+    }
+}

@@ -1,0 +1,27 @@
+//! The tuple store at any timestamp: which relation tuples stand at a given moment, answered from the list of
+//! commits that added and removed them (Zanzibar, sections 2.1 and 3.1.1).
+//!
+//! Contracts see [`Chains`] as the list of its commits and the number of touches that it may hold. A touch is
+//! a timestamp, a tuple, and whether the tuple is added or removed; the changelog is the list of touches of all
+//! commits in order; a tuple is stored at a timestamp where the last of its touches up to then adds it.
+//!
+//! Callers may rely on this: timestamps rise strictly from commit to commit, no commit touches a tuple twice,
+//! [`Chains::append`] adds one commit at the end or changes nothing, each question is answered by those
+//! definitions alone, and none of the questions takes memory. [`Users`] and [`History`] are iterators whose
+//! model is the list of what is left to give; `proofs.CallerLemmas` says what a loop over them shows.
+#![tactic(auto)]
+
+mod chains;
+mod fault;
+mod history;
+pub mod laws;
+mod repeats;
+mod rows;
+#[cfg(test)]
+mod tests;
+mod users;
+
+pub use chains::Chains;
+pub use fault::AppendFault;
+pub use history::History;
+pub use users::Users;
