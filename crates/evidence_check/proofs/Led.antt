@@ -1,5 +1,5 @@
 -- A stored userset that is known to hold the user, found among the users or among the steps.
-use Rattle.std.proofs.Common.{◌≡◌, ℕ, Bool, true, false, ◌&&◌, ◌||◌, eqb, List, [], ◌∷◌, ◌↔◌, ◌⊎◌, inl, inr, refl, sym, ap, subst, ◌∙◌}
+use Rattle.std.proofs.Common.{◌≡◌, ℕ, Bool, true, false, List, [], ◌∷◌, inl, inr, refl, sym, ap, subst}
 use Rattle.std.specs.Prelude.{IsTrue, nat_eq}
 use Rattle.std.specs.List.{list_any}
 use Rattle.std.proofs.lemmas.Bool.{and_parts, and_from, or_cases, or_left, or_right, eqb-true, eq-eqb}
@@ -7,7 +7,7 @@ use Rattle.tuple_text.specs.Sets.{SetValue}
 use Rattle.tuple_text.specs.Tuples.{FactValue, tuple_of, fact_of}
 use Rattle.tuple_text.specs.Order.{user_eq, fact_eq}
 use Rattle.tuple_text.specs.declared.users.User.{User}
-use Rattle.tuple_text.specs.declared.users.User.TheVariants.{Id, Set}
+use Rattle.tuple_text.specs.declared.users.User.TheVariants.{Set}
 use Rattle.tuple_text.proofs.ValueLemmas.{fact_eq-same, fact_eq-itself}
 use Rattle.version_chains.specs.Commits.{Commit, is_stored}
 use Rattle.version_chains.proofs.CallerLemmas.{some_stored_set}

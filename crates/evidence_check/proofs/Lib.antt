@@ -4,4 +4,5 @@ pub mod LineCauses
 pub mod Places
 pub mod ReadFaults
 pub mod Shown
+pub mod Sound
 pub mod StepLoops

@@ -1,8 +1,8 @@
 -- The place of a number among numbers that rise.
-use Rattle.std.proofs.Common.{◌≡◌, ◌≢◌, ℕ, zero, suc, ◌+◌, ◌-◌, ◌<◌, ◌≤◌, Bool, true, false, cond, ltb, eqb, List, length, get_or, Option, Some, None, Result, Ok, Err, arith, refl, sym, ap, ◌∙◌, inl, inr}
+use Rattle.std.proofs.Common.{◌≡◌, ℕ, zero, suc, ◌+◌, ◌-◌, ◌<◌, ◌≤◌, eqb, List, length, get_or, Result, Ok, Err, arith, refl, inl, inr}
 use Rattle.std.specs.Prelude.{MatchResult}
 use Rattle.std.specs.Result.{result_ok}
-use Rattle.std.specs.List.{position, position_or_len}
+use Rattle.std.specs.List.{position_or_len}
 use Rattle.std.specs.List.Sorted.{IsStrictlyIncreasing}
 use Rattle.std.proofs.lemmas.Bool.{lt-ltb, le-ltb, ne_eqb, eq-eqb, cases_lt}
 use Rattle.std.proofs.lemmas.List.Sums.{position_or_len_is}
@@ -36,16 +36,16 @@ pub found_place : (xs : List ℕ) → IsStrictlyIncreasing xs → (x : ℕ) (r :
     → result_ok r ≡ place_of x xs
 found_place xs up x (Ok i) h =
     let at : position_or_len (λ l. eqb l x) xs ≡ i =
-        position_or_len_is (λ l. eqb l x) xs i 0 (let lt = h.0 in omega (arith, lt))
-        (λ k lt. ne_eqb _ _ (λ e. let r = rises xs up k i lt h.0 in let same = h.1 in omega (arith, r, e, same)))
-        (λ lt. eq-eqb _ _ h.1) in
+    position_or_len_is (λ l. eqb l x) xs i 0 (let lt = h.0 in omega (arith, lt))
+    (λ k lt. ne_eqb _ _ (λ e. let r = rises xs up k i lt h.0 in let same = h.1 in omega (arith, r, e, same)))
+    (λ lt. eq-eqb _ _ h.1) in
     rw (at, lt-ltb _ _ h.0) refl
 found_place xs up x (Err i) h =
     let at : position_or_len (λ l. eqb l x) xs ≡ length xs =
-        position_or_len_is (λ l. eqb l x) xs (length xs) 0 (omega arith)
-        (λ k lt. ne_eqb _ _ (λ e. elim (cases_lt k i) [
-          | inl below ↦ let b = h.1 k below in omega (arith, b, e)
-          | inr above ↦ let a = h.2 k above lt in omega (arith, a, e)
-        ]))
-        (λ lt. absurd (omega (arith, lt))) in
+    position_or_len_is (λ l. eqb l x) xs (length xs) 0 (omega arith)
+    (λ k lt. ne_eqb _ _ (λ e. elim (cases_lt k i) [
+      | inl below ↦ let b = h.1 k below in omega (arith, b, e)
+      | inr above ↦ let a = h.2 k above lt in omega (arith, a, e)
+    ]))
+    (λ lt. absurd (omega (arith, lt))) in
     rw (at, le-ltb (length xs) (length xs) (omega arith)) refl

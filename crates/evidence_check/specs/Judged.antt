@@ -1,11 +1,10 @@
 -- How the evidence judges an entry, over stored tuples and what is known.
-use Rattle.std.specs.Prelude.{ℕ, ◌+◌, ◌==◌, ◌&&◌, ◌||◌, Bool, false, List, [], ◌∷◌, ◌++◌, nat_eq, Option, None, Some, option_map, if◌then◌else◌}
+use Rattle.std.specs.Prelude.{ℕ, ◌+◌, ◌&&◌, ◌||◌, Bool, false, List, [], ◌∷◌, ◌++◌, nat_eq, Option, None, Some, option_map, if◌then◌else◌}
 use Rattle.std.specs.List.{list_any}
 use Rattle.tuple_text.specs.Tuples.{FactValue, tuple_of}
 use Rattle.tuple_text.specs.Order.{fact_eq}
 use Rattle.tuple_text.specs.declared.users.User.TheVariants.{Id, Set}
 use Rattle.namespaces.specs.Expression.{Expression, this, computed, tuple_to, union, inter, minus}
-use Rattle.namespaces.specs.Declaration.{Declaration}
 use Rattle.namespaces.specs.Lookup.{rule_at, rule_of}
 use Rattle.version_chains.specs.Commits.{Commit, is_stored}
 use Rattle.trace_lines.specs.Values.{TraceValue, EntryValue}

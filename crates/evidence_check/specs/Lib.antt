@@ -3,6 +3,7 @@ pub mod Evidences
 pub mod EvidenceCode
 pub mod Judged
 pub mod KnownSets
+pub mod Laws
 pub mod Reading
 pub mod Records
 pub mod Steps

@@ -1,5 +1,5 @@
 -- Steps of evidence, without where they lie in memory.
-use Rattle.std.specs.Prelude.{List, map, Option, option_map}
+use Rattle.std.specs.Prelude.{List, map}
 use Rattle.tuple_text.specs.Tuples.{FactValue}
 use Rattle.evidence_check.specs.declared.step.Step.{Step}
 use Rattle.evidence_check.specs.declared.step.Step.TheVariants.{Yes, No}

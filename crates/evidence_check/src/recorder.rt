@@ -15,7 +15,8 @@ use crate::step::Steps;
 use serde_json::Value;
 use std::alloc::{AllocError, Global};
 use std::marker::Model;
-use trace_lines::{InputFault, Stop, TakeLine, Trace, fields::number_at, is_blank};
+use trace_lines::fields::number_at;
+use trace_lines::{InputFault, Stop, TakeLine, Trace, is_blank};
 
 /// The lines of the entries, and the steps that were given for each.
 #[derive(Drop)]

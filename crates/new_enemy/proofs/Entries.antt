@@ -1,12 +1,10 @@
 -- One entry after the other.
-use Rattle.std.proofs.Common.{◌≡◌, ℕ, zero, suc, ◌+◌, List, [], ◌∷◌, ◌++◌, drop, Option, Some, None, refl, sym, ap, ◌∙◌, arith, append_assoc}
+use Rattle.std.proofs.Common.{◌≡◌, ℕ, zero, suc, ◌+◌, List, [], ◌∷◌, ◌++◌, drop, Option, Some, sym, ap, ◌∙◌, arith, append_assoc}
 use Rattle.std.specs.Prelude.{slice_get}
-use Rattle.std.proofs.lemmas.List.{append-nil}
 use Rattle.trace_lines.specs.Values.{TraceValue, EntryValue}
 use Rattle.evidence_check.specs.Evidences.{steps_of}
 use Rattle.evidence_check.specs.Judged.{judged}
 use Rattle.evidence_check.specs.Steps.{StepValue}
-use Rattle.evidence_check.specs.declared.judged.Judged.{Judged}
 use Rattle.new_enemy.specs.Findings.{found_by, on_line, findings_from}
 use Rattle.new_enemy.specs.declared.finding.What.{What}
 use Rattle.new_enemy.specs.declared.finding.Finding.{Finding}
@@ -22,5 +20,5 @@ pub one_more : (t : TraceValue) (evidence : List (Option (List StepValue))) (i :
     → before ++ findings_from t evidence i (drop i t.entries) ≡ whole → new ++ findings_from t evidence (i + 1) (drop (i + 1) t.entries) ≡ whole
 one_more t evidence i e line before new whole o at l found is h =
     let here : findings_from t evidence i (drop i t.entries) ≡ on_line e.line (found_by (judged t e (steps_of evidence i))) ++ findings_from t evidence (i + 1) (drop (i + 1) t.entries) =
-        ap (findings_from t evidence i) (dropped t.entries i e at) in
+    ap (findings_from t evidence i) (dropped t.entries i e at) in
     rw (is, l, found) (append_assoc before (on_line e.line (found_by (judged t e (steps_of evidence i)))) (findings_from t evidence (i + 1) (drop (i + 1) t.entries)) ∙ sym (ap (λ (fs : List Finding). before ++ fs) here) ∙ h)

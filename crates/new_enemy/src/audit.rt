@@ -116,10 +116,12 @@ fn trace_from<R: Source>(alloc: Global, reader: &mut R) -> Result<Trace, AuditFa
 {
     match read_trace(alloc, reader) {
         Ok(trace) => Ok(trace),
-        Err(TraceFault {
-            cause: Cause::OutOfMemory,
-            ..
-        }) => Err(AuditFault::OutOfMemory),
+        Err(
+            TraceFault {
+                cause: Cause::OutOfMemory,
+                ..
+            },
+        ) => Err(AuditFault::OutOfMemory),
         Err(fault) => Err(AuditFault::Trace(fault)),
     }
 }
@@ -138,10 +140,12 @@ fn evidence_from<R: Source>(
 {
     match read_evidence(alloc, reader, trace) {
         Ok(evidence) => Ok(evidence),
-        Err(EvidenceFault {
-            cause: EvidenceCause::OutOfMemory,
-            ..
-        }) => Err(AuditFault::OutOfMemory),
+        Err(
+            EvidenceFault {
+                cause: EvidenceCause::OutOfMemory,
+                ..
+            },
+        ) => Err(AuditFault::OutOfMemory),
         Err(fault) => Err(AuditFault::Evidence(fault)),
     }
 }

@@ -15,6 +15,8 @@ mod finding;
 mod findings;
 mod joined;
 mod run;
+#[cfg(test)]
+mod tests;
 
 use run::run_words;
 use std::process::ExitCode;

@@ -9,14 +9,19 @@ use trace_lines::{Cause, Sink, Source, TraceFault, send};
 /// The exit status of a fault.
 fn status_of(fault: &AuditFault) -> u8 {
     match fault {
-        AuditFault::Trace(TraceFault {
-            cause: Cause::Read, ..
-        }) => 5,
+        AuditFault::Trace(
+            TraceFault {
+                cause: Cause::Read,
+                ..
+            },
+        ) => 5,
         AuditFault::Trace(_) => 2,
-        AuditFault::Evidence(EvidenceFault {
-            cause: EvidenceCause::Read,
-            ..
-        }) => 5,
+        AuditFault::Evidence(
+            EvidenceFault {
+                cause: EvidenceCause::Read,
+                ..
+            },
+        ) => 5,
         AuditFault::Evidence(_) => 2,
         AuditFault::Write { .. } => 5,
         AuditFault::OutOfMemory => 4,

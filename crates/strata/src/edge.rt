@@ -22,10 +22,7 @@ impl Display for Edge {
         write!(
             f,
             "strata, relation {} of namespace {} reads relation {} of namespace {}",
-            reader.relation,
-            reader.namespace,
-            premise.relation,
-            premise.namespace
+            reader.relation, reader.namespace, premise.relation, premise.namespace
         )?;
         if strict {
             write!(f, " strictly")?;

@@ -1,13 +1,11 @@
 -- A value that grows line by line: what is left, read from here, says what the whole input says.
 use Rattle.std.proofs.Common.{◌≡◌, ℕ, ◌+◌, ◌-◌, ◌^◌, ◌<◌, ◌≤◌, min, Bool, true, false, ltb, eqb, cond, not, ◌&&◌, List, [], ◌∷◌, length, Option, Some, None, Result, Ok, Err, arith, refl, sym, ap, subst, ◌∙◌, inl, inr}
 use Rattle.std.specs.Prelude.{All, IfSome, ⊤}
-use Rattle.std.specs.List.{slice_split, AllByRecursion}
-use Rattle.std.specs.Io.KnownBytes.{prepend_known}
+use Rattle.std.specs.List.{AllByRecursion}
 use Rattle.std.proofs.lemmas.List.Elements.{All-from_recursion}
 use Rattle.std.proofs.lemmas.Bool.{ltb-true, ltb-false, lt-ltb, le-ltb, eq-eqb, eqb-true, ne_eqb, cases_Bool, not_from_false, or_right, or_from, and_parts}
 use Rattle.std.proofs.lemmas.List.{length-take-le, take_all}
 use Rattle.std.proofs.lemmas.List.Splits.{slice_split_first, slice_split_none, length-slice_split}
-use Rattle.std.proofs.KnownBytes.{prepend_known-nil}
 use Rattle.trace_lines.specs.Lines.{lacks, line_len, first_line, after_line, has_newline, IsLine}
 use Rattle.trace_lines.specs.Reading.{◌>>=◌, at_line, passes_limit, parts, read_from, read_all, Fails, Refuses}
 use Rattle.trace_lines.specs.declared.lines.InputFault.{InputFault}

@@ -1,13 +1,11 @@
 -- A line is never refused as a failure of the reader, nor as too long.
-use Rattle.std.proofs.Common.{◌≡◌, ℕ, ◌&&◌, ◌||◌, Bool, true, false, cond, List, Option, Some, None, Result, Ok, Err, length, eqb, not, is_some, ap, sym, subst}
+use Rattle.std.proofs.Common.{◌≡◌, ℕ, ◌&&◌, Bool, true, false, cond, List, Option, Some, None, Result, Ok, Err, length, subst}
 use Rattle.std.specs.Prelude.{codes, bytes_eq, option_and_then}
-use Rattle.std.specs.List.{list_all}
 use Rattle.std.specs.Str.{is_utf8}
 use Rattle.serde_json.specs.Data.{Data, Items, no_items, item}
 use Rattle.serde_json.specs.Find.{get, as_str}
 use Rattle.serde_json.specs.Read.{read}
 use Rattle.tuple_text.specs.declared.fault.TupleFault.{TupleFault}
-use Rattle.tuple_text.specs.Tuples.{TupleValue, FactValue}
 use Rattle.tuple_text.specs.Reading.{tuple_at, fact_at}
 use Rattle.zookie.specs.declared.fault.ZookieFault.{ZookieFault}
 use Rattle.zookie.specs.Tokens.{Token}
@@ -24,7 +22,7 @@ use Rattle.trace_lines.specs.Causes.{needed, text_cause, token_cause, namespace_
 use Rattle.trace_lines.specs.Texts.{tuple_of_text, tuples_of, goal_of, some_token, token_of, label_at}
 use Rattle.trace_lines.specs.Plain.{is_plain}
 use Rattle.trace_lines.specs.Values.{EntryValue, TraceValue}
-use Rattle.trace_lines.specs.Traces.{is_begun, with_declarations, namespace_line, commit_of, changes_of, appended_at, with_commit, are_declared, commit_line, check_of, is_declared, with_entry, check_line, of_kind, value_line, of_json, json_line, is_blank, taken_line}
+use Rattle.trace_lines.specs.Traces.{is_begun, with_declarations, namespace_line, commit_of, changes_of, appended_at, with_commit, are_declared, check_of, is_declared, with_entry, of_kind, value_line, of_json, json_line, is_blank, taken_line}
 use Rattle.trace_lines.specs.declared.cause.Cause.{Cause}
 use Rattle.trace_lines.specs.declared.cause.Cause.TheVariants as causes
 

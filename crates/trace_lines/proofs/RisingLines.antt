@@ -1,6 +1,6 @@
 -- Entries stand on lines that rise.
-use Rattle.std.proofs.Common.{◌≡◌, ℕ, ◌+◌, ◌-◌, ◌<◌, ◌≤◌, ◌&&◌, ◌||◌, Bool, true, false, cond, List, [], ◌∷◌, ◌++◌, length, map, get_or, Option, Some, None, Result, Ok, Err, arith, refl, sym, ap, subst, ◌∙◌, inl, inr}
-use Rattle.std.specs.Prelude.{codes, bytes_eq, option_and_then, slice_get}
+use Rattle.std.proofs.Common.{◌≡◌, ℕ, ◌+◌, ◌-◌, ◌≤◌, ◌&&◌, Bool, true, false, cond, List, [], ◌∷◌, ◌++◌, length, map, get_or, Option, Some, None, Result, Ok, Err, arith, refl, subst, inl, inr}
+use Rattle.std.specs.Prelude.{codes, bytes_eq, option_and_then}
 use Rattle.std.specs.List.Sorted.{IsStrictlyIncreasing}
 use Rattle.std.specs.Str.{is_utf8}
 use Rattle.std.proofs.Math.ListN.{get_or-append}
@@ -11,7 +11,6 @@ use Rattle.std.proofs.lemmas.Option.{slice_get-get_or}
 use Rattle.serde_json.specs.Data.{Data}
 use Rattle.serde_json.specs.Find.{get, as_str}
 use Rattle.serde_json.specs.Read.{read}
-use Rattle.namespaces.specs.Declaration.{Declaration}
 use Rattle.namespaces.specs.Adding.{rules_add}
 use Rattle.version_chains.specs.Commits.{Commit}
 use Rattle.version_chains.specs.Appends.{append_fault}
@@ -23,7 +22,7 @@ use Rattle.trace_lines.specs.Texts.{goal_of, token_of, label_at}
 use Rattle.trace_lines.specs.Plain.{is_plain}
 use Rattle.trace_lines.specs.Values.{EntryValue, entry_value, TraceValue, entry_lines, after_last, next_line}
 use Rattle.trace_lines.specs.declared.entry.Entry.{Entry}
-use Rattle.trace_lines.specs.Traces.{is_begun, with_declarations, namespace_line, commit_of, changes_of, appended_at, with_commit, are_declared, check_of, is_declared, with_entry, of_kind, value_line, of_json, json_line, is_blank, taken_line}
+use Rattle.trace_lines.specs.Traces.{is_begun, with_declarations, namespace_line, commit_of, changes_of, appended_at, with_commit, are_declared, check_of, is_declared, with_entry, of_kind, value_line, of_json, json_line}
 use Rattle.trace_lines.specs.declared.cause.Cause.{Cause}
 
 last_of : (x : ℕ) (xs : List ℕ) → after_last (x ∷ xs) ≡ get_or (x ∷ xs) (length xs) 0 + 1

@@ -1,5 +1,6 @@
 pub mod Causes
 pub mod Counts
+pub mod Devices
 pub mod Fields
 pub mod Lines
 pub mod Plain

@@ -1,7 +1,6 @@
 -- What the lines of an input make of a value, up to the first fault.
 use Rattle.std.specs.Prelude.{◌≡◌, ℕ, ◌+◌, ◌-◌, ◌^◌, ◌==◌, ◌&&◌, ◌||◌, not, min, Bool, List, [], ◌∷◌, length, nat_lt, if◌then◌else◌, Result, Ok, Err, ⊤}
 use Rattle.std.specs.List.{slice_split}
-use Rattle.trace_lines.specs.declared.lines.InputFault.{InputFault}
 use Rattle.trace_lines.specs.declared.lines.InputFault.TheVariants.{Read, TooLong, OutOfMemory}
 use Rattle.trace_lines.specs.declared.reading.Stop.{Stop}
 use Rattle.trace_lines.specs.declared.reading.Stop.TheVariants.{Input, Line}

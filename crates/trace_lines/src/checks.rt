@@ -15,7 +15,12 @@ use std::alloc::Global;
 
 /// The check that a line records.
 #[tactic(auto, unfolding(crate::specs::Traces::check_of))]
-pub(crate) fn check_of(alloc: Global, line: u64, before: usize, value: &Value) -> Result<Entry, Cause>
+pub(crate) fn check_of(
+    alloc: Global,
+    line: u64,
+    before: usize,
+    value: &Value,
+) -> Result<Entry, Cause>
     ensures { Gives entry_value result (check_of line before (view value.now)) }
 {
     let text = text_at(value, "goal").ok_or(Cause::Shape)?;

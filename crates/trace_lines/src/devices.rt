@@ -1,6 +1,7 @@
 //! Readers and writers round others: one that counts, and one that fails, for tests.
 
 ghost use Rattle.std.specs.Prelude.{◌≡◌, ◌≤◌, ◌<◌, false};
+ghost use Rattle.trace_lines.specs.Devices.{counted_inner, failing_inner};
 
 use crate::source::{Sink, Source};
 use std::io;
@@ -16,12 +17,21 @@ pub struct Counted<X> {
 
 impl<X> Counted<X> {
     /// The reader or writer, with no failure counted.
-    pub fn new(inner: X) -> Counted<X> {
+    pub fn new(inner: X) -> Counted<X>
+        ensures { counted_inner result ≡ inner }
+    {
         Counted {
             inner,
             failures: 0,
             idle: 0,
         }
+    }
+
+    /// The reader or writer, without its counts.
+    pub fn into_inner(self) -> X
+        ensures { result ≡ counted_inner self }
+    {
+        self.inner
     }
 }
 
@@ -59,6 +69,7 @@ impl<W: Write> Write for Counted<W> {
 
 impl<W: Write> Sink for Counted<W> {
     ghost failures = { λ s. s.failures };
+
     ghost idle = { λ s. s.idle };
 
     fn take_some(&mut self, buf: &[u8]) -> io::Result<usize> {
@@ -91,7 +102,9 @@ pub struct Failing<X> {
 
 impl<X> Failing<X> {
     /// One that fails at call `call`, counted from 1, a flush included, and at no other.
-    pub fn at_call(inner: X, call: u64) -> Failing<X> {
+    pub fn at_call(inner: X, call: u64) -> Failing<X>
+        ensures { failing_inner result ≡ inner }
+    {
         Failing {
             inner,
             calls: 0,
@@ -101,13 +114,22 @@ impl<X> Failing<X> {
     }
 
     /// One that fails at every call after `bytes` bytes.
-    pub fn after(inner: X, bytes: u64) -> Failing<X> {
+    pub fn after(inner: X, bytes: u64) -> Failing<X>
+        ensures { failing_inner result ≡ inner }
+    {
         Failing {
             inner,
             calls: 0,
             at_call: 0,
             room: bytes,
         }
+    }
+
+    /// The reader or writer that fails no more.
+    pub fn into_inner(self) -> X
+        ensures { result ≡ failing_inner self }
+    {
+        self.inner
     }
 
     fn fails(&mut self) -> bool

@@ -71,7 +71,11 @@ pub fn strings_at<'a>(value: &'a Value, name: &str) -> Option<&'a [Value]>
             match found.as_array() {
                 Some(items) => {
                     let items = items.as_slice();
-                    if are_strings(items) { Some(items) } else { None }
+                    if are_strings(items) {
+                        Some(items)
+                    } else {
+                        None
+                    }
                 }
                 None => None,
             }

@@ -1,4 +1,13 @@
 //! Traces: the lines of a reader, and what they say.
+//!
+//! [`Source`] and [`Sink`] are a reader and a writer whose bytes and failures contracts can name, [`read_lines`] hands
+//! the lines of a source to any value that takes them, and [`read_trace`] makes a [`Trace`] of them. Contracts see a
+//! trace as `TraceValue`: its declarations, its commits with the lines that they stand on, and its entries.
+//!
+//! Callers may rely on this: what is read is `trace_of` the bytes, value or first fault, with its line, also of a
+//! reader that fails; input that never ends is refused at the limits; entries stand on lines that rise; no look-up takes
+//! memory. One pass over the input, one JSON value at a time. Today's profile takes rules of stored tuples on stratum
+//! 0 alone, and no content lines; `Plain` and `Traces` say so.
 #![tactic(auto)]
 
 mod cause;
@@ -22,5 +31,5 @@ pub use lines::InputFault;
 pub use read::read_trace;
 pub use reading::{LineFault, Stop, TakeLine, read_lines};
 pub use sending::{Unsent, send};
-pub use trace::{Trace, is_blank};
 pub use source::{Sink, Source};
+pub use trace::{Trace, is_blank};

@@ -100,10 +100,7 @@ where
             });
         }
         if let Err(stop) = value.take_line(number, &line) {
-            return Err(LineFault {
-                line: number,
-                stop,
-            });
+            return Err(LineFault { line: number, stop });
         }
         if !more {
             return Ok(());

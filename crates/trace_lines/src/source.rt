@@ -25,6 +25,7 @@ pub trait Source: Read {
 /// that took no byte of some.
 pub trait Sink: Write {
     ghost failures: { Self → ℕ };
+
     ghost idle: { Self → ℕ };
 
     /// Writes some of the bytes, and counts a failure or a write of none.

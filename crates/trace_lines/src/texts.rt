@@ -74,7 +74,11 @@ pub(crate) fn label_at(value: &Value) -> Option<Option<&str>>
     match optional_text_at(value, "version") {
         None => None,
         Some(None) => Some(None),
-        Some(Some(text)) => if is_label(text) { Some(Some(text)) } else { None },
+        Some(Some(text)) => if is_label(text) {
+            Some(Some(text))
+        } else {
+            None
+        },
     }
 }
 

@@ -13,12 +13,12 @@ ghost use Rattle.std.specs.List.{list_all};
 ghost use Rattle.std.specs.List.Sorted.{IsStrictlyIncreasing};
 
 use crate::cause::Cause;
+use crate::checks::check_of;
 use crate::entry::Entry;
 use crate::fields::{number_at, strings_at};
 use crate::lines::InputFault;
 use crate::plain::is_plain;
 use crate::reading::{Stop, TakeLine};
-use crate::checks::check_of;
 use crate::texts::tuples_of;
 use namespaces::{Rules, RulesFault};
 use serde_json::Value;

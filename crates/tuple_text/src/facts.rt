@@ -122,11 +122,7 @@ impl Fact {
     }
 
     /// The fact of parts that are known to be in form.
-    pub(crate) fn from_parts(
-        alloc: Global,
-        set: SetRef<'_>,
-        user: u64,
-    ) -> Result<Fact, TupleFault>
+    pub(crate) fn from_parts(alloc: Global, set: SetRef<'_>, user: u64) -> Result<Fact, TupleFault>
         requires set { IsUserset (set_value set) }
         requires relation { is_name set.relation.now ≡ true }
         ensures { Gives (λ f. f) result (Ok (fact_of (set_value set.entry) user)) }

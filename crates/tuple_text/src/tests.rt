@@ -18,8 +18,14 @@ const GOOD_TUPLES: [&str; 6] = [
 const BAD_TUPLES: [(&str, TupleFault); 14] = [
     ("doc:readme#owner@010", TupleFault::User { at: 17 }),
     ("doc:readme#owner@", TupleFault::User { at: 17 }),
-    ("doc:readme#owner@18446744073709551616", TupleFault::User { at: 17 }),
-    ("doc:readme#owner@group:eng#Member", TupleFault::User { at: 17 }),
+    (
+        "doc:readme#owner@18446744073709551616",
+        TupleFault::User { at: 17 },
+    ),
+    (
+        "doc:readme#owner@group:eng#Member",
+        TupleFault::User { at: 17 },
+    ),
     ("doc:readme#owner@group:eng", TupleFault::User { at: 17 }),
     ("Doc:x#a@1", TupleFault::Namespace { at: 0 }),
     ("doc", TupleFault::Namespace { at: 0 }),
@@ -57,8 +63,14 @@ fn usersets_and_facts_are_read(rt: HostRuntime) -> Result<(), Fail> {
         relation: "...",
     };
     assert_eq!(rt; set.as_ref(), parts);
-    assert_eq!(rt; parse_userset(alloc, "folder:A#"), Err(TupleFault::Relation { at: 9 }));
-    assert_eq!(rt; parse_userset(alloc, "folder"), Err(TupleFault::Namespace { at: 0 }));
+    assert_eq!(rt;
+        parse_userset(alloc, "folder:A#"),
+        Err(TupleFault::Relation { at: 9 })
+    );
+    assert_eq!(rt;
+        parse_userset(alloc, "folder"),
+        Err(TupleFault::Namespace { at: 0 })
+    );
     assert_eq!(rt; User::Set(set).as_ref(), UserRef::Set(parts));
 
     let fact = parse_fact(alloc, "doc:1#viewer@7")?;
@@ -84,12 +96,27 @@ fn values_are_made_of_parts(rt: HostRuntime) -> Result<(), Fail> {
         relation: "...",
         ..viewer
     };
-    assert_eq!(rt; Userset::of(alloc, viewer), parse_userset(alloc, "doc:1#viewer"));
+    assert_eq!(rt;
+        Userset::of(alloc, viewer),
+        parse_userset(alloc, "doc:1#viewer")
+    );
     assert_eq!(rt; Userset::of(alloc, dots), parse_userset(alloc, "doc:1#..."));
-    assert_eq!(rt; Userset::of(alloc, no_id), Err(TupleFault::ObjectId { at: 4 }));
-    assert_eq!(rt; Fact::of(alloc, viewer, 7), parse_fact(alloc, "doc:1#viewer@7"));
-    assert_eq!(rt; Fact::of(alloc, no_id, 7), Err(TupleFault::ObjectId { at: 4 }));
-    assert_eq!(rt; Fact::of(alloc, dots, 7), Err(TupleFault::Relation { at: 6 }));
+    assert_eq!(rt;
+        Userset::of(alloc, no_id),
+        Err(TupleFault::ObjectId { at: 4 })
+    );
+    assert_eq!(rt;
+        Fact::of(alloc, viewer, 7),
+        parse_fact(alloc, "doc:1#viewer@7")
+    );
+    assert_eq!(rt;
+        Fact::of(alloc, no_id, 7),
+        Err(TupleFault::ObjectId { at: 4 })
+    );
+    assert_eq!(rt;
+        Fact::of(alloc, dots, 7),
+        Err(TupleFault::Relation { at: 6 })
+    );
     Ok(())
 }
 

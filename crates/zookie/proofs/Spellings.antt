@@ -51,8 +51,10 @@ kind_takes b k e =
   where
     none_some : None ≡ Some k → ⊥
     none_some h = cc h
+
     some_is : (x y : TokenKind) → Some x ≡ Some y → x ≡ y
     some_is x y h = cc
+
     spelled_so : (b : ℕ) (k x : TokenKind) → Some x ≡ Some k → kind_text x ≡ b ∷ [] → kind_text k ≡ b ∷ []
     spelled_so b k x h e = ap kind_text (sym (some_is x k h)) ∙ e
 

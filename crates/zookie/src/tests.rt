@@ -11,8 +11,16 @@ const TOKENS: [(&str, Option<TokenKind>, u64); 7] = [
     ("z1-ffffffffffffffff", None, GREATEST),
     ("z2-c0000000000000008", Some(TokenKind::ContentVersion), 8),
     ("z2-w0000000000000000", Some(TokenKind::AclWrite), 0),
-    ("z2-rffffffffffffffff", Some(TokenKind::ReadSnapshot), GREATEST),
-    ("z2-r0123456789abcdef", Some(TokenKind::ReadSnapshot), 81985529216486895),
+    (
+        "z2-rffffffffffffffff",
+        Some(TokenKind::ReadSnapshot),
+        GREATEST,
+    ),
+    (
+        "z2-r0123456789abcdef",
+        Some(TokenKind::ReadSnapshot),
+        81985529216486895,
+    ),
 ];
 
 const REFUSED: [(&str, ZookieFault); 11] = [

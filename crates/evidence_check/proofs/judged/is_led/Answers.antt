@@ -1,7 +1,6 @@
-use Rattle.std.proofs.Common.{◌≡◌, subst, ap}
+use Rattle.std.proofs.Common.{◌≡◌, subst}
 use Rattle.std.specs.List.{list_any}
 use Rattle.tuple_text.specs.Sets.{SetValue}
-use Rattle.tuple_text.specs.Refs.{set_value}
 use Rattle.tuple_text.specs.Order.{user_eq}
 use Rattle.tuple_text.specs.Tuples.{tuple_of}
 use Rattle.version_chains.specs.Commits.{is_stored}

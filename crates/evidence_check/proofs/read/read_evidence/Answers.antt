@@ -1,4 +1,4 @@
-use Rattle.std.proofs.Common.{◌≡◌, ap, sym, ◌∙◌}
+use Rattle.std.proofs.Common.{ap, sym, ◌∙◌}
 use Rattle.evidence_check.specs.declared.cause.EvidenceFault.{EvidenceFault}
 use Rattle.evidence_check.proofs.ReadFaults.{reader_failed, failed_so_far}
 use Rattle.evidence_check.proofs.read.read_evidence.Goals as goal

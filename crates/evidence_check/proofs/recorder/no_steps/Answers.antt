@@ -1,6 +1,4 @@
-use Rattle.std.proofs.Common.{◌≡◌, refl, arith, None}
-use Rattle.std.specs.Prelude.{replicate}
-use Rattle.evidence_check.specs.Evidences.{all_shown}
+use Rattle.std.proofs.Common.{◌≡◌, refl, arith}
 use Rattle.evidence_check.proofs.Shown.{one_more_none}
 use Rattle.evidence_check.proofs.recorder.no_steps.Goals as goal
 

@@ -1,4 +1,4 @@
-use Rattle.std.proofs.Common.{◌≡◌, ap, sym, ◌∙◌}
+use Rattle.std.proofs.Common.{ap, sym, ◌∙◌}
 use Rattle.trace_lines.specs.declared.cause.TraceFault.{TraceFault}
 use Rattle.trace_lines.proofs.ReadFaults.{reader_failed, failed_so_far}
 use Rattle.trace_lines.proofs.read.read_trace.Goals as goal

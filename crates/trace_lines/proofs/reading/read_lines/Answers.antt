@@ -1,6 +1,6 @@
 use Rattle.std.proofs.Common.{◌≡◌, ◌∙◌, sym, refl, arith, rules, length, ◌≤◌, ◌^◌, min, true, false, ◌&&◌, eqb}
 use Rattle.trace_lines.proofs.Folds.{Within, under, within_from, cut_ends, over_ends, over_parts, step_cut, last_ends, as_last}
-use Rattle.trace_lines.proofs.Failures.{starts_follow, tracks_from, follows_on, read_fails}
+use Rattle.trace_lines.proofs.Failures.{tracks_from, follows_on, read_fails}
 use Rattle.trace_lines.proofs.reading.read_lines.Goals as goal
 
 pub returns-in-Err-next-clause-exact : goal.returns-in-Err-next-clause-exact
