@@ -79,7 +79,7 @@ fn fact_of(alloc: Global, text: &str) -> Result<Fact, EvidenceCause>
 pub(crate) fn steps_in(alloc: Global, items: &[Value]) -> Result<Steps, EvidenceCause>
     ensures { Gives (λ v. step_values v.items) result (steps_in (items_view items.now)) }
 {
-    let mut steps = Vec::new(alloc);
+    let mut steps = Vec::with_capacity(alloc, items.len())?;
     for item in items {
         let Some(text) = known_text(item) else {
             continue;

@@ -1,16 +1,16 @@
 -- A copy of the rules, declaration by declaration.
-use Rattle.std.proofs.Common.{◌≡◌, ℕ, zero, suc, ◌+◌, ◌<◌, ◌≤◌, Bool, true, false, ◌||◌, cond, List, [], ◌∷◌, ◌++◌, length, map, take, drop, get_or, refl, sym, ap, ◌∙◌, subst, append_assoc, length-append, drop-cons, add-one, arith}
+use Rattle.std.proofs.Common.{◌≡◌, ℕ, zero, suc, ◌+◌, ◌<◌, ◌≤◌, false, cond, List, [], ◌∷◌, ◌++◌, length, take, drop, get_or, refl, sym, ap, ◌∙◌, length-append, add-one, arith}
 use Rattle.std.proofs.lemmas.List.{take-append-drop}
 use Rattle.std.proofs.lemmas.List.Sums.{sum_by-append}
 use Rattle.std.proofs.Math.Seq.{take-suc}
 use Rattle.std.specs.Str.{bytes_eq}
 use Rattle.std.specs.List.{AllByRecursion, list_any}
 use Rattle.namespaces.specs.Declaration.{Declaration}
-use Rattle.namespaces.specs.Lookup.{with_name, names_after, namespace_names, relation_names}
+use Rattle.namespaces.specs.Lookup.{with_name, names_after, namespace_names}
 use Rattle.namespaces.specs.Adding.{has_repeats}
 use Rattle.namespaces.specs.Changing.{change_count}
 use Rattle.namespaces.specs.WellFormed.{Continues, AreContinued, IsFit, IsWellFormed}
-use Rattle.namespaces.specs.Shown.{show_line, show_lines, show_relations}
+use Rattle.namespaces.specs.Shown.{show_line, show_lines}
 use Rattle.namespaces.specs.declared.rules.Line.{Line}
 use Rattle.namespaces.proofs.Names.{by_bool, or_false, list_any-append}
 

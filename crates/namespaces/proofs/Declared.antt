@@ -1,18 +1,17 @@
 -- What callers may draw from the declarations: a relation keeps its stratum, stays declared, and has a number.
-use Rattle.std.proofs.Common.{◌≡◌, ℕ, zero, suc, ◌+◌, ◌-◌, ◌<◌, ◌≤◌, ◌==◌, ◌&&◌, ◌||◌, nat_le, nat_lt, not, Bool, true, false, List, [], ◌∷◌, length, slice_get, Option, None, Some, option_map, option_and_then, is_some, cond, unwrap_or, refl, sym, ap, ◌∙◌, subst, arith}
-use Rattle.std.proofs.lemmas.Bool.Decides.{nat_tests}
+use Rattle.std.proofs.Common.{◌≡◌, ℕ, zero, suc, ◌+◌, ◌-◌, ◌≤◌, ◌==◌, nat_le, true, false, List, [], ◌∷◌, length, slice_get, Option, None, Some, option_and_then, is_some, refl, sym, ap, ◌∙◌, arith}
 use Rattle.std.proofs.lemmas.Option.{slice_get_within}
 use Rattle.std.specs.Str.{bytes_eq}
 use Rattle.std.specs.Option.{option_or}
 use Rattle.std.specs.List.{AllByRecursion, cons_option, list_any}
 use Rattle.std.specs.Cmp.{unsigned_Decides}
 use Rattle.namespaces.specs.Declaration.{Relation, Declaration}
-use Rattle.namespaces.specs.Lookup.{Rule, as_rule, relation_named, relation_names, declared_in, history, history_numbered, relations_of, relation_of, in_force, relation_at, rule_at, namespace_names, namespace_numbered, relation_numbered, item_at}
-use Rattle.namespaces.specs.Adding.{has_repeats, is_declared}
+use Rattle.namespaces.specs.Lookup.{relation_named, declared_in, history, history_numbered, relations_of, relation_of, in_force, relation_at, namespace_names, namespace_numbered, relation_numbered, item_at}
+use Rattle.namespaces.specs.Adding.{is_declared}
 use Rattle.namespaces.specs.Changing.{keeps_names, keeps_strata}
 use Rattle.namespaces.specs.WellFormed.{IsFit, IsWellFormed}
 use Rattle.namespaces.specs.declared.number.RelNo.{RelNo}
-use Rattle.namespaces.proofs.Names.{by_bool, same_name, one_name, and_true}
+use Rattle.namespaces.proofs.Names.{by_bool, one_name, and_true}
 use Rattle.namespaces.proofs.Kept.{absent_before}
 use Rattle.namespaces.proofs.Times.{IsKeptIn, newest_keeps, not_named, from_one}
 use Rattle.namespaces.proofs.Growth.{is_declared-names}
@@ -33,21 +32,21 @@ same_stratum r (o ∷ os) (s ∷ ss) y x names strata was is =
     let t = and_true (o.stratum == s.stratum) (keeps_strata os ss) strata in
     by_bool (bytes_eq r o.name)
     (λ u.
-        let same : bytes_eq r s.name ≡ true = rw (← one_name o.name s.name n.0) u in
-        let old_one : o ≡ y = let e : Some o ≡ Some y = rw u at was in cc in
-        let new_one : s ≡ x = let e : Some s ≡ Some x = rw same at is in cc in
-        rw (← old_one, ← new_one) ((unsigned_Decides o.stratum s.stratum).0 t.0))
+    let same : bytes_eq r s.name ≡ true = rw (← one_name o.name s.name n.0) u in
+    let old_one : o ≡ y = let e : Some o ≡ Some y = rw u at was in cc in
+    let new_one : s ≡ x = let e : Some s ≡ Some x = rw same at is in cc in
+    rw (← old_one, ← new_one) ((unsigned_Decides o.stratum s.stratum).0 t.0))
     (λ u.
-        let other : bytes_eq r s.name ≡ false = rw (← one_name o.name s.name n.0) u in
-        same_stratum r os ss y x n.1 t.1 (rw u at was) (rw other at is))
+    let other : bytes_eq r s.name ≡ false = rw (← one_name o.name s.name n.0) u in
+    same_stratum r os ss y x n.1 t.1 (rw u at was) (rw other at is))
 
 rule_known : (q r : List ℕ) (rs : List Relation) (x : Relation) (d : Declaration) (o : Option Relation) (ys : List Relation) → (bytes_eq q d.name ≡ true → IsKeptIn rs d) → relation_named r rs ≡ Some x → declared_in q r d ≡ o
     → AllByRecursion (λ y. y.stratum ≡ x.stratum) ys → AllByRecursion (λ y. y.stratum ≡ x.stratum) (cons_option o ys)
 rule_known q r rs x d None ys kept found here later = later
 rule_known q r rs x d (Some y) ys kept found here later = (
   by_bool (bytes_eq q d.name)
-  (λ t. same_stratum r d.relations rs y x (kept t).names (kept t).strata (rw t at here) found)
-  (λ f. let none : None ≡ Some y = rw f at here in cc),
+      (λ t. same_stratum r d.relations rs y x (kept t).names (kept t).strata (rw t at here) found)
+      (λ f. let none : None ≡ Some y = rw f at here in cc),
   later,
 )
 

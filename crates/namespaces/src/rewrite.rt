@@ -47,10 +47,7 @@ pub(crate) fn copied(alloc: Global, rewrite: &Rewrite) -> Result<Rewrite, RulesF
         Rewrite::Minus(base, subtract) => {
             let base = copied(alloc, base)?;
             let subtract = copied(alloc, subtract)?;
-            Ok(Rewrite::Minus(
-                Box::new(alloc, base)?,
-                Box::new(alloc, subtract)?,
-            ))
+            Ok(Rewrite::Minus(Box::new(alloc, base)?, Box::new(alloc, subtract)?))
         }
     }
 }

@@ -15,7 +15,7 @@ ghost use Rattle.namespaces.specs.View.{expression_of};
 use crate::fault::RulesFault;
 use crate::name::is_name;
 use crate::reading::{Draft, reads_declared};
-use crate::rewrite::{copied, Rewrite, counts_fit, has_good_names, is_deeper};
+use crate::rewrite::{Rewrite, copied, counts_fit, has_good_names, is_deeper};
 use indexmap::IndexMap;
 use std::alloc::Global;
 

@@ -1,10 +1,12 @@
 -- One entry after the other.
-use Rattle.std.proofs.Common.{◌≡◌, ℕ, zero, suc, ◌+◌, List, [], ◌∷◌, ◌++◌, drop, Option, Some, sym, ap, ◌∙◌, arith, append_assoc}
+use Rattle.std.proofs.Common.{◌≡◌, ℕ, zero, suc, ◌+◌, List, [], ◌∷◌, ◌++◌, drop, Option, Some, None, refl, sym, ap, ◌∙◌, arith, append_assoc}
 use Rattle.std.specs.Prelude.{slice_get}
+use Rattle.std.proofs.lemmas.List.{append-nil}
 use Rattle.trace_lines.specs.Values.{TraceValue, EntryValue}
 use Rattle.evidence_check.specs.Evidences.{steps_of}
 use Rattle.evidence_check.specs.Judged.{judged}
 use Rattle.evidence_check.specs.Steps.{StepValue}
+use Rattle.evidence_check.specs.declared.judged.Judged.{Judged}
 use Rattle.new_enemy.specs.Findings.{found_by, on_line, findings_from}
 use Rattle.new_enemy.specs.declared.finding.What.{What}
 use Rattle.new_enemy.specs.declared.finding.Finding.{Finding}

@@ -1,4 +1,4 @@
-use Rattle.std.proofs.Common.{sym, ap, ◌∙◌, None, Some, refl}
+use Rattle.std.proofs.Common.{◌≡◌, ◌++◌, [], sym, ap, ◌∙◌, None, Some, refl}
 use Rattle.std.proofs.lemmas.List.{append-nil}
 use Rattle.trace_lines.specs.Values.{entry_value}
 use Rattle.evidence_check.specs.Evidences.{evidence_value}

@@ -1,0 +1,11 @@
+use Rattle.std.proofs.Common.{◌≡◌, ℕ, map}
+use Rattle.audit_slices.specs.declared.slices.Slice.{Slice}
+use Rattle.audit_slices.specs.Lane.{thief_place}
+use Rattle.audit_slices.specs.Shared.{thieves_sum}
+use Rattle.audit_slices.proofs.members.steal_from.Given as goal
+
+abbrev pub invariant-loop-thief : goal.invariant-loop-thief
+invariant-loop-thief l = record {
+  places : map thief_place l.thieves ≡ map thief_place l.initial.thieves;
+  sums : (h : Slice → ℕ) → thieves_sum h l.thieves ≡ thieves_sum h l.initial.thieves;
+}

@@ -1,0 +1,9 @@
+use Rattle.std.proofs.Common.{◌≡◌}
+use Rattle.audit_slices.specs.Members.{member_places, IsSettled}
+use Rattle.audit_slices.proofs.members.work.Given as goal
+
+abbrev pub invariant-loop : goal.invariant-loop
+invariant-loop g l = record {
+  settled : IsSettled (g.C.Check.named l.check) l.member;
+  places : member_places l.member ≡ member_places l.initial.member;
+}

@@ -1,0 +1,18 @@
+use Rattle.std.proofs.Common.{◌≤◌, ◌+◌, rules, arith}
+use Rattle.std.proofs.lemmas.Grind.{common_steps}
+use Rattle.audit_slices.specs.declared.slices.Slice.{Slice}
+use Rattle.audit_slices.specs.Receipts.{receipt_hands}
+use Rattle.audit_slices.proofs.RunLemmas.{drained_sum, drained_same, drained_below}
+use Rattle.audit_slices.proofs.run.drain.Goals as goal
+
+pub check_slice-requires : goal.check_slice-requires
+check_slice-requires g c =
+    drained_below (λ (x : Slice). x.from + x.count ≤ g.C.Check.entries c.args.check.now) (receipt_hands c.args.receipts) (receipt_hands c.loop.receipts) _ c.in-Some-next.slice c.in-Some-next.ensures.some c.loop.invariant.same c.requires.covered
+
+pub loop-preserved : goal.loop-preserved
+loop-preserved g c = record {
+  same = drained_same (receipt_hands c.args.receipts) (receipt_hands c.loop.receipts) _ c.in-Some-next.slice c.in-Some-next.ensures.some c.loop.invariant.same;
+  named = first_of (search rules, grind (arith, common_steps));
+  sums = drained_sum c.loop.done.items c.push.new.self.items c.in-Ok.report (receipt_hands c.args.receipts) (receipt_hands c.loop.receipts) (receipt_hands c.next-in-loop.new.self) c.args.done.items c.in-Some-next.slice c.in-Some-next.ensures.some
+      c.in_ok-push.ensures.items c.in-Ok.ensures.slice c.loop.invariant.sums;
+}

@@ -1,0 +1,14 @@
+use Rattle.std.proofs.Common.{◌≡◌, ◌+◌, ℕ, map, All}
+use Rattle.std.specs.Prelude.{sum_by}
+use Rattle.audit_slices.specs.declared.slices.Slice.{Slice}
+use Rattle.audit_slices.specs.Members.{IsNamed}
+use Rattle.audit_slices.specs.Receipts.{receipt_hands}
+use Rattle.audit_slices.specs.Run.{unspent, rest_sum}
+use Rattle.audit_slices.proofs.run.drain.Given as goal
+
+abbrev pub invariant-loop : goal.invariant-loop
+invariant-loop g l = record {
+  same : map unspent (receipt_hands l.receipts) ≡ map unspent (receipt_hands l.initial.receipts);
+  named : All (IsNamed (g.C.Check.named l.check)) l.done.items;
+  sums : (h : Slice → ℕ) → sum_by (λ r. h r.slice) l.done.items + rest_sum h (receipt_hands l.initial.receipts) ≡ sum_by (λ r. h r.slice) l.initial.done.items + rest_sum h (receipt_hands l.receipts);
+}

@@ -1,0 +1,25 @@
+-- What a clause says of alerts.
+use Rattle.std.specs.Prelude.{◌≡◌, ℕ, Bool, true}
+use Rattle.boxcar.specs.Table.{Shows}
+use Rattle.audit_slices.specs.declared.board.Alert.{Alert}
+use Rattle.audit_slices.specs.declared.board.Board.{Board}
+use Rattle.audit_slices.specs.declared.board.Posted.{Posted}
+
+module _ {X : Type 0} where
+  -- its report is the one that is named for its entry, and raises an alert
+  abbrev pub IsTrueAlert : (ℕ → X) → (X → Bool) → Alert X → Type 0
+  IsTrueAlert named alerts a = (a.report ≡ named a.entry) × (alerts a.report ≡ true)
+
+  -- these name the same reports, and the same of them raise an alert
+  pub record SameNames (f : ℕ → X) (p : X → Bool) (g : ℕ → X) (q : X → Bool) : Type 0 where
+    pub named : (entry : ℕ) → f entry ≡ g entry
+    pub alerts : (report : X) → p report ≡ q report
+
+module _ {X N : Type 0} where
+  -- the alert was posted on this board
+  abbrev pub IsPostedOn : Board X N → Posted X N → Type 0
+  IsPostedOn board posted = Shows board.alerts posted.at
+
+  -- the alert that was posted
+  abbrev pub posted_alert : Posted X N → Alert X
+  posted_alert posted = posted.at.value

@@ -1,0 +1,14 @@
+pub mod Board
+pub mod Cut
+pub mod Hands
+pub mod Lane
+pub mod Machine
+pub mod Members
+pub mod Named
+pub mod Places
+pub mod Receipts
+pub mod Reports
+pub mod Run
+pub mod Runs
+pub mod Shared
+pub mod Yard

@@ -1,0 +1,49 @@
+-- What a clause says of a worker: its places in the lanes, and what it was handed there.
+use Rattle.std.specs.Prelude.{◌≡◌, ℕ, ◌+◌, ◌≤◌, false, List, ◌∷◌, map, sum_by, All, Contains}
+use Rattle.audit_slices.specs.declared.slices.Slice.{Slice}
+use Rattle.audit_slices.specs.declared.checks.SliceReport.{SliceReport}
+use Rattle.audit_slices.specs.declared.members.Member.{Member}
+use Rattle.audit_slices.specs.Lane.{LanePlace, ThiefPlace, lane_place, thief_place, lane_hand}
+use Rattle.audit_slices.specs.Named.{named_from}
+use Rattle.audit_slices.specs.Shared.{handed_sum, thieves_sum}
+
+-- a worker's places: in its own lane, and as a thief
+abbrev pub Places : Type 0
+Places = LanePlace × List ThiefPlace
+
+-- what was put into the lanes of these thieves
+abbrev pub thief_openings : List ThiefPlace → List (List Slice)
+thief_openings ps = map (λ p. p.2.opening) ps
+
+-- what was put into the lanes of a worker
+abbrev pub openings : Places → List (List Slice)
+openings p = p.0.1.opening ∷ thief_openings p.1
+
+module _ {X : Type 0} where
+  abbrev pub member_sum : (Slice → ℕ) → Member X → ℕ
+  member_sum h m = handed_sum h (lane_hand m.lane) + thieves_sum h m.thieves.items
+
+  abbrev pub member_places : Member X → Places
+  member_places m = (lane_place m.lane, map thief_place m.thieves.items)
+
+  -- the reports are those that f names for the slice's entries, in order
+  abbrev pub IsNamed : (ℕ → X) → SliceReport X → Type 0
+  IsNamed f r = r.reports.items ≡ named_from f r.slice.from r.slice.count
+
+  -- its reports are right, and unless it lost a slice, they are of just the slices that it was handed
+  pub record IsSettled (f : ℕ → X) (m : Member X) : Type 0 where
+    pub named : All (IsNamed f) m.done.items
+    pub each : m.lost ≡ false → (h : Slice → ℕ) → sum_by (λ r. h r.slice) m.done.items ≡ member_sum h m
+
+  -- the same, but for the slice x, which it holds
+  pub record IsOneShort (f : ℕ → X) (x : Slice) (m : Member X) : Type 0 where
+    pub named : All (IsNamed f) m.done.items
+    pub each : m.lost ≡ false → (h : Slice → ℕ) → sum_by (λ r. h r.slice) m.done.items + h x ≡ member_sum h m
+
+-- x is a slice that was put into one of these lanes
+abbrev pub IsIn : List (List Slice) → Slice → Type 0
+IsIn lists x = (all : List Slice) × Contains lists all × Contains all x
+
+-- each slice that was put in has its entries below n
+pub record AreBelow (n : ℕ) (places : Places) : Type 0 where
+  pub each : All (λ all. All (λ x. x.from + x.count ≤ n) all) (openings places)

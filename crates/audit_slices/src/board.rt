@@ -1,0 +1,175 @@
+// A board of alerts that threads share: each alert on it is true.
+ghost use Rattle.std.specs.Prelude.{◌≡◌, ℕ, Bool, IfOk, IfErr, IfSome};
+ghost use Rattle.audit_slices.specs.Board.{IsTrueAlert, IsPostedOn, posted_alert};
+
+use boxcar::tag::Tag;
+use boxcar::{Iter, Keeps, Pushed, Vec};
+use std::alloc::{AllocError, Global};
+use std::marker::PhantomData;
+use std::sync::Wait;
+
+/// Which reports are named, and which of them raise an alert. Each call of a program picks it.
+pub trait Names<X> {
+    ghost named: { ℕ → X };
+
+    ghost alerts: { X → Bool };
+}
+
+/// The report of an entry, which raises an alert.
+#[derive(Drop)]
+pub struct Alert<X> {
+    pub entry: usize,
+    pub report: X,
+}
+
+/// The rule of a board: each alert on it is true.
+pub struct True<N> {
+    names: PhantomData<N>,
+}
+
+impl<X, N: Names<X>> Keeps<Alert<X>> for True<N> {
+    ghost holds = { λ _ _ a. IsTrueAlert N.named N.alerts a };
+}
+
+/// It shows where on a board an alert stands.
+#[derive(Drop)]
+pub struct Posted<X, N: Names<X>> {
+    at: Pushed<Alert<X>, Global, True<N>>,
+}
+
+/// The alerts of all threads. An alert that was posted stays.
+#[derive(Drop)]
+pub struct Board<X, N: Names<X>> {
+    alerts: Vec<Alert<X>, Global, True<N>>,
+}
+
+impl<X: Drop, N: Names<X>> Board<X, N> {
+    /// An empty board. Refused for want of memory.
+    pub fn new(alloc: Global) -> Result<Board<X, N>, AllocError> {
+        Ok(Board {
+            alerts: Vec::with_rule(alloc, Tag::empty())?,
+        })
+    }
+
+    /// Puts up an alert, which has to be true. It comes back for want of memory.
+    pub fn post<R: Wait>(&self, rt: &R, alert: Alert<X>) -> Result<Posted<X, N>, Alert<X>>
+        requires { IsTrueAlert N.named N.alerts alert }
+        ensures posted { IfOk result (λ p. IsPostedOn self.now p × (posted_alert p ≡ alert)) }
+        ensures back { IfErr result (λ a. a ≡ alert) }
+    {
+        let at = self.alerts.push_shown(rt, alert)?;
+        Ok(Posted { at })
+    }
+}
+
+impl<X, N: Names<X>> Board<X, N> {
+    /// The alert that was posted.
+    pub fn of<'a>(&'a self, posted: &Posted<X, N>) -> &'a Alert<X>
+        requires { IsPostedOn self.now posted.now }
+        ensures { result.now ≡ posted_alert posted.now }
+    {
+        self.alerts.value(&posted.at)
+    }
+
+    /// The alerts that are on it, from the first on.
+    pub fn alerts(&self) -> Alerts<'_, X, N> {
+        Alerts {
+            inner: self.alerts.iter(),
+        }
+    }
+}
+
+/// The alerts of a board.
+#[derive(Drop)]
+pub struct Alerts<'a, X, N: Names<X>> {
+    inner: Iter<'a, Alert<X>, Global, True<N>>,
+}
+
+impl<'a, X, N: Names<X>> Alerts<'a, X, N> {
+    /// The next alert. It is true.
+    pub fn next(&mut self) -> Option<&'a Alert<X>>
+        ensures { IfSome result (λ a. IsTrueAlert N.named N.alerts a.now) }
+    {
+        let (_place, alert) = self.inner.next()?;
+        Some(alert)
+    }
+}
+
+/// It is shown alerts, each of them true.
+pub trait Watch<X, N: Names<X>> {
+    fn seen(&mut self, alert: &Alert<X>)
+        requires { IsTrueAlert N.named N.alerts alert.now };
+}
+
+/// It looks at nothing.
+#[derive(Drop)]
+pub struct Blind;
+
+impl<X, N: Names<X>> Watch<X, N> for Blind {
+    fn seen(&mut self, _alert: &Alert<X>) {}
+}
+
+// Where the workers of a pool put up their alerts: a board, or nowhere.
+pub(crate) trait Desk<X, N: Names<X>> {
+    fn is_there(&self) -> bool;
+
+    // Puts up an alert, or drops it for want of memory.
+    fn put<R: Wait>(&self, rt: &R, alert: Alert<X>)
+        requires { IsTrueAlert N.named N.alerts alert };
+
+    // Shows a watch the alerts from this place on, up to the first place that is still empty, which it answers.
+    fn show_new<W: Watch<X, N>>(&self, from: usize, watch: &mut W) -> usize;
+
+    // Shows a watch the alerts from this place on. A place whose alert found no memory stays empty.
+    fn show_rest<W: Watch<X, N>>(&self, from: usize, watch: &mut W);
+}
+
+impl<X: Drop, N: Names<X>> Desk<X, N> for Board<X, N> {
+    fn is_there(&self) -> bool {
+        true
+    }
+
+    fn put<R: Wait>(&self, rt: &R, alert: Alert<X>)
+        requires { IsTrueAlert N.named N.alerts alert }
+    {
+        drop(self.post(rt, alert));
+    }
+
+    fn show_new<W: Watch<X, N>>(&self, from: usize, watch: &mut W) -> usize {
+        let end = self.alerts.count();
+        for place in from..end {
+            match self.alerts.get(place) {
+                Some(alert) => watch.seen(alert),
+                None => return place,
+            }
+        }
+        from.max(end)
+    }
+
+    fn show_rest<W: Watch<X, N>>(&self, from: usize, watch: &mut W) {
+        for place in from..self.alerts.count() {
+            if let Some(alert) = self.alerts.get(place) {
+                watch.seen(alert);
+            }
+        }
+    }
+}
+
+// No alert is put up.
+pub(crate) struct Nowhere;
+
+impl<X: Drop, N: Names<X>> Desk<X, N> for Nowhere {
+    fn is_there(&self) -> bool {
+        false
+    }
+
+    fn put<R: Wait>(&self, _rt: &R, _alert: Alert<X>)
+        requires { IsTrueAlert N.named N.alerts _alert }
+    {}
+
+    fn show_new<W: Watch<X, N>>(&self, from: usize, _watch: &mut W) -> usize {
+        from
+    }
+
+    fn show_rest<W: Watch<X, N>>(&self, _from: usize, _watch: &mut W) {}
+}

@@ -1,0 +1,108 @@
+// What a check of an entry gives, and a check of a slice.
+ghost use Rattle.std.specs.Prelude.{◌≡◌, ◌+◌, ◌<◌, ◌≤◌, ◌^◌, ℕ, Bool, IfOk, IfErr};
+ghost use Rattle.audit_slices.specs.Named.{named_from};
+ghost use Rattle.audit_slices.specs.Reports.{slice_number, slice_len, first_entry, IsWithin, report_slice, report_items};
+
+use crate::slices::Slice;
+use std::alloc::{AllocError, Global};
+
+/// It names one report for each of its entries, and says which reports raise an alert.
+pub trait Check {
+    type Report;
+
+    // How many entries it covers.
+    ghost entries: { Self → ℕ };
+
+    // The report of an entry.
+    ghost named: { Self → ℕ → Self.Report };
+
+    // Whether a report raises an alert.
+    ghost raises: { Self → Self.Report → Bool };
+
+    /// The report of the entry. Refused for want of memory alone.
+    fn check(&self, entry: usize) -> Result<Self::Report, AllocError>
+        requires { entry < entries self.now }
+        ensures { IfOk result (λ r. r ≡ named self.now entry) };
+
+    /// Whether the report raises an alert.
+    fn alerts(&self, report: &Self::Report) -> bool
+        ensures { result ≡ raises self.now report.now };
+
+    // They are numbered by a usize.
+    ghost entries_fit: { (c : Self) → entries c < 2 ^ 64 };
+}
+
+/// A worker calls it between taking a slice and checking it.
+pub trait Gate {
+    fn before(&self, worker: usize, slice: usize);
+}
+
+/// It does nothing.
+#[derive(Drop)]
+pub struct Free;
+
+impl Gate for Free {
+    fn before(&self, _worker: usize, _slice: usize) {}
+}
+
+/// The reports of a slice.
+#[derive(Drop)]
+pub struct SliceReport<X> {
+    pub(crate) slice: Slice,
+    pub(crate) reports: Vec<X>,
+}
+
+impl<X> SliceReport<X> {
+    /// The number of its slice.
+    pub fn number(&self) -> usize
+        ensures { result ≡ slice_number (report_slice self.now) }
+    {
+        self.slice.number
+    }
+
+    /// The reports of the slice's entries, in order.
+    pub fn reports(&self) -> &[X]
+        ensures { result.now ≡ report_items self.now }
+    {
+        self.reports.as_slice()
+    }
+}
+
+#[tactic(auto, using(crate::proofs::NamedLemmas::named_from_more))]
+fn reports_from<C: Check>(
+    alloc: Global,
+    check: &C,
+    from: usize,
+    count: usize,
+) -> Result<Vec<C::Report>, AllocError>
+where
+    C::Report: Drop,
+    requires fits { from + count < 2 ^ 64 }
+    requires covered { from + count ≤ C.entries check.now }
+    ensures { IfOk result (λ v. v.items ≡ named_from (C.named check.now) from count) }
+{
+    let mut reports = Vec::new(alloc);
+    for k in 0..count {
+        reports.push(check.check(from + k)?)?;
+    }
+    Ok(reports)
+}
+
+/// The reports of the slice's entries, in order, or the slice back where memory ran out.
+pub fn check_slice<C: Check>(
+    alloc: Global,
+    check: &C,
+    slice: Slice,
+) -> Result<SliceReport<C::Report>, Slice>
+where
+    C::Report: Drop,
+    requires { IsWithin (C.entries check.now) slice }
+    ensures slice { IfOk result (λ r. report_slice r ≡ slice) }
+    ensures reports { IfOk result (λ r. report_items r ≡ named_from (C.named check.now) (first_entry slice) (slice_len slice)) }
+    ensures back { IfErr result (λ s. s ≡ slice) }
+{
+    match reports_from(alloc, check, slice.from, slice.count) {
+        Ok(reports) => Ok(SliceReport { slice, reports }),
+        Err(_) => Err(slice),
+    }
+}

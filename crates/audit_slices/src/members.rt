@@ -1,0 +1,199 @@
+// A worker of the pool.
+ghost use Rattle.std.specs.Prelude.{◌≡◌, ◌+◌, ◌<◌, ◌≤◌, ◌^◌, ℕ, map, IfSome, MatchOption};
+
+use crate::board::{Alert, Desk, Names, Watch};
+use crate::checks::{Check, Gate, SliceReport, check_slice};
+use crate::lane::{Lane, Thief};
+use crate::slices::Slice;
+use std::alloc::Global;
+use std::sync::Wait;
+
+/// A worker: its lane, its thieves, and the reports of the slices that it checked.
+#[derive(Drop)]
+pub struct Member<X> {
+    pub(crate) number: usize,
+    pub(crate) lane: Lane,
+    pub(crate) thieves: Vec<Thief>,
+    pub(crate) done: Vec<SliceReport<X>>,
+    pub(crate) lost: bool,
+    // How many places of the board it has shown.
+    pub(crate) shown: usize,
+}
+
+ghost use Rattle.audit_slices.specs.Lane.{thief_place};
+ghost use Rattle.audit_slices.specs.Shared.{thieves_sum};
+ghost use Rattle.audit_slices.specs.Members.{IsIn, member_places, openings, thief_openings, IsNamed, IsSettled, IsOneShort, AreBelow};
+ghost use Rattle.audit_slices.specs.Board.{SameNames};
+
+// A slice by the first thief that finds one.
+fn steal_from(thieves: &mut [Thief]) -> Option<Slice>
+    ensures places { map thief_place thieves.new ≡ map thief_place thieves.old }
+    ensures sums { MatchOption result
+        ((h : Slice → ℕ) → thieves_sum h thieves.new ≡ thieves_sum h thieves.old)
+        (λ x. (h : Slice → ℕ) → thieves_sum h thieves.new ≡ thieves_sum h thieves.old + h x) }
+    ensures inside { IfSome result (IsIn (thief_openings (map thief_place thieves.old))) }
+{
+    for thief in thieves.iter_mut() {
+        match thief.steal() {
+            Some(slice) => return Some(slice),
+            None => {}
+        }
+    }
+    None
+}
+
+impl<X> Member<X> {
+    ghost use Rattle.audit_slices.specs.Members.{member_sum};
+
+    // A slice from its own lane, or else one that it steals.
+    fn take(&mut self) -> Option<Slice>
+        ensures places { member_places self.new ≡ member_places self.old }
+        ensures sums { MatchOption result
+            ((h : Slice → ℕ) → member_sum h self.new ≡ member_sum h self.old)
+            (λ x. (h : Slice → ℕ) → member_sum h self.new ≡ member_sum h self.old + h x) }
+        ensures inside { IfSome result (IsIn (openings (member_places self.old))) }
+        ensures done { (self.new.done ≡ self.old.done) × (self.new.lost ≡ self.old.lost) }
+    {
+        match self.lane.next() {
+            Some(slice) => Some(slice),
+            None => steal_from(self.thieves.as_mut_slice()),
+        }
+    }
+}
+
+// Puts up an alert if the report of the entry raises one. The alert's report comes from a second call.
+fn raise_one<X: Drop, C: Check<Report = X>, N: Names<X>, B: Desk<X, N>, R: Wait>(
+    rt: &R,
+    check: &C,
+    board: &B,
+    entry: usize,
+    report: &X,
+)
+    requires entry { entry < C.entries check.now }
+    requires report { report.now ≡ C.named check.now entry }
+    requires names { SameNames (C.named check.now) (C.raises check.now) N.named N.alerts }
+{
+    if !check.alerts(report) {
+        return;
+    }
+    if let Ok(report) = check.check(entry) {
+        board.put(rt, Alert { entry, report });
+    }
+}
+
+// Puts up an alert for each report of the slice that raises one.
+fn raise<X: Drop, C: Check<Report = X>, N: Names<X>, B: Desk<X, N>, R: Wait>(
+    rt: &R,
+    check: &C,
+    board: &B,
+    report: &SliceReport<X>,
+)
+    requires fits { report.now.slice.from + report.now.slice.count < 2 ^ 64 }
+    requires slice { report.now.slice.from + report.now.slice.count ≤ C.entries check.now }
+    requires reports { IsNamed (C.named check.now) report.now }
+    requires names { SameNames (C.named check.now) (C.raises check.now) N.named N.alerts }
+{
+    for k in 0..report.reports.len() {
+        raise_one(rt, check, board, report.slice.from + k, &report.reports[k]);
+    }
+}
+
+// Checks one slice, and keeps its reports, or marks that it was lost.
+fn settle<X: Drop, C: Check<Report = X>, N: Names<X>, B: Desk<X, N>, R: Wait>(
+    rt: &R,
+    alloc: Global,
+    check: &C,
+    board: &B,
+    slice: Slice,
+    member: &mut Member<X>,
+)
+    requires slice { slice.from + slice.count ≤ C.entries check.now }
+    requires names { SameNames (C.named check.now) (C.raises check.now) N.named N.alerts }
+    requires before { IsOneShort (C.named check.now) slice member.old }
+    ensures after { IsSettled (C.named check.now) member.new }
+    ensures places { member_places member.new ≡ member_places member.old }
+{
+    match check_slice(alloc, check, slice) {
+        Ok(report) => {
+            if board.is_there() {
+                raise(rt, check, board, &report);
+            }
+            if member.done.push(report).is_err() {
+                member.lost = true;
+            }
+        }
+        Err(_) => member.lost = true,
+    }
+}
+
+// Takes a slice and checks it. False where none of its lanes gave one, and where a slice was lost.
+fn step<X: Drop, C: Check<Report = X>, N: Names<X>, B: Desk<X, N>, G: Gate, R: Wait>(
+    rt: &R,
+    alloc: Global,
+    check: &C,
+    gate: &G,
+    board: &B,
+    member: &mut Member<X>,
+) -> bool
+    requires covered { AreBelow (C.entries check.now) (member_places member.old) }
+    requires names { SameNames (C.named check.now) (C.raises check.now) N.named N.alerts }
+    requires before { IsSettled (C.named check.now) member.old }
+    ensures after { IsSettled (C.named check.now) member.new }
+    ensures places { member_places member.new ≡ member_places member.old }
+{
+    let Some(slice) = member.take() else {
+        return false;
+    };
+    gate.before(member.number, slice.number());
+    settle(rt, alloc, check, board, slice, member);
+    !member.lost
+}
+
+/// Takes slices and checks them until none of its lanes gives one.
+pub(crate) fn work<X: Drop, C: Check<Report = X>, N: Names<X>, B: Desk<X, N>, G: Gate, R: Wait>(
+    rt: &R,
+    alloc: Global,
+    check: &C,
+    gate: &G,
+    board: &B,
+    member: &mut Member<X>,
+)
+    requires covered { AreBelow (C.entries check.now) (member_places member.old) }
+    requires names { SameNames (C.named check.now) (C.raises check.now) N.named N.alerts }
+    requires before { IsSettled (C.named check.now) member.old }
+    ensures after { IsSettled (C.named check.now) member.new }
+    ensures places { member_places member.new ≡ member_places member.old }
+{
+    for _ in rt.forever() {
+        if !step(rt, alloc, check, gate, board, member) {
+            break;
+        }
+    }
+}
+
+/// The same, and shows the watch the new alerts after each slice.
+pub(crate) fn work_watched<
+    X: Drop,
+    C: Check<Report = X>,
+    N: Names<X>,
+    B: Desk<X, N>,
+    G: Gate,
+    W: Watch<X, N>,
+    R: Wait,
+>(rt: &R, alloc: Global, check: &C, gate: &G, board: &B, watch: &mut W, member: &mut Member<X>)
+    requires covered { AreBelow (C.entries check.now) (member_places member.old) }
+    requires names { SameNames (C.named check.now) (C.raises check.now) N.named N.alerts }
+    requires before { IsSettled (C.named check.now) member.old }
+    ensures after { IsSettled (C.named check.now) member.new }
+    ensures places { member_places member.new ≡ member_places member.old }
+{
+    let mut shown = 0;
+    for _ in rt.forever() {
+        let more = step(rt, alloc, check, gate, board, member);
+        shown = board.show_new(shown, watch);
+        if !more {
+            break;
+        }
+    }
+    member.shown = shown;
+}

@@ -1,0 +1,253 @@
+// The pool from its slices to its reports.
+ghost use Rattle.std.specs.Prelude.{◌≡◌, ◌+◌, ◌<◌, ◌≤◌, ◌∷◌, [], ℕ, List, false, All, IfOk, OnOk, ◌++◌, map, length, sum_by};
+ghost use Rattle.std.specs.List.{flat_map};
+ghost use Rattle.audit_slices.specs.Board.{SameNames};
+ghost use Rattle.audit_slices.specs.Cut.{IsNumbered, entries_of};
+ghost use Rattle.audit_slices.specs.Lane.{lane_hand, lane_place, thief_place, thief_hand_of};
+ghost use Rattle.audit_slices.specs.Members.{member_places, IsSettled, AreBelow, IsNamed};
+ghost use Rattle.audit_slices.specs.Receipts.{receipt_hands};
+ghost use Rattle.audit_slices.specs.Reports.{IsWithin, report_slice, report_items};
+ghost use Rattle.audit_slices.specs.Run.{IsWhole, IsFinished, unspent, rest_sum};
+ghost use Rattle.audit_slices.specs.Shared.{IsSpent};
+
+use crate::board::{Board, Desk, Names, Nowhere, Watch};
+use crate::checks::{Check, Gate, SliceReport, check_slice};
+use crate::lane::{Lane, Thief};
+use crate::members::Member;
+use crate::pool::run_watched;
+use crate::receipts::Receipts;
+use crate::slices::Slice;
+use crate::yard::{Yard, close};
+use std::alloc::{AllocError, Global};
+use std::sync::Wait;
+use std::thread::Threads;
+
+// A worker with the ends that are its own.
+fn member<X: Drop>(alloc: Global, number: usize, lane: Lane, thieves: Vec<Thief>) -> Member<X>
+    requires lane { (lane_hand lane).handed ≡ [] }
+    requires thieves { All (λ t. (thief_hand_of t).handed ≡ []) thieves.items }
+    ensures places { member_places result ≡ (lane_place lane, map thief_place thieves.items) }
+    ensures settled { (f : ℕ → X) → IsSettled f result }
+{
+    Member {
+        number,
+        lane,
+        thieves,
+        done: Vec::new(alloc),
+        lost: false,
+        shown: 0,
+    }
+}
+
+fn staff<X: Drop>(
+    alloc: Global,
+    lanes: Vec<Lane>,
+    thieves: Vec<Vec<Thief>>,
+) -> Result<Vec<Member<X>>, AllocError>
+    requires count { length thieves.items ≡ length lanes.items }
+    requires lanes { All (λ l. (lane_hand l).handed ≡ []) lanes.items }
+    requires thieves { All (λ v. All (λ t. (thief_hand_of t).handed ≡ []) v.items) thieves.items }
+    ensures lanes { IfOk result (λ v. map (λ m. (member_places m).0) v.items ≡ map lane_place lanes.items) }
+    ensures thieves { IfOk result (λ v. map (λ m. (member_places m).1) v.items ≡ map (λ v. map thief_place v.items) thieves.items) }
+    ensures settled { IfOk result (λ v. (f : ℕ → X) → All (IsSettled f) v.items) }
+{
+    let mut members = Vec::new(alloc);
+    let mut others = thieves.into_iter();
+    for lane in lanes {
+        let Some(ends) = others.next() else {
+            unreachable!()
+        };
+        let next = member(alloc, members.len(), lane, ends);
+        members.push(next)?;
+    }
+    Ok(members)
+}
+
+// The workers of a yard with these slices, one lane for each.
+fn hire<X: Drop>(
+    alloc: Global,
+    slices: Vec<Slice>,
+    workers: usize,
+) -> Result<Vec<Member<X>>, AllocError>
+    requires { IsNumbered slices.items }
+    ensures settled { IfOk result (λ v. (f : ℕ → X) → All (IsSettled f) v.items) }
+    ensures whole { IfOk result (λ v. IsWhole slices.items v.items) }
+{
+    match Yard::open(alloc, slices, workers, workers) {
+        Ok((lanes, thieves)) => Ok(staff(alloc, lanes, thieves)?),
+        Err(_) => Err(AllocError),
+    }
+}
+
+fn gather<X: Drop>(
+    alloc: Global,
+    members: Vec<Member<X>>,
+) -> Result<(Vec<Lane>, Vec<Vec<Thief>>, Vec<SliceReport<X>>), AllocError>
+    ensures lanes { IfOk result (λ r. r.0.items ≡ map (λ m. m.lane) members.items) }
+    ensures thieves { IfOk result (λ r. r.1.items ≡ map (λ m. m.thieves) members.items) }
+    ensures done { IfOk result (λ r. r.2.items ≡ flat_map (λ m. m.done.items) members.items) }
+    ensures kept { IfOk result (λ r. All (λ m. m.lost ≡ false) members.items) }
+{
+    let mut lanes = Vec::new(alloc);
+    let mut thieves = Vec::new(alloc);
+    let mut done = Vec::new(alloc);
+    for member in members {
+        let Member {
+            number: _,
+            lane,
+            thieves: ends,
+            done: mut reports,
+            lost,
+            shown: _,
+        } = member;
+        if lost {
+            return Err(AllocError);
+        }
+        lanes.push(lane)?;
+        thieves.push(ends)?;
+        done.append(&mut reports)?;
+    }
+    Ok((lanes, thieves, done))
+}
+
+// After the join: the yard is closed, and the reports are put together.
+fn finish<X: Drop>(
+    alloc: Global,
+    members: Vec<Member<X>>,
+) -> Result<(Receipts, Vec<SliceReport<X>>), AllocError>
+    requires { (xs : List Slice) × IsWhole xs members.items }
+    ensures { IfOk result (λ r. (xs : List Slice) → IsWhole xs members.items → IsFinished xs members.items (receipt_hands r.0) r.1.items) }
+{
+    let (lanes, thieves, done) = gather(alloc, members)?;
+    Ok((close(lanes, thieves), done))
+}
+
+fn drain<X: Drop, C: Check<Report = X>, R: Wait>(
+    rt: &R,
+    alloc: Global,
+    check: &C,
+    mut receipts: Receipts,
+    mut done: Vec<SliceReport<X>>,
+) -> Result<(Receipts, Vec<SliceReport<X>>), AllocError>
+    requires covered { All (λ v. All (λ x. x.from + x.count ≤ C.entries check.now) v.opening) (receipt_hands receipts) }
+    requires named { All (IsNamed (C.named check.now)) done.items }
+    ensures same { IfOk result (λ r. map unspent (receipt_hands r.0) ≡ map unspent (receipt_hands receipts)) }
+    ensures all { IfOk result (λ r. All IsSpent (receipt_hands r.0)) }
+    ensures named { IfOk result (λ r. All (IsNamed (C.named check.now)) r.1.items) }
+    ensures sums { IfOk result (λ r. (h : Slice → ℕ) → sum_by (λ r. h r.slice) r.1.items + rest_sum h (receipt_hands receipts) ≡ sum_by (λ r. h r.slice) done.items + rest_sum h (receipt_hands r.0)) }
+{
+    for _ in rt.forever() {
+        let Some(slice) = receipts.next() else {
+            break;
+        };
+        let Ok(report) = check_slice(alloc, check, slice) else {
+            return Err(AllocError);
+        };
+        done.push(report)?;
+    }
+    Ok((receipts, done))
+}
+
+/// The reports of the slices of one `cut`, in their order, by 1 to 16 workers with a lane for each. Worker 0 is the
+/// calling thread: after each of its slices and after the join it shows the watch the alerts that are new on the board.
+/// An alert that finds no memory is dropped. Refused for want of memory, whatever the others did, where a slice could
+/// not be checked.
+pub fn run_pool<
+    X: Send + Sync + Drop,
+    C: Check<Report = X> + Sync,
+    N: Names<X> + Sync,
+    G: Gate + Sync,
+    W: Watch<X, N>,
+    R: Threads + Wait + Sync,
+>(
+    rt: &R,
+    alloc: Global,
+    check: &C,
+    gate: &G,
+    board: Option<&Board<X, N>>,
+    watch: &mut W,
+    slices: Vec<Slice>,
+    workers: usize,
+) -> Result<Vec<SliceReport<X>>, AllocError>
+    requires workers { (0 < workers) × (workers ≤ 16) }
+    requires numbered { IsNumbered slices.items }
+    requires covered { All (IsWithin (C.entries check.now)) slices.items }
+    requires names { SameNames (C.named check.now) (C.raises check.now) N.named N.alerts }
+    ensures slices { IfOk result (λ v. map report_slice v.items ≡ slices.items) }
+    ensures named { IfOk result (λ v. All (IsNamed (C.named check.now)) v.items) }
+    ensures all { IfOk result (λ v. flat_map report_items v.items ≡ map (C.named check.now) (entries_of slices.items)) }
+{
+    let members = hire(alloc, slices, workers)?;
+    let members = run_members(rt, alloc, check, gate, board, watch, members);
+    let (receipts, done) = finish(alloc, members)?;
+    let (_spent, mut done) = drain(rt, alloc, check, receipts, done)?;
+    done.sort_unstable_by_key(|r| r.slice.number);
+    Ok(done)
+}
+
+fn run_members<
+    X: Send + Sync + Drop,
+    C: Check<Report = X> + Sync,
+    N: Names<X> + Sync,
+    G: Gate + Sync,
+    W: Watch<X, N>,
+    R: Threads + Wait + Sync,
+>(
+    rt: &R,
+    alloc: Global,
+    check: &C,
+    gate: &G,
+    board: Option<&Board<X, N>>,
+    watch: &mut W,
+    members: Vec<Member<X>>,
+) -> Vec<Member<X>>
+    requires covered { All (λ m. AreBelow (C.entries check.now) (member_places m)) members.items }
+    requires names { SameNames (C.named check.now) (C.raises check.now) N.named N.alerts }
+    requires before { All (IsSettled (C.named check.now)) members.items }
+    ensures after { All (IsSettled (C.named check.now)) result.items }
+    ensures places { map member_places result.items ≡ map member_places members.items }
+{
+    match board {
+        Some(board) => run_at_desk(rt, alloc, check, gate, board, watch, members),
+        None => run_at_desk(rt, alloc, check, gate, &Nowhere, watch, members),
+    }
+}
+
+fn run_at_desk<
+    X: Send + Sync + Drop,
+    C: Check<Report = X> + Sync,
+    N: Names<X> + Sync,
+    B: Desk<X, N> + Sync,
+    G: Gate + Sync,
+    W: Watch<X, N>,
+    R: Threads + Wait + Sync,
+>(
+    rt: &R,
+    alloc: Global,
+    check: &C,
+    gate: &G,
+    board: &B,
+    watch: &mut W,
+    mut members: Vec<Member<X>>,
+) -> Vec<Member<X>>
+    requires covered { All (λ m. AreBelow (C.entries check.now) (member_places m)) members.items }
+    requires names { SameNames (C.named check.now) (C.raises check.now) N.named N.alerts }
+    requires before { All (IsSettled (C.named check.now)) members.items }
+    ensures after { All (IsSettled (C.named check.now)) result.items }
+    ensures places { map member_places result.items ≡ map member_places members.items }
+{
+    run_watched(rt, alloc, check, gate, board, watch, members.as_mut_slice());
+    show_rest(board, watch, members.as_slice());
+    members
+}
+
+// Shows the alerts that the first worker has not shown.
+fn show_rest<X, N: Names<X>, B: Desk<X, N>, W: Watch<X, N>>(
+    board: &B,
+    watch: &mut W,
+    members: &[Member<X>],
+) {
+    if let Some(first) = members.first() {
+        board.show_rest(first.shown, watch);
+    }
+}
