@@ -1,12 +1,14 @@
 -- What callers may draw from the declarations: a relation keeps its stratum, stays declared, and has a number.
-use Rattle.std.proofs.Common.{◌≡◌, ℕ, zero, suc, ◌+◌, ◌-◌, ◌≤◌, ◌==◌, nat_le, true, false, List, [], ◌∷◌, length, slice_get, Option, None, Some, option_and_then, is_some, refl, sym, ap, ◌∙◌, arith}
+use Rattle.std.proofs.Common.{◌≡◌, ℕ, zero, suc, ◌+◌, ◌-◌, ◌≤◌, ◌==◌, nat_le, true, false, List, [], ◌∷◌, length, slice_get, Bool, find, position, nat_lt, Option, None, Some, option_and_then, is_some, refl, sym, ap, ◌∙◌, arith}
 use Rattle.std.proofs.lemmas.Option.{slice_get_within}
+use Rattle.std.proofs.lemmas.List.Folds.{find_at}
+use Rattle.std.proofs.lemmas.Bool.Decides.{nat_tests}
 use Rattle.std.specs.Str.{bytes_eq}
 use Rattle.std.specs.Option.{option_or}
-use Rattle.std.specs.List.{AllByRecursion, cons_option, list_any}
+use Rattle.std.specs.List.{AllByRecursion, cons_option, list_any, position_or_len}
 use Rattle.std.specs.Cmp.{unsigned_Decides}
 use Rattle.namespaces.specs.Declaration.{Relation, Declaration}
-use Rattle.namespaces.specs.Lookup.{relation_named, declared_in, history, history_numbered, relations_of, relation_of, in_force, relation_at, namespace_names, namespace_numbered, relation_numbered, item_at}
+use Rattle.namespaces.specs.Lookup.{relation_named, declared_in, history, history_numbered, relations_of, relation_of, in_force, relation_at, namespace_names, namespace_numbered, relation_numbered, relation_names, number_of, item_at}
 use Rattle.namespaces.specs.Adding.{is_declared}
 use Rattle.namespaces.specs.Changing.{keeps_names, keeps_strata}
 use Rattle.namespaces.specs.WellFormed.{IsFit, IsWellFormed}
@@ -16,6 +18,7 @@ use Rattle.namespaces.proofs.Kept.{absent_before}
 use Rattle.namespaces.proofs.Times.{IsKeptIn, newest_keeps, not_named, from_one}
 use Rattle.namespaces.proofs.Growth.{is_declared-names}
 use Rattle.namespaces.proofs.Numbers.{item_at-place}
+use Rattle.namespaces.proofs.Indexes.{position-map}
 
 -- x stands somewhere in the list
 pub record IsPlaced {X : Type 0} (xs : List X) (x : X) : Type 0 where
@@ -113,54 +116,61 @@ stays_declared ds q r y w placed = by (relations_of q ds) refl
 
 -- ---- numbers
 
-placed_name : (q : List ℕ) (ns : List (List ℕ)) → list_any (bytes_eq q) ns ≡ true → IsPlaced ns q
-placed_name q [] h = cc
-placed_name q (n ∷ ns) h = by_bool (bytes_eq q n)
-    (λ t. record { place = 0; there = ap Some (sym (one_name q n t)) })
-    (λ f. let later = placed_name q ns (rw f at h) in record { place = suc later.place; there = later.there })
+-- what a search finds stands at the first place that passes
+found_place : {X : Type 0} (p : X → Bool) (xs : List X) (x : X) → find p xs ≡ Some x → (i : ℕ) × (position p xs ≡ Some i) × (slice_get xs i ≡ Some x)
+found_place p xs x h =
+    let there : slice_get xs (position_or_len p xs) ≡ Some x = sym (find_at p xs) ∙ h in
+    let within : nat_lt (position_or_len p xs) (length xs) ≡ true = (let below = slice_get_within xs (position_or_len p xs) x there in grind (arith, nat_tests)) in
+    (position_or_len p xs, rw within refl, there)
 
-placed_relation : (r : List ℕ) (rs : List Relation) (x : Relation) → relation_named r rs ≡ Some x → (IsPlaced rs x) × (x.name ≡ r)
-placed_relation r [] x h = cc
-placed_relation r (s ∷ ss) x h = by_bool (bytes_eq r s.name)
-    (λ t. let same : s ≡ x = let e : Some s ≡ Some x = rw t at h in cc in (record { place = 0; there = ap Some same }, rw (← same) (sym (one_name r s.name t))))
-    (λ f. let later = placed_relation r ss x (rw f at h) in (record { place = suc later.0.place; there = later.0.there }, later.1))
+found_name : (q : List ℕ) (ns : List (List ℕ)) → list_any (bytes_eq q) ns ≡ true → find (bytes_eq q) ns ≡ Some q
+found_name q [] h = cc
+found_name q (n ∷ ns) h = by_bool (bytes_eq q n)
+    (λ t. rw t (ap Some (sym (one_name q n t))))
+    (λ f. rw f (found_name q ns (rw f at h)))
 
--- a relation that is declared, with the number that it has
-pub record IsNumbered (ds : List Declaration) (q : List ℕ) (x : Relation) : Type 0 where
+-- a relation that is declared, with its number
+pub record IsNumbered (ds : List Declaration) (q r : List ℕ) (x : Relation) : Type 0 where
   pub number : RelNo
+  pub is : number_of q r ds ≡ Some number
   pub namespace : namespace_numbered number.namespace ds ≡ Some q
   pub relation : relation_numbered number ds ≡ Some x
-  pub namespaces : number.namespace ≤ 256
-  pub relations : number.relation ≤ 256
 
 at_place : {X : Type 0} (n : ℕ) (xs : List X) → item_at (n + 1) xs ≡ slice_get xs n
 at_place n xs = let least : 1 ≤ n + 1 = omega arith in let before : n + 1 - 1 ≡ n = omega arith in item_at-place (n + 1) n xs least before
 
-few_places : {X : Type 0} (xs : List X) (x : X) (p : IsPlaced xs x) → length xs ≤ 256 → p.place + 1 ≤ 256
-few_places xs x p few = let within = slice_get_within xs p.place x p.there in omega arith
+number_at : (ds : List Declaration) (q r : List ℕ) (rs : List Relation) (i j : ℕ)
+    → position (bytes_eq q) (namespace_names ds) ≡ Some i → relations_of q ds ≡ Some rs → position (bytes_eq r) (relation_names rs) ≡ Some j
+    → number_of q r ds ≡ Some (record { namespace = i + 1; relation = j + 1 })
+number_at ds q r rs i j namespace here relation = rw (namespace, here, relation) refl
 
-pub numbered : (ds : List Declaration) (q r : List ℕ) (x : Relation) → IsWellFormed ds → relation_of q r ds ≡ Some x → IsNumbered ds q x
-numbered ds q r x w found = by (relations_of q ds) refl found
+pub numbered : (ds : List Declaration) (q r : List ℕ) (x : Relation) → relation_of q r ds ≡ Some x → IsNumbered ds q r x
+numbered ds q r x found = by (relations_of q ds) refl found
   where
-    by : (o : Option (List Relation)) → relations_of q ds ≡ o → option_and_then (relation_named r) o ≡ Some x → IsNumbered ds q x
+    by : (o : Option (List Relation)) → relations_of q ds ≡ o → option_and_then (relation_named r) o ≡ Some x → IsNumbered ds q r x
     by None e f = cc
     by (Some rs) e f =
         let declared : is_declared q ds ≡ true = ap is_some e in
-        let n = placed_name q (namespace_names ds) (is_declared-names q ds ∙ declared) in
-        let p = (placed_relation r rs x f).0 in
-        let one = from_one IsFit q rs ds w.fit e in
-        let named : namespace_numbered (n.place + 1) ds ≡ Some q = at_place n.place (namespace_names ds) ∙ n.there in
+        let n = found_place (bytes_eq q) (namespace_names ds) q (found_name q (namespace_names ds) (is_declared-names q ds ∙ declared)) in
+        let p = found_place (λ (y : Relation). bytes_eq r y.name) rs x f in
+        let named : namespace_numbered (n.0 + 1) ds ≡ Some q = at_place n.0 (namespace_names ds) ∙ n.2 in
+        let place : position (bytes_eq r) (relation_names rs) ≡ Some p.0 = position-map (bytes_eq r) (λ (y : Relation). y.name) rs ∙ p.1 in
         record {
-          number = record { namespace = n.place + 1; relation = p.place + 1 };
+          number = record { namespace = n.0 + 1; relation = p.0 + 1 };
+          is = number_at ds q r rs n.0 p.0 n.1 e place;
           namespace = named;
-          relation = rw (named, e) (at_place p.place rs ∙ p.there);
-          namespaces = few_places (namespace_names ds) q n w.namespaces;
-          relations = few_places rs x p (rw one.shown at one.has.count);
+          relation = rw (named, e) (at_place p.0 rs ∙ p.2);
         }
+
+placed_relation : (r : List ℕ) (rs : List Relation) (x : Relation) → relation_named r rs ≡ Some x → x.name ≡ r
+placed_relation r [] x h = cc
+placed_relation r (s ∷ ss) x h = by_bool (bytes_eq r s.name)
+    (λ t. let same : s ≡ x = let e : Some s ≡ Some x = rw t at h in cc in rw (← same) (sym (one_name r s.name t)))
+    (λ f. placed_relation r ss x (rw f at h))
 
 named_so : (q r : List ℕ) (x : Relation) (o : Option (List Relation)) → option_and_then (relation_named r) o ≡ Some x → x.name ≡ r
 named_so q r x None h = cc
-named_so q r x (Some rs) h = (placed_relation r rs x h).1
+named_so q r x (Some rs) h = placed_relation r rs x h
 
 -- what was declared of a relation is what was declared of its number
 pub history_of_number : (ds : List Declaration) (q r : List ℕ) (x : Relation) (number : RelNo) → relation_of q r ds ≡ Some x → namespace_numbered number.namespace ds ≡ Some q → relation_numbered number ds ≡ Some x → history_numbered number ds ≡ history q r ds

@@ -163,6 +163,13 @@ impl Rules {
         Some(&relation.rewrite)
     }
 
+    /// How many declarations were made.
+    pub fn len(&self) -> usize
+        ensures { result ≡ length self.now }
+    {
+        self.lines.len()
+    }
+
     /// The stratum of a relation, from 0 to 255, or `None` where it is not declared so far. It is the same in each of its declarations.
     pub fn stratum(&self, set: SetRef<'_>) -> Option<u8>
         ensures { result
@@ -177,12 +184,20 @@ impl Rules {
     pub fn number(&self, set: SetRef<'_>) -> Option<RelNo>
         ensures { result ≡ number_of set.entry.namespace.now set.entry.relation.now self.now }
     {
-        let namespace = self.place(set.namespace)?;
+        let namespace = self.namespace_number(set.namespace)?;
         let relation = self.newest(set.namespace)?.get_index_of(set.relation)?;
         Some(RelNo {
             namespace,
             relation: relation as u16 + 1,
         })
+    }
+
+    /// The number of a namespace, counted from 1 in order of first declaration, or `None` where it is not declared so far.
+    pub fn namespace_number(&self, namespace: &str) -> Option<u16>
+        ensures { result ≡ place_of namespace.now (namespace_names self.now) }
+    {
+        let index = self.namespaces.get_index_of(namespace)?;
+        Some(index as u16 + 1)
     }
 
     /// The name of the namespace that has this number, or `None` where there is none.
@@ -256,14 +271,6 @@ impl Rules {
         let versions = self.namespaces.get(namespace)?;
         let version = version_at(versions.as_slice(), at)?;
         self.relations_in(version)
-    }
-
-    /// The place of a namespace, counted from 1.
-    fn place(&self, namespace: &str) -> Option<u16>
-        ensures { result ≡ place_of namespace.now (namespace_names self.now) }
-    {
-        let index = self.namespaces.get_index_of(namespace)?;
-        Some(index as u16 + 1)
     }
 
     /// The namespace that `add` would declare.

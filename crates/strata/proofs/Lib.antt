@@ -4,4 +4,8 @@ pub mod Lists
 pub mod Positive
 pub mod Premises
 pub mod Renumbered
+pub mod Restratified
 pub mod Rounds
+pub mod Unbroken
+pub mod ValidStrata
+mod Walks

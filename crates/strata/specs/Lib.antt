@@ -1,3 +1,5 @@
+pub mod Edges
 pub mod Laws
 pub mod Meaning
+pub mod Sights
 pub mod Strata

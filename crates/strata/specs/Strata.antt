@@ -1,9 +1,10 @@
 -- Valid strata.
-use Rattle.std.specs.Prelude.{◌≡◌, ℕ, ◌≤◌, ◌<◌, List, Some, option_map, Contains}
+use Rattle.std.specs.Prelude.{◌≡◌, ℕ, ◌≤◌, ◌<◌, List, map, Some, option_map, Contains}
 use Rattle.tuple_text.specs.Sets.{SetValue}
 use Rattle.tuple_text.specs.Tuples.{TupleValue, FactValue}
 use Rattle.tuple_text.specs.declared.users.User.TheVariants.{Set}
 use Rattle.namespaces.specs.Expression.{Expression, this, computed, tuple_to, union, inter, minus, Expressions, no_child, child}
+use Rattle.namespaces.specs.Declaration.{Relation, Declaration}
 use Rattle.namespaces.specs.Lookup.{Rule, Lookup, rule_of}
 use Rattle.strata.specs.Meaning.{with_relation, same_user, IsStored}
 
@@ -41,6 +42,16 @@ abbrev pub HaveSameExpressions : Lookup → Lookup → Type 0
 HaveSameExpressions old new =
     (namespace relation : List ℕ) →
     option_map (λ (r : Rule). r.expression) (old namespace relation) ≡ option_map (λ (r : Rule). r.expression) (new namespace relation)
+
+-- two lists of declarations without their strata are the same where they differ in strata alone
+abbrev pub on_stratum_0 : Relation → Relation
+on_stratum_0 r = record r { stratum = 0 }
+
+abbrev pub without_strata : Declaration → Declaration
+without_strata d = record d { relations = map on_stratum_0 d.relations }
+
+abbrev pub DifferInStrataAlone : List Declaration → List Declaration → Type 0
+DifferInStrataAlone old new = map without_strata old ≡ map without_strata new
 
 -- the relations that are declared have names in a list
 abbrev pub HasNames : Lookup → List (List ℕ) → Type 0

@@ -1,12 +1,15 @@
-//! Laws of the meaning, each for valid strata over one store. The functions compute nothing: a law is its
-//! function's contract, over the definitions alone.
+//! Laws of the meaning, each for valid strata over one store, and where valid strata come from. The functions compute nothing: a law
+//! is its function's contract, over the definitions alone.
 
-ghost use Rattle.std.specs.Prelude.{◌≡◌, ℕ, List, Some, ◌↔◌};
+ghost use Rattle.std.specs.Prelude.{◌≡◌, ℕ, List, Some, ◌↔◌, Contains};
 ghost use Rattle.tuple_text.specs.Tuples.{TupleValue, FactValue};
-ghost use Rattle.namespaces.specs.Lookup.{Lookup, Rule, rule_of};
+ghost use Rattle.namespaces.specs.Declaration.{Declaration};
+ghost use Rattle.namespaces.specs.Lookup.{Lookup, Rule, rule_of, rule_at};
+ghost use Rattle.namespaces.specs.WellFormed.{IsWellFormed};
+ghost use Rattle.strata.specs.Edges.{HasNoBrokenEdge};
 ghost use Rattle.strata.specs.Meaning.{Member, HasLeastRound};
 ghost use Rattle.strata.specs.Laws.{IsStable, IsClosed};
-ghost use Rattle.strata.specs.Strata.{HasValidStrata, HasNames, HaveSameExpressions};
+ghost use Rattle.strata.specs.Strata.{HasValidStrata, HasNames, HaveSameExpressions, DifferInStrataAlone};
 
 /// A fact of a stratum is settled there: no higher stratum changes it.
 pub fn stable()
@@ -29,4 +32,18 @@ pub fn supported()
 pub fn same_meaning()
     ensures { (old new : Lookup) (store : List TupleValue) → HasValidStrata old store → HasValidStrata new store →
         HaveSameExpressions old new → (f : FactValue) → (Member old store f ↔ Member new store f) }
+{}
+
+/// The same for the rules in force at any one timestamp, of declarations that differ in strata alone.
+pub fn same_meaning_at_each_time()
+    ensures { (old new : List Declaration) → DifferInStrataAlone old new → (at : ℕ) (store : List TupleValue) →
+        HasValidStrata (rule_at old at) store → HasValidStrata (rule_at new at) store →
+        (f : FactValue) → (Member (rule_at old at) store f ↔ Member (rule_at new at) store f) }
+{}
+
+/// Where no edge of the rules ever declared is broken, and none of the tuples ever added, strata are valid at each timestamp, over
+/// whatever of those tuples is stored.
+pub fn valid_at_each_time()
+    ensures { (ds : List Declaration) (ts : List TupleValue) → IsWellFormed ds → HasNoBrokenEdge ds ts →
+        (at : ℕ) (store : List TupleValue) → ((t : TupleValue) → Contains store t → Contains ts t) → HasValidStrata (rule_at ds at) store }
 {}

@@ -9,7 +9,10 @@
 //! [`Edge`] names a dependency between two relations; the checks that look for a broken one are not here yet.
 #![tactic(auto)]
 
+mod check;
 mod edge;
 pub mod laws;
+mod walk;
 
+pub use check::{check_rules, check_tuple};
 pub use edge::Edge;

@@ -1,6 +1,6 @@
 use Rattle.std.proofs.Common.{refl, arith}
 use Rattle.namespaces.proofs.Fields.{well, position_found, count_found}
-use Rattle.namespaces.proofs.rules.Rules.place.Goals as goal
+use Rattle.namespaces.proofs.rules.Rules.namespace_number.Goals as goal
 
 pub returns-in_err-index : goal.returns-in_err-index
 returns-in_err-index c =

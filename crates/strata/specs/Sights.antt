@@ -1,0 +1,25 @@
+-- What is looked for in a rule. No public clause cites this module.
+use Rattle.std.specs.Prelude.{Option, None}
+use Rattle.namespaces.specs.Expression.{Expression, this, computed, tuple_to, union, inter, minus}
+use Rattle.tuple_text.specs.Refs.{set_value}
+use Rattle.strata.specs.Edges.{RelationName, Place, at_this, at_computed, at_tuple_to, read_by_rule, read_in_userset, read_through}
+use Rattle.tuple_text.specs.declared.sets.SetRef.{SetRef}
+use Rattle.strata.specs.declared.walk.Sight.{Sight}
+use Rattle.strata.specs.declared.walk.Sight.TheVariants.{Rule, Userset, Through}
+
+abbrev pub reads : Sight → Place → Option RelationName
+reads (Rule namespace) = read_by_rule namespace.now
+reads (Userset set) = read_in_userset (set_value set)
+reads (Through tupleset set) = read_through tupleset.now (set_value set)
+
+abbrev pub name_of : SetRef → RelationName
+name_of s = record { namespace = s.namespace.now; relation = s.relation.now }
+
+-- what a leaf of an expression reads
+abbrev pub leaf_read : (Place → Option RelationName) → Expression → Option RelationName
+leaf_read f this = f at_this
+leaf_read f (computed q) = f (at_computed q)
+leaf_read f (tuple_to q c) = f (at_tuple_to q c)
+leaf_read f (union es) = None
+leaf_read f (inter es) = None
+leaf_read f (minus a b) = None

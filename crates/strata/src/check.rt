@@ -1,0 +1,70 @@
+//! The first broken edge of rules and of tuples.
+
+ghost use Rattle.std.specs.Prelude.{◌≡◌};
+ghost use Rattle.strata.specs.Edges as edges;
+ghost use Rattle.strata.specs.Edges.{first_broken, rule_edges, tuple_edges};
+ghost use Rattle.strata.specs.Sights.{reads};
+ghost use Rattle.tuple_text.specs.Refs.{set_value};
+
+use crate::edge::Edge;
+use crate::walk::{Sight, check_relation};
+use namespaces::{RelNo, Rules};
+use tuple_text::{SetRef, Tuple, UserRef};
+
+/// The first broken edge of the namespace that has this number.
+fn check_namespace(rules: &Rules, namespace: u16, sight: Sight<'_>) -> Result<(), Edge>
+    ensures { result ≡ first_broken rules.now (edges.namespace_edges rules.now (reads sight.entry) namespace) }
+{
+    let mut number = RelNo {
+        namespace,
+        relation: 1,
+    };
+    while rules.relation(number).is_some() {
+        check_relation(rules, number, sight)?;
+        number.relation += 1;
+    }
+    Ok(())
+}
+
+/// Looks at the edges of every rule ever declared: namespace by namespace, relation by relation, a relation's rules by time, and
+/// the places of a rule in pre-order.
+///
+/// An edge leads from a relation to another that its rule reads (Zanzibar, section 2.3.2). It is broken where the other's stratum
+/// is above the relation's own, or, under a subtracted side, not below it. Answers the first that is broken.
+pub fn check_rules(rules: &Rules) -> Result<(), Edge>
+    ensures { result ≡ first_broken rules.now (rule_edges rules.now) }
+{
+    let mut number = 1;
+    while let Some(namespace) = rules.namespace(number) {
+        check_namespace(rules, number, Sight::Rule(namespace))?;
+        number += 1;
+    }
+    Ok(())
+}
+
+/// Looks at the edges of a tuple with every rule ever declared.
+///
+/// Where the tuple's user is a userset, each `this` in a rule of the tuple's relation reads it; and each `tuple_to` of the tuple's
+/// namespace that reads the tuple's relation reads the userset's object under its computed relation. Those of `this` come first, then those of `tuple_to`
+/// relation by relation, both by time and in pre-order. Answers the first that is broken.
+pub fn check_tuple(rules: &Rules, tuple: &Tuple) -> Result<(), Edge>
+    ensures { result ≡ first_broken rules.now (tuple_edges rules.now tuple.now) }
+{
+    let UserRef::Set(user) = tuple.user() else {
+        return Ok(());
+    };
+    check_user(rules, tuple.set(), user)
+}
+
+#[tactic(auto, using(crate::proofs::Walks::edges_joined))]
+fn check_user(rules: &Rules, set: SetRef<'_>, user: SetRef<'_>) -> Result<(), Edge>
+    ensures { result ≡ first_broken rules.now (edges.userset_edges rules.now (set_value set.entry) (set_value user.entry)) }
+{
+    if let Some(number) = rules.number(set) {
+        check_relation(rules, number, Sight::Userset(user))?;
+    }
+    if let Some(namespace) = rules.namespace_number(set.namespace) {
+        check_namespace(rules, namespace, Sight::Through(set.relation, user))?;
+    }
+    Ok(())
+}
