@@ -1,3 +1,4 @@
+pub mod Changes
 pub mod Edges
 pub mod Laws
 pub mod Meaning
