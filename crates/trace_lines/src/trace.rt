@@ -109,7 +109,8 @@ impl Trace {
         requires { i < length self.now.entries }
         ensures value { slice_get self.now.entries i ≡ Some (entry_value result.now) }
 
-        // The first commits, `before` many, stand on earlier lines, and the others on later ones.
+        // Each commit has a line: the first ones, `before` many, an earlier line, and the others a later one.
+        ensures counted { length self.now.commit_lines ≡ length self.now.commits }
         ensures before { result.now.before ≤ length self.now.commits }
         ensures earlier { All (λ l. l < result.now.line) (take result.now.before self.now.commit_lines) }
         ensures later { All (λ l. result.now.line < l) (drop result.now.before self.now.commit_lines) }
@@ -131,8 +132,7 @@ impl Trace {
     pub fn commit_line(&self, k: usize) -> u64
         requires { k < length self.now.commits }
         ensures line { slice_get self.now.commit_lines k ≡ Some result }
-        // Each commit has a line, and the lines rise.
-        ensures counted { length self.now.commit_lines ≡ length self.now.commits }
+        // The lines rise.
         ensures rising { IsStrictlyIncreasing self.now.commit_lines }
     {
         self.commit_lines[k]
