@@ -1,9 +1,12 @@
 pub mod Cuts
 pub mod Failures
 pub mod Folds
+pub mod IssuedVersions
 pub mod JsonLines
+pub mod Keeping
 pub mod LineCauses
 pub mod ReadFaults
+pub mod Recording
 pub mod RisingLines
 pub mod Sent
 pub mod Steps

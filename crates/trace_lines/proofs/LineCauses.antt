@@ -19,11 +19,14 @@ use Rattle.version_chains.specs.declared.fault.AppendFault.{AppendFault}
 use Rattle.trace_lines.specs.Fields.{number_at, flag_at, text_at, optional_text_at, strings_at}
 use Rattle.trace_lines.specs.Reading.{◌>>=◌}
 use Rattle.trace_lines.specs.Causes.{needed, text_cause, token_cause, namespace_cause}
-use Rattle.trace_lines.specs.Texts.{tuple_of_text, tuples_of, goal_of, some_token, token_of, label_at}
+use Rattle.trace_lines.specs.Texts.{tuple_of_text, tuples_of, goal_of, some_token, token_of, version_at}
 use Rattle.trace_lines.specs.Plain.{is_plain}
 use Rattle.trace_lines.specs.Values.{EntryValue, TraceValue}
-use Rattle.trace_lines.specs.Traces.{is_begun, with_declarations, namespace_line, commit_of, changes_of, appended_at, with_commit, are_declared, check_of, is_declared, with_entry, of_kind, value_line, of_json, json_line, is_blank, taken_line}
+use Rattle.trace_lines.specs.Traces.{is_begun, with_declarations, namespace_line, commit_of, changes_of, appended_at, with_commit, are_declared, entry_of, is_declared, with_entry, entry_line, of_kind, value_line, of_json, json_line, is_blank, taken_line}
+use Rattle.trace_lines.specs.Versions.{is_repeated}
 use Rattle.trace_lines.specs.declared.cause.Cause.{Cause}
+use Rattle.trace_lines.specs.declared.entry.EntryKind.{EntryKind}
+use Rattle.trace_lines.specs.declared.entry.EntryKind.TheVariants.{Check, Content}
 use Rattle.trace_lines.specs.declared.cause.Cause.TheVariants as causes
 
 abbrev pub IsOfLine : Cause → Type 0
@@ -104,27 +107,31 @@ unfolding with_commit
 of_with_commit n t c =
     either (are_declared t.declarations c.adds && are_declared t.declarations c.removes) _ _ (of_appended n t c (append_fault (changes_of t) c.at c.adds c.removes)) tt
 
-of_check : (n before : ℕ) (d : Data) → OfLine (check_of n before d)
-unfolding check_of
-of_check n before d =
+of_entry : (kind : EntryKind) (n before : ℕ) (d : Data) → OfLine (entry_of kind n before d)
+unfolding entry_of
+of_entry kind n before d =
     bound (needed (text_at (codes "goal") d)) _ (of_needed _)
     (λ text. bound (needed (number_at (codes "snapshot") d)) _ (of_needed _)
     (λ snapshot. bound (needed (flag_at (codes "reply") d)) _ (of_needed _)
     (λ reply. bound (needed (optional_text_at (codes "zookie") d)) _ (of_needed _)
-    (λ zookie. bound (needed (label_at d)) _ (of_needed _)
+    (λ zookie. bound (needed (version_at kind reply d)) _ (of_needed _)
     (λ version. bound (goal_of text) _ (of_text (fact_at text))
     (λ goal. bound (token_of zookie) _ (of_token zookie) (λ token. tt)))))))
 
 of_with_entry : (t : TraceValue) (e : EntryValue) → OfLine (with_entry t e)
 unfolding with_entry
-of_with_entry t e = either (is_declared t.declarations e.goal.set) _ _ tt tt
+of_with_entry t e = either (is_declared t.declarations e.goal.set) _ _ (either (is_repeated t.entries e) _ _ tt tt) tt
+
+of_entry_line : (kind : EntryKind) (n : ℕ) (t : TraceValue) (d : Data) → OfLine (entry_line kind n t d)
+of_entry_line kind n t d = bound (entry_of kind n (length t.commits) d) (with_entry t) (of_entry kind n (length t.commits) d) (of_with_entry t)
 
 of_a_kind : (n : ℕ) (t : TraceValue) (d : Data) (kind : Option (List ℕ)) → OfLine (of_kind n t d kind)
 of_a_kind n t d None = tt
 of_a_kind n t d (Some kind) =
     either (bytes_eq kind (codes "namespace")) _ _ (of_namespace_line t d)
     (either (bytes_eq kind (codes "commit")) _ _ (bound (commit_of d) (with_commit n t) (of_commit d) (of_with_commit n t))
-    (either (bytes_eq kind (codes "check")) _ _ (bound (check_of n (length t.commits) d) (with_entry t) (of_check n (length t.commits) d) (of_with_entry t)) tt))
+    (either (bytes_eq kind (codes "content")) _ _ (of_entry_line Content n t d)
+    (either (bytes_eq kind (codes "check")) _ _ (of_entry_line Check n t d) tt)))
 
 of_value_line : (n : ℕ) (t : TraceValue) (d : Data) → OfLine (value_line n t d)
 unfolding value_line

@@ -1,4 +1,4 @@
--- Entries stand on lines that rise.
+-- Commits and entries stand on lines that rise.
 use Rattle.std.proofs.Common.{◌≡◌, ℕ, ◌+◌, ◌-◌, ◌≤◌, ◌&&◌, Bool, true, false, cond, List, [], ◌∷◌, ◌++◌, length, map, get_or, Option, Some, None, Result, Ok, Err, arith, refl, subst, inl, inr}
 use Rattle.std.specs.Prelude.{codes, bytes_eq, option_and_then}
 use Rattle.std.specs.List.Sorted.{IsStrictlyIncreasing}
@@ -18,14 +18,16 @@ use Rattle.version_chains.specs.declared.fault.AppendFault.{AppendFault}
 use Rattle.trace_lines.specs.Fields.{number_at, flag_at, text_at, optional_text_at}
 use Rattle.trace_lines.specs.Reading.{◌>>=◌}
 use Rattle.trace_lines.specs.Causes.{needed, namespace_cause}
-use Rattle.trace_lines.specs.Texts.{goal_of, token_of, label_at}
+use Rattle.trace_lines.specs.Texts.{goal_of, token_of, version_at}
 use Rattle.trace_lines.specs.Plain.{is_plain}
-use Rattle.trace_lines.specs.Values.{EntryValue, entry_value, TraceValue, entry_lines, after_last, next_line}
-use Rattle.trace_lines.specs.declared.entry.Entry.{Entry}
-use Rattle.trace_lines.specs.Traces.{is_begun, with_declarations, namespace_line, commit_of, changes_of, appended_at, with_commit, are_declared, check_of, is_declared, with_entry, of_kind, value_line, of_json, json_line}
+use Rattle.trace_lines.specs.Values.{EntryValue, TraceValue, entry_lines, after_last, next_line}
+use Rattle.trace_lines.specs.Versions.{is_repeated}
+use Rattle.trace_lines.specs.declared.entry.EntryKind.{EntryKind}
+use Rattle.trace_lines.specs.declared.entry.EntryKind.TheVariants.{Check, Content}
+use Rattle.trace_lines.specs.Traces.{is_begun, with_declarations, namespace_line, commit_of, changes_of, appended_at, with_commit, are_declared, entry_of, is_declared, recorded, with_entry, entry_line, of_kind, value_line, of_json, json_line}
 use Rattle.trace_lines.specs.declared.cause.Cause.{Cause}
 
-last_of : (x : ℕ) (xs : List ℕ) → after_last (x ∷ xs) ≡ get_or (x ∷ xs) (length xs) 0 + 1
+pub last_of : (x : ℕ) (xs : List ℕ) → after_last (x ∷ xs) ≡ get_or (x ∷ xs) (length xs) 0 + 1
 last_of x xs =
     let place : length (x ∷ xs) - 1 ≡ length xs = omega arith in
     rw (place, slice_get-get_or (x ∷ xs) (length xs) 0 (omega arith)) refl
@@ -70,17 +72,17 @@ either P false r s h k = k
 abbrev Fits : ℕ → TraceValue → Type 0
 Fits n t = next_line t ≤ n + 1
 
-keeps_entries : (n : ℕ) (t : TraceValue) → next_line t ≤ n → Fits n t
-keeps_entries n t le = omega (arith, le)
+fits_as_before : (n : ℕ) (t : TraceValue) → next_line t ≤ n → Fits n t
+fits_as_before n t le = omega (arith, le)
 
 fits_namespace : (n : ℕ) (t : TraceValue) (d : Data) → next_line t ≤ n → OkHas (Fits n) (namespace_line t d)
 unfolding namespace_line
 fits_namespace n t d le =
     either (Fits n) (is_plain d) _ _ (passes (Fits n) (namespace_cause (rules_add t.declarations d)) (with_declarations t)
-    (λ ds. either (Fits n) (is_begun t) _ (Ok (record t { declarations = ds })) tt (keeps_entries n t le))) tt
+    (λ ds. either (Fits n) (is_begun t) _ (Ok (record t { declarations = ds })) tt (fits_as_before n t le))) tt
 
 fits_appended : (n : ℕ) (t : TraceValue) (c : Commit) (o : Option AppendFault) → next_line t ≤ n → OkHas (Fits n) (appended_at n t c o)
-fits_appended n t c None le = keeps_entries n t le
+fits_appended n t c None le = let after = after_push t.commit_lines n in omega (arith, after, le)
 fits_appended n t c (Some e) le = tt
 
 fits_commit : (n : ℕ) (t : TraceValue) (c : Commit) → next_line t ≤ n → OkHas (Fits n) (with_commit n t c)
@@ -88,32 +90,45 @@ unfolding with_commit
 fits_commit n t c le =
     either (Fits n) (are_declared t.declarations c.adds && are_declared t.declarations c.removes) _ _ (fits_appended n t c (append_fault (changes_of t) c.at c.adds c.removes) le) tt
 
-on_line : (n before : ℕ) (d : Data) → OkHas (λ (e : EntryValue). e.line ≡ n) (check_of n before d)
-unfolding check_of
-on_line n before d =
+-- where an entry of a line stands
+abbrev StandsAt : ℕ → ℕ → EntryValue → Type 0
+StandsAt n before e = (e.line ≡ n) × (e.before ≡ before)
+
+stands_at : (kind : EntryKind) (n before : ℕ) (d : Data) → OkHas (StandsAt n before) (entry_of kind n before d)
+unfolding entry_of
+stands_at kind n before d =
     passes _ (needed (text_at (codes "goal") d)) _
     (λ text. passes _ (needed (number_at (codes "snapshot") d)) _
     (λ snapshot. passes _ (needed (flag_at (codes "reply") d)) _
     (λ reply. passes _ (needed (optional_text_at (codes "zookie") d)) _
-    (λ zookie. passes _ (needed (label_at d)) _
+    (λ zookie. passes _ (needed (version_at kind reply d)) _
     (λ version. passes _ (goal_of text) _
-    (λ goal. passes _ (token_of zookie) _ (λ token. refl)))))))
+    (λ goal. passes _ (token_of zookie) _ (λ token. (refl, refl))))))))
 
-fits_entry : (n : ℕ) (t : TraceValue) (e : EntryValue) → e.line ≡ n → OkHas (Fits n) (with_entry t e)
+fits_entry : (n before : ℕ) (t : TraceValue) (e : EntryValue) → next_line t ≤ n → StandsAt n before e → OkHas (Fits n) (with_entry t e)
 unfolding with_entry
-fits_entry n t e line =
-    either (Fits n) (is_declared t.declarations e.goal.set) (Ok (record t { entries = t.entries ++ e ∷ [] })) _
-    (let lines : entry_lines (t.entries ++ e ∷ []) ≡ entry_lines t.entries ++ e.line ∷ [] = map-append (λ (x : EntryValue). x.line) t.entries (e ∷ []) in
+fits_entry n before t e le at =
+    either (Fits n) (is_declared t.declarations e.goal.set) (recorded t e) _ (
+    either (Fits n) (is_repeated t.entries e) _ (Ok (record t { entries = t.entries ++ e ∷ [] })) tt (
+    let lines : entry_lines (t.entries ++ e ∷ []) ≡ entry_lines t.entries ++ e.line ∷ [] = map-append (λ (x : EntryValue). x.line) t.entries (e ∷ []) in
     let after = after_push (entry_lines t.entries) e.line in
-    rw lines (omega (arith, after, line)))
+    rw lines (omega (arith, after, at.0, le))
+    )
+    )
     tt
+
+fits_entry_line : (kind : EntryKind) (n : ℕ) (t : TraceValue) (d : Data) → next_line t ≤ n → OkHas (Fits n) (entry_line kind n t d)
+fits_entry_line kind n t d le =
+    passes_with (StandsAt n (length t.commits)) (Fits n) (entry_of kind n (length t.commits) d) (with_entry t) (stands_at kind n (length t.commits) d)
+    (λ e at. fits_entry n (length t.commits) t e le at)
 
 fits_kind : (n : ℕ) (t : TraceValue) (d : Data) (kind : Option (List ℕ)) → next_line t ≤ n → OkHas (Fits n) (of_kind n t d kind)
 fits_kind n t d None le = tt
 fits_kind n t d (Some kind) le =
     either (Fits n) (bytes_eq kind (codes "namespace")) _ _ (fits_namespace n t d le)
     (either (Fits n) (bytes_eq kind (codes "commit")) _ _ (passes (Fits n) (commit_of d) (with_commit n t) (λ c. fits_commit n t c le))
-    (either (Fits n) (bytes_eq kind (codes "check")) _ _ (passes_with (λ (e : EntryValue). e.line ≡ n) (Fits n) (check_of n (length t.commits) d) (with_entry t) (on_line n (length t.commits) d) (fits_entry n t)) tt))
+    (either (Fits n) (bytes_eq kind (codes "content")) _ _ (fits_entry_line Content n t d le)
+    (either (Fits n) (bytes_eq kind (codes "check")) _ _ (fits_entry_line Check n t d le) tt)))
 
 fits_value : (n : ℕ) (t : TraceValue) (d : Data) → next_line t ≤ n → OkHas (Fits n) (value_line n t d)
 unfolding value_line
@@ -131,13 +146,5 @@ fits_line n t line le = either (Fits n) (is_utf8 line) _ _ (fits_json n t (read 
 pub line_further : (n : ℕ) (t u : TraceValue) (line : List ℕ) → next_line t ≤ n → json_line n t line ≡ Ok u → next_line u ≤ n + 1
 line_further n t u line le e = subst (λ (r : Result TraceValue Cause). OkHas (Fits n) r) e (fits_line n t line le)
 
-pub checked_line : (n before : ℕ) (d : Data) (e : EntryValue) → check_of n before d ≡ Ok e → e.line ≡ n
-checked_line n before d e h = subst (λ (r : Result EntryValue Cause). OkHas (λ (x : EntryValue). x.line ≡ n) r) h (on_line n before d)
-
--- the lines go on to rise with a further entry
-pub entries_rise : (es new : List Entry) (e : Entry) (n : ℕ) → IsStrictlyIncreasing (entry_lines (map entry_value es)) → after_last (entry_lines (map entry_value es)) ≤ n → e.line ≡ n
-    → new ≡ es ++ e ∷ [] → IsStrictlyIncreasing (entry_lines (map entry_value new))
-entries_rise es new e n up le line is =
-    let values : map entry_value (es ++ e ∷ []) ≡ map entry_value es ++ entry_value e ∷ [] = map-append entry_value es (e ∷ []) in
-    let lines : entry_lines (map entry_value es ++ entry_value e ∷ []) ≡ entry_lines (map entry_value es) ++ e.line ∷ [] = map-append (λ (x : EntryValue). x.line) (map entry_value es) (entry_value e ∷ []) in
-    rw (is, values, lines, line) (rising_push (entry_lines (map entry_value es)) n up le)
+pub entry_stands : (kind : EntryKind) (n before : ℕ) (d : Data) (e : EntryValue) → entry_of kind n before d ≡ Ok e → (e.line ≡ n) × (e.before ≡ before)
+entry_stands kind n before d e h = subst (λ (r : Result EntryValue Cause). OkHas (StandsAt n before) r) h (stands_at kind n before d)

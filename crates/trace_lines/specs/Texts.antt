@@ -1,5 +1,5 @@
 -- The texts in a line of a trace.
-use Rattle.std.specs.Prelude.{ℕ, ◌&&◌, Bool, List, [], ◌∷◌, length, nat_le, Option, None, Some, option_and_then, Result, Ok, Err, codes, if◌then◌else◌}
+use Rattle.std.specs.Prelude.{ℕ, ◌&&◌, Bool, true, false, is_some, is_none, List, [], ◌∷◌, length, nat_le, Option, None, Some, option_and_then, Result, Ok, Err, codes, if◌then◌else◌}
 use Rattle.serde_json.specs.Data.{Data, Items, no_items, item}
 use Rattle.serde_json.specs.Find.{as_str}
 use Rattle.tuple_text.specs.Tuples.{TupleValue, FactValue}
@@ -10,6 +10,8 @@ use Rattle.trace_lines.specs.Fields.{optional_text_at}
 use Rattle.trace_lines.specs.Reading.{◌>>=◌}
 use Rattle.trace_lines.specs.Causes.{needed, text_cause, token_cause}
 use Rattle.trace_lines.specs.declared.cause.Cause.{Cause}
+use Rattle.trace_lines.specs.declared.entry.EntryKind.{EntryKind}
+use Rattle.trace_lines.specs.declared.entry.EntryKind.TheVariants.{Check, Content}
 
 abbrev pub tuple_of_text : Option (List ℕ) → Result TupleValue Cause
 tuple_of_text text = needed text >>= λ t. text_cause (tuple_at t)
@@ -40,3 +42,16 @@ label_or_none (Some text) = if is_label text then Some (Some text) else None
 
 unfoldable pub label_at : Data → Option (Option (List ℕ))
 label_at d = option_and_then label_or_none (optional_text_at (codes "version") d)
+
+-- a content check issues a version exactly where its reply is true
+abbrev pub fits_reply : EntryKind → Bool → Option (List ℕ) → Bool
+fits_reply Check reply label = true
+fits_reply Content true label = is_some label
+fits_reply Content false label = is_none label
+
+abbrev pub if_fits : EntryKind → Bool → Option (List ℕ) → Option (Option (List ℕ))
+if_fits kind reply label = if fits_reply kind reply label then Some label else None
+
+-- the label in a line of this kind with this reply
+unfoldable pub version_at : EntryKind → Bool → Data → Option (Option (List ℕ))
+version_at kind reply d = option_and_then (if_fits kind reply) (label_at d)

@@ -16,10 +16,12 @@ use Rattle.version_chains.specs.declared.fault.AppendFault.{AppendFault}
 use Rattle.trace_lines.specs.Fields.{number_at, flag_at, text_at, optional_text_at, strings_at}
 use Rattle.trace_lines.specs.Reading.{◌>>=◌, read_all}
 use Rattle.trace_lines.specs.Causes.{needed, namespace_cause}
-use Rattle.trace_lines.specs.Texts.{tuples_of, goal_of, token_of, label_at}
+use Rattle.trace_lines.specs.Texts.{tuples_of, goal_of, token_of, version_at}
 use Rattle.trace_lines.specs.Plain.{is_plain}
 use Rattle.trace_lines.specs.Values.{EntryValue, TraceValue, empty_trace}
-use Rattle.trace_lines.specs.declared.entry.EntryKind.TheVariants.{Check}
+use Rattle.trace_lines.specs.Versions.{is_repeated}
+use Rattle.trace_lines.specs.declared.entry.EntryKind.{EntryKind}
+use Rattle.trace_lines.specs.declared.entry.EntryKind.TheVariants.{Check, Content}
 use Rattle.trace_lines.specs.declared.cause.Cause.{Cause}
 use Rattle.trace_lines.specs.declared.cause.Cause.TheVariants as causes
 use Rattle.trace_lines.specs.declared.cause.TraceFault.{TraceFault}
@@ -76,24 +78,28 @@ with_commit n t c =
 abbrev pub commit_line : ℕ → TraceValue → Data → Result TraceValue Cause
 commit_line n t d = commit_of d >>= with_commit n t
 
--- ---- check lines
+-- ---- check and content lines
 
-unfoldable pub check_of : ℕ → ℕ → Data → Result EntryValue Cause
-check_of n before d = do
+unfoldable pub entry_of : EntryKind → ℕ → ℕ → Data → Result EntryValue Cause
+entry_of kind n before d = do
   text ← needed (text_at (codes "goal") d)
   snapshot ← needed (number_at (codes "snapshot") d)
   reply ← needed (flag_at (codes "reply") d)
   zookie ← needed (optional_text_at (codes "zookie") d)
-  version ← needed (label_at d)
+  version ← needed (version_at kind reply d)
   goal ← goal_of text
   token ← token_of zookie
-  Ok (record { kind = Check; line = n; goal = goal; snapshot = snapshot; reply = reply; zookie = token; version = version; before = before })
+  Ok (record { kind = kind; line = n; goal = goal; snapshot = snapshot; reply = reply; zookie = token; version = version; before = before })
+
+-- an object's version is issued once
+abbrev pub recorded : TraceValue → EntryValue → Result TraceValue Cause
+recorded t e = if is_repeated t.entries e then Err causes.RepeatedVersion else Ok (record t { entries = t.entries ++ e ∷ [] })
 
 unfoldable pub with_entry : TraceValue → EntryValue → Result TraceValue Cause
-with_entry t e = if is_declared t.declarations e.goal.set then Ok (record t { entries = t.entries ++ e ∷ [] }) else Err causes.Unknown
+with_entry t e = if is_declared t.declarations e.goal.set then recorded t e else Err causes.Unknown
 
-abbrev pub check_line : ℕ → TraceValue → Data → Result TraceValue Cause
-check_line n t d = check_of n (length t.commits) d >>= with_entry t
+abbrev pub entry_line : EntryKind → ℕ → TraceValue → Data → Result TraceValue Cause
+entry_line kind n t d = entry_of kind n (length t.commits) d >>= with_entry t
 
 -- ---- lines
 
@@ -109,8 +115,9 @@ of_kind n t d None = Err causes.Kind
 of_kind n t d (Some kind) =
     if bytes_eq kind (codes "namespace") then namespace_line t d
     else (if bytes_eq kind (codes "commit") then commit_line n t d
-    else (if bytes_eq kind (codes "check") then check_line n t d
-    else Err causes.Kind))
+    else (if bytes_eq kind (codes "content") then entry_line Content n t d
+    else (if bytes_eq kind (codes "check") then entry_line Check n t d
+    else Err causes.Kind)))
 
 unfoldable pub value_line : ℕ → TraceValue → Data → Result TraceValue Cause
 value_line n t d = of_kind n t d (option_and_then as_str (get (codes "kind") d))

@@ -1,5 +1,5 @@
 -- What a trace says.
-use Rattle.std.specs.Prelude.{ℕ, ◌+◌, ◌-◌, Bool, List, [], length, slice_get, Option, None, Some, option_map, map, string_bytes}
+use Rattle.std.specs.Prelude.{ℕ, ◌+◌, ◌-◌, max, Bool, List, [], length, slice_get, Option, None, Some, option_map, map, string_bytes}
 use Rattle.tuple_text.specs.Tuples.{FactValue}
 use Rattle.zookie.specs.Tokens.{Token}
 use Rattle.namespaces.specs.Declaration.{Declaration}
@@ -52,6 +52,6 @@ after (Some n) = n + 1
 abbrev pub after_last : List ℕ → ℕ
 after_last ns = after (slice_get ns (length ns - 1))
 
--- the least number that the line of a further entry may have
+-- the least number that the line of a further commit or entry may have
 abbrev pub next_line : TraceValue → ℕ
-next_line t = after_last (entry_lines t.entries)
+next_line t = max (after_last t.commit_lines) (after_last (entry_lines t.entries))

@@ -1,38 +1,39 @@
-//! Lines that record a check.
+//! Lines that record a check, of content or not.
 
-ghost use Rattle.std.specs.Prelude.{◌≡◌, ◌+◌, ◌&&◌, ◌||◌, length, Ok};
+ghost use Rattle.std.specs.Prelude.{◌≡◌};
 ghost use Rattle.serde_json.specs.View.{view};
 ghost use Rattle.trace_lines.specs.Causes.{Gives};
 ghost use Rattle.trace_lines.specs.Values.{entry_value};
-ghost use Rattle.trace_lines.specs.Traces.{check_of};
+ghost use Rattle.trace_lines.specs.Traces.{entry_of};
 
 use crate::cause::Cause;
 use crate::entry::{Entry, EntryKind};
 use crate::fields::{flag_at, number_at, optional_text_at, text_at};
-use crate::texts::{goal_of, label_at, label_of, token_of};
+use crate::texts::{goal_of, label_of, token_of, version_at};
 use serde_json::Value;
 use std::alloc::Global;
 
 /// The check that a line records.
-#[tactic(auto, unfolding(crate::specs::Traces::check_of))]
-pub(crate) fn check_of(
+#[tactic(auto, unfolding(crate::specs::Traces::entry_of))]
+pub(crate) fn entry_of(
     alloc: Global,
+    kind: EntryKind,
     line: u64,
     before: usize,
     value: &Value,
 ) -> Result<Entry, Cause>
-    ensures { Gives entry_value result (check_of line before (view value.now)) }
+    ensures { Gives entry_value result (entry_of kind line before (view value.now)) }
 {
     let text = text_at(value, "goal").ok_or(Cause::Shape)?;
     let snapshot = number_at(value, "snapshot").ok_or(Cause::Shape)?;
     let reply = flag_at(value, "reply").ok_or(Cause::Shape)?;
     let token = optional_text_at(value, "zookie").ok_or(Cause::Shape)?;
-    let label = label_at(value).ok_or(Cause::Shape)?;
+    let label = version_at(kind, reply, value).ok_or(Cause::Shape)?;
     let goal = goal_of(alloc, text)?;
     let zookie = token_of(token)?;
     let version = label_of(alloc, label)?;
     Ok(Entry {
-        kind: EntryKind::Check,
+        kind,
         line,
         goal,
         snapshot,

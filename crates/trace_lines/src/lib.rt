@@ -23,6 +23,7 @@ mod sending;
 mod source;
 mod texts;
 mod trace;
+mod versions;
 
 pub use cause::{Cause, TraceFault};
 pub use devices::{Counted, Failing};

@@ -3,9 +3,10 @@
 ghost use Rattle.std.specs.Prelude.{◌≡◌, option_map, string_bytes, Ok};
 ghost use Rattle.serde_json.specs.View.{view, items_view};
 ghost use Rattle.trace_lines.specs.Causes.{Gives};
-ghost use Rattle.trace_lines.specs.Texts.{tuple_of_text, tuples_of, goal_of, token_of, is_label, label_at};
+ghost use Rattle.trace_lines.specs.Texts.{tuple_of_text, tuples_of, goal_of, token_of, is_label, label_at, fits_reply, version_at};
 
 use crate::cause::Cause;
+use crate::entry::EntryKind;
 use crate::fields::optional_text_at;
 use serde_json::Value;
 use std::alloc::Global;
@@ -68,7 +69,7 @@ fn is_label(text: &str) -> bool
 
 /// The label of a version, where there is one; None where it is of another shape.
 #[tactic(auto, unfolding(crate::specs::Texts::label_at))]
-pub(crate) fn label_at(value: &Value) -> Option<Option<&str>>
+fn label_at(value: &Value) -> Option<Option<&str>>
     ensures { option_map (option_map (λ s. s.now)) result ≡ label_at (view value.now) }
 {
     match optional_text_at(value, "version") {
@@ -79,6 +80,28 @@ pub(crate) fn label_at(value: &Value) -> Option<Option<&str>>
         } else {
             None
         },
+    }
+}
+
+fn fits_reply(kind: EntryKind, reply: bool, label: Option<&str>) -> bool
+    ensures { result ≡ fits_reply kind reply (option_map (λ s. s.now) label.entry) }
+{
+    match kind {
+        EntryKind::Check => true,
+        EntryKind::Content => label.is_some() == reply,
+    }
+}
+
+/// The label in a line of this kind with this reply, where there is one; None where it is of another shape.
+#[tactic(auto, unfolding(crate::specs::Texts::version_at))]
+pub(crate) fn version_at(kind: EntryKind, reply: bool, value: &Value) -> Option<Option<&str>>
+    ensures { option_map (option_map (λ s. s.now)) result ≡ version_at kind reply (view value.now) }
+{
+    let label = label_at(value)?;
+    if fits_reply(kind, reply, label) {
+        Some(label)
+    } else {
+        None
     }
 }
 

@@ -1,6 +1,6 @@
 //! Traces.
 
-ghost use Rattle.std.specs.Prelude.{◌≡◌, ◌+◌, ◌<◌, ◌≤◌, Some, slice_get, ◌^◌, ◌&&◌, [], length, true, false, Ok, OnOk, IfErr, IfSome, IsErr};
+ghost use Rattle.std.specs.Prelude.{◌≡◌, ◌+◌, ◌<◌, ◌≤◌, Some, None, slice_get, ◌^◌, ◌&&◌, [], length, take, drop, All, true, false, Ok, OnOk, IfErr, IfSome, IsErr};
 ghost use Rattle.std.specs.Io.KnownBytes.{Consumes};
 ghost use Rattle.serde_json.specs.View.{view};
 ghost use Rattle.tuple_text.specs.Refs.{set_value};
@@ -8,24 +8,35 @@ ghost use Rattle.trace_lines.specs.Causes.{Gives};
 ghost use Rattle.trace_lines.specs.Counts.{one_more};
 ghost use Rattle.trace_lines.specs.Reading.{Refuses};
 ghost use Rattle.trace_lines.specs.Values.{empty_trace, entry_value, entry_lines, next_line};
-ghost use Rattle.trace_lines.specs.Traces.{is_declared, are_declared, is_begun, namespace_line, commit_of, with_commit, commit_line, check_of, with_entry, check_line, value_line, json_line, is_blank, is_blank_byte, taken_line};
+ghost use Rattle.trace_lines.specs.Traces.{is_declared, are_declared, is_begun, namespace_line, commit_of, with_commit, commit_line, entry_of, recorded, with_entry, entry_line, value_line, json_line, is_blank, is_blank_byte, taken_line};
+ghost use Rattle.trace_lines.specs.Versions.{entry_version, version_issued, issuer, content_among, content_of};
+ghost use Rattle.trace_lines.specs.declared.entry.EntryKind.TheVariants.{Content};
 ghost use Rattle.std.specs.List.{list_all};
 ghost use Rattle.std.specs.List.Sorted.{IsStrictlyIncreasing};
 
 use crate::cause::Cause;
-use crate::checks::check_of;
-use crate::entry::Entry;
+use crate::checks::entry_of;
+use crate::entry::{Entry, EntryKind};
 use crate::fields::{number_at, strings_at};
 use crate::lines::InputFault;
 use crate::plain::is_plain;
 use crate::reading::{Stop, TakeLine};
 use crate::texts::tuples_of;
+use crate::versions::{VersionName, version_of};
 use namespaces::{Rules, RulesFault};
 use serde_json::Value;
 use std::alloc::Global;
+use std::collections::BTreeMap;
 use std::marker::Model;
 use tuple_text::{SetRef, Tuple};
 use version_chains::{AppendFault, Chains};
+
+/// An entry, and where it names a version the entry that issued that.
+#[derive(Drop)]
+pub(crate) struct Recorded {
+    entry: Entry,
+    content: Option<usize>,
+}
 
 /// A trace: its namespaces, its commits with the lines that they stand on, and its entries.
 #[derive(Drop)]
@@ -34,22 +45,26 @@ pub struct Trace {
     rules: Rules,
     chains: Chains,
     commit_lines: Vec<u64>,
-    entries: Vec<Entry>,
+    recorded: Vec<Recorded>,
+    // by which entry each version was issued
+    versions: BTreeMap<VersionName, usize>,
 }
 
 impl Model for Trace {
-    ghost use Rattle.std.specs.Prelude.{◌≡◌, ◌-◌, ◌^◌, map, length};
-    ghost use Rattle.std.specs.List.Sorted.{IsStrictlyIncreasing};
-    ghost use Rattle.trace_lines.specs.Values.{TraceValue, entry_value, entry_lines};
+    ghost use Rattle.std.specs.Prelude.{◌≡◌, ◌-◌, ◌^◌};
+    ghost use Rattle.trace_lines.specs.Values.{TraceValue};
     ghost use Rattle.trace_lines.specs.TraceCode.{trace_code};
 
     ghost Value = { TraceValue };
 
     ghost coded = { trace_code };
 
-    ghost view = { λ t. record { declarations = t.rules; commits = t.chains.commits; commit_lines = t.commit_lines.items; entries = map entry_value t.entries.items } };
+    ghost use Rattle.trace_lines.specs.Kept.{IsKept};
+    ghost use Rattle.trace_lines.specs.Recorded.{shown, contents};
 
-    ghost invariant = { λ t. (t.chains.limit ≡ 2 ^ 32 - 1) × (length t.commit_lines.items ≡ length t.chains.commits) × IsStrictlyIncreasing (entry_lines (map entry_value t.entries.items)) };
+    ghost view = { λ t. record { declarations = t.rules; commits = t.chains.commits; commit_lines = t.commit_lines.items; entries = shown t.recorded.items } };
+
+    ghost invariant = { λ t. (t.chains.limit ≡ 2 ^ 32 - 1) × IsKept t.chains.commits t.commit_lines.items (shown t.recorded.items) (contents t.recorded.items) t.versions };
 }
 
 impl Trace {
@@ -61,7 +76,8 @@ impl Trace {
             rules: Rules::new(alloc),
             chains: Chains::new(alloc, u32::MAX),
             commit_lines: Vec::new(alloc),
-            entries: Vec::new(alloc),
+            recorded: Vec::new(alloc),
+            versions: BTreeMap::new(alloc),
         }
     }
 
@@ -85,21 +101,39 @@ impl Trace {
         // The entries stand on lines that rise.
         ensures rising { IsStrictlyIncreasing (entry_lines self.now.entries) }
     {
-        self.entries.len()
+        self.recorded.len()
     }
 
     /// Entry `i`.
     pub fn entry(&self, i: usize) -> &Entry
         requires { i < length self.now.entries }
         ensures value { slice_get self.now.entries i ≡ Some (entry_value result.now) }
+
+        // Each commit has a line: the first ones, `before` many, an earlier line, and the others a later one.
+        ensures counted { length self.now.commit_lines ≡ length self.now.commits }
+        ensures before { result.now.before ≤ length self.now.commits }
+        ensures earlier { All (λ l. l < result.now.line) (take result.now.before self.now.commit_lines) }
+        ensures later { All (λ l. result.now.line < l) (drop result.now.before self.now.commit_lines) }
     {
-        &self.entries[i]
+        &self.recorded[i].entry
+    }
+
+    /// The entry that issued the version which check `i` names, on an earlier line for its goal's object. `None` where there is none, or
+    /// where the check names no version or is one of content.
+    pub fn content_of(&self, i: usize) -> Option<usize>
+        requires { i < length self.now.entries }
+        ensures value { result ≡ content_of self.now.entries i }
+        ensures earlier { IfSome result (λ c. c < i) }
+    {
+        self.recorded[i].content
     }
 
     /// The line of commit `k`.
     pub fn commit_line(&self, k: usize) -> u64
         requires { k < length self.now.commits }
-        ensures { slice_get self.now.commit_lines k ≡ Some result }
+        ensures line { slice_get self.now.commit_lines k ≡ Some result }
+        // The lines rise.
+        ensures rising { IsStrictlyIncreasing self.now.commit_lines }
     {
         self.commit_lines[k]
     }
@@ -129,7 +163,7 @@ impl Trace {
             Err(RulesFault::OutOfMemory) => return Err(Cause::OutOfMemory),
             Err(fault) => return Err(Cause::Namespace(fault)),
         }
-        if !self.commit_lines.is_empty() || !self.entries.is_empty() {
+        if !self.commit_lines.is_empty() || !self.recorded.is_empty() {
             return Err(Cause::Late);
         }
         Ok(())
@@ -138,6 +172,7 @@ impl Trace {
     /// Takes a line that commits changes.
     #[tactic(auto, unfolding(crate::specs::Traces::commit_of, crate::specs::Traces::with_commit))]
     fn take_commit(&mut self, line: u64, value: &Value) -> Result<(), Cause>
+        requires { next_line self.old ≤ line }
         ensures { Gives (λ _. self.new) result (commit_line line self.old (view value.now)) }
     {
         let at = number_at(value, "at").ok_or(Cause::Shape)?;
@@ -150,6 +185,7 @@ impl Trace {
 
     #[tactic(auto, unfolding(crate::specs::Traces::with_commit))]
     fn append(&mut self, line: u64, at: u64, adds: &[Tuple], removes: &[Tuple]) -> Result<(), Cause>
+        requires { next_line self.old ≤ line }
         ensures { Gives (λ _. self.new) result (with_commit line self.old (record { at = at; adds = adds.now; removes = removes.now })) }
     {
         if !self.are_declared(adds) || !self.are_declared(removes) {
@@ -169,15 +205,71 @@ impl Trace {
 
     /// Takes a line that records a check.
     #[tactic(auto, unfolding(crate::specs::Traces::with_entry))]
-    fn take_check(&mut self, line: u64, value: &Value) -> Result<(), Cause>
+    fn take_entry(&mut self, kind: EntryKind, line: u64, value: &Value) -> Result<(), Cause>
         requires { next_line self.old ≤ line }
-        ensures { Gives (λ _. self.new) result (check_line line self.old (view value.now)) }
+        ensures { Gives (λ _. self.new) result (entry_line kind line self.old (view value.now)) }
     {
-        let entry = check_of(self.alloc, line, self.commit_lines.len(), value)?;
+        let entry = entry_of(self.alloc, kind, line, self.commit_lines.len(), value)?;
         if !self.is_declared(entry.goal.set()) {
             return Err(Cause::Unknown);
         }
-        self.entries.push(entry)?;
+        self.record(entry)
+    }
+
+    /// Puts an entry that stands behind all others last.
+    fn record(&mut self, entry: Entry) -> Result<(), Cause>
+        requires line { next_line self.old ≤ entry.line }
+        requires before { entry.before ≡ length self.old.commit_lines }
+        ensures { Gives (λ _. self.new) result (recorded self.old (entry_value entry)) }
+    {
+        match version_of(self.alloc, &entry)? {
+            None => self.push(entry, None),
+            Some(version) => match entry.kind {
+                EntryKind::Check => {
+                    let content = self.issuer(&version);
+                    self.push(entry, content)
+                }
+                EntryKind::Content => self.issue(entry, version),
+            },
+        }
+    }
+
+    /// The entry that issued a version.
+    fn issuer(&self, version: &VersionName) -> Option<usize>
+        ensures { result ≡ issuer self.now.entries version.now }
+    {
+        self.versions.get(version).copied()
+    }
+
+    /// Puts an entry last that issues no version, and names the one that `content` issued.
+    fn push(&mut self, entry: Entry, content: Option<usize>) -> Result<(), Cause>
+        requires line { next_line self.old ≤ entry.line }
+        requires before { entry.before ≡ length self.old.commit_lines }
+        requires issues_nothing { version_issued entry.kind (entry_version (entry_value entry)) ≡ None }
+        requires content { content ≡ content_among self.old.entries (entry_value entry) }
+        ensures { Gives (λ _. self.new) result (recorded self.old (entry_value entry)) }
+    {
+        self.recorded.push(Recorded { entry, content })?;
+        Ok(())
+    }
+
+    /// Puts a content check last that issues a version.
+    fn issue(&mut self, entry: Entry, version: VersionName) -> Result<(), Cause>
+        requires line { next_line self.old ≤ entry.line }
+        requires before { entry.before ≡ length self.old.commit_lines }
+        requires kind { entry.kind ≡ Content }
+        requires version { entry_version (entry_value entry) ≡ Some version }
+        ensures { Gives (λ _. self.new) result (recorded self.old (entry_value entry)) }
+    {
+        if self.versions.contains_key(&version) {
+            return Err(Cause::RepeatedVersion);
+        }
+        self.recorded.reserve(1)?;
+        let _ = self.versions.insert(version, self.recorded.len())?;
+        let content = None;
+        if self.recorded.push(Recorded { entry, content }).is_err() {
+            unreachable!();
+        }
         Ok(())
     }
 
@@ -192,8 +284,10 @@ impl Trace {
                     self.take_namespace(value)
                 } else if kind == "commit" {
                     self.take_commit(line, value)
+                } else if kind == "content" {
+                    self.take_entry(EntryKind::Content, line, value)
                 } else if kind == "check" {
-                    self.take_check(line, value)
+                    self.take_entry(EntryKind::Check, line, value)
                 } else {
                     Err(Cause::Kind)
                 }

@@ -1,0 +1,145 @@
+//! What is found on an entry, by its neighbours.
+
+ghost use Rattle.std.specs.Prelude.{◌≡◌, ◌<◌, ◌≤◌, length, slice_get, take, drop, map, All, Some};
+ghost use Rattle.std.specs.List.Sorted.{IsStrictlyIncreasing};
+ghost use Rattle.trace_lines.specs.Values.{EntryValue, entry_value};
+ghost use Rattle.token_order.specs.Order.{is_content, is_above, is_short_of, is_stale, line_if_short, old_token, not_latest, open_snapshot, may_stand_for_content, is_token_of, is_wrong_token, is_unknown_version, order_of};
+
+use crate::findings::OrderFindings;
+use trace_lines::{Entry, EntryKind, Trace};
+use zookie::{TokenKind, Zookie};
+
+fn is_stale(entry: &Entry) -> bool
+    ensures { result ≡ is_stale (entry_value entry.now) }
+{
+    match (entry.kind, entry.zookie) {
+        (EntryKind::Check, Some(zookie)) => entry.snapshot < zookie.at(),
+        _ => false,
+    }
+}
+
+/// Whether the zookie is absent, or below the timestamp.
+fn is_short_of(zookie: Option<Zookie>, at: u64) -> bool
+    ensures { result ≡ is_short_of zookie at }
+{
+    match zookie {
+        None => true,
+        Some(zookie) => zookie.at() < at,
+    }
+}
+
+fn old_token(trace: &Trace, i: usize) -> Option<u64>
+    requires { i < length trace.now.entries }
+    ensures { (e : EntryValue) → slice_get trace.now.entries i ≡ Some e → result ≡ old_token trace.now i e }
+{
+    let entry = trace.entry(i);
+    let content = trace.entry(trace.content_of(i)?);
+    if is_short_of(entry.zookie, content.snapshot) {
+        Some(content.line)
+    } else {
+        None
+    }
+}
+
+fn is_content(kind: EntryKind) -> bool
+    ensures { result ≡ is_content kind }
+{
+    match kind {
+        EntryKind::Check => false,
+        EntryKind::Content => true,
+    }
+}
+
+/// Of a content check, compared with the last commit before it.
+fn not_latest(trace: &Trace, i: usize) -> Option<u64>
+    requires { i < length trace.now.entries }
+    ensures { (e : EntryValue) → slice_get trace.now.entries i ≡ Some e → result ≡ not_latest trace.now e }
+{
+    let entry = trace.entry(i);
+    if !is_content(entry.kind) {
+        return None;
+    }
+    let times = trace.chains().commits();
+    if entry.before == 0 {
+        return None;
+    }
+    let last = entry.before - 1;
+    if times[last] <= entry.snapshot {
+        return None;
+    }
+    Some(trace.commit_line(last))
+}
+
+/// Compared with the first commit behind the entry.
+fn open_snapshot(trace: &Trace, i: usize) -> Option<u64>
+    requires { i < length trace.now.entries }
+    ensures { (e : EntryValue) → slice_get trace.now.entries i ≡ Some e → result ≡ open_snapshot trace.now e }
+{
+    let entry = trace.entry(i);
+    let next = entry.before;
+    let times = trace.chains().commits();
+    if next == times.len() {
+        return None;
+    }
+    if entry.snapshot < times[next] {
+        return None;
+    }
+    Some(trace.commit_line(next))
+}
+
+/// Whether the zookie carries the timestamp, as one of content.
+fn is_token_of(at: u64, zookie: Option<Zookie>) -> bool
+    ensures { result ≡ is_token_of at zookie }
+{
+    match zookie {
+        None => false,
+        Some(zookie) => zookie.at() == at && may_stand_for_content(zookie.kind()),
+    }
+}
+
+fn may_stand_for_content(kind: Option<TokenKind>) -> bool
+    ensures { result ≡ may_stand_for_content kind }
+{
+    match kind {
+        None => true,
+        Some(TokenKind::AclWrite) => false,
+        Some(TokenKind::ContentVersion) => true,
+        Some(TokenKind::ReadSnapshot) => false,
+    }
+}
+
+fn is_wrong_token(entry: &Entry) -> bool
+    ensures { result ≡ is_wrong_token (entry_value entry.now) }
+{
+    match entry.kind {
+        EntryKind::Check => false,
+        EntryKind::Content => entry.reply && !is_token_of(entry.snapshot, entry.zookie),
+    }
+}
+
+fn is_unknown_version(trace: &Trace, i: usize) -> bool
+    requires { i < length trace.now.entries }
+    ensures { (e : EntryValue) → slice_get trace.now.entries i ≡ Some e → result ≡ is_unknown_version trace.now i e }
+{
+    let entry = trace.entry(i);
+    match entry.kind {
+        EntryKind::Check => entry.version.is_some() && trace.content_of(i).is_none(),
+        EntryKind::Content => false,
+    }
+}
+
+/// What is found on the tokens of entry `i`.
+pub fn order_of(trace: &Trace, i: usize) -> OrderFindings
+    requires { i < length trace.now.entries }
+    ensures { (e : EntryValue) → slice_get trace.now.entries i ≡ Some e → result ≡ order_of trace.now i e }
+{
+    let entry = trace.entry(i);
+    OrderFindings {
+        stale: is_stale(entry),
+        old_token: old_token(trace, i),
+        not_latest: not_latest(trace, i),
+        open_snapshot: open_snapshot(trace, i),
+        wrong_token: is_wrong_token(entry),
+        unknown_version: is_unknown_version(trace, i),
+    }
+}
