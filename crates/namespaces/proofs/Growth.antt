@@ -1,5 +1,5 @@
 -- One declaration more, and the rules are as they must be.
-use Rattle.std.proofs.Common.{◌≡◌, ℕ, suc, ◌+◌, ◌<◌, ◌≤◌, nat_lt, nat_le, Bool, true, false, not, ◌&&◌, ◌||◌, cond, List, [], ◌∷◌, ◌++◌, length, is_some, All, ◌⊎◌, inl, inr, Option, None, Some, Result, Ok, Err, refl, sym, ◌∙◌, length-append, arith}
+use Rattle.std.proofs.Common.{◌≡◌, ℕ, suc, ◌+◌, ◌<◌, ◌≤◌, nat_lt, nat_le, Bool, true, false, not, ◌&&◌, ◌||◌, cond, List, [], ◌∷◌, ◌++◌, length, is_some, All, ◌⊎◌, inl, inr, Option, None, Some, Result, Ok, Err, refl, subst, sym, ◌∙◌, length-append, arith}
 use Rattle.std.proofs.lemmas.Bool.Decides.{nat_tests}
 use Rattle.std.proofs.lemmas.List.Sums.{sum_by-append}
 use Rattle.std.proofs.lemmas.List.Elements.{All-push}
@@ -14,8 +14,8 @@ use Rattle.namespaces.specs.Fault.{◌>>=◌}
 use Rattle.namespaces.specs.Declaration.{Relation, Namespace, Declaration, addition, change}
 use Rattle.namespaces.specs.Lookup.{relations_of, relation_names, with_name, names_after, namespace_names}
 use Rattle.namespaces.specs.Expression.{counts_fit}
-use Rattle.namespaces.specs.Adding.{namespace, is_name, is_well_named, has_repeats, reads_declared, is_too_deep, is_over_limits, tested, is_declared, is_full, checked_addition, added}
-use Rattle.namespaces.specs.Changing.{keeps_names, keeps_strata, continued, change_count, is_full_for, checked_change, changed, IsLater}
+use Rattle.namespaces.specs.Adding.{namespace, is_name, is_well_named, has_repeats, reads_declared, is_too_deep, is_over_limits, tested, is_declared, is_full, checked_addition, added, rules_add}
+use Rattle.namespaces.specs.Changing.{keeps_names, keeps_strata, continued, change_count, is_full_for, checked_change, changed, rules_change, IsLater}
 use Rattle.namespaces.specs.WellFormed.{Continues, AreContinued, IsFit, IsWellFormed}
 use Rattle.namespaces.proofs.Names.{by_bool, clash, same_name, one_name, list_any-append, has_repeats-with_name}
 use Rattle.namespaces.proofs.Kept.{keeps_names-through, keeps_strata-through}
@@ -255,6 +255,20 @@ changed_grows_from ds at d got w later h = let b = bound (namespace d) (checked_
 pub changed_grows : (ds : List Declaration) (at : ℕ) (d : Data) (got : Namespace) → IsWellFormed ds → IsLater at ds → changed ds d ≡ Ok got → IsWellFormed (ds ++ change at got ∷ [])
 changed_grows ds at d got w later h =
     changed_grows_from ds at d got w (none_later at ds w.fit (each_by_recursion (λ e. e.is_change ≡ true → e.at < at) ds later)) h
+
+pub well_formed_add : (ds : List Declaration) (d : Data) (es : List Declaration) → IsWellFormed ds → rules_add ds d ≡ Ok es → IsWellFormed es
+well_formed_add ds d es w h = by (added ds d) refl h
+  where
+    by : (o : Result Namespace RulesFault) → added ds d ≡ o → (o >>= λ n. Ok (ds ++ addition n ∷ [])) ≡ Ok es → IsWellFormed es
+    by (Err e) is g = cc
+    by (Ok n) is g = let same : ds ++ addition n ∷ [] ≡ es = cc in subst IsWellFormed same (added_grows ds d n w is)
+
+pub well_formed_change : (ds : List Declaration) (at : ℕ) (d : Data) (es : List Declaration) → IsWellFormed ds → IsLater at ds → rules_change ds at d ≡ Ok es → IsWellFormed es
+well_formed_change ds at d es w later h = by (changed ds d) refl h
+  where
+    by : (o : Result Namespace RulesFault) → changed ds d ≡ o → (o >>= λ n. Ok (ds ++ change at n ∷ [])) ≡ Ok es → IsWellFormed es
+    by (Err e) is g = cc
+    by (Ok n) is g = let same : ds ++ change at n ∷ [] ≡ es = cc in subst IsWellFormed same (changed_grows ds at d n w later is)
 
 -- ---- timestamps
 

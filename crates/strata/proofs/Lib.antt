@@ -7,6 +7,6 @@ pub mod Renumbered
 pub mod Restratified
 pub mod Rounds
 pub mod Unbroken
-mod Untimed
+pub mod Untimed
 pub mod ValidStrata
-mod Walks
+pub mod Walks

@@ -18,9 +18,9 @@ use Rattle.namespaces.proofs.Declared.{IsPlaced, one_stratum, in_force_placed, s
 use Rattle.strata.specs.declared.edge.Edge.{Edge}
 use Rattle.strata.specs.Meaning.{with_relation, same_user, IsStored}
 use Rattle.strata.specs.Strata.{EachPremise, EachPremises, IsAtMost, IsLower, HasValidStrata}
-use Rattle.strata.specs.Edges.{RelationName, Place, at_this, at_computed, at_tuple_to, places, all_places, read_by_rule, read_in_userset, read_through, relation_edges, namespace_edges, rule_edges, this_edges, tuple_to_edges, userset_edges, tuple_edges, stratum_numbered, is_broken_between, is_broken, first_broken, HasNoBrokenEdge}
+use Rattle.strata.specs.Edges.{RelationName, Place, at_this, at_computed, at_tuple_to, places, all_places, read_by_rule, read_in_userset, read_through, relation_edges, namespace_edges, rule_edges, this_edges, tuple_to_edges, userset_edges, tuple_edges, edges_of_tuples, stratum_numbered, is_broken_between, is_broken, first_broken, HasNoBrokenEdge}
 use Rattle.strata.proofs.Lists.{Contains-here}
-use Rattle.strata.proofs.Unbroken.{unbroken, edge_of_place, edge_of_namespace, edge_of_rules}
+use Rattle.strata.proofs.Unbroken.{Contains-flat_map, unbroken, edge_of_place, edge_of_namespace, edge_of_rules}
 
 same_text : (xs : List ℕ) → bytes_eq xs xs ≡ true
 same_text xs = (bytes_eq-Decides xs xs).1 refl
@@ -156,8 +156,7 @@ module _ (ds : List Declaration) (w : IsWellFormed ds) (ts : List TupleValue) (k
   stored_unbroken : (s g : SetValue) → IsStored store s (Set g) → (x : Edge) → Contains (userset_edges ds s g) x → is_broken ds x ≡ false
   stored_unbroken s g c x d =
       let t : TupleValue = record { set = s; user = Set g } in
-      unbroken ds (userset_edges ds s g)
-      (All-contains (λ (u : TupleValue). first_broken ds (tuple_edges ds u) ≡ Ok (tt {0})) ts t kept.of_tuples (part t c)) x d
+      unbroken ds (edges_of_tuples ds ts) kept.of_tuples x (Contains-flat_map (tuple_edges ds) ts t x (part t c) d)
 
   each_place : (b : Bool) (p : Place) → Contains (places false rule.expression) (b, p)
       → PlaceMeets store (chosen b (IsAtMost (rule_at ds at) rule.stratum) (IsLower (rule_at ds at) rule.stratum)) f p

@@ -1,5 +1,5 @@
 -- The edges that rules and tuples give, in the order in which they are looked at, and which of them are broken.
-use Rattle.std.specs.Prelude.{◌≡◌, ℕ, List, [], ◌∷◌, ◌++◌, length, Bool, true, false, not, nat_lt, nat_le, find, Option, None, Some, option_map, option_and_then, unwrap_or, if◌then◌else◌, Result, Ok, Err, All}
+use Rattle.std.specs.Prelude.{◌≡◌, ℕ, List, [], ◌∷◌, ◌++◌, length, Bool, true, false, not, nat_lt, nat_le, find, Option, None, Some, option_map, option_and_then, unwrap_or, if◌then◌else◌, Result, Ok, Err}
 use Rattle.std.specs.List.{flat_map, filter_map, enumerate_from, range_with_len}
 use Rattle.std.specs.Str.{bytes_eq}
 use Rattle.tuple_text.specs.Sets.{SetValue}
@@ -105,6 +105,10 @@ user_edges ds s (Set g) = userset_edges ds s g
 abbrev pub tuple_edges : List Declaration → TupleValue → List Edge
 tuple_edges ds t = user_edges ds t.set t.user
 
+-- the edges that tuples give, tuple by tuple
+abbrev pub edges_of_tuples : List Declaration → List TupleValue → List Edge
+edges_of_tuples ds ts = flat_map (tuple_edges ds) ts
+
 -- ---- broken edges
 
 abbrev pub stratum_numbered : List Declaration → RelNo → Option ℕ
@@ -131,4 +135,4 @@ first_broken ds es = refused (find (is_broken ds) es)
 -- no edge of the rules is broken, and none of a tuple
 pub record HasNoBrokenEdge (ds : List Declaration) (ts : List TupleValue) : Type 0 where
   pub of_rules : first_broken ds (rule_edges ds) ≡ Ok (tt {0})
-  pub of_tuples : All (λ t. first_broken ds (tuple_edges ds t) ≡ Ok (tt {0})) ts
+  pub of_tuples : first_broken ds (edges_of_tuples ds ts) ≡ Ok (tt {0})

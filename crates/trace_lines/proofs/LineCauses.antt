@@ -1,5 +1,5 @@
 -- A line is never refused as a failure of the reader, nor as too long.
-use Rattle.std.proofs.Common.{◌≡◌, ℕ, ◌&&◌, Bool, true, false, cond, List, Option, Some, None, Result, Ok, Err, length, subst}
+use Rattle.std.proofs.Common.{◌≡◌, ℕ, ◌&&◌, Bool, true, false, cond, List, [], Option, Some, None, Result, Ok, Err, length, subst}
 use Rattle.std.specs.Prelude.{codes, bytes_eq, option_and_then}
 use Rattle.std.specs.Str.{is_utf8}
 use Rattle.serde_json.specs.Data.{Data, Items, no_items, item}
@@ -13,16 +13,19 @@ use Rattle.zookie.specs.Reading.{token_at}
 use Rattle.namespaces.specs.declared.fault.RulesFault.{RulesFault}
 use Rattle.namespaces.specs.Declaration.{Declaration}
 use Rattle.namespaces.specs.Adding.{rules_add}
-use Rattle.version_chains.specs.Commits.{Commit}
+use Rattle.namespaces.specs.Changing.{rules_change}
+use Rattle.tuple_text.specs.Tuples.{TupleValue}
+use Rattle.strata.specs.declared.edge.Edge.{Edge}
+use Rattle.strata.specs.Edges.{first_broken, rule_edges, edges_of_tuples}
+use Rattle.version_chains.specs.Commits.{Commit, Changes, added}
 use Rattle.version_chains.specs.Appends.{append_fault}
 use Rattle.version_chains.specs.declared.fault.AppendFault.{AppendFault}
-use Rattle.trace_lines.specs.Fields.{number_at, flag_at, text_at, optional_text_at, strings_at}
+use Rattle.trace_lines.specs.Fields.{number_at, optional_number_at, flag_at, text_at, optional_text_at, strings_at}
 use Rattle.trace_lines.specs.Reading.{◌>>=◌}
 use Rattle.trace_lines.specs.Causes.{needed, text_cause, token_cause, namespace_cause}
 use Rattle.trace_lines.specs.Texts.{tuple_of_text, tuples_of, goal_of, some_token, token_of, version_at}
-use Rattle.trace_lines.specs.Plain.{is_plain}
 use Rattle.trace_lines.specs.Values.{EntryValue, TraceValue}
-use Rattle.trace_lines.specs.Traces.{is_begun, with_declarations, namespace_line, commit_of, changes_of, appended_at, with_commit, are_declared, entry_of, is_declared, with_entry, entry_line, of_kind, value_line, of_json, json_line, is_blank, taken_line}
+use Rattle.trace_lines.specs.Traces.{is_begun, namespace_line, commit_of, changes_of, with_commit, are_declared, entry_of, is_declared, with_entry, entry_line, of_kind, value_line, of_json, json_line, is_blank, taken_line, strata_cause, rules_checked, tuples_checked, late_or, with_namespace, append_cause, commit_checked, change_line, declared_from, declaration_line}
 use Rattle.trace_lines.specs.Versions.{is_repeated}
 use Rattle.trace_lines.specs.declared.cause.Cause.{Cause}
 use Rattle.trace_lines.specs.declared.entry.EntryKind.{EntryKind}
@@ -83,11 +86,37 @@ of_tuples (item d ds) =
     bound (tuple_of_text (as_str d)) _ (bound (needed (as_str d)) (λ t. text_cause (tuple_at t)) (of_needed (as_str d)) (λ t. of_text (tuple_at t)))
     (λ t. bound (tuples_of ds) _ (of_tuples ds) (λ ts. tt))
 
+of_edges : (r : Result (Unit {0}) Edge) → OfLine (strata_cause r)
+of_edges (Ok u) = tt
+of_edges (Err e) = tt
+
+of_chains : (o : Option AppendFault) → OfLine (append_cause o)
+of_chains None = tt
+of_chains (Some e) = tt
+
 of_namespace_line : (t : TraceValue) (d : Data) → OfLine (namespace_line t d)
 unfolding namespace_line
 of_namespace_line t d =
-    either (is_plain d) _ _ (bound (namespace_cause (rules_add t.declarations d)) (with_declarations t) (of_rules (rules_add t.declarations d))
-    (λ ds. either (is_begun t) _ _ tt tt)) tt
+    bound (with_namespace (is_begun t) t.declarations d) _
+    (bound (namespace_cause (rules_add t.declarations d)) (late_or (is_begun t)) (of_rules (rules_add t.declarations d))
+    (λ ds. either (is_begun t) _ _ tt (bound (rules_checked ds) _ (of_edges (first_broken ds (rule_edges ds))) (λ u. tt)))) (λ ds. tt)
+
+of_change_line : (at n : ℕ) (t : TraceValue) (d : Data) → OfLine (change_line at n t d)
+unfolding change_line
+of_change_line at n t d =
+    bound (namespace_cause (rules_change t.declarations at d)) _ (of_rules (rules_change t.declarations at d))
+    (λ ds. bound (rules_checked ds) _ (of_edges (first_broken ds (rule_edges ds)))
+    (λ u. bound (append_cause (append_fault (changes_of t) at [] [])) _ (of_chains (append_fault (changes_of t) at [] []))
+    (λ v. bound (tuples_checked ds (added t.commits)) _ (of_edges (first_broken ds (edges_of_tuples ds (added t.commits)))) (λ w. tt))))
+
+of_declared : (o : Option (Option ℕ)) (n : ℕ) (t : TraceValue) (d : Data) → OfLine (declared_from o n t d)
+of_declared None n t d = tt
+of_declared (Some None) n t d = of_namespace_line t d
+of_declared (Some (Some at)) n t d = of_change_line at n t d
+
+of_declaration_line : (n : ℕ) (t : TraceValue) (d : Data) → OfLine (declaration_line n t d)
+unfolding declaration_line
+of_declaration_line n t d = of_declared (optional_number_at (codes "at") d) n t d
 
 of_commit : (d : Data) → OfLine (commit_of d)
 unfolding commit_of
@@ -98,14 +127,15 @@ of_commit d =
     (λ remove. bound (tuples_of add) _ (of_tuples add)
     (λ adds. bound (tuples_of remove) _ (of_tuples remove) (λ removes. tt)))))
 
-of_appended : (n : ℕ) (t : TraceValue) (c : Commit) (o : Option AppendFault) → OfLine (appended_at n t c o)
-of_appended n t c None = tt
-of_appended n t c (Some e) = tt
+of_commit_checked : (ds : List Declaration) (old : Changes) (at : ℕ) (adds removes : List TupleValue) → OfLine (commit_checked ds old at adds removes)
+of_commit_checked ds old at adds removes =
+    bound (tuples_checked ds adds) _ (of_edges (first_broken ds (edges_of_tuples ds adds))) (λ u. of_chains (append_fault old at adds removes))
 
 of_with_commit : (n : ℕ) (t : TraceValue) (c : Commit) → OfLine (with_commit n t c)
 unfolding with_commit
 of_with_commit n t c =
-    either (are_declared t.declarations c.adds && are_declared t.declarations c.removes) _ _ (of_appended n t c (append_fault (changes_of t) c.at c.adds c.removes)) tt
+    either (are_declared t.declarations c.adds && are_declared t.declarations c.removes) _ _
+    (bound (commit_checked t.declarations (changes_of t) c.at c.adds c.removes) _ (of_commit_checked t.declarations (changes_of t) c.at c.adds c.removes) (λ u. tt)) tt
 
 of_entry : (kind : EntryKind) (n before : ℕ) (d : Data) → OfLine (entry_of kind n before d)
 unfolding entry_of
@@ -128,7 +158,7 @@ of_entry_line kind n t d = bound (entry_of kind n (length t.commits) d) (with_en
 of_a_kind : (n : ℕ) (t : TraceValue) (d : Data) (kind : Option (List ℕ)) → OfLine (of_kind n t d kind)
 of_a_kind n t d None = tt
 of_a_kind n t d (Some kind) =
-    either (bytes_eq kind (codes "namespace")) _ _ (of_namespace_line t d)
+    either (bytes_eq kind (codes "namespace")) _ _ (of_declaration_line n t d)
     (either (bytes_eq kind (codes "commit")) _ _ (bound (commit_of d) (with_commit n t) (of_commit d) (of_with_commit n t))
     (either (bytes_eq kind (codes "content")) _ _ (of_entry_line Content n t d)
     (either (bytes_eq kind (codes "check")) _ _ (of_entry_line Check n t d) tt)))

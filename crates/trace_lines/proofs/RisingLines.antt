@@ -12,19 +12,22 @@ use Rattle.serde_json.specs.Data.{Data}
 use Rattle.serde_json.specs.Find.{get, as_str}
 use Rattle.serde_json.specs.Read.{read}
 use Rattle.namespaces.specs.Adding.{rules_add}
-use Rattle.version_chains.specs.Commits.{Commit}
+use Rattle.namespaces.specs.Changing.{rules_change}
+use Rattle.tuple_text.specs.Tuples.{TupleValue}
+use Rattle.strata.specs.declared.edge.Edge.{Edge}
+use Rattle.strata.specs.Edges.{first_broken, rule_edges, edges_of_tuples}
+use Rattle.version_chains.specs.Commits.{Commit, Changes, added}
 use Rattle.version_chains.specs.Appends.{append_fault}
 use Rattle.version_chains.specs.declared.fault.AppendFault.{AppendFault}
-use Rattle.trace_lines.specs.Fields.{number_at, flag_at, text_at, optional_text_at}
+use Rattle.trace_lines.specs.Fields.{number_at, optional_number_at, flag_at, text_at, optional_text_at}
 use Rattle.trace_lines.specs.Reading.{◌>>=◌}
 use Rattle.trace_lines.specs.Causes.{needed, namespace_cause}
 use Rattle.trace_lines.specs.Texts.{goal_of, token_of, version_at}
-use Rattle.trace_lines.specs.Plain.{is_plain}
 use Rattle.trace_lines.specs.Values.{EntryValue, TraceValue, entry_lines, after_last, next_line}
 use Rattle.trace_lines.specs.Versions.{is_repeated}
 use Rattle.trace_lines.specs.declared.entry.EntryKind.{EntryKind}
 use Rattle.trace_lines.specs.declared.entry.EntryKind.TheVariants.{Check, Content}
-use Rattle.trace_lines.specs.Traces.{is_begun, with_declarations, namespace_line, commit_of, changes_of, appended_at, with_commit, are_declared, entry_of, is_declared, recorded, with_entry, entry_line, of_kind, value_line, of_json, json_line}
+use Rattle.trace_lines.specs.Traces.{is_begun, namespace_line, commit_of, changes_of, with_commit, are_declared, entry_of, is_declared, recorded, with_entry, entry_line, of_kind, value_line, of_json, json_line, rules_checked, tuples_checked, with_namespace, append_cause, commit_checked, with_touches, empty_commit, change_line, declared_from, declaration_line}
 use Rattle.trace_lines.specs.declared.cause.Cause.{Cause}
 
 pub last_of : (x : ℕ) (xs : List ℕ) → after_last (x ∷ xs) ≡ get_or (x ∷ xs) (length xs) 0 + 1
@@ -77,18 +80,32 @@ fits_as_before n t le = omega (arith, le)
 
 fits_namespace : (n : ℕ) (t : TraceValue) (d : Data) → next_line t ≤ n → OkHas (Fits n) (namespace_line t d)
 unfolding namespace_line
-fits_namespace n t d le =
-    either (Fits n) (is_plain d) _ _ (passes (Fits n) (namespace_cause (rules_add t.declarations d)) (with_declarations t)
-    (λ ds. either (Fits n) (is_begun t) _ (Ok (record t { declarations = ds })) tt (fits_as_before n t le))) tt
+fits_namespace n t d le = passes (Fits n) (with_namespace (is_begun t) t.declarations d) _ (λ ds. fits_as_before n t le)
 
-fits_appended : (n : ℕ) (t : TraceValue) (c : Commit) (o : Option AppendFault) → next_line t ≤ n → OkHas (Fits n) (appended_at n t c o)
-fits_appended n t c None le = let after = after_push t.commit_lines n in omega (arith, after, le)
-fits_appended n t c (Some e) le = tt
+fits_touches : (n : ℕ) (t : TraceValue) (c : Commit) → next_line t ≤ n → Fits n (with_touches n t c)
+fits_touches n t c le = let after = after_push t.commit_lines n in omega (arith, after, le)
+
+fits_change : (at n : ℕ) (t : TraceValue) (d : Data) → next_line t ≤ n → OkHas (Fits n) (change_line at n t d)
+unfolding change_line
+fits_change at n t d le =
+    passes (Fits n) (namespace_cause (rules_change t.declarations at d)) _
+    (λ ds. passes (Fits n) (rules_checked ds) _
+    (λ u. passes (Fits n) (append_cause (append_fault (changes_of t) at [] [])) _
+    (λ v. passes (Fits n) (tuples_checked ds (added t.commits)) _ (λ w. fits_touches n t (empty_commit at) le))))
+
+fits_declared : (o : Option (Option ℕ)) (n : ℕ) (t : TraceValue) (d : Data) → next_line t ≤ n → OkHas (Fits n) (declared_from o n t d)
+fits_declared None n t d le = tt
+fits_declared (Some None) n t d le = fits_namespace n t d le
+fits_declared (Some (Some at)) n t d le = fits_change at n t d le
+
+fits_declaration : (n : ℕ) (t : TraceValue) (d : Data) → next_line t ≤ n → OkHas (Fits n) (declaration_line n t d)
+unfolding declaration_line
+fits_declaration n t d le = fits_declared (optional_number_at (codes "at") d) n t d le
 
 fits_commit : (n : ℕ) (t : TraceValue) (c : Commit) → next_line t ≤ n → OkHas (Fits n) (with_commit n t c)
 unfolding with_commit
 fits_commit n t c le =
-    either (Fits n) (are_declared t.declarations c.adds && are_declared t.declarations c.removes) _ _ (fits_appended n t c (append_fault (changes_of t) c.at c.adds c.removes) le) tt
+    either (Fits n) (are_declared t.declarations c.adds && are_declared t.declarations c.removes) _ _ (passes (Fits n) (commit_checked t.declarations (changes_of t) c.at c.adds c.removes) _ (λ u. fits_touches n t c le)) tt
 
 -- where an entry of a line stands
 abbrev StandsAt : ℕ → ℕ → EntryValue → Type 0
@@ -125,7 +142,7 @@ fits_entry_line kind n t d le =
 fits_kind : (n : ℕ) (t : TraceValue) (d : Data) (kind : Option (List ℕ)) → next_line t ≤ n → OkHas (Fits n) (of_kind n t d kind)
 fits_kind n t d None le = tt
 fits_kind n t d (Some kind) le =
-    either (Fits n) (bytes_eq kind (codes "namespace")) _ _ (fits_namespace n t d le)
+    either (Fits n) (bytes_eq kind (codes "namespace")) _ _ (fits_declaration n t d le)
     (either (Fits n) (bytes_eq kind (codes "commit")) _ _ (passes (Fits n) (commit_of d) (with_commit n t) (λ c. fits_commit n t c le))
     (either (Fits n) (bytes_eq kind (codes "content")) _ _ (fits_entry_line Content n t d le)
     (either (Fits n) (bytes_eq kind (codes "check")) _ _ (fits_entry_line Check n t d le) tt)))

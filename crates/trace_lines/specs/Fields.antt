@@ -1,5 +1,5 @@
 -- The fields of an object of JSON, by their types. None is a wrong shape.
-use Rattle.std.specs.Prelude.{ℕ, Bool, true, false, List, ◌&&◌, Option, Some, None, option_and_then, if◌then◌else◌}
+use Rattle.std.specs.Prelude.{ℕ, Bool, true, false, List, ◌&&◌, Option, Some, None, option_map, option_and_then, if◌then◌else◌}
 use Rattle.serde_json.specs.Data.{Data, null, boolean, number, string, array, object, Items, no_items, item}
 use Rattle.serde_json.specs.Find.{get, as_number, as_u64, as_bool, as_str}
 
@@ -26,6 +26,17 @@ text_or_null (object ms) = None
 
 unfoldable pub optional_text_at : List ℕ → Data → Option (Option (List ℕ))
 optional_text_at name d = if_there None text_or_null (get name d)
+
+abbrev pub number_or_null : Data → Option (Option ℕ)
+number_or_null null = Some None
+number_or_null (boolean b) = None
+number_or_null (number n) = option_map (λ k. Some k) (as_u64 n)
+number_or_null (string s) = None
+number_or_null (array ds) = None
+number_or_null (object ms) = None
+
+unfoldable pub optional_number_at : List ℕ → Data → Option (Option ℕ)
+optional_number_at name d = if_there None number_or_null (get name d)
 
 abbrev pub is_string : Data → Bool
 is_string null = false

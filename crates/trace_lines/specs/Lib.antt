@@ -1,15 +1,16 @@
 pub mod Causes
 pub mod Counts
+pub mod Declaring
 pub mod Devices
 pub mod Fields
 pub mod Kept
 pub mod Lines
-pub mod Plain
 pub mod Reading
 pub mod Recorded
 pub mod Results
 pub mod Texts
 pub mod TraceCode
 pub mod Traces
+pub mod Tuples
 pub mod Values
 pub mod Versions

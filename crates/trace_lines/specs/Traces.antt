@@ -10,14 +10,16 @@ use Rattle.tuple_text.specs.Tuples.{TupleValue}
 use Rattle.namespaces.specs.Declaration.{Declaration}
 use Rattle.namespaces.specs.Lookup.{relation_of}
 use Rattle.namespaces.specs.Adding.{rules_add}
-use Rattle.version_chains.specs.Commits.{Commit, Changes}
+use Rattle.namespaces.specs.Changing.{rules_change}
+use Rattle.version_chains.specs.Commits.{Commit, Changes, added}
 use Rattle.version_chains.specs.Appends.{append_fault}
 use Rattle.version_chains.specs.declared.fault.AppendFault.{AppendFault}
-use Rattle.trace_lines.specs.Fields.{number_at, flag_at, text_at, optional_text_at, strings_at}
+use Rattle.strata.specs.declared.edge.Edge.{Edge}
+use Rattle.strata.specs.Edges.{first_broken, rule_edges, edges_of_tuples}
+use Rattle.trace_lines.specs.Fields.{number_at, optional_number_at, flag_at, text_at, optional_text_at, strings_at}
 use Rattle.trace_lines.specs.Reading.{◌>>=◌, read_all}
 use Rattle.trace_lines.specs.Causes.{needed, namespace_cause}
 use Rattle.trace_lines.specs.Texts.{tuples_of, goal_of, token_of, version_at}
-use Rattle.trace_lines.specs.Plain.{is_plain}
 use Rattle.trace_lines.specs.Values.{EntryValue, TraceValue, empty_trace}
 use Rattle.trace_lines.specs.Versions.{is_repeated}
 use Rattle.trace_lines.specs.declared.entry.EntryKind.{EntryKind}
@@ -44,11 +46,27 @@ are_declared ds ts = list_all (λ t. is_declared ds t.set) ts
 abbrev pub is_begun : TraceValue → Bool
 is_begun t = not (length t.commit_lines == 0) || not (length t.entries == 0)
 
-abbrev pub with_declarations : TraceValue → List Declaration → Result TraceValue Cause
-with_declarations t ds = if is_begun t then Err causes.Late else Ok (record t { declarations = ds })
+abbrev pub strata_cause : Result (Unit {0}) Edge → Result (Unit {0}) Cause
+strata_cause (Ok u) = Ok u
+strata_cause (Err e) = Err (causes.Strata e)
+
+-- no edge of the rules is broken, or the first that is
+abbrev pub rules_checked : List Declaration → Result (Unit {0}) Cause
+rules_checked ds = strata_cause (first_broken ds (rule_edges ds))
+
+-- the same of the edges of tuples
+abbrev pub tuples_checked : List Declaration → List TupleValue → Result (Unit {0}) Cause
+tuples_checked ds ts = strata_cause (first_broken ds (edges_of_tuples ds ts))
+
+abbrev pub late_or : Bool → List Declaration → Result (List Declaration) Cause
+late_or begun ds = if begun then Err causes.Late else (rules_checked ds >>= λ u. Ok ds)
+
+-- the declarations after a namespace that is in force from the start on
+abbrev pub with_namespace : Bool → List Declaration → Data → Result (List Declaration) Cause
+with_namespace begun ds d = namespace_cause (rules_add ds d) >>= late_or begun
 
 unfoldable pub namespace_line : TraceValue → Data → Result TraceValue Cause
-namespace_line t d = if is_plain d then (namespace_cause (rules_add t.declarations d) >>= with_declarations t) else Err (causes.Namespace Shape)
+namespace_line t d = with_namespace (is_begun t) t.declarations d >>= λ ds. Ok (record t { declarations = ds })
 
 -- ---- commit lines
 
@@ -65,18 +83,49 @@ commit_of d = do
 abbrev pub changes_of : TraceValue → Changes
 changes_of t = record { limit = 2 ^ 32 - 1; commits = t.commits }
 
-abbrev pub appended_at : ℕ → TraceValue → Commit → Option AppendFault → Result TraceValue Cause
-appended_at n t c None = Ok (record t { commits = t.commits ++ c ∷ []; commit_lines = t.commit_lines ++ n ∷ [] })
-appended_at n t c (Some e) = Err (causes.Commit e)
+-- why a commit is refused: the first broken edge of what it adds, and then what the chains say
+abbrev pub append_cause : Option AppendFault → Result (Unit {0}) Cause
+append_cause None = Ok (tt {0})
+append_cause (Some e) = Err (causes.Commit e)
+
+abbrev pub commit_checked : List Declaration → Changes → ℕ → List TupleValue → List TupleValue → Result (Unit {0}) Cause
+commit_checked ds old at adds removes = tuples_checked ds adds >>= λ u. append_cause (append_fault old at adds removes)
+
+abbrev pub with_touches : ℕ → TraceValue → Commit → TraceValue
+with_touches n t c = record t { commits = t.commits ++ c ∷ []; commit_lines = t.commit_lines ++ n ∷ [] }
 
 unfoldable pub with_commit : ℕ → TraceValue → Commit → Result TraceValue Cause
 with_commit n t c =
     if are_declared t.declarations c.adds && are_declared t.declarations c.removes
-    then appended_at n t c (append_fault (changes_of t) c.at c.adds c.removes)
+    then (commit_checked t.declarations (changes_of t) c.at c.adds c.removes >>= λ u. Ok (with_touches n t c))
     else Err causes.Unknown
 
 abbrev pub commit_line : ℕ → TraceValue → Data → Result TraceValue Cause
 commit_line n t d = commit_of d >>= with_commit n t
+
+-- ---- change lines
+
+-- a change is a commit without a touch at its timestamp
+abbrev pub empty_commit : ℕ → Commit
+empty_commit at = record { at = at; adds = []; removes = [] }
+
+-- The edges of the rules are looked at before the timestamp, and those of all tuples ever added behind it.
+unfoldable pub change_line : ℕ → ℕ → TraceValue → Data → Result TraceValue Cause
+change_line at n t d = do
+  ds ← namespace_cause (rules_change t.declarations at d)
+  rules ← rules_checked ds
+  timestamp ← append_cause (append_fault (changes_of t) at [] [])
+  tuples ← tuples_checked ds (added t.commits)
+  Ok (record (with_touches n t (empty_commit at)) { declarations = ds })
+
+-- a namespace line with a timestamp changes the rules
+abbrev pub declared_from : Option (Option ℕ) → ℕ → TraceValue → Data → Result TraceValue Cause
+declared_from None n t d = Err (causes.Namespace Shape)
+declared_from (Some None) n t d = namespace_line t d
+declared_from (Some (Some at)) n t d = change_line at n t d
+
+unfoldable pub declaration_line : ℕ → TraceValue → Data → Result TraceValue Cause
+declaration_line n t d = declared_from (optional_number_at (codes "at") d) n t d
 
 -- ---- check and content lines
 
@@ -113,7 +162,7 @@ is_blank line = list_all is_blank_byte line
 abbrev pub of_kind : ℕ → TraceValue → Data → Option (List ℕ) → Result TraceValue Cause
 of_kind n t d None = Err causes.Kind
 of_kind n t d (Some kind) =
-    if bytes_eq kind (codes "namespace") then namespace_line t d
+    if bytes_eq kind (codes "namespace") then declaration_line n t d
     else (if bytes_eq kind (codes "commit") then commit_line n t d
     else (if bytes_eq kind (codes "content") then entry_line Content n t d
     else (if bytes_eq kind (codes "check") then entry_line Check n t d

@@ -2,7 +2,7 @@
 
 ghost use Rattle.std.specs.Prelude.{◌≡◌, option_map};
 ghost use Rattle.serde_json.specs.View.{view, items_view};
-ghost use Rattle.trace_lines.specs.Fields.{number_at, flag_at, text_at, optional_text_at, are_strings, strings_at};
+ghost use Rattle.trace_lines.specs.Fields.{number_at, flag_at, text_at, optional_text_at, optional_number_at, are_strings, strings_at};
 
 use serde_json::Value;
 
@@ -40,6 +40,25 @@ pub fn optional_text_at<'a>(value: &'a Value, name: &str) -> Option<Option<&'a s
             }
             match found.as_str() {
                 Some(text) => Some(Some(text)),
+                None => None,
+            }
+        }
+    }
+}
+
+/// The u64 under a key, which may be absent or null; None where it is of another shape.
+#[tactic(auto, unfolding(crate::specs::Fields::optional_number_at))]
+pub fn optional_number_at(value: &Value, name: &str) -> Option<Option<u64>>
+    ensures { result ≡ optional_number_at name.now (view value.now) }
+{
+    match value.get(name) {
+        None => Some(None),
+        Some(found) => {
+            if found.is_null() {
+                return Some(None);
+            }
+            match found.as_u64() {
+                Some(number) => Some(Some(number)),
                 None => None,
             }
         }

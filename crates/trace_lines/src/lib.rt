@@ -12,13 +12,14 @@
 
 mod cause;
 mod checks;
+mod declaring;
 mod devices;
 mod entry;
 pub mod fields;
 mod lines;
-mod plain;
 mod read;
 mod reading;
+mod sample;
 mod sending;
 mod source;
 mod texts;

@@ -1,6 +1,6 @@
 //! Traces.
 
-ghost use Rattle.std.specs.Prelude.{◌≡◌, ◌+◌, ◌<◌, ◌≤◌, Some, None, slice_get, ◌^◌, ◌&&◌, [], length, take, drop, All, true, false, Ok, OnOk, IfErr, IfSome, IsErr};
+ghost use Rattle.std.specs.Prelude.{◌≡◌, ◌+◌, ◌<◌, ◌≤◌, Some, None, slice_get, ◌^◌, ◌&&◌, [], length, take, drop, All, true, false, ℕ, ◌++◌, option_map, Ok, OnOk, OnErr, IfErr, IfSome, IsErr};
 ghost use Rattle.std.specs.Io.KnownBytes.{Consumes};
 ghost use Rattle.serde_json.specs.View.{view};
 ghost use Rattle.tuple_text.specs.Refs.{set_value};
@@ -8,19 +8,29 @@ ghost use Rattle.trace_lines.specs.Causes.{Gives};
 ghost use Rattle.trace_lines.specs.Counts.{one_more};
 ghost use Rattle.trace_lines.specs.Reading.{Refuses};
 ghost use Rattle.trace_lines.specs.Values.{empty_trace, entry_value, entry_lines, next_line};
-ghost use Rattle.trace_lines.specs.Traces.{is_declared, are_declared, is_begun, namespace_line, commit_of, with_commit, commit_line, entry_of, recorded, with_entry, entry_line, value_line, json_line, is_blank, is_blank_byte, taken_line};
+ghost use Rattle.trace_lines.specs.Traces.{is_declared, are_declared, is_begun, namespace_line, change_line, declaration_line, commit_checked, commit_of, with_commit, commit_line, entry_of, recorded, with_entry, entry_line, value_line, json_line, is_blank, is_blank_byte, taken_line};
 ghost use Rattle.trace_lines.specs.Versions.{entry_version, version_issued, issuer, content_among, content_of};
 ghost use Rattle.trace_lines.specs.declared.entry.EntryKind.TheVariants.{Content};
+ghost use Rattle.version_chains.specs.Appends.{appended, late_fault, last_at};
+ghost use Rattle.version_chains.specs.Commits.{store_at};
+ghost use Rattle.version_chains.specs.declared.fault.AppendFault.TheVariants.{NotLater};
+ghost use Rattle.namespaces.specs.Lookup.{rule_at};
+ghost use Rattle.strata.specs.Edges.{first_broken, edges_of_tuples};
+ghost use Rattle.strata.specs.Strata.{HasValidStrata};
+ghost use Rattle.trace_lines.specs.Tuples.{Represents};
+ghost use Rattle.trace_lines.specs.Declaring.{rules_changed};
+ghost use Rattle.namespaces.specs.Changing.{IsLater};
 ghost use Rattle.std.specs.List.{list_all};
 ghost use Rattle.std.specs.List.Sorted.{IsStrictlyIncreasing};
 
 use crate::cause::Cause;
 use crate::checks::entry_of;
+use crate::declaring::{change, declare, late_change};
 use crate::entry::{Entry, EntryKind};
-use crate::fields::{number_at, strings_at};
+use crate::fields::{number_at, optional_number_at, strings_at};
 use crate::lines::InputFault;
-use crate::plain::is_plain;
 use crate::reading::{Stop, TakeLine};
+use crate::sample::Sample;
 use crate::texts::tuples_of;
 use crate::versions::{VersionName, version_of};
 use namespaces::{Rules, RulesFault};
@@ -44,6 +54,8 @@ pub struct Trace {
     alloc: Global,
     rules: Rules,
     chains: Chains,
+    // of the tuples ever added
+    sample: Sample,
     commit_lines: Vec<u64>,
     recorded: Vec<Recorded>,
     // by which entry each version was issued
@@ -61,10 +73,36 @@ impl Model for Trace {
 
     ghost use Rattle.trace_lines.specs.Kept.{IsKept};
     ghost use Rattle.trace_lines.specs.Recorded.{shown, contents};
+    ghost use Rattle.trace_lines.specs.Tuples.{IsOrderly};
 
     ghost view = { λ t. record { declarations = t.rules; commits = t.chains.commits; commit_lines = t.commit_lines.items; entries = shown t.recorded.items } };
 
-    ghost invariant = { λ t. (t.chains.limit ≡ 2 ^ 32 - 1) × IsKept t.chains.commits t.commit_lines.items (shown t.recorded.items) (contents t.recorded.items) t.versions };
+    ghost invariant = { λ t. (t.chains.limit ≡ 2 ^ 32 - 1) × IsKept t.chains.commits t.commit_lines.items (shown t.recorded.items) (contents t.recorded.items) t.versions
+        × IsOrderly t.rules t.chains.commits t.sample };
+}
+
+/// Commits changes to the chains, and takes what they add into the sample. The tuples that were there stay in front.
+fn commit(
+    rules: &Rules,
+    sample: &mut Sample,
+    chains: &mut Chains,
+    at: u64,
+    adds: &[Tuple],
+    removes: &[Tuple],
+) -> Result<(), Cause>
+    requires { first_broken rules.now (edges_of_tuples rules.now sample.old) ≡ Ok (tt {0}) }
+    ensures answer { Gives (λ u. u) result (commit_checked rules.now chains.old at adds.now removes.now) }
+    ensures appended { OnOk result (chains.new ≡ appended chains.old at adds.now removes.now) }
+    ensures unchanged { OnErr result (chains.new ≡ chains.old) }
+    ensures taken { OnOk result (Represents sample.new (sample.old ++ adds.now)) }
+    ensures kept { take (length sample.old) sample.new ≡ sample.old }
+{
+    sample.admit_all(rules, adds)?;
+    match chains.append(at, adds, removes) {
+        Ok(()) => Ok(()),
+        Err(AppendFault::OutOfMemory) => Err(Cause::OutOfMemory),
+        Err(fault) => Err(Cause::Commit(fault)),
+    }
 }
 
 impl Trace {
@@ -75,15 +113,17 @@ impl Trace {
             alloc,
             rules: Rules::new(alloc),
             chains: Chains::new(alloc, u32::MAX),
+            sample: Sample::new(alloc),
             commit_lines: Vec::new(alloc),
             recorded: Vec::new(alloc),
             versions: BTreeMap::new(alloc),
         }
     }
 
-    /// The namespaces.
+    /// The namespaces. Strata are valid at each timestamp, over what is stored then.
     pub fn rules(&self) -> &Rules
-        ensures { result.now ≡ self.now.declarations }
+        ensures declarations { result.now ≡ self.now.declarations }
+        ensures strata { (at : ℕ) → HasValidStrata (rule_at self.now.declarations at) (store_at self.now.commits at) }
     {
         &self.rules
     }
@@ -151,22 +191,64 @@ impl Trace {
     }
 
     /// Takes a line that declares a namespace.
+    #[tactic(auto, unfolding(crate::specs::Traces::declaration_line))]
+    fn take_declaration(&mut self, line: u64, value: &Value) -> Result<(), Cause>
+        requires { next_line self.old ≤ line }
+        ensures { Gives (λ _. self.new) result (declaration_line line self.old (view value.now)) }
+    {
+        match optional_number_at(value, "at") {
+            Some(Some(at)) => self.take_change(line, at, value),
+            Some(None) => self.take_namespace(value),
+            None => Err(Cause::Namespace(RulesFault::Shape)),
+        }
+    }
+
+    /// Takes a line that declares a namespace from the start on.
     #[tactic(auto, unfolding(crate::specs::Traces::namespace_line))]
     fn take_namespace(&mut self, value: &Value) -> Result<(), Cause>
         ensures { Gives (λ _. self.new) result (namespace_line self.old (view value.now)) }
     {
-        if !is_plain(value) {
-            return Err(Cause::Namespace(RulesFault::Shape));
+        let begun = self.is_begun();
+        declare(self.alloc, &mut self.rules, begun, value)
+    }
+
+    /// Whether a commit or an entry stands on an earlier line.
+    fn is_begun(&self) -> bool
+        ensures { result ≡ is_begun self.now }
+    {
+        !self.commit_lines.is_empty() || !self.recorded.is_empty()
+    }
+
+    /// Takes a line that changes the rules.
+    fn take_change(&mut self, line: u64, at: u64, value: &Value) -> Result<(), Cause>
+        requires { next_line self.old ≤ line }
+        ensures { Gives (λ _. self.new) result (change_line at line self.old (view value.now)) }
+    {
+        if let Some(last) = self.not_before(at) {
+            return Err(late_change(&self.rules, last, value));
         }
-        match self.rules.add(value) {
-            Ok(()) => {}
-            Err(RulesFault::OutOfMemory) => return Err(Cause::OutOfMemory),
-            Err(fault) => return Err(Cause::Namespace(fault)),
+        // A commit without a touch that is later than all others is refused for want of memory alone.
+        if self.append(line, at, &[], &[]).is_err() {
+            return Err(Cause::OutOfMemory);
         }
-        if !self.commit_lines.is_empty() || !self.recorded.is_empty() {
-            return Err(Cause::Late);
-        }
-        Ok(())
+        self.change_rules(at, value)
+    }
+
+    /// Changes the rules from the timestamp of the last commit on.
+    fn change_rules(&mut self, at: u64, value: &Value) -> Result<(), Cause>
+        requires later { IsLater at self.old.declarations }
+        requires last { last_at self.old.commits ≡ Some at }
+        ensures { Gives (λ _. self.new) result (rules_changed at self.old (view value.now)) }
+    {
+        change(self.alloc, &mut self.rules, &self.sample, at, value)
+    }
+
+    /// The timestamp of the last commit, if it is not before another.
+    fn not_before(&self, at: u64) -> Option<u64>
+        ensures { option_map (λ last. NotLater last) result ≡ late_fault (last_at self.now.commits) at }
+    {
+        let last = self.chains.commits().last()?;
+        if at <= *last { Some(*last) } else { None }
     }
 
     /// Takes a line that commits changes.
@@ -192,10 +274,13 @@ impl Trace {
             return Err(Cause::Unknown);
         }
         self.commit_lines.reserve(1)?;
-        match self.chains.append(at, adds, removes) {
+        let known = self.sample.len();
+        match commit(&self.rules, &mut self.sample, &mut self.chains, at, adds, removes) {
             Ok(()) => {}
-            Err(AppendFault::OutOfMemory) => return Err(Cause::OutOfMemory),
-            Err(fault) => return Err(Cause::Commit(fault)),
+            Err(cause) => {
+                self.sample.truncate(known);
+                return Err(cause);
+            }
         }
         if self.commit_lines.push(line).is_err() {
             unreachable!();
@@ -281,7 +366,7 @@ impl Trace {
         match value.get("kind").and_then(Value::as_str) {
             Some(kind) => {
                 if kind == "namespace" {
-                    self.take_namespace(value)
+                    self.take_declaration(line, value)
                 } else if kind == "commit" {
                     self.take_commit(line, value)
                 } else if kind == "content" {

@@ -1,12 +1,25 @@
-use Rattle.std.proofs.Common.{◌≡◌, ◌≤◌, ◌∷◌, ◌++◌, [], arith, sym, subst, ◌∙◌}
+use Rattle.std.proofs.Common.{◌≡◌, ℕ, ◌-◌, ◌^◌, None, ◌≤◌, ◌∷◌, ◌++◌, [], Ok, arith, sym, subst, ◌∙◌}
+use Rattle.strata.specs.Edges.{first_broken, edges_of_tuples}
+use Rattle.version_chains.specs.Appends.{append_fault}
 use Rattle.version_chains.specs.Commits.{Commit}
 use Rattle.trace_lines.specs.Values.{TraceValue, next_line}
 use Rattle.trace_lines.proofs.Keeping.{kept_commit}
+use Rattle.trace_lines.proofs.Orderly.{commit_ok, orderly_commit, sample_unbroken}
 use Rattle.trace_lines.proofs.trace.Trace.append.Goals as goal
+
+pub commit-requires : goal.commit-requires
+commit-requires c = sample_unbroken c.self.inside.rules c.self.inside.chains.commits c.self.inside.sample c.self.invariant.2
 
 pub invariant_of-self-2 : goal.invariant_of-self-2
 invariant_of-self-2 c =
     let room = subst (λ (t : TraceValue). next_line t ≤ c.args.line) (sym c.self.view_is) c.requires in
     let commit : Commit = record { at = c.args.at; adds = c.args.adds.now; removes = c.args.removes.now } in
     let lines : c.push.new.self.items ≡ c.self.inside.commit_lines.items ++ c.args.line ∷ [] = rw c.in_ok-reserve.ensures.items at (rw c.if-is_err.ensures.negation at c.push.ensures.items) in
-    rw (c.in-Ok.ensures.appends, lines) (c.self.invariant.0, kept_commit _ _ _ _ _ c.self.invariant.1 commit c.args.line (omega (arith, room)) (omega (arith, room)))
+    let fine = commit_ok c.self.inside.rules c.self.inside.chains commit c.in-Ok.ensures.answer in
+    let accepted : append_fault (record { limit = 2 ^ 32 - 1; commits = c.self.inside.chains.commits }) commit.at commit.adds commit.removes ≡ None =
+        subst (λ (n : ℕ). append_fault (record { limit = n; commits = c.self.inside.chains.commits }) commit.at commit.adds commit.removes ≡ None) c.self.invariant.0 fine.1 in
+    rw (c.in-Ok.ensures.appended, lines) (
+      c.self.invariant.0,
+      kept_commit _ _ _ _ _ c.self.invariant.1 commit c.args.line (omega (arith, room)) (omega (arith, room)),
+      orderly_commit c.self.inside.rules c.self.inside.chains.commits c.self.inside.sample c.commit.new.sample c.self.invariant.2 commit fine.0 accepted c.in-Ok.ensures.taken,
+    )

@@ -15,4 +15,5 @@ invariant_of-self-2 c =
     let up = rw place at c.in_ok-insert.ensures.updates in (
       c.self.invariant.0,
       kept_content _ _ c.self.inside.recorded.items _ c.self.invariant.1 r c.push.new.self.items pushed room before c.args.version c.insert.new.self c.requires.kind c.requires.version refl absent up,
+      c.self.invariant.2,
     )

@@ -11,4 +11,5 @@ invariant_of-self-2 c =
     let content = subst (λ (t : TraceValue). c.args.content ≡ content_among t.entries (entry_value c.args.entry)) (sym c.self.view_is) c.requires.content in (
       c.self.invariant.0,
       kept_plain _ _ c.self.inside.recorded.items _ c.self.invariant.1 _ c.push.new.self.items c.in_ok-push.ensures.items room before c.requires.issues_nothing content,
+      c.self.invariant.2,
     )

@@ -1,0 +1,28 @@
+-- The rules after a change, over what was added so far. No public clause cites this module.
+use Rattle.std.specs.Prelude.{ℕ, List, Result, Ok, Err}
+use Rattle.serde_json.specs.Data.{Data}
+use Rattle.tuple_text.specs.Tuples.{TupleValue}
+use Rattle.namespaces.specs.Declaration.{Declaration}
+use Rattle.namespaces.specs.Changing.{rules_change}
+use Rattle.version_chains.specs.Commits.{added}
+use Rattle.version_chains.specs.declared.fault.AppendFault.TheVariants.{NotLater}
+use Rattle.trace_lines.specs.Reading.{◌>>=◌}
+use Rattle.trace_lines.specs.Causes.{namespace_cause}
+use Rattle.trace_lines.specs.Values.{TraceValue}
+use Rattle.trace_lines.specs.Traces.{rules_checked, tuples_checked}
+use Rattle.trace_lines.specs.declared.cause.Cause.{Cause}
+use Rattle.trace_lines.specs.declared.cause.Cause.TheVariants.{Commit}
+
+abbrev pub checked : List TupleValue → List Declaration → Result (List Declaration) Cause
+checked ts ds = rules_checked ds >>= λ u. tuples_checked ds ts >>= λ v. Ok ds
+
+abbrev pub changed_rules : ℕ → List Declaration → List TupleValue → Data → Result (List Declaration) Cause
+changed_rules at ds ts d = namespace_cause (rules_change ds at d) >>= checked ts
+
+-- the trace after a change, whose commit stands already
+abbrev pub rules_changed : ℕ → TraceValue → Data → Result TraceValue Cause
+rules_changed at t d = changed_rules at t.declarations (added t.commits) d >>= λ es. Ok (record t { declarations = es })
+
+-- a change that is not later than the last commit is refused, for its own sake or for that
+abbrev pub refused_late : ℕ → ℕ → List Declaration → Data → Result TraceValue Cause
+refused_late last at ds d = namespace_cause (rules_change ds at d) >>= λ es. rules_checked es >>= λ u. Err (Commit (NotLater last))

@@ -1,0 +1,38 @@
+-- The tuples of all commits, and some of them that stand for all.
+use Rattle.std.specs.Prelude.{◌≡◌, ℕ, ◌&&◌, ◌<◌, ◌≤◌, ◌^◌, ◌-◌, Bool, false, true, Contains, List, length, None, Result, Ok, Err}
+use Rattle.std.specs.Str.{bytes_eq}
+use Rattle.tuple_text.specs.Tuples.{TupleValue}
+use Rattle.tuple_text.specs.declared.users.User.{User}
+use Rattle.tuple_text.specs.declared.users.User.TheVariants.{Id, Set}
+use Rattle.namespaces.specs.Declaration.{Declaration}
+use Rattle.namespaces.specs.WellFormed.{IsWellFormed}
+use Rattle.namespaces.specs.Changing.{IsLater}
+use Rattle.version_chains.specs.Commits.{Commit, added, changelog}
+use Rattle.version_chains.specs.Appends.{late_fault, last_at}
+use Rattle.strata.specs.Edges.{first_broken, edges_of_tuples, HasNoBrokenEdge}
+
+-- the users are usersets of one relation
+abbrev pub is_user_of_kind : User → User → Bool
+is_user_of_kind (Id n) u = false
+is_user_of_kind (Set g) (Id n) = false
+is_user_of_kind (Set g) (Set h) = bytes_eq g.namespace h.namespace && bytes_eq g.relation h.relation
+
+-- Both tuples are of one relation, and so are the usersets that are their users: then they give the same edges.
+abbrev pub is_of_kind : TupleValue → TupleValue → Bool
+is_of_kind t u = bytes_eq t.set.namespace u.set.namespace && (bytes_eq t.set.relation u.set.relation && is_user_of_kind t.user u.user)
+
+abbrev pub IsSomeOfKind : TupleValue → List TupleValue → Type 0
+IsSomeOfKind t ts = (u : TupleValue) × Contains ts u × (is_of_kind u t ≡ true)
+
+-- whatever is declared, the first broken edge of the sample is the first of all the tuples
+abbrev pub Represents : List TupleValue → List TupleValue → Type 0
+Represents sample ts =
+    (ds : List Declaration) → first_broken ds (edges_of_tuples ds sample) ≡ first_broken ds (edges_of_tuples ds ts)
+
+-- no edge is broken, of the rules nor of the tuples ever added, and a commit that is later than all others is later than each change
+pub record IsOrderly (ds : List Declaration) (commits : List Commit) (sample : List TupleValue) : Type 0 where
+  pub well_formed : IsWellFormed ds
+  pub unbroken : HasNoBrokenEdge ds (added commits)
+  pub sampled : Represents sample (added commits)
+  pub later : (at : ℕ) → late_fault (last_at commits) at ≡ None → IsLater at ds
+  pub touches : length (changelog commits) ≤ 2 ^ 32 - 1

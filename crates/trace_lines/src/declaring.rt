@@ -1,0 +1,105 @@
+//! The rules of a trace, as its lines declare them. Where a line is refused no rule is left, for the trace is refused with it.
+
+ghost use Rattle.std.specs.Prelude.{◌≡◌, ℕ, ◌<◌, [], OnOk, OnErr};
+ghost use Rattle.serde_json.specs.View.{view};
+ghost use Rattle.namespaces.specs.Changing.{IsLater};
+ghost use Rattle.trace_lines.specs.Causes.{Gives, Fails, namespace_cause};
+ghost use Rattle.trace_lines.specs.Declaring.{checked, changed_rules, refused_late};
+ghost use Rattle.trace_lines.specs.Traces.{with_namespace, rules_checked};
+
+use crate::cause::Cause;
+use crate::sample::Sample;
+use namespaces::{Rules, RulesFault};
+use serde_json::Value;
+use std::alloc::Global;
+use strata::{ChangeFault, check_change, check_rules};
+use version_chains::AppendFault;
+
+fn check(rules: &Rules) -> Result<(), Cause>
+    ensures { result ≡ rules_checked rules.now }
+{
+    check_rules(rules).map_err(Cause::Strata)
+}
+
+fn add(rules: &mut Rules, begun: bool, value: &Value) -> Result<(), Cause>
+    ensures answer { Gives (λ _. rules.new) result (with_namespace begun rules.old (view value.now)) }
+    ensures later { (at : ℕ) → IsLater at rules.old → IsLater at rules.new }
+{
+    match rules.add(value) {
+        Ok(()) => {}
+        Err(RulesFault::OutOfMemory) => return Err(Cause::OutOfMemory),
+        Err(fault) => return Err(Cause::Namespace(fault)),
+    }
+    if begun {
+        return Err(Cause::Late);
+    }
+    check(rules)
+}
+
+/// Declares a namespace that is in force from the start on.
+pub(crate) fn declare(
+    alloc: Global,
+    rules: &mut Rules,
+    begun: bool,
+    value: &Value,
+) -> Result<(), Cause>
+    ensures answer { Gives (λ _. rules.new) result (with_namespace begun rules.old (view value.now)) }
+    ensures dropped { OnErr result (rules.new ≡ []) }
+    ensures later { OnOk result ((at : ℕ) → IsLater at rules.old → IsLater at rules.new) }
+{
+    let answer = add(rules, begun, value);
+    if answer.is_err() {
+        *rules = Rules::new(alloc);
+    }
+    answer
+}
+
+fn make_change(rules: &mut Rules, sample: &Sample, at: u64, value: &Value) -> Result<(), Cause>
+    requires { IsLater at rules.old }
+    ensures answer { Gives (λ _. rules.new) result (changed_rules at rules.old sample.now (view value.now)) }
+    ensures later { (next : ℕ) → at < next → IsLater next rules.new }
+{
+    match rules.change(at, value) {
+        Ok(()) => {}
+        Err(RulesFault::OutOfMemory) => return Err(Cause::OutOfMemory),
+        Err(fault) => return Err(Cause::Namespace(fault)),
+    }
+    check(rules)?;
+    sample.check(rules).map_err(Cause::Strata)
+}
+
+/// Declares a namespace, or gives one a new list of relations, in force from a timestamp on.
+pub(crate) fn change(
+    alloc: Global,
+    rules: &mut Rules,
+    sample: &Sample,
+    at: u64,
+    value: &Value,
+) -> Result<(), Cause>
+    requires { IsLater at rules.old }
+    ensures answer { Gives (λ _. rules.new) result (changed_rules at rules.old sample.now (view value.now)) }
+    ensures dropped { OnErr result (rules.new ≡ []) }
+    ensures later { OnOk result ((next : ℕ) → at < next → IsLater next rules.new) }
+{
+    let answer = make_change(rules, sample, at, value);
+    if answer.is_err() {
+        *rules = Rules::new(alloc);
+    }
+    answer
+}
+
+/// Why a change that is not later than the last commit is refused.
+pub(crate) fn late_change(rules: &Rules, last: u64, value: &Value) -> Cause
+    ensures { (at : ℕ) → Fails result (refused_late last at rules.now (view value.now)) }
+{
+    match rules.try_change(value) {
+        Ok(()) => {}
+        Err(RulesFault::OutOfMemory) => return Cause::OutOfMemory,
+        Err(fault) => return Cause::Namespace(fault),
+    }
+    match check_change(rules, value) {
+        Ok(()) => Cause::Commit(AppendFault::NotLater { last }),
+        Err(ChangeFault::Strata(edge)) => Cause::Strata(edge),
+        Err(ChangeFault::OutOfMemory) => Cause::OutOfMemory,
+    }
+}

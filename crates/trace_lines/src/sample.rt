@@ -1,0 +1,155 @@
+//! Tuples that stand for all those ever added.
+
+ghost use Rattle.std.specs.Prelude.{◌≡◌, ◌≤◌, ◌∷◌, ◌++◌, [], Ok, length, take, true, OnOk};
+ghost use Rattle.tuple_text.specs.Refs.{user_value};
+ghost use Rattle.strata.specs.Edges.{first_broken, edges_of_tuples};
+ghost use Rattle.trace_lines.specs.Causes.{Gives};
+ghost use Rattle.trace_lines.specs.Traces.{tuples_checked};
+ghost use Rattle.trace_lines.specs.Tuples.{is_of_kind, is_user_of_kind, Represents, IsSomeOfKind};
+
+use crate::cause::Cause;
+use namespaces::{RelNo, Rules};
+use std::alloc::Global;
+use std::collections::BTreeMap;
+use std::marker::Model;
+use strata::{Edge, check_tuple};
+use tuple_text::{SetRef, Tuple, UserRef};
+
+/// Of all tuples that were ever added the first of each kind, in order, where a kind is the relations of a tuple's userset and of its user.
+/// Their edges are those of all. Now and then a kind has more than one.
+#[derive(Drop)]
+pub(crate) struct Sample {
+    tuples: Vec<Tuple>,
+    // where a tuple of a kind stands, by the numbers of its relations; who looks here makes sure that it does
+    places: BTreeMap<u64, usize>,
+}
+
+impl Model for Sample {
+    ghost use Rattle.std.specs.Prelude.{List};
+    ghost use Rattle.tuple_text.specs.Tuples.{TupleValue};
+
+    ghost Value = { List TupleValue };
+
+    ghost view = { λ s. s.tuples.items };
+}
+
+fn is_user_of_kind(one: UserRef<'_>, other: UserRef<'_>) -> bool
+    ensures { result ≡ is_user_of_kind (user_value one.entry) (user_value other.entry) }
+{
+    match (one, other) {
+        (UserRef::Set(one), UserRef::Set(other)) => {
+            one.namespace == other.namespace && one.relation == other.relation
+        }
+        _ => false,
+    }
+}
+
+fn is_of_kind(one: &Tuple, other: &Tuple) -> bool
+    ensures { result ≡ is_of_kind one.now other.now }
+{
+    one.set().namespace == other.set().namespace
+        && one.set().relation == other.set().relation
+        && is_user_of_kind(one.user(), other.user())
+}
+
+/// A number that tuples of one kind share.
+fn kind_number(rules: &Rules, set: SetRef<'_>, user: SetRef<'_>) -> u64 {
+    let undeclared = RelNo {
+        namespace: rules.namespace_number(user.namespace).unwrap_or(0),
+        relation: 0,
+    };
+    let set = rules.number(set).unwrap_or(undeclared);
+    let user = rules.number(user).unwrap_or(undeclared);
+    u64::from(set.namespace) << 48
+        | u64::from(set.relation) << 32
+        | u64::from(user.namespace) << 16
+        | u64::from(user.relation)
+}
+
+impl Sample {
+    pub(crate) fn new(alloc: Global) -> Sample
+        ensures { result ≡ [] }
+    {
+        Sample {
+            tuples: Vec::new(alloc),
+            places: BTreeMap::new(alloc),
+        }
+    }
+
+    pub(crate) fn len(&self) -> usize
+        ensures { result ≡ length self.now }
+    {
+        self.tuples.len()
+    }
+
+    /// Drops all but the first tuples.
+    pub(crate) fn truncate(&mut self, len: usize)
+        ensures { self.new ≡ take len self.old }
+    {
+        self.tuples.truncate(len);
+    }
+
+    /// Whether a tuple of this one's kind is there.
+    fn has(&self, kind: u64, tuple: &Tuple) -> bool
+        ensures { result ≡ true → IsSomeOfKind tuple.now self.now }
+    {
+        let Some(place) = self.places.get(&kind) else {
+            return false;
+        };
+        match self.tuples.get(*place) {
+            Some(one) => is_of_kind(one, tuple),
+            None => false,
+        }
+    }
+
+    /// Takes one more tuple, or refuses the first of its edges that is broken.
+    fn admit(&mut self, rules: &Rules, tuple: &Tuple) -> Result<(), Cause>
+        requires { first_broken rules.now (edges_of_tuples rules.now self.old) ≡ Ok (tt {0}) }
+        ensures answer { Gives (λ u. u) result (tuples_checked rules.now (tuple.now ∷ [])) }
+        ensures taken { OnOk result (Represents self.new (self.old ++ tuple.now ∷ [])) }
+        ensures kept { take (length self.old) self.new ≡ self.old }
+    {
+        let UserRef::Set(user) = tuple.user() else {
+            return Ok(());
+        };
+        let kind = kind_number(rules, tuple.set(), user);
+        if self.has(kind, tuple) {
+            return Ok(());
+        }
+        if let Err(edge) = check_tuple(rules, tuple) {
+            return Err(Cause::Strata(edge));
+        }
+        self.places.insert(kind, self.tuples.len())?;
+        self.tuples.push(tuple.clone()?)?;
+        Ok(())
+    }
+
+    /// Takes more tuples, or refuses the first of their edges that is broken. The tuples that were there stay in front.
+    pub(crate) fn admit_all(&mut self, rules: &Rules, tuples: &[Tuple]) -> Result<(), Cause>
+        requires { first_broken rules.now (edges_of_tuples rules.now self.old) ≡ Ok (tt {0}) }
+        ensures answer { Gives (λ u. u) result (tuples_checked rules.now tuples.now) }
+        ensures taken { OnOk result (Represents self.new (self.old ++ tuples.now)) }
+        ensures kept { take (length self.old) self.new ≡ self.old }
+    {
+        for tuple in tuples {
+            self.admit(rules, tuple)?;
+        }
+        Ok(())
+    }
+
+    /// The first of the tuples' edges that is broken.
+    pub(crate) fn check(&self, rules: &Rules) -> Result<(), Edge>
+        ensures { result ≡ first_broken rules.now (edges_of_tuples rules.now self.now) }
+    {
+        check_all(rules, &self.tuples)
+    }
+}
+
+fn check_all(rules: &Rules, tuples: &[Tuple]) -> Result<(), Edge>
+    ensures { result ≡ first_broken rules.now (edges_of_tuples rules.now tuples.now) }
+{
+    for tuple in tuples {
+        check_tuple(rules, tuple)?;
+    }
+    Ok(())
+}
