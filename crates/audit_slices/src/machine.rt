@@ -145,11 +145,11 @@ impl Core {
     }
 
     /// The slice in the hand of a worker.
-    pub fn hand(&self, w: usize) -> Option<usize>
-        requires { w < length (state_of self.now).hands }
-        ensures { slice_get (state_of self.now).hands w ≡ Some result }
+    pub fn hand(&self, worker: usize) -> Option<usize>
+        requires { worker < length (state_of self.now).hands }
+        ensures { slice_get (state_of self.now).hands worker ≡ Some result }
     {
-        self.hands[w]
+        self.hands[worker]
     }
 
     /// The slices that were finished, in their order.
