@@ -32,3 +32,7 @@ module _ {X N : Type 0} where
   -- how many of its places they have gone through
   abbrev pub place_of : Alerts X N → ℕ
   place_of alerts = alerts.inner.index
+
+  -- how many places they go through
+  abbrev pub end_of : Alerts X N → ℕ
+  end_of alerts = alerts.inner.end
