@@ -134,7 +134,8 @@ fn steal_at(thieves: &mut Vec<Thief>, place: usize) -> Option<usize>
 
 // The thief at this place of a worker steals.
 fn steal_of(thieves: &mut Vec<Vec<Thief>>, worker: usize, place: usize) -> Option<usize>
-    ensures { map (λ v. map thief_place v.items) thieves.new.items ≡ map (λ v. map thief_place v.items) thieves.old.items }
+    ensures { map (λ v. map thief_place v.items) thieves.new.items
+        ≡ map (λ v. map thief_place v.items) thieves.old.items }
 {
     if worker >= thieves.len() {
         return None;
