@@ -105,7 +105,8 @@ pub(crate) fn is_led(
 ) -> bool
     ensures { IsTrue result ↔ IsLed (store_at trace.now.commits at) known.now (set_value set.entry) (option_map (λ s. s.now) relation.entry) user }
 {
-    gives_some(known, relation, user, trace.chains().users(set, at))
+    let users = trace.chains().users(set, at);
+    gives_some(known, relation, user, users)
 }
 
 /// Whether no userset that is stored in a set has a target that may hold a user.
@@ -120,12 +121,6 @@ pub(crate) fn is_barred(
     ensures { IsTrue result ↔ IsBarred (rule_at trace.now.declarations at) (store_at trace.now.commits at) known.now (set_value set.entry)
         (option_map (λ s. s.now) relation.entry) user }
 {
-    bars_each(
-        trace.rules(),
-        at,
-        known,
-        relation,
-        user,
-        trace.chains().users(set, at),
-    )
+    let users = trace.chains().users(set, at);
+    bars_each(trace.rules(), at, known, relation, user, users)
 }

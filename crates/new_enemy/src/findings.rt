@@ -34,7 +34,8 @@ pub fn findings_of(
     let mut findings = Vec::new(alloc);
     for i in 0..trace.len() {
         let line = trace.entry(i).line;
-        let Some(what) = found_by(judge_entry(trace, evidence, i)) else {
+        let judged = judge_entry(trace, evidence, i)?;
+        let Some(what) = found_by(judged) else {
             continue;
         };
         findings.push(Finding { line, what })?;
