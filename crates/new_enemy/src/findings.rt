@@ -32,20 +32,25 @@ fn if_told(what: What, told: bool) -> Option<What>
 }
 
 /// What is found on entry `i`, by the findings' numbers.
-fn found_on(trace: &Trace, evidence: &Evidence, i: usize) -> [Option<What>; 7]
+fn found_on(
+    trace: &Trace,
+    evidence: &Evidence,
+    i: usize,
+) -> Result<[Option<What>; 7], AllocError>
     requires { i < length trace.now.entries }
-    ensures { (e : EntryValue) → slice_get trace.now.entries i ≡ Some e → result ≡ found_on trace.now (evidence_value evidence.now) i e }
+    ensures { IfOk result (λ found. (e : EntryValue) → slice_get trace.now.entries i ≡ Some e → found ≡ found_on trace.now (evidence_value evidence.now) i e) }
 {
+    let judged = judge_entry(trace, evidence, i)?;
     let order = order_of(trace, i);
-    [
+    Ok([
         if_told(What::Stale, order.stale),
         order.old_token.map(What::OldToken),
         order.not_latest.map(What::NotLatest),
         order.open_snapshot.map(What::OpenSnapshot),
         if_told(What::WrongToken, order.wrong_token),
         if_told(What::UnknownVersion, order.unknown_version),
-        found_by(judge_entry(trace, evidence, i)),
-    ]
+        found_by(judged),
+    ])
 }
 
 fn push_found(
@@ -73,7 +78,7 @@ pub fn findings_of(
 {
     let mut findings = Vec::new(alloc);
     for i in 0..trace.len() {
-        let found = found_on(trace, evidence, i);
+        let found = found_on(trace, evidence, i)?;
         push_found(trace.entry(i).line, &found, &mut findings)?;
     }
     Ok(findings)
