@@ -2,6 +2,7 @@
 use Rattle.std.specs.Prelude.{◌≡◌, ℕ, Bool, true}
 use Rattle.boxcar.specs.Table.{Shows}
 use Rattle.audit_slices.specs.declared.board.Alert.{Alert}
+use Rattle.audit_slices.specs.declared.board.Alerts.{Alerts}
 use Rattle.audit_slices.specs.declared.board.Board.{Board}
 use Rattle.audit_slices.specs.declared.board.Posted.{Posted}
 
@@ -23,3 +24,15 @@ module _ {X N : Type 0} where
   -- the alert that was posted
   abbrev pub posted_alert : Posted X N → Alert X
   posted_alert posted = posted.at.value
+
+  -- they are the alerts of this board
+  abbrev pub IsOver : Board X N → Alerts X N → Type 0
+  IsOver board alerts = alerts.inner.vec.now ≡ board.alerts
+
+  -- how many of its places they have gone through
+  abbrev pub place_of : Alerts X N → ℕ
+  place_of alerts = alerts.inner.index
+
+  -- how many places they go through
+  abbrev pub end_of : Alerts X N → ℕ
+  end_of alerts = alerts.inner.end

@@ -1,6 +1,6 @@
 // A board of alerts that threads share: each alert on it is true.
-ghost use Rattle.std.specs.Prelude.{◌≡◌, ℕ, Bool, IfOk, IfErr, IfSome};
-ghost use Rattle.audit_slices.specs.Board.{IsTrueAlert, IsPostedOn, posted_alert};
+ghost use Rattle.std.specs.Prelude.{◌≡◌, ◌<◌, ◌≤◌, ℕ, Bool, IfOk, IfErr, IfSome, IfNone, OnSome};
+ghost use Rattle.audit_slices.specs.Board.{IsTrueAlert, IsPostedOn, posted_alert, IsOver, place_of, end_of};
 
 use boxcar::tag::Tag;
 use boxcar::{Iter, Keeps, Pushed, Vec};
@@ -72,7 +72,10 @@ impl<X, N: Names<X>> Board<X, N> {
     }
 
     /// The alerts that are on it, from the first on.
-    pub fn alerts(&self) -> Alerts<'_, X, N> {
+    pub fn alerts(&self) -> Alerts<'_, X, N>
+        ensures board { IsOver self.now result }
+        ensures first { place_of result ≡ 0 }
+    {
         Alerts {
             inner: self.alerts.iter(),
         }
@@ -86,9 +89,13 @@ pub struct Alerts<'a, X, N: Names<X>> {
 }
 
 impl<'a, X, N: Names<X>> Alerts<'a, X, N> {
-    /// The next alert. It is true.
+    /// The next alert, which is true. None is given twice. `None` where all places were gone through.
     pub fn next(&mut self) -> Option<&'a Alert<X>>
-        ensures { IfSome result (λ a. IsTrueAlert N.named N.alerts a.now) }
+        ensures raised { IfSome result (λ a. IsTrueAlert N.named N.alerts a.now) }
+        ensures board { (board : Board X N) → IsOver board self.old → IsOver board self.new }
+        ensures onward { OnSome result (place_of self.old < place_of self.new) }
+        ensures end { end_of self.new ≡ end_of self.old }
+        ensures all { IfNone result (end_of self.old ≤ place_of self.new) }
     {
         let (_place, alert) = self.inner.next()?;
         Some(alert)

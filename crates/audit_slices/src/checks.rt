@@ -98,7 +98,8 @@ where
     C::Report: Drop,
     requires { IsWithin (C.entries check.now) slice }
     ensures slice { IfOk result (λ r. report_slice r ≡ slice) }
-    ensures reports { IfOk result (λ r. report_items r ≡ named_from (C.named check.now) (first_entry slice) (slice_len slice)) }
+    ensures reports { IfOk result (λ r. report_items r
+        ≡ named_from (C.named check.now) (first_entry slice) (slice_len slice)) }
     ensures back { IfErr result (λ s. s ≡ slice) }
 {
     match reports_from(alloc, check, slice.from, slice.count) {

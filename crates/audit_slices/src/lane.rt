@@ -44,7 +44,8 @@ impl Lane {
 
     // An empty lane with room for so many slices.
     pub(crate) fn with_room(alloc: Global, room: usize) -> Result<Lane, AllocError>
-        ensures { IfOk result (λ l. (lane_hand l ≡ owner_hand) × (room ≤ lane_room l) × (lane_index l ≡ 0) × IsOpen l) }
+        ensures { IfOk result (λ l. (lane_hand l ≡ owner_hand) × (room ≤ lane_room l)
+            × (lane_index l ≡ 0) × IsOpen l) }
     {
         Ok(Lane {
             deque: Deque::fifo_as(alloc, room)?,
@@ -55,7 +56,8 @@ impl Lane {
     pub(crate) fn put(&mut self, slice: Slice)
         requires room { lane_index self.old < lane_room self.old }
         requires alone { (lane_hand self.old).seats ≡ 1 }
-        ensures same { (lane_deque self.new ≡ lane_deque self.old) × (lane_room self.old ≤ lane_room self.new) × (lane_index self.new ≡ lane_index self.old + 1) }
+        ensures same { (lane_deque self.new ≡ lane_deque self.old) × (lane_room self.old ≤ lane_room self.new)
+            × (lane_index self.new ≡ lane_index self.old + 1) }
         ensures put { lane_hand self.new ≡ opened (lane_hand self.old) (slice ∷ []) }
     {
         let Ok(()) = self.deque.push_as::<Opens>(slice) else {
@@ -115,9 +117,11 @@ impl Lane {
     /// moment; if it has no thief, its list is then the whole opening list.
     pub fn next(&mut self) -> Option<Slice>
         ensures same { lane_place self.new ≡ lane_place self.old }
-        ensures some { IfSome result (λ x. (lane_hand self.new ≡ took (lane_hand self.old) (x ∷ [])) × Contains (lane_hand self.old).opening x) }
+        ensures some { IfSome result (λ x. (lane_hand self.new ≡ took (lane_hand self.old) (x ∷ []))
+            × Contains (lane_hand self.old).opening x) }
         ensures none { IfNone result (lane_hand self.new ≡ lane_hand self.old) }
-        ensures alone { IfNone result (IsOpen self.old → (lane_hand self.old).seats ≡ 1 → (lane_hand self.old).handed ≡ (lane_hand self.old).opening) }
+        ensures alone { IfNone result (IsOpen self.old → (lane_hand self.old).seats ≡ 1
+            → (lane_hand self.old).handed ≡ (lane_hand self.old).opening) }
     {
         if self.ended {
             return None;
@@ -129,7 +133,8 @@ impl Lane {
     pub(crate) fn left(&mut self) -> Option<Slice>
         requires { IsEnded self.old }
         ensures ended { IsEnded self.new }
-        ensures some { IfSome result (λ x. (lane_hand self.new ≡ handed_rest (lane_hand self.old) (x ∷ [])) × Contains (lane_hand self.old).opening x) }
+        ensures some { IfSome result (λ x. (lane_hand self.new ≡ handed_rest (lane_hand self.old) (x ∷ []))
+            × Contains (lane_hand self.old).opening x) }
         ensures none { IfNone result (lane_hand self.new ≡ lane_hand self.old) }
         ensures all { IfNone result (IsShared (lane_hand self.old) (lane_hand self.old).opening) }
     {
@@ -143,7 +148,8 @@ impl Thief {
     /// A slice from the front. `None` where the lane was empty at one moment, or where every attempt lost a race.
     pub fn steal(&mut self) -> Option<Slice>
         ensures same { thief_place self.new ≡ thief_place self.old }
-        ensures some { IfSome result (λ x. (thief_hand_of self.new ≡ took (thief_hand_of self.old) (x ∷ [])) × Contains (thief_hand_of self.old).opening x) }
+        ensures some { IfSome result (λ x. (thief_hand_of self.new ≡ took (thief_hand_of self.old) (x ∷ []))
+            × Contains (thief_hand_of self.old).opening x) }
         ensures none { IfNone result (thief_hand_of self.new ≡ thief_hand_of self.old) }
     {
         for _ in 0..TRIES {

@@ -32,8 +32,10 @@ pub struct Core {
     hands: Vec<Option<usize>>,
     done: Vec<usize>,
     lost: Vec<usize>,
-    ghost done_fits: { count_all (map (λ d. d.items) lanes.items) hands.items done.items lost.items ≤ vec_capacity done },
-    ghost lost_fits: { count_all (map (λ d. d.items) lanes.items) hands.items done.items lost.items ≤ vec_capacity lost },
+    ghost done_fits: { count_all (map (λ d. d.items) lanes.items) hands.items done.items lost.items
+        ≤ vec_capacity done },
+    ghost lost_fits: { count_all (map (λ d. d.items) lanes.items) hands.items done.items lost.items
+        ≤ vec_capacity lost },
 }
 
 impl Core {
@@ -85,7 +87,8 @@ impl Core {
     /// Does the event where it is enabled. Where it is not, nothing changes.
     pub fn step(&mut self, event: Event) -> Result<(), NotEnabled>
         ensures ok { OnOk result (after (state_of self.old) event ≡ Some (state_of self.new)) }
-        ensures err { OnErr result ((after (state_of self.old) event ≡ None) × (state_of self.new ≡ state_of self.old)) }
+        ensures err { OnErr result ((after (state_of self.old) event ≡ None)
+            × (state_of self.new ≡ state_of self.old)) }
     {
         match event {
             Event::Take(w) => self.hand_out(w, w),
@@ -109,8 +112,11 @@ impl Core {
     }
 
     fn hand_out(&mut self, w: usize, l: usize) -> Result<(), NotEnabled>
-        ensures ok { OnOk result (moved (state_of self.old) w l (slice_get self.old.hands.items w) (slice_get (state_of self.old).lanes l) ≡ Some (state_of self.new)) }
-        ensures err { OnErr result ((moved (state_of self.old) w l (slice_get self.old.hands.items w) (slice_get (state_of self.old).lanes l) ≡ None) × (state_of self.new ≡ state_of self.old)) }
+        ensures ok { OnOk result (moved (state_of self.old) w l
+            (slice_get self.old.hands.items w) (slice_get (state_of self.old).lanes l) ≡ Some (state_of self.new)) }
+        ensures err { OnErr result ((moved (state_of self.old) w l
+            (slice_get self.old.hands.items w) (slice_get (state_of self.old).lanes l) ≡ None)
+            × (state_of self.new ≡ state_of self.old)) }
     {
         if w >= self.hands.len() || l >= self.lanes.len() {
             return Err(NotEnabled);
@@ -126,7 +132,8 @@ impl Core {
     }
 
     fn give_up(&mut self, w: usize) -> Result<usize, NotEnabled>
-        ensures ok { IfOk result (λ x. (slice_get self.old.hands.items w ≡ Some (Some x)) × WithoutHand w self.old self.new) }
+        ensures ok { IfOk result (λ x. (slice_get self.old.hands.items w ≡ Some (Some x))
+            × WithoutHand w self.old self.new) }
         ensures err { OnErr result (IsIdle (slice_get self.old.hands.items w) × (self.new ≡ self.old)) }
     {
         let Some(Some(x)) = self.hands.get(w).copied() else {
@@ -145,11 +152,11 @@ impl Core {
     }
 
     /// The slice in the hand of a worker.
-    pub fn hand(&self, w: usize) -> Option<usize>
-        requires { w < length (state_of self.now).hands }
-        ensures { slice_get (state_of self.now).hands w ≡ Some result }
+    pub fn hand(&self, worker: usize) -> Option<usize>
+        requires { worker < length (state_of self.now).hands }
+        ensures { slice_get (state_of self.now).hands worker ≡ Some result }
     {
-        self.hands[w]
+        self.hands[worker]
     }
 
     /// The slices that were finished, in their order.

@@ -83,12 +83,20 @@ fn run_both<
     ensures back_places { map member_places back.new ≡ map member_places back.old }
 {
     let mut theirs = ||
-        requires { IsSync R.row × IsSync C.row × IsSync N.row × IsSync B.row × IsSync G.row × IsSync X.row × IsSend X.row × SameNames (C.named check.now) (C.raises check.now) N.named N.alerts × All (λ m. AreBelow (C.entries check.now) (member_places m)) back.now × All (IsSettled (C.named check.now)) back.now }
-        ensures { All (IsSettled (C.named check.entry.now)) back.exit.now × (map member_places back.exit.now ≡ map member_places back.entry.now) }
+        requires { IsSync R.row × IsSync C.row × IsSync N.row × IsSync B.row × IsSync G.row × IsSync X.row
+            × IsSend X.row × SameNames (C.named check.now) (C.raises check.now) N.named N.alerts
+            × All (λ m. AreBelow (C.entries check.now) (member_places m)) back.now
+            × All (IsSettled (C.named check.now)) back.now }
+        ensures { All (IsSettled (C.named check.entry.now)) back.exit.now
+            × (map member_places back.exit.now ≡ map member_places back.entry.now) }
     { run_all(rt, alloc, check, gate, board, back) };
     let mut ours = ||
-        requires { IsSync R.row × IsSync C.row × IsSync N.row × IsSync B.row × IsSync G.row × IsSync X.row × IsSend X.row × SameNames (C.named check.now) (C.raises check.now) N.named N.alerts × All (λ m. AreBelow (C.entries check.now) (member_places m)) front.now × All (IsSettled (C.named check.now)) front.now }
-        ensures { All (IsSettled (C.named check.entry.now)) front.exit.now × (map member_places front.exit.now ≡ map member_places front.entry.now) }
+        requires { IsSync R.row × IsSync C.row × IsSync N.row × IsSync B.row × IsSync G.row × IsSync X.row
+            × IsSend X.row × SameNames (C.named check.now) (C.raises check.now) N.named N.alerts
+            × All (λ m. AreBelow (C.entries check.now) (member_places m)) front.now
+            × All (IsSettled (C.named check.now)) front.now }
+        ensures { All (IsSettled (C.named check.entry.now)) front.exit.now
+            × (map member_places front.exit.now ≡ map member_places front.entry.now) }
     { run_all(rt, alloc, check, gate, board, front) };
     join_mut(rt, &mut theirs, &mut ours);
 }
@@ -169,12 +177,20 @@ fn run_both_watched<
     ensures back_places { map member_places back.new ≡ map member_places back.old }
 {
     let mut theirs = ||
-        requires { IsSync R.row × IsSync C.row × IsSync N.row × IsSync B.row × IsSync G.row × IsSync X.row × IsSend X.row × SameNames (C.named check.now) (C.raises check.now) N.named N.alerts × All (λ m. AreBelow (C.entries check.now) (member_places m)) back.now × All (IsSettled (C.named check.now)) back.now }
-        ensures { All (IsSettled (C.named check.entry.now)) back.exit.now × (map member_places back.exit.now ≡ map member_places back.entry.now) }
+        requires { IsSync R.row × IsSync C.row × IsSync N.row × IsSync B.row × IsSync G.row × IsSync X.row
+            × IsSend X.row × SameNames (C.named check.now) (C.raises check.now) N.named N.alerts
+            × All (λ m. AreBelow (C.entries check.now) (member_places m)) back.now
+            × All (IsSettled (C.named check.now)) back.now }
+        ensures { All (IsSettled (C.named check.entry.now)) back.exit.now
+            × (map member_places back.exit.now ≡ map member_places back.entry.now) }
     { run_all(rt, alloc, check, gate, board, back) };
     let mut ours = ||
-        requires { IsSync R.row × IsSync C.row × IsSync N.row × IsSync B.row × IsSync G.row × IsSync X.row × IsSend X.row × SameNames (C.named check.now) (C.raises check.now) N.named N.alerts × All (λ m. AreBelow (C.entries check.now) (member_places m)) front.now × All (IsSettled (C.named check.now)) front.now }
-        ensures { All (IsSettled (C.named check.entry.now)) front.exit.now × (map member_places front.exit.now ≡ map member_places front.entry.now) }
+        requires { IsSync R.row × IsSync C.row × IsSync N.row × IsSync B.row × IsSync G.row × IsSync X.row
+            × IsSend X.row × SameNames (C.named check.now) (C.raises check.now) N.named N.alerts
+            × All (λ m. AreBelow (C.entries check.now) (member_places m)) front.now
+            × All (IsSettled (C.named check.now)) front.now }
+        ensures { All (IsSettled (C.named check.entry.now)) front.exit.now
+            × (map member_places front.exit.now ≡ map member_places front.entry.now) }
     { run_watched(rt, alloc, check, gate, board, watch, front) };
     join_mut(rt, &mut theirs, &mut ours);
 }

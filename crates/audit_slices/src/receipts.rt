@@ -34,8 +34,10 @@ impl Receipts {
         ensures none { IfNone result (receipt_hands self.new ≡ receipt_hands self.old) }
         ensures all { IfNone result (All IsSpent (receipt_hands self.old)) }
         ensures once { IfNone result (All HasEachOnce (receipt_hands self.old)) }
-        ensures runs { IfNone result ((slices lanes workers : ℕ) → WereOpened slices lanes workers (receipt_hands self.old)
-            → (l : ℕ) → l < lanes → ListsAreRun slices lanes workers l (slice_index_or (receipt_hands self.old) l owner_hand)) }
+        ensures runs { IfNone result ((slices lanes workers : ℕ)
+            → WereOpened slices lanes workers (receipt_hands self.old)
+            → (l : ℕ) → l < lanes
+            → ListsAreRun slices lanes workers l (slice_index_or (receipt_hands self.old) l owner_hand)) }
     {
         next_of(self.lanes.as_mut_slice())
     }

@@ -48,7 +48,8 @@ fn staff<X: Drop>(
     requires lanes { All (λ l. (lane_hand l).handed ≡ []) lanes.items }
     requires thieves { All (λ v. All (λ t. (thief_hand_of t).handed ≡ []) v.items) thieves.items }
     ensures lanes { IfOk result (λ v. map (λ m. (member_places m).0) v.items ≡ map lane_place lanes.items) }
-    ensures thieves { IfOk result (λ v. map (λ m. (member_places m).1) v.items ≡ map (λ v. map thief_place v.items) thieves.items) }
+    ensures thieves { IfOk result (λ v. map (λ m. (member_places m).1) v.items
+        ≡ map (λ v. map thief_place v.items) thieves.items) }
     ensures settled { IfOk result (λ v. (f : ℕ → X) → All (IsSettled f) v.items) }
 {
     let mut members = Vec::new(alloc);
@@ -116,7 +117,8 @@ fn finish<X: Drop>(
     members: Vec<Member<X>>,
 ) -> Result<(Receipts, Vec<SliceReport<X>>), AllocError>
     requires { (xs : List Slice) × IsWhole xs members.items }
-    ensures { IfOk result (λ r. (xs : List Slice) → IsWhole xs members.items → IsFinished xs members.items (receipt_hands r.0) r.1.items) }
+    ensures { IfOk result (λ r. (xs : List Slice) → IsWhole xs members.items
+        → IsFinished xs members.items (receipt_hands r.0) r.1.items) }
 {
     let (lanes, thieves, done) = gather(alloc, members)?;
     Ok((close(lanes, thieves), done))
@@ -129,12 +131,15 @@ fn drain<X: Drop, C: Check<Report = X>, R: Wait>(
     mut receipts: Receipts,
     mut done: Vec<SliceReport<X>>,
 ) -> Result<(Receipts, Vec<SliceReport<X>>), AllocError>
-    requires covered { All (λ v. All (λ x. x.from + x.count ≤ C.entries check.now) v.opening) (receipt_hands receipts) }
+    requires covered { All (λ v. All (λ x. x.from + x.count ≤ C.entries check.now) v.opening)
+        (receipt_hands receipts) }
     requires named { All (IsNamed (C.named check.now)) done.items }
     ensures same { IfOk result (λ r. map unspent (receipt_hands r.0) ≡ map unspent (receipt_hands receipts)) }
     ensures all { IfOk result (λ r. All IsSpent (receipt_hands r.0)) }
     ensures named { IfOk result (λ r. All (IsNamed (C.named check.now)) r.1.items) }
-    ensures sums { IfOk result (λ r. (h : Slice → ℕ) → sum_by (λ r. h r.slice) r.1.items + rest_sum h (receipt_hands receipts) ≡ sum_by (λ r. h r.slice) done.items + rest_sum h (receipt_hands r.0)) }
+    ensures sums { IfOk result (λ r. (h : Slice → ℕ)
+        → sum_by (λ r. h r.slice) r.1.items + rest_sum h (receipt_hands receipts)
+        ≡ sum_by (λ r. h r.slice) done.items + rest_sum h (receipt_hands r.0)) }
 {
     for _ in rt.forever() {
         let Some(slice) = receipts.next() else {
@@ -175,7 +180,8 @@ pub fn run_pool<
     requires names { SameNames (C.named check.now) (C.raises check.now) N.named N.alerts }
     ensures slices { IfOk result (λ v. map report_slice v.items ≡ slices.items) }
     ensures named { IfOk result (λ v. All (IsNamed (C.named check.now)) v.items) }
-    ensures all { IfOk result (λ v. flat_map report_items v.items ≡ map (C.named check.now) (entries_of slices.items)) }
+    ensures all { IfOk result (λ v. flat_map report_items v.items
+        ≡ map (C.named check.now) (entries_of slices.items)) }
 {
     let members = hire(alloc, slices, workers)?;
     let members = run_members(rt, alloc, check, gate, board, watch, members);

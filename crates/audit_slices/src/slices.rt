@@ -34,7 +34,8 @@ impl Slice {
 /// of memory.
 pub fn cut(alloc: Global, entries: usize, size: usize) -> Result<Vec<Slice>, AllocError>
     requires { 0 < size }
-    ensures each { IfOk result (λ v. (k : ℕ) (d : Slice) → k < length v.items → IsSliceOf entries size k (slice_index_or v.items k d)) }
+    ensures each { IfOk result (λ v. (k : ℕ) (d : Slice) → k < length v.items
+        → IsSliceOf entries size k (slice_index_or v.items k d)) }
     ensures count { IfOk result (λ v. length v.items ≡ slice_count entries size) }
     ensures entries { IfOk result (λ v. entries_of v.items ≡ range_with_len 0 entries) }
 {

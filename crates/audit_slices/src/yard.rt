@@ -110,7 +110,8 @@ fn prepare(
 ) -> Result<(Vec<Lane>, Vec<Post>, Vec<Vec<Thief>>), AllocError>
     requires { IsAllowed lanes workers }
     ensures lanes { IfOk result (λ r. (vec_len r.0 ≡ lanes) × All (IsEmptyLane room) r.0.items) }
-    ensures posts { IfOk result (λ r. (map post_lanes r.1.items ≡ named_from (thief_lanes lanes) 0 workers) × All (IsPostOf (map lane_deque r.0.items)) r.1.items) }
+    ensures posts { IfOk result (λ r. (map post_lanes r.1.items ≡ named_from (thief_lanes lanes) 0 workers)
+        × All (IsPostOf (map lane_deque r.0.items)) r.1.items) }
     ensures thieves { IfOk result (λ r. (r.2.items ≡ []) × (workers ≤ vec_capacity r.2)) }
 {
     let owners = empty_lanes(alloc, lanes, room)?;
@@ -158,7 +159,8 @@ fn deal(lanes: &mut [Lane], slices: Vec<Slice>)
     requires some { 0 < length lanes.old }
     requires numbered { IsNumbered slices.items }
     requires empty { All (IsEmptyLane (div_ceil (length slices.items) (length lanes.old))) lanes.old }
-    ensures hands { map lane_hand lanes.new ≡ named_from (λ l. filled (dealt slices.items (length lanes.old) l) 1) 0 (length lanes.old) }
+    ensures hands { map lane_hand lanes.new
+        ≡ named_from (λ l. filled (dealt slices.items (length lanes.old) l) 1) 0 (length lanes.old) }
     ensures same { map lane_deque lanes.new ≡ map lane_deque lanes.old }
 {
     for slice in slices {
@@ -174,12 +176,15 @@ fn seat_all(
     mut thieves: Vec<Vec<Thief>>,
 ) -> (Vec<Lane>, Vec<Vec<Thief>>)
     requires lanes { length lanes.items ≤ length posts.items }
-    requires posts { map post_lanes posts.items ≡ named_from (thief_lanes (length lanes.items)) 0 (length posts.items) }
+    requires posts { map post_lanes posts.items
+        ≡ named_from (thief_lanes (length lanes.items)) 0 (length posts.items) }
     requires fits { All (IsPostOf (map lane_deque lanes.items)) posts.items }
     requires room { (thieves.items ≡ []) × (vec_len posts ≤ vec_capacity thieves) }
-    ensures { (xs : List Slice) (deques : ℕ → Deque) → map lane_state lanes.items ≡ lanes_at_first deques xs (length lanes.items) 1
+    ensures { (xs : List Slice) (deques : ℕ → Deque)
+        → map lane_state lanes.items ≡ lanes_at_first deques xs (length lanes.items) 1
         → (map lane_state result.0.items ≡ lanes_at_first deques xs (length lanes.items) (length posts.items))
-        × (map (λ v. map thief_state v.items) result.1.items ≡ thieves_at_first deques xs (length lanes.items) (length posts.items)) }
+        × (map (λ v. map thief_state v.items) result.1.items
+        ≡ thieves_at_first deques xs (length lanes.items) (length posts.items)) }
 {
     for post in posts {
         thieves.push_reserved(seat_worker(lanes.as_mut_slice(), post));
@@ -191,7 +196,8 @@ fn seat_worker(lanes: &mut [Lane], post: Post) -> Vec<Thief>
     requires fits { IsPostOf (map lane_deque lanes.old) post }
     requires once { (l : ℕ) → l < length lanes.old → times l (post_lanes post) ≤ 1 }
     ensures lanes { (f : ℕ → LanePlace) (n : ℕ) → map lane_state lanes.old ≡ named_from f 0 n
-        → map lane_state lanes.new ≡ named_from (λ l. ((f l).0, more_seats (times l (post_lanes post)) (f l).1)) 0 n }
+        → map lane_state lanes.new
+        ≡ named_from (λ l. ((f l).0, more_seats (times l (post_lanes post)) (f l).1)) 0 n }
     ensures thieves { (f : ℕ → LanePlace) (n : ℕ) → map lane_state lanes.old ≡ named_from f 0 n
         → map thief_state result.items ≡ map (λ l. (l, (f l).0.0, thief_hand (f l).1)) (post_lanes post) }
     ensures same { map lane_deque lanes.new ≡ map lane_deque lanes.old }
@@ -208,11 +214,16 @@ fn seat_worker(lanes: &mut [Lane], post: Post) -> Vec<Thief>
 /// in which the opening gave them.
 pub fn close(mut lanes: Vec<Lane>, thieves: Vec<Vec<Thief>>) -> Receipts
     requires { AreOfOneYard (map lane_place lanes.items) (map (λ v. map thief_place v.items) thieves.items) }
-    ensures hands { receipt_hands result ≡ closed_hands (map lane_hand lanes.items) (flat_map (λ v. v.items) thieves.items) }
-    ensures opened { (yard : AreOfOneYard (map lane_place lanes.items) (map (λ v. map thief_place v.items) thieves.items)) → IsNumbered yard.slices
+    ensures hands { receipt_hands result
+        ≡ closed_hands (map lane_hand lanes.items) (flat_map (λ v. v.items) thieves.items) }
+    ensures opened { (yard : AreOfOneYard (map lane_place lanes.items) (map (λ v. map thief_place v.items) thieves.items))
+        → IsNumbered yard.slices
         → WereOpened (length yard.slices) yard.lane_count yard.workers (receipt_hands result) }
     ensures joined { All (λ v. v.seats ≡ length v.closed + 1) (receipt_hands result) }
-    ensures sums { (h : Slice → ℕ) → sum_by (lists_sum h) (receipt_hands result) ≡ sum_by (λ l. lists_sum h (lane_hand l)) lanes.items + sum_by (λ v. thieves_sum h v.items) thieves.items }
+    ensures sums { (h : Slice → ℕ)
+        → sum_by (lists_sum h) (receipt_hands result)
+        ≡ sum_by (λ l. lists_sum h (lane_hand l)) lanes.items
+        + sum_by (λ v. thieves_sum h v.items) thieves.items }
 {
     for ends in thieves {
         absorb_all(lanes.as_mut_slice(), ends);
@@ -225,8 +236,11 @@ fn absorb_all(lanes: &mut [Lane], thieves: Vec<Thief>)
     requires next { All (IsNextOf (map lane_state lanes.old)) thieves.items }
     requires once { (l : ℕ) → l < length lanes.old → length (thieves_of l thieves.items) ≤ 1 }
     ensures lanes { (f : ℕ → LanePlace) (n : ℕ) → map lane_state lanes.old ≡ named_from f 0 n
-        → map lane_state lanes.new ≡ named_from (λ l. ((f l).0, with_lists (lists_of l thieves.items) (f l).1)) 0 n }
-    ensures sums { (h : Slice → ℕ) → sum_by (λ l. lists_sum h (lane_hand l)) lanes.new ≡ sum_by (λ l. lists_sum h (lane_hand l)) lanes.old + thieves_sum h thieves.items }
+        → map lane_state lanes.new
+        ≡ named_from (λ l. ((f l).0, with_lists (lists_of l thieves.items) (f l).1)) 0 n }
+    ensures sums { (h : Slice → ℕ)
+        → sum_by (λ l. lists_sum h (lane_hand l)) lanes.new
+        ≡ sum_by (λ l. lists_sum h (lane_hand l)) lanes.old + thieves_sum h thieves.items }
 {
     for thief in thieves {
         lanes[thief.lane].absorb(thief);

@@ -1,5 +1,5 @@
 pub mod JsonLines
-pub mod Led
+pub mod JudgedLemmas
 pub mod LineCauses
 pub mod Places
 pub mod ReadFaults

@@ -1,8 +1,9 @@
 -- A record is never refused as a failure of the reader, nor as too long.
-use Rattle.std.proofs.Common.{◌≡◌, ℕ, Bool, true, false, cond, List, Option, Some, None, Result, Ok, Err, length, ltb, subst}
+use Rattle.std.proofs.Common.{◌≡◌, ℕ, Bool, true, false, cond, List, Option, Some, None, Result, Ok, Err, ltb, subst}
 use Rattle.std.specs.Prelude.{codes, slice_get}
 use Rattle.std.specs.Str.{is_utf8}
 use Rattle.serde_json.specs.Data.{Data, Items, no_items, item}
+use Rattle.serde_json.specs.Find.{as_str, as_array}
 use Rattle.serde_json.specs.Read.{read}
 use Rattle.tuple_text.specs.declared.fault.TupleFault.{TupleFault}
 use Rattle.tuple_text.specs.Reading.{fact_at}
@@ -12,7 +13,7 @@ use Rattle.trace_lines.specs.Traces.{is_blank}
 use Rattle.evidence_check.specs.Causes.{needed, text_cause}
 use Rattle.evidence_check.specs.Records.{Records}
 use Rattle.evidence_check.specs.Steps.{StepValue}
-use Rattle.evidence_check.specs.Reading.{known_text, step_text, with_step, steps_in, steps_at, are_known, known_steps, place_of, is_taken, put_steps, record_line, of_json, json_line, taken_line}
+use Rattle.evidence_check.specs.Reading.{yes_of, no_of, fact_in, facts_in, step_from, step_in, steps_in, steps_at, fact_count, are_known, known_steps, place_of, is_taken, put_steps, record_line, of_json, json_line, taken_line}
 use Rattle.evidence_check.specs.declared.cause.EvidenceCause.{EvidenceCause}
 use Rattle.evidence_check.specs.declared.cause.EvidenceCause.TheVariants as causes
 
@@ -48,17 +49,25 @@ of_text : {A : Type 0} (r : Result A TupleFault) → OfLine (text_cause r)
 of_text (Ok x) = tt
 of_text (Err e) = tt
 
-of_step : (o : Option (List ℕ)) (r : Result (List StepValue) EvidenceCause) → OfLine r → OfLine (with_step o r)
-of_step None r h = h
-of_step (Some t) r h = bound (text_cause (fact_at t)) _ (of_text (fact_at t)) (λ f. bound r _ h (λ ss. tt))
+of_fact : (d : Data) → OfLine (fact_in d)
+of_fact d = bound (needed causes.Shape (as_str d)) _ (of_needed causes.Shape tt _) (λ t. of_text (fact_at t))
+
+of_facts : (items : Items) → OfLine (facts_in items)
+of_facts no_items = tt
+of_facts (item d ds) = bound (fact_in d) _ (of_fact d) (λ f. bound (facts_in ds) _ (of_facts ds) (λ fs. tt))
+
+of_step : (a b : Option Data) → OfLine (step_from a b)
+of_step (Some d) b = bound (fact_in d) _ (of_fact d) (λ f. tt)
+of_step None (Some d) = bound (needed causes.Shape (as_array d)) _ (of_needed causes.Shape tt _) (λ ds. bound (facts_in ds) _ (of_facts ds) (λ fs. tt))
+of_step None None = tt
 
 of_steps : (items : Items) → OfLine (steps_in items)
 of_steps no_items = tt
-of_steps (item d ds) = of_step (known_text (step_text d)) (steps_in ds) (of_steps ds)
+of_steps (item d ds) = bound (step_in d) _ (of_step (yes_of d) (no_of d)) (λ s. bound (steps_in ds) _ (of_steps ds) (λ ss. tt))
 
 of_put : (r : Records) (place : ℕ) (steps : List StepValue) → OfLine (put_steps r place steps)
 unfolding put_steps
-of_put r place steps = either (is_taken (slice_get r.steps place)) _ _ tt (either (ltb 100000 (length steps)) _ _ tt tt)
+of_put r place steps = either (is_taken (slice_get r.steps place)) _ _ tt (either (ltb 100000 (fact_count steps)) _ _ tt tt)
 
 of_record : (r : Records) (d : Data) → OfLine (record_line r d)
 unfolding record_line

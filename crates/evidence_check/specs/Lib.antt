@@ -1,8 +1,9 @@
+pub mod Accepted
 pub mod Causes
+pub mod Decided
 pub mod Evidences
 pub mod EvidenceCode
 pub mod Judged
-pub mod KnownSets
 pub mod Laws
 pub mod Reading
 pub mod Records

@@ -1,10 +1,11 @@
 -- The evidence that the lines of an input say.
-use Rattle.std.specs.Prelude.{◌≡◌, ℕ, ◌==◌, ◌&&◌, Bool, true, false, List, [], ◌∷◌, length, nat_lt, Option, None, Some, is_some, replicate, position, slice_get, slice_set, option_and_then, Result, Ok, Err, ⊤, codes, if◌then◌else◌}
+use Rattle.std.specs.Prelude.{◌≡◌, ℕ, ◌+◌, ◌==◌, ◌&&◌, ◌||◌, Bool, true, false, List, [], ◌∷◌, length, nat_lt, Option, None, Some, is_some, replicate, position, slice_get, slice_set, option_and_then, Result, Ok, Err, ⊤, codes, if◌then◌else◌}
 use Rattle.std.specs.Str.{is_utf8}
-use Rattle.serde_json.specs.Data.{Data, null, boolean, number, string, array, object, Items, no_items, item}
-use Rattle.serde_json.specs.Find.{get, as_str}
+use Rattle.serde_json.specs.Data.{Data, Items, no_items, item}
+use Rattle.serde_json.specs.Find.{get, as_str, as_array, as_object}
 use Rattle.serde_json.specs.Read.{read}
 use Rattle.tuple_text.specs.Reading.{fact_at}
+use Rattle.tuple_text.specs.Tuples.{FactValue}
 use Rattle.trace_lines.specs.Fields.{number_at}
 use Rattle.trace_lines.specs.Reading.{◌>>=◌, read_all}
 use Rattle.trace_lines.specs.Traces.{is_blank}
@@ -15,64 +16,107 @@ use Rattle.trace_lines.specs.declared.reading.Stop.TheVariants.{Input, Line}
 use Rattle.trace_lines.specs.declared.reading.LineFault.{LineFault}
 use Rattle.evidence_check.specs.Causes.{needed, text_cause}
 use Rattle.evidence_check.specs.Records.{Records}
-use Rattle.evidence_check.specs.Steps.{StepValue, yes_step}
+use Rattle.evidence_check.specs.Steps.{StepValue, yes_step, no_step}
 use Rattle.evidence_check.specs.declared.cause.EvidenceCause.{EvidenceCause}
 use Rattle.evidence_check.specs.declared.cause.EvidenceCause.TheVariants as causes
 use Rattle.evidence_check.specs.declared.cause.EvidenceFault.{EvidenceFault}
 
 -- ---- the steps of a record
 
--- the text under `yes`; a step with any other keys is no step that is known
-abbrev pub yes_text : Option Data → Option Data → Option (Option (List ℕ))
-yes_text None other = Some None
-yes_text (Some d) (Some e) = Some None
-yes_text (Some d) None = option_and_then (λ t. Some (Some t)) (as_str d)
+-- what stands at a key of a step that does not have the other key
+abbrev pub at_only : List ℕ → List ℕ → Data → Option Data
+at_only key other d = if is_some (get other d) then None else get key d
 
--- what a step says: None is a wrong shape, and nothing is a step that is not known
-abbrev pub step_text : Data → Option (Option (List ℕ))
-step_text null = None
-step_text (boolean b) = None
-step_text (number n) = None
-step_text (string s) = None
-step_text (array ds) = None
-step_text (object ms) = yes_text (get (codes "yes") (object ms)) (get (codes "no") (object ms))
+-- what a step says to hold, and what not; nothing of a step with neither key or both, where nothing else is looked at
+abbrev pub yes_of : Data → Option Data
+yes_of d = at_only (codes "yes") (codes "no") d
 
-abbrev pub are_shaped : Items → Bool
-are_shaped no_items = true
-are_shaped (item d ds) = is_some (step_text d) && are_shaped ds
+abbrev pub no_of : Data → Option Data
+no_of d = at_only (codes "no") (codes "yes") d
 
--- the text of a step that is known
-abbrev pub known_text : Option (Option (List ℕ)) → Option (List ℕ)
-known_text None = None
-known_text (Some text) = text
+abbrev pub is_known : Data → Bool
+is_known d = is_some (yes_of d) || is_some (no_of d)
 
 abbrev pub are_known : Items → Bool
 are_known no_items = true
-are_known (item d ds) = is_some (known_text (step_text d)) && are_known ds
+are_known (item d ds) = is_known d && are_known ds
 
--- the step of a text, in front of the others
-abbrev pub with_step : Option (List ℕ) → Result (List StepValue) EvidenceCause → Result (List StepValue) EvidenceCause
-with_step None steps = steps
-with_step (Some t) steps = text_cause (fact_at t) >>= λ f. steps >>= λ ss. Ok (yes_step f ∷ ss)
+abbrev pub is_text : Data → Bool
+is_text d = is_some (as_str d)
+
+abbrev pub are_texts : Items → Bool
+are_texts no_items = true
+are_texts (item d ds) = is_text d && are_texts ds
+
+abbrev pub all_are_texts : Option Items → Bool
+all_are_texts None = false
+all_are_texts (Some ds) = are_texts ds
+
+abbrev pub is_text_list : Data → Bool
+is_text_list d = all_are_texts (as_array d)
+
+abbrev pub has_shape : Option Data → Option Data → Bool
+has_shape (Some d) other = is_text d
+has_shape None (Some d) = is_text_list d
+has_shape None None = true
+
+-- an object, with a text under `yes` or a list of texts under `no`, where it is known
+abbrev pub is_step : Data → Bool
+is_step d = is_some (as_object d) && has_shape (yes_of d) (no_of d)
+
+abbrev pub are_shaped : Items → Bool
+are_shaped no_items = true
+are_shaped (item d ds) = is_step d && are_shaped ds
+
+abbrev pub fact_in : Data → Result FactValue EvidenceCause
+fact_in d = needed causes.Shape (as_str d) >>= λ t. text_cause (fact_at t)
+
+-- the facts of texts, up to the first that is none
+abbrev pub facts_in : Items → Result (List FactValue) EvidenceCause
+facts_in no_items = Ok []
+facts_in (item d ds) = fact_in d >>= λ f. facts_in ds >>= λ fs. Ok (f ∷ fs)
+
+abbrev pub yes_in : Data → Result (Option StepValue) EvidenceCause
+yes_in d = fact_in d >>= λ f. Ok (Some (yes_step f))
+
+abbrev pub no_in : Data → Result (Option StepValue) EvidenceCause
+no_in d = needed causes.Shape (as_array d) >>= λ ds. facts_in ds >>= λ fs. Ok (Some (no_step fs))
+
+abbrev pub step_from : Option Data → Option Data → Result (Option StepValue) EvidenceCause
+step_from (Some d) other = yes_in d
+step_from None (Some d) = no_in d
+step_from None None = Ok None
+
+-- the step that a value is, where it is known
+abbrev pub step_in : Data → Result (Option StepValue) EvidenceCause
+step_in d = step_from (yes_of d) (no_of d)
+
+abbrev pub in_front : Option StepValue → List StepValue → List StepValue
+in_front None ss = ss
+in_front (Some s) ss = s ∷ ss
 
 -- the steps that are known, up to the first text that is no fact
 abbrev pub steps_in : Items → Result (List StepValue) EvidenceCause
 steps_in no_items = Ok []
-steps_in (item d ds) = with_step (known_text (step_text d)) (steps_in ds)
+steps_in (item d ds) = step_in d >>= λ s. steps_in ds >>= λ ss. Ok (in_front s ss)
 
-abbrev pub array_or_none : Data → Option Items
-array_or_none null = None
-array_or_none (boolean b) = None
-array_or_none (number n) = None
-array_or_none (string s) = None
-array_or_none (array ds) = if are_shaped ds then Some ds else None
-array_or_none (object ms) = None
+abbrev pub if_shaped : Items → Option Items
+if_shaped ds = if are_shaped ds then Some ds else None
 
 unfoldable pub steps_at : Data → Option Items
-steps_at d = option_and_then array_or_none (get (codes "steps") d)
+steps_at d = option_and_then if_shaped (option_and_then as_array (get (codes "steps") d))
 
 abbrev pub known_steps : Items → List StepValue → Result (List StepValue) EvidenceCause
 known_steps items steps = if are_known items then Ok steps else Err causes.UnknownStep
+
+abbrev pub count_of : StepValue → ℕ
+count_of (yes_step f) = 1
+count_of (no_step fs) = length fs
+
+-- how many facts steps have
+abbrev pub fact_count : List StepValue → ℕ
+fact_count [] = 0
+fact_count (s ∷ ss) = count_of s + fact_count ss
 
 -- ---- records
 
@@ -88,7 +132,7 @@ is_taken (Some (Some steps)) = true
 unfoldable pub put_steps : Records → ℕ → List StepValue → Result Records EvidenceCause
 put_steps r place steps =
     if is_taken (slice_get r.steps place) then Err causes.RepeatedLine
-    else (if nat_lt 100000 (length steps) then Err causes.TooMany
+    else (if nat_lt 100000 (fact_count steps) then Err causes.TooMany
     else Ok (record r { steps = slice_set r.steps place (Some steps) }))
 
 unfoldable pub record_line : Records → Data → Result Records EvidenceCause

@@ -1,30 +1,31 @@
 //! Judging entries.
 
-ghost use Rattle.std.specs.Prelude.{◌≡◌, ◌+◌, ◌<◌, ◌&&◌, ◌||◌, [], length, slice_get, option_map, nat_eq, Some, map};
-ghost use Rattle.std.specs.List.{list_any};
-ghost use Rattle.tuple_text.specs.Order.{fact_eq};
-ghost use Rattle.tuple_text.specs.Refs.{set_value, user_value};
-ghost use Rattle.tuple_text.specs.Tuples.{fact_of};
-ghost use Rattle.namespaces.specs.View.{expression_of};
+ghost use Rattle.std.specs.Prelude.{◌≡◌, ◌<◌, ◌↔◌, None, Some, IsTrue, IfOk, OnOk, length, slice_get, option_map};
+ghost use Rattle.std.specs.List.{AllByRecursion};
+ghost use Rattle.tuple_text.specs.Refs.{set_value};
+ghost use Rattle.namespaces.specs.Lookup.{rule_at};
+ghost use Rattle.version_chains.specs.Commits.{store_at};
 ghost use Rattle.trace_lines.specs.Values.{EntryValue, entry_value};
+ghost use Rattle.evidence_check.specs.Accepted.{IsProved, IsDisproved, with_no, after_step, after_steps, nothing_known};
 ghost use Rattle.evidence_check.specs.Evidences.{evidence_value, steps_of};
-ghost use Rattle.evidence_check.specs.Judged.{says, is_known, leads, holds_stored, is_given, is_accepted, first_bad, judged};
-ghost use Rattle.evidence_check.specs.KnownSets.{is_known_set};
+ghost use Rattle.evidence_check.specs.Judged.{is_accepted, first_bad, by_reply, by_goal, judged};
+ghost use Rattle.evidence_check.specs.Laws.{IsMemberAt, HasValidStrataAt};
 ghost use Rattle.evidence_check.specs.Steps.{step_value, step_values};
+ghost use Rattle.evidence_check.specs.declared.judged.Judged.TheVariants.{Supported, Contradicted};
 
 use crate::evidence::Evidence;
-use crate::step::Step;
-use namespaces::Rewrite;
+use crate::step::{Step, Steps};
+use judgement::{Known, established, refuted};
+use std::alloc::AllocError;
 use trace_lines::{Entry, Trace};
-use tuple_text::{Fact, SetRef, UserRef};
-use version_chains::{Chains, Users};
+use tuple_text::Fact;
 
 /// How evidence judges an entry.
 #[derive(Clone, Copy, Debug, PartialEq, Eq)]
 pub enum Judged {
-    /// The goal is known, and the reply says so.
+    /// The goal is known to hold or not to, and the reply says so.
     Supported,
-    /// The goal is known, and the reply denies it.
+    /// The goal is known to hold or not to, and the reply denies it.
     Contradicted,
     /// The steps are accepted and do not settle the goal.
     Silent,
@@ -34,123 +35,141 @@ pub enum Judged {
     Missing,
 }
 
-/// Whether a step says that a user is in a userset.
-fn says(set: SetRef<'_>, user: u64, step: &Step) -> bool
-    ensures { result ≡ says (fact_of (set_value set.entry) user) (step_value step.now) }
+/// Whether the fact's relation is declared, and its rule gives the fact from what is known.
+fn is_proved(trace: &Trace, at: u64, known: &Known, fact: &Fact) -> bool
+    ensures { IsTrue result ↔ IsProved (rule_at trace.now.declarations at) (store_at trace.now.commits at) known.now fact.now }
 {
-    match step {
-        Step::Yes(fact) => set == fact.set() && user == fact.user(),
-        Step::No(_) => false,
-    }
-}
-
-fn is_known(steps: &[Step], set: SetRef<'_>, user: u64) -> bool
-    ensures { result ≡ is_known (step_values steps.now) (fact_of (set_value set.entry) user) }
-{
-    for step in steps {
-        if says(set, user, step) {
-            return true;
-        }
-    }
-    false
-}
-
-/// Whether a user of a tuple is a userset that is known to hold a user id.
-fn is_known_set(before: &[Step], id: u64, user: UserRef<'_>) -> bool
-    ensures { result ≡ is_known_set (step_values before.now) id (user_value user.entry) }
-{
-    match user {
-        UserRef::Id(_) => false,
-        UserRef::Set(set) => is_known(before, set, id),
-    }
-}
-
-fn is_any_known(before: &[Step], id: u64, users: Users<'_>) -> bool
-    ensures { result ≡ list_any (is_known_set (step_values before.now) id) users.entry }
-{
-    for user in users {
-        if is_known_set(before, id, user) {
-            return true;
-        }
-    }
-    false
-}
-
-/// Whether a stored userset of the fact's own is known to hold its user.
-fn is_led(chains: &Chains, at: u64, before: &[Step], fact: &Fact) -> bool
-    ensures { result ≡ list_any (leads chains.now.commits at fact.now) (step_values before.now) }
-{
-    is_any_known(before, fact.user(), chains.users(fact.set(), at))
-}
-
-fn holds_stored(chains: &Chains, at: u64, before: &[Step], fact: &Fact) -> bool
-    ensures { result ≡ holds_stored chains.now.commits at (step_values before.now) fact.now }
-{
-    chains.has_id(fact.set(), fact.user(), at) || is_led(chains, at, before, fact)
-}
-
-fn is_given(chains: &Chains, at: u64, before: &[Step], fact: &Fact, rule: Option<&Rewrite>) -> bool
-    ensures { result ≡ is_given chains.now.commits at (step_values before.now) fact.now (option_map (λ r. expression_of r.now) rule.entry) }
-{
-    match rule {
-        Some(Rewrite::This) => holds_stored(chains, at, before, fact),
-        Some(Rewrite::Computed(_)) => false,
-        Some(Rewrite::TupleTo { .. }) => false,
-        Some(Rewrite::Union(_)) => false,
-        Some(Rewrite::Inter(_)) => false,
-        Some(Rewrite::Minus(_, _)) => false,
+    match trace.rules().body(fact.set(), at) {
+        Some(rule) => established(rule, fact.set(), fact.user(), trace, at, known),
         None => false,
     }
 }
 
-fn is_accepted(trace: &Trace, at: u64, before: &[Step], step: &Step) -> bool
-    ensures { result ≡ is_accepted trace.now at (step_values before.now) (step_value step.now) }
+/// Whether the fact's relation is undeclared, or its rule cannot give the fact by what is known.
+fn is_disproved(trace: &Trace, at: u64, known: &Known, fact: &Fact) -> bool
+    ensures { IsTrue result ↔ IsDisproved (rule_at trace.now.declarations at) (store_at trace.now.commits at) known.now fact.now }
+{
+    match trace.rules().body(fact.set(), at) {
+        Some(rule) => refuted(rule, fact.set(), fact.user(), trace, at, known),
+        None => true,
+    }
+}
+
+fn are_disproved(trace: &Trace, at: u64, known: &Known, facts: &[Fact]) -> bool
+    ensures { IsTrue result
+        ↔ AllByRecursion (IsDisproved (rule_at trace.now.declarations at) (store_at trace.now.commits at) known.now) facts.now }
+{
+    for fact in facts {
+        if !is_disproved(trace, at, known, fact) {
+            return false;
+        }
+    }
+    true
+}
+
+/// From now on none of the facts is known to hold.
+fn add_each_no(known: &mut Known, facts: &[Fact]) -> Result<(), AllocError>
+    ensures { OnOk result (known.new ≡ with_no known.old facts.now) }
+{
+    for fact in facts {
+        known.add_no(fact.clone()?)?;
+    }
+    Ok(())
+}
+
+/// Whether a step is accepted. From now on its facts are known.
+fn take_step(trace: &Trace, at: u64, known: &mut Known, step: &Step) -> Result<bool, AllocError>
+    ensures accepted { IfOk result (λ r. r
+        ≡ is_accepted (rule_at trace.now.declarations at) (store_at trace.now.commits at) known.old (step_value step.now)) }
+    ensures known { OnOk result (known.new ≡ after_step known.old (step_value step.now)) }
 {
     match step {
         Step::Yes(fact) => {
-            let rule = trace.rules().body(fact.set(), at);
-            is_given(trace.chains(), at, before, fact, rule)
+            let proved = is_proved(trace, at, known, fact);
+            known.add_yes(fact.clone()?)?;
+            Ok(proved)
         }
-        Step::No(_) => false,
+        Step::No(facts) => {
+            add_each_no(known, facts)?;
+            Ok(are_disproved(trace, at, known, facts))
+        }
     }
 }
 
-fn first_bad(trace: &Trace, at: u64, steps: &[Step]) -> Option<u64>
-    ensures { result ≡ first_bad trace.now at [] 1 (step_values steps.now) }
+/// The first step that is not accepted, from 1. Where there is none, the facts of all of them are known from now on.
+fn first_bad(
+    trace: &Trace,
+    at: u64,
+    known: &mut Known,
+    steps: &[Step],
+) -> Result<Option<u64>, AllocError>
+    ensures first { IfOk result (λ r. r
+        ≡ first_bad (rule_at trace.now.declarations at) (store_at trace.now.commits at) known.old 1 (step_values steps.now)) }
+    ensures known { IfOk result (λ r. r ≡ None → known.new ≡ after_steps known.old (step_values steps.now)) }
 {
     for k in 0..steps.len() {
-        if !is_accepted(trace, at, &steps[..k], &steps[k]) {
-            return Some(k as u64 + 1);
+        if !take_step(trace, at, known, &steps[k])? {
+            return Ok(Some(k as u64 + 1));
         }
     }
-    None
+    Ok(None)
 }
 
-fn by_steps(trace: &Trace, entry: &Entry, steps: &[Step]) -> Judged
-    ensures { result ≡ judged trace.now (entry_value entry.now) (Some (step_values steps.now)) }
+fn by_reply(agrees: bool) -> Judged
+    ensures { result ≡ by_reply agrees }
 {
-    if let Some(step) = first_bad(trace, entry.snapshot, steps) {
-        return Judged::Bad { step };
-    }
-    if !is_known(steps, entry.goal.set(), entry.goal.user()) {
-        return Judged::Silent;
-    }
-    if entry.reply {
+    if agrees {
         Judged::Supported
     } else {
         Judged::Contradicted
     }
 }
 
-/// How the evidence judges entry `i`: by the first step that is not accepted, and else by what is known of the
-/// goal after all of them.
-pub fn judge_entry(trace: &Trace, evidence: &Evidence, i: usize) -> Judged
-    requires { i < length trace.now.entries }
-    ensures { (e : EntryValue) → slice_get trace.now.entries i ≡ Some e → result ≡ judged trace.now e (steps_of (evidence_value evidence.now) i) }
+/// What is known of the goal settles it.
+fn by_goal(known: &Known, goal: &Fact, reply: bool) -> Judged
+    ensures { result ≡ by_goal known.now goal.now reply }
 {
-    let entry = trace.entry(i);
-    match evidence.steps(i) {
-        None => Judged::Missing,
+    if known.yes(goal.set(), goal.user()) {
+        by_reply(reply)
+    } else if known.no(goal.set(), goal.user()) {
+        by_reply(!reply)
+    } else {
+        Judged::Silent
+    }
+}
+
+fn by_steps(trace: &Trace, entry: &Entry, steps: &Steps) -> Result<Judged, AllocError>
+    ensures { IfOk result (λ j. j ≡ judged trace.now (entry_value entry.now) (Some (step_values steps.now.items))) }
+{
+    let mut known = Known::new(*steps.allocator());
+    match first_bad(trace, entry.snapshot, &mut known, steps)? {
+        Some(step) => Ok(Judged::Bad { step }),
+        None => Ok(by_goal(&known, &entry.goal, entry.reply)),
+    }
+}
+
+fn judge(trace: &Trace, entry: &Entry, steps: Option<&Steps>) -> Result<Judged, AllocError>
+    ensures { IfOk result (λ j. j
+        ≡ judged trace.now (entry_value entry.now) (option_map (λ s. step_values s.now.items) steps.entry)) }
+{
+    match steps {
+        None => Ok(Judged::Missing),
         Some(steps) => by_steps(trace, entry, steps),
     }
+}
+
+/// How the evidence judges entry `i`: by the first step that is not accepted, and else by what is known of the
+/// goal after all of them.
+pub fn judge_entry(trace: &Trace, evidence: &Evidence, i: usize) -> Result<Judged, AllocError>
+    requires { i < length trace.now.entries }
+    ensures judged { IfOk result (λ j. (e : EntryValue) → slice_get trace.now.entries i ≡ Some e →
+        j ≡ judged trace.now e (steps_of (evidence_value evidence.now) i)) }
+
+    // Whoever made the evidence: a supported reply is what the rules mean at the snapshot, and a contradicted one is not.
+    ensures supported { IfOk result (λ j. j ≡ Supported → (e : EntryValue) → slice_get trace.now.entries i ≡ Some e →
+        HasValidStrataAt trace.now e.snapshot → (IsTrue e.reply ↔ IsMemberAt trace.now e.snapshot e.goal)) }
+    ensures contradicted { IfOk result (λ j. j ≡ Contradicted → (e : EntryValue) → slice_get trace.now.entries i ≡ Some e →
+        HasValidStrataAt trace.now e.snapshot → (IsTrue e.reply ↔ ¬ IsMemberAt trace.now e.snapshot e.goal)) }
+{
+    judge(trace, trace.entry(i), evidence.steps(i))
 }

@@ -1,13 +1,13 @@
 //! The evidence for recorded decisions: reading it, and judging each decision by it.
 //!
-//! A record gives an entry of the trace steps, each of which says that a fact holds. A step is accepted where the
-//! rule of its fact gives it from the stored tuples and the steps before (Zanzibar, section 2.3). Contracts see
-//! [`Evidence`] by `evidence_value` as the list of the steps given for each entry.
+//! A record gives an entry of the trace steps, each of which says that a fact holds or that some facts do not. A step is accepted where
+//! the rules of its facts bear it out, from the stored tuples and from what the steps before made known; facts that are said not to hold
+//! may lean on one another. Contracts see [`Evidence`] by `evidence_value` as the list of the steps given for each entry.
 //!
 //! Callers may rely on this: [`read_evidence`] answers the evidence that its input says, or its first fault, also
-//! of a reader that fails; [`judge_entry`] is the definition `judged`; and by the laws in [`laws`] what accepted
-//! steps say holds by the meaning of the rules, whoever made them, where strata are valid. Rules of stored tuples are the only
-//! ones by which a step is accepted today; other forms are never accepted.
+//! of a reader that fails; [`judge_entry`] is the definition `judged`, and where strata are valid, whoever made the evidence, a supported
+//! reply is what the rules mean at the entry's snapshot (Zanzibar, section 2.3) and a contradicted one is not. The laws in [`laws`] say the
+//! same of each accepted step.
 #![tactic(auto)]
 
 mod cause;

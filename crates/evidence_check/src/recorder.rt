@@ -10,7 +10,7 @@ ghost use Rattle.evidence_check.specs.Evidences.{shown_steps, all_shown};
 ghost use Rattle.evidence_check.specs.Steps.{step_values};
 
 use crate::cause::EvidenceCause;
-use crate::records::{are_known, steps_at, steps_in};
+use crate::records::{are_known, has_too_many, steps_at, steps_in};
 use crate::step::Steps;
 use serde_json::Value;
 use std::alloc::{AllocError, Global};
@@ -122,7 +122,7 @@ impl Recorder {
         if self.is_taken(place) {
             return Err(EvidenceCause::RepeatedLine);
         }
-        if steps.len() > 100000 {
+        if has_too_many(&steps) {
             return Err(EvidenceCause::TooMany);
         }
         self.set(place, steps);

@@ -1,11 +1,11 @@
 //! The records of evidence.
 
-ghost use Rattle.std.specs.Prelude.{◌≡◌, option_map, map};
+ghost use Rattle.std.specs.Prelude.{◌≡◌, option_map, map, nat_lt};
 ghost use Rattle.serde_json.specs.View.{view, items_view};
 ghost use Rattle.tuple_text.specs.Reading.{fact_at};
 ghost use Rattle.evidence_check.specs.Causes.{Gives, text_cause};
-ghost use Rattle.evidence_check.specs.Reading.{step_text, are_shaped, known_text, are_known, steps_in, steps_at};
-ghost use Rattle.evidence_check.specs.Steps.{step_values};
+ghost use Rattle.evidence_check.specs.Reading.{at_only, are_texts, is_text_list, is_step, are_shaped, is_known, are_known, fact_in, facts_in, step_in, steps_in, steps_at, count_of, fact_count};
+ghost use Rattle.evidence_check.specs.Steps.{step_value, step_values};
 
 use crate::cause::EvidenceCause;
 use crate::step::{Step, Steps};
@@ -13,22 +13,52 @@ use serde_json::Value;
 use std::alloc::Global;
 use tuple_text::{Fact, TupleFault, parse_fact};
 
-/// What a step says: None is a wrong shape, and nothing is a step that is not known.
-fn step_text(step: &Value) -> Option<Option<&str>>
-    ensures { option_map (option_map (λ s. s.now)) result ≡ step_text (view step.now) }
+/// How many facts a record may have.
+const MAX_FACTS: usize = 100000;
+
+/// What stands at a key of a step that does not have the other key.
+fn at_only<'a>(step: &'a Value, key: &str, other: &str) -> Option<&'a Value>
+    ensures { option_map (λ v. view v.now) result ≡ at_only key.now other.now (view step.now) }
+{
+    match step.get(other) {
+        Some(_) => None,
+        None => step.get(key),
+    }
+}
+
+fn are_texts(items: &[Value]) -> bool
+    ensures { result ≡ are_texts (items_view items.now) }
+{
+    for item in items {
+        if !item.is_string() {
+            return false;
+        }
+    }
+    true
+}
+
+fn is_text_list(value: &Value) -> bool
+    ensures { result ≡ is_text_list (view value.now) }
+{
+    match value.as_array() {
+        Some(items) => are_texts(items.as_slice()),
+        None => false,
+    }
+}
+
+/// Whether a value has the shape of a step, known or not.
+fn is_step(step: &Value) -> bool
+    ensures { result ≡ is_step (view step.now) }
 {
     if !step.is_object() {
-        return None;
+        return false;
     }
-    match step.get("yes") {
-        None => Some(None),
-        Some(yes) => match step.get("no") {
-            Some(_) => Some(None),
-            None => match yes.as_str() {
-                Some(text) => Some(Some(text)),
-                None => None,
-            },
-        },
+    if let Some(fact) = at_only(step, "yes", "no") {
+        return fact.is_string();
+    }
+    match at_only(step, "no", "yes") {
+        Some(facts) => is_text_list(facts),
+        None => true,
     }
 }
 
@@ -36,21 +66,18 @@ fn are_shaped(steps: &[Value]) -> bool
     ensures { result ≡ are_shaped (items_view steps.now) }
 {
     for step in steps {
-        if step_text(step).is_none() {
+        if !is_step(step) {
             return false;
         }
     }
     true
 }
 
-/// The text of a step that is known.
-fn known_text(step: &Value) -> Option<&str>
-    ensures { option_map (λ s. s.now) result ≡ known_text (step_text (view step.now)) }
+/// Whether a step has just one of the keys that steps have.
+fn is_known(step: &Value) -> bool
+    ensures { result ≡ is_known (view step.now) }
 {
-    match step_text(step) {
-        Some(text) => text,
-        None => None,
-    }
+    at_only(step, "yes", "no").is_some() || at_only(step, "no", "yes").is_some()
 }
 
 /// Whether each step is known.
@@ -58,7 +85,7 @@ pub(crate) fn are_known(steps: &[Value]) -> bool
     ensures { result ≡ are_known (items_view steps.now) }
 {
     for step in steps {
-        if known_text(step).is_none() {
+        if !is_known(step) {
             return false;
         }
     }
@@ -75,16 +102,50 @@ fn fact_of(alloc: Global, text: &str) -> Result<Fact, EvidenceCause>
     }
 }
 
+fn fact_in(alloc: Global, value: &Value) -> Result<Fact, EvidenceCause>
+    ensures { Gives (λ f. f) result (fact_in (view value.now)) }
+{
+    let text = value.as_str().ok_or(EvidenceCause::Shape)?;
+    fact_of(alloc, text)
+}
+
+/// The facts that texts are, up to the first that is none.
+fn facts_in(alloc: Global, items: &[Value]) -> Result<Vec<Fact>, EvidenceCause>
+    ensures { Gives (λ v. v.items) result (facts_in (items_view items.now)) }
+{
+    let mut facts = Vec::with_capacity(alloc, items.len())?;
+    for item in items {
+        facts.push(fact_in(alloc, item)?)?;
+    }
+    Ok(facts)
+}
+
+/// The step that a value is, where it is known.
+fn step_in(alloc: Global, step: &Value) -> Result<Option<Step>, EvidenceCause>
+    ensures { Gives (option_map step_value) result (step_in (view step.now)) }
+{
+    if let Some(fact) = at_only(step, "yes", "no") {
+        return Ok(Some(Step::Yes(fact_in(alloc, fact)?)));
+    }
+    match at_only(step, "no", "yes") {
+        Some(facts) => {
+            let facts = facts.as_array().ok_or(EvidenceCause::Shape)?;
+            Ok(Some(Step::No(facts_in(alloc, facts.as_slice())?)))
+        }
+        None => Ok(None),
+    }
+}
+
 /// The steps that are known, up to the first text that is no fact.
 pub(crate) fn steps_in(alloc: Global, items: &[Value]) -> Result<Steps, EvidenceCause>
     ensures { Gives (λ v. step_values v.items) result (steps_in (items_view items.now)) }
 {
     let mut steps = Vec::with_capacity(alloc, items.len())?;
     for item in items {
-        let Some(text) = known_text(item) else {
+        let Some(step) = step_in(alloc, item)? else {
             continue;
         };
-        steps.push(Step::Yes(fact_of(alloc, text)?))?;
+        steps.push(step)?;
     }
     Ok(steps)
 }
@@ -101,4 +162,29 @@ pub(crate) fn steps_at(record: &Value) -> Option<&[Value]>
         }
         None => None,
     }
+}
+
+/// How many facts a step has.
+fn count_of(step: &Step) -> usize
+    ensures { result ≡ count_of (step_value step.now) }
+{
+    match step {
+        Step::Yes(_) => 1,
+        Step::No(facts) => facts.len(),
+    }
+}
+
+/// Whether the steps have more facts than a record may have.
+pub(crate) fn has_too_many(steps: &[Step]) -> bool
+    ensures { result ≡ nat_lt MAX_FACTS (fact_count (step_values steps.now)) }
+{
+    let mut room = MAX_FACTS;
+    for step in steps {
+        let count = count_of(step);
+        if count > room {
+            return true;
+        }
+        room -= count;
+    }
+    false
 }

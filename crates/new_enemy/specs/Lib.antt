@@ -1,3 +1,4 @@
 pub mod Audit
 pub mod Findings
+pub mod Headline
 pub mod Report

@@ -12,14 +12,17 @@ ghost use Rattle.evidence_check.specs.Evidences.{evidence_value};
 ghost use Rattle.new_enemy.specs.Audit.{verdict_of, report_on, Audits, IsQuiet, RefusesTrace, RefusesEvidence, IsWrite, IsUnwritten, FailsWriting, IsOfTrace, IsOfEvidence, IsOfAudit};
 ghost use Rattle.new_enemy.specs.declared.audit.AuditFault.TheVariants as faults;
 ghost use Rattle.new_enemy.specs.Findings.{findings_of};
+ghost use Rattle.new_enemy.specs.Headline.{IsRightAndFresh, IsTraceRightAndFresh};
 ghost use Rattle.new_enemy.specs.Report.{report_text};
 ghost use Rattle.new_enemy.specs.declared.audit.Verdict.{Verdict};
+ghost use Rattle.new_enemy.specs.declared.audit.Verdict.TheVariants.{Clean};
 
 use crate::finding::Finding;
 use crate::findings::{findings_of, report_of};
 use evidence_check::{Evidence, EvidenceCause, EvidenceFault, read_evidence};
 use std::alloc::{AllocError, Global};
 use thiserror::Error;
+use token_order::laws::fresh_without_findings;
 use trace_lines::{Cause, Sink, Source, Trace, TraceFault, read_trace, send};
 
 /// What an audit answers.
@@ -92,6 +95,8 @@ pub fn audit_values<W: Sink>(
     out: &mut W,
 ) -> Result<Verdict, AuditFault>
     ensures verdict { IfOk result (λ v. v ≡ verdict_of (findings_of trace.now (evidence_value evidence.now))) }
+    // Whoever made the evidence.
+    ensures headline { IfOk result (λ v. v ≡ Clean → IsRightAndFresh trace.now) }
     ensures report { OnOk result (Appends (W.contents out.old) (W.contents out.new) (report_on trace.now (evidence_value evidence.now))) }
     // The first bytes went out, and the writer failed or took none of some.
     ensures write { (n : ℕ) → result ≡ Err (faults.Write n) → FailsWriting (W.contents out.old) (W.contents out.new) n (report_on trace.now (evidence_value evidence.now)) }
@@ -99,6 +104,9 @@ pub fn audit_values<W: Sink>(
     ensures faults { IfErr result (λ e. (e ≡ faults.OutOfMemory) ⊎ IsWrite e) }
     ensures unwritten { IfErr result (λ e. IsUnwritten e → Keeps (W.contents out.old) (W.contents out.new)) }
 {
+    // Its strata are valid, and without findings its tokens are in order.
+    let _ = trace.rules();
+    fresh_without_findings(trace);
     let (text, verdict) = report_on(alloc, trace, evidence)?;
     match send(out, text.as_bytes()) {
         Ok(()) => Ok(verdict),
@@ -165,6 +173,10 @@ pub fn audit_plain<A: Source, B: Source, W: Sink>(
     ensures audits { IfOk result (λ v. IfSome (A.remaining trace.old) (λ a. IfSome (B.remaining evidence.old) (λ b.
         IsQuiet (A.failures trace.old) (A.failures trace.new) → IsQuiet (B.failures evidence.old) (B.failures evidence.new)
         → Audits a b (W.contents out.old) (W.contents out.new) v))) }
+    // A clean verdict says that each reply is what the rules mean over the tuples committed up to its snapshot, and that no check is older
+    // than its zookie, nor than any access change committed before the content check of the version that it names.
+    ensures headline { IfOk result (λ v. v ≡ Clean → IfSome (A.remaining trace.old) (λ a.
+        IsQuiet (A.failures trace.old) (A.failures trace.new) → IsTraceRightAndFresh a)) }
     ensures trace { (f : TraceFault) → result ≡ Err (faults.Trace f) → IfSome (A.remaining trace.old) (λ a.
         IsQuiet (A.failures trace.old) (A.failures trace.new) → RefusesTrace a f) }
     ensures evidence { (f : EvidenceFault) → result ≡ Err (faults.Evidence f) → IfSome (A.remaining trace.old) (λ a. IfSome (B.remaining evidence.old) (λ b.

@@ -1,14 +1,16 @@
 //! Finding what is wrong with the recorded decisions.
 
-ghost use Rattle.std.specs.Prelude.{◌≡◌, IfOk, string_bytes, ◌++◌, is_ok, OnOk};
+ghost use Rattle.std.specs.Prelude.{◌≡◌, ◌<◌, ◌++◌, Some, length, slice_get, IfOk, string_bytes, OnOk};
 ghost use Rattle.std.specs.List.{flat_map};
+ghost use Rattle.trace_lines.specs.Values.{EntryValue};
 ghost use Rattle.evidence_check.specs.Evidences.{evidence_value};
-ghost use Rattle.new_enemy.specs.Findings.{found_by, findings_of};
+ghost use Rattle.new_enemy.specs.Findings.{found_by, if_told, found_on, on_line, findings_of};
 ghost use Rattle.new_enemy.specs.Report.{line_text, last_lines, verdict_text, report_text};
 
 use crate::finding::{Finding, What, report_line};
 use evidence_check::{Evidence, Judged, judge_entry};
 use std::alloc::{AllocError, Global};
+use token_order::order_of;
 use trace_lines::Trace;
 
 fn found_by(judged: Judged) -> Option<What>
@@ -23,7 +25,50 @@ fn found_by(judged: Judged) -> Option<What>
     }
 }
 
-/// The findings on each entry, in line order.
+fn if_told(what: What, told: bool) -> Option<What>
+    ensures { result ≡ if_told what told }
+{
+    if told { Some(what) } else { None }
+}
+
+/// What is found on entry `i`, by the findings' numbers.
+fn found_on(
+    trace: &Trace,
+    evidence: &Evidence,
+    i: usize,
+) -> Result<[Option<What>; 7], AllocError>
+    requires { i < length trace.now.entries }
+    ensures { IfOk result (λ found. (e : EntryValue) → slice_get trace.now.entries i ≡ Some e → found ≡ found_on trace.now (evidence_value evidence.now) i e) }
+{
+    let judged = judge_entry(trace, evidence, i)?;
+    let order = order_of(trace, i);
+    Ok([
+        if_told(What::Stale, order.stale),
+        order.old_token.map(What::OldToken),
+        order.not_latest.map(What::NotLatest),
+        order.open_snapshot.map(What::OpenSnapshot),
+        if_told(What::WrongToken, order.wrong_token),
+        if_told(What::UnknownVersion, order.unknown_version),
+        found_by(judged),
+    ])
+}
+
+fn push_found(
+    line: u64,
+    found: &[Option<What>],
+    findings: &mut Vec<Finding>,
+) -> Result<(), AllocError>
+    ensures { OnOk result (findings.new.items ≡ findings.old.items ++ on_line line found.now) }
+{
+    for what in found {
+        if let Some(what) = *what {
+            findings.push(Finding { line, what })?;
+        }
+    }
+    Ok(())
+}
+
+/// The findings on each entry, in line order and by their numbers.
 pub fn findings_of(
     alloc: Global,
     trace: &Trace,
@@ -33,11 +78,8 @@ pub fn findings_of(
 {
     let mut findings = Vec::new(alloc);
     for i in 0..trace.len() {
-        let line = trace.entry(i).line;
-        let Some(what) = found_by(judge_entry(trace, evidence, i)) else {
-            continue;
-        };
-        findings.push(Finding { line, what })?;
+        let found = found_on(trace, evidence, i)?;
+        push_found(trace.entry(i).line, &found, &mut findings)?;
     }
     Ok(findings)
 }

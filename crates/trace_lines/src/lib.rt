@@ -5,9 +5,9 @@
 //! trace as `TraceValue`: its declarations, its commits with the lines that they stand on, and its entries.
 //!
 //! Callers may rely on this: what is read is `trace_of` the bytes, value or first fault, with its line, also of a
-//! reader that fails; input that never ends is refused at the limits; entries stand on lines that rise; no look-up takes
-//! memory. One pass over the input, one JSON value at a time. Today's profile takes rules of stored tuples on stratum
-//! 0 alone, and no content lines; `Plain` and `Traces` say so.
+//! reader that fails; input that never ends is refused at the limits; commits and entries stand on lines that rise; no
+//! look-up takes memory. One pass over the input, one JSON value at a time. Today's profile takes rules of stored tuples
+//! on stratum 0 alone; `Plain` and `Traces` say so.
 #![tactic(auto)]
 
 mod cause;
@@ -22,6 +22,8 @@ mod reading;
 mod sample;
 mod sending;
 mod source;
+#[cfg(test)]
+mod tests;
 mod texts;
 mod trace;
 mod versions;

@@ -1,0 +1,9 @@
+use Rattle.std.proofs.Common.{◌≡◌, length}
+use Rattle.audit_slices.specs.Machine.{state_of}
+use Rattle.audit_slices.proofs.tests.core_walks.Given as goal
+
+abbrev pub invariant-loop-event : goal.invariant-loop-event
+invariant-loop-event g l = record {
+  hands : length (state_of l.core).hands ≡ 2;
+  lanes : length (state_of l.core).lanes ≡ 1;
+}

@@ -1,0 +1,17 @@
+use Rattle.std.proofs.Common.{◌∙◌}
+use Rattle.audit_slices.proofs.FinishLemmas.{yard_start}
+use Rattle.audit_slices.proofs.tests.walk.Goals as goal
+
+pub close-receipts-requires : goal.close-receipts-requires
+close-receipts-requires g c =
+    let yard = yard_start c.args.slices.items c.args.lanes c.args.workers c.in-Ok.owners.items c.in-Ok.thieves.items c.in-Ok.ensures.opened c.in-Ok.ensures.allowed.0 c.in-Ok.ensures.allowed.1 in
+    record {
+      slices = yard.slices;
+      lane_count = yard.lane_count;
+      workers = yard.workers;
+      some_lane = yard.some_lane;
+      enough = yard.enough;
+      deques = yard.deques;
+      owners = c.loop-step.invariant.owners ∙ yard.owners;
+      others = c.loop-step.invariant.others ∙ yard.others;
+    }

@@ -1,0 +1,9 @@
+use Rattle.std.proofs.Common.{◌≡◌, map}
+use Rattle.audit_slices.specs.Lane.{lane_place, thief_place}
+use Rattle.audit_slices.proofs.tests.walk.Given as goal
+
+abbrev pub invariant-loop-step : goal.invariant-loop-step
+invariant-loop-step g l = record {
+  owners : map lane_place l.owners.items ≡ map lane_place l.initial.owners.items;
+  others : map (λ v. map thief_place v.items) l.thieves.items ≡ map (λ v. map thief_place v.items) l.initial.thieves.items;
+}

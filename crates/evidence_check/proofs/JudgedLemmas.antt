@@ -1,0 +1,151 @@
+-- What a judgement shows.
+use Rattle.std.proofs.Common.{◌≡◌, ℕ, ◌+◌, Bool, true, false, not, cond, IsTrue, ◌↔◌, List, [], ◌∷◌, ◌++◌, Option, None, Some, ◌⊎◌, inl, inr, refl, sym, ◌∙◌, ap, subst}
+use Rattle.std.specs.Prelude.{Contains, option_map, slice_get, IfOk, Result, Ok, Err}
+use Rattle.std.proofs.lemmas.Map.Views.{Contains-from_any, list_any-from_Contains}
+use Rattle.tuple_text.specs.Tuples.{TupleValue, FactValue}
+use Rattle.tuple_text.specs.OrderLaws.{fact_equiv}
+use Rattle.tuple_text.proofs.ValueLemmas.{fact_eq-same}
+use Rattle.namespaces.specs.Expression.{Expression}
+use Rattle.namespaces.specs.Lookup.{Rule, Lookup, rule_at}
+use Rattle.version_chains.specs.Commits.{store_at}
+use Rattle.strata.specs.Meaning.{Member}
+use Rattle.strata.proofs.Rounds.{stable_law, closed_law}
+use Rattle.trace_lines.specs.Values.{TraceValue, EntryValue}
+use Rattle.judgement.specs.Judgement.{KnownValue}
+use Rattle.evidence_check.specs.Accepted.{nothing_known, IsAccepted, AreAccepted, after_step, after_steps, IsTrueOf}
+use Rattle.evidence_check.specs.Decided.{decided, dec_accepted}
+use Rattle.evidence_check.specs.Judged.{is_accepted, first_bad, is_among, by_reply, by_goal, by_steps, judged}
+use Rattle.evidence_check.specs.Laws.{IsMemberAt, HasValidStrataAt}
+use Rattle.evidence_check.specs.Steps.{StepValue}
+use Rattle.evidence_check.specs.declared.judged.Judged.{Judged}
+use Rattle.evidence_check.specs.declared.judged.Judged.TheVariants.{Supported, Contradicted, Silent}
+use Rattle.evidence_check.proofs.Sound.{steps_true}
+
+not_true : IsTrue false → ⊥
+not_true t = cc
+
+pub same_truth : (a b : Bool) → (IsTrue a → IsTrue b) → (IsTrue b → IsTrue a) → a ≡ b
+same_truth true b f g = sym (f refl)
+same_truth false true f g = absurd (not_true (g refl))
+same_truth false false f g = refl
+
+decided_iff : {A : Type 0} → (d : Dec A) → IsTrue (decided d) ↔ A
+decided_iff (yes a) = (λ t. a, λ a. refl)
+decided_iff (no n) = (λ t. absurd (not_true t), λ a. absurd (n a))
+
+pub accepted_iff : (rules : Lookup) (store : List TupleValue) (known : KnownValue) (step : StepValue) → IsTrue (is_accepted rules store known step) ↔ IsAccepted rules store known step
+unfolding is_accepted
+accepted_iff rules store known step = decided_iff (dec_accepted rules store known step)
+
+-- a test that holds where the step is accepted
+pub accepted_by : (rules : Lookup) (store : List TupleValue) (known : KnownValue) (step : StepValue) (r : Bool) → (IsTrue r ↔ IsAccepted rules store known step) → r ≡ is_accepted rules store known step
+accepted_by rules store known step r h =
+    let same = accepted_iff rules store known step in
+    same_truth r (is_accepted rules store known step) (λ t. same.1 (h.0 t)) (λ t. h.1 (same.0 t))
+
+pub among_iff : (facts : List FactValue) (f : FactValue) → IsTrue (is_among facts f) ↔ Contains facts f
+among_iff facts f = (Contains-from_any fact_eq-same f facts, list_any-from_Contains fact_equiv f facts)
+
+-- where no step is bad, each is accepted
+pub none_bad : (rules : Lookup) (store : List TupleValue) (known : KnownValue) (k : ℕ) (ss : List StepValue) → first_bad rules store known k ss ≡ None → AreAccepted rules store known ss
+none_bad rules store known k [] e = tt
+none_bad rules store known k (s ∷ ss) e = by_test (λ h. none_bad rules store (after_step known s) (k + 1) ss h) (is_accepted rules store known s) refl e
+  where
+    by_test : (first_bad rules store (after_step known s) (k + 1) ss ≡ None → AreAccepted rules store (after_step known s) ss) → (b : Bool) → is_accepted rules store known s ≡ b
+        → cond b (first_bad rules store (after_step known s) (k + 1) ss) (Some k) ≡ None → IsAccepted rules store known s × AreAccepted rules store (after_step known s) ss
+    by_test rest true t h = ((accepted_iff rules store known s).0 t, rest h)
+    by_test rest false t h = absurd cc
+
+-- ---- by the rule of a relation, where it is found
+
+pub by_rule : (o : Option Rule) (x : Expression) (P : Expression → Type 0) → Some x ≡ option_map (λ (r : Rule). r.expression) o → (P x ↔ ((r : Rule) × (o ≡ Some r) × P r.expression))
+by_rule None x P e = absurd cc
+by_rule (Some s) x P e =
+    let same : x ≡ s.expression = cc in
+    (λ p. (s, refl, subst P same p), λ t. let rule : s ≡ t.0 = (let h : Some s ≡ Some t.0 = t.1 in cc) in subst P (sym (same ∙ ap (λ (r : Rule). r.expression) rule)) t.2)
+
+pub no_rule : (o : Option Rule) → None ≡ option_map (λ (r : Rule). r.expression) o → o ≡ None
+no_rule None e = refl
+no_rule (Some r) e = absurd cc
+
+-- ---- what is known of the goal
+
+module _ (rules : Lookup) (store : List TupleValue) (known : KnownValue) (true_of : IsTrueOf rules store known) (goal : FactValue) where
+  supported_by : (y n reply : Bool) → is_among known.yes goal ≡ y → is_among known.no goal ≡ n → cond y (by_reply reply) (cond n (by_reply (not reply)) Silent) ≡ Supported → (IsTrue reply ↔ Member rules store goal)
+  supported_by true n true y_is n_is e = (λ t. true_of.yes goal ((among_iff known.yes goal).0 y_is), λ m. refl)
+  supported_by true n false y_is n_is e = absurd cc
+  supported_by false true true y_is n_is e = absurd cc
+  supported_by false true false y_is n_is e = (λ t. absurd (not_true t), λ m. absurd (true_of.no goal ((among_iff known.no goal).0 n_is) m))
+  supported_by false false reply y_is n_is e = absurd cc
+
+  contradicted_by : (y n reply : Bool) → is_among known.yes goal ≡ y → is_among known.no goal ≡ n → cond y (by_reply reply) (cond n (by_reply (not reply)) Silent) ≡ Contradicted → (IsTrue reply ↔ ¬ Member rules store goal)
+  contradicted_by true n true y_is n_is e = absurd cc
+  contradicted_by true n false y_is n_is e = (λ t. absurd (not_true t), λ m. absurd (m (true_of.yes goal ((among_iff known.yes goal).0 y_is))))
+  contradicted_by false true true y_is n_is e = (λ t. true_of.no goal ((among_iff known.no goal).0 n_is), λ m. refl)
+  contradicted_by false true false y_is n_is e = absurd cc
+  contradicted_by false false reply y_is n_is e = absurd cc
+
+module _ (t : TraceValue) (e : EntryValue) (valid : HasValidStrataAt t e.snapshot) where
+  known_true : (ss : List StepValue) → first_bad (rule_at t.declarations e.snapshot) (store_at t.commits e.snapshot) nothing_known 1 ss ≡ None
+      → IsTrueOf (rule_at t.declarations e.snapshot) (store_at t.commits e.snapshot) (after_steps nothing_known ss)
+  known_true ss good =
+      steps_true (rule_at t.declarations e.snapshot) (store_at t.commits e.snapshot) valid (stable_law (rule_at t.declarations e.snapshot) (store_at t.commits e.snapshot) valid)
+      (closed_law (rule_at t.declarations e.snapshot) (store_at t.commits e.snapshot) valid) ss
+      (none_bad (rule_at t.declarations e.snapshot) (store_at t.commits e.snapshot) nothing_known 1 ss good)
+
+  pub supported_right : (steps : Option (List StepValue)) → judged t e steps ≡ Supported → (IsTrue e.reply ↔ IsMemberAt t e.snapshot e.goal)
+  supported_right None h = absurd cc
+  supported_right (Some ss) h = by_first (first_bad (rule_at t.declarations e.snapshot) (store_at t.commits e.snapshot) nothing_known 1 ss) refl h
+    where
+      by_first : (o : Option ℕ) → first_bad (rule_at t.declarations e.snapshot) (store_at t.commits e.snapshot) nothing_known 1 ss ≡ o
+          → by_steps o (after_steps nothing_known ss) e ≡ Supported → (IsTrue e.reply ↔ IsMemberAt t e.snapshot e.goal)
+      by_first (Some k) o_is s = absurd cc
+      by_first None o_is s =
+          supported_by (rule_at t.declarations e.snapshot) (store_at t.commits e.snapshot) (after_steps nothing_known ss) (known_true ss o_is) e.goal
+          (is_among (after_steps nothing_known ss).yes e.goal) (is_among (after_steps nothing_known ss).no e.goal) e.reply refl refl s
+
+  pub contradicted_right : (steps : Option (List StepValue)) → judged t e steps ≡ Contradicted → (IsTrue e.reply ↔ ¬ IsMemberAt t e.snapshot e.goal)
+  contradicted_right None h = absurd cc
+  contradicted_right (Some ss) h = by_first (first_bad (rule_at t.declarations e.snapshot) (store_at t.commits e.snapshot) nothing_known 1 ss) refl h
+    where
+      by_first : (o : Option ℕ) → first_bad (rule_at t.declarations e.snapshot) (store_at t.commits e.snapshot) nothing_known 1 ss ≡ o
+          → by_steps o (after_steps nothing_known ss) e ≡ Contradicted → (IsTrue e.reply ↔ ¬ IsMemberAt t e.snapshot e.goal)
+      by_first (Some k) o_is s = absurd cc
+      by_first None o_is s =
+          contradicted_by (rule_at t.declarations e.snapshot) (store_at t.commits e.snapshot) (after_steps nothing_known ss) (known_true ss o_is) e.goal
+          (is_among (after_steps nothing_known ss).yes e.goal) (is_among (after_steps nothing_known ss).no e.goal) e.reply refl refl s
+
+-- a test that holds where the fact is in the list
+pub among_by : (facts : List FactValue) (f : FactValue) (r : Bool) → (IsTrue r ↔ Contains facts f) → r ≡ is_among facts f
+among_by facts f r h =
+    let same = among_iff facts f in
+    same_truth r (is_among facts f) (λ t. same.1 (h.0 t)) (λ t. h.1 (same.0 t))
+
+pub by_yes : (known : KnownValue) (goal : FactValue) (reply : Bool) → is_among known.yes goal ≡ true → by_goal known goal reply ≡ by_reply reply
+by_yes known goal reply e = ap (λ b. cond b (by_reply reply) (cond (is_among known.no goal) (by_reply (not reply)) Silent)) e
+
+pub by_no : (known : KnownValue) (goal : FactValue) (reply : Bool) → is_among known.yes goal ≡ false → is_among known.no goal ≡ true → by_goal known goal reply ≡ by_reply (not reply)
+by_no known goal reply e h =
+    ap (λ b. cond b (by_reply reply) (cond (is_among known.no goal) (by_reply (not reply)) Silent)) e ∙ ap (λ b. cond b (by_reply (not reply)) Silent) h
+
+pub by_none : (known : KnownValue) (goal : FactValue) (reply : Bool) → is_among known.yes goal ≡ false → is_among known.no goal ≡ false → by_goal known goal reply ≡ Silent
+by_none known goal reply e h =
+    ap (λ b. cond b (by_reply reply) (cond (is_among known.no goal) (by_reply (not reply)) Silent)) e ∙ ap (λ b. cond b (by_reply (not reply)) Silent) h
+
+-- ---- what an answer shows of the entry
+
+pub if_supported : {E : Type 0} → (t : TraceValue) (i : ℕ) (x : EntryValue) (steps : Option (List StepValue)) (r : Result Judged E) → slice_get t.entries i ≡ Some x
+    → IfOk r (λ j. j ≡ judged t x steps)
+    → IfOk r (λ j. j ≡ Supported → (e : EntryValue) → slice_get t.entries i ≡ Some e → HasValidStrataAt t e.snapshot → (IsTrue e.reply ↔ IsMemberAt t e.snapshot e.goal))
+if_supported t i x steps (Ok j) at h = λ s e here valid.
+    let same : x ≡ e = (let p : Some x ≡ Some e = sym at ∙ here in cc) in
+    supported_right t e valid steps (subst (λ (y : EntryValue). judged t y steps ≡ Supported) same (sym h ∙ s))
+if_supported t i x steps (Err f) at h = tt
+
+pub if_contradicted : {E : Type 0} → (t : TraceValue) (i : ℕ) (x : EntryValue) (steps : Option (List StepValue)) (r : Result Judged E) → slice_get t.entries i ≡ Some x
+    → IfOk r (λ j. j ≡ judged t x steps)
+    → IfOk r (λ j. j ≡ Contradicted → (e : EntryValue) → slice_get t.entries i ≡ Some e → HasValidStrataAt t e.snapshot → (IsTrue e.reply ↔ ¬ IsMemberAt t e.snapshot e.goal))
+if_contradicted t i x steps (Ok j) at h = λ s e here valid.
+    let same : x ≡ e = (let p : Some x ≡ Some e = sym at ∙ here in cc) in
+    contradicted_right t e valid steps (subst (λ (y : EntryValue). judged t y steps ≡ Contradicted) same (sym h ∙ s))
+if_contradicted t i x steps (Err f) at h = tt

@@ -1,0 +1,2 @@
+pub mod NumberingLemmas
+pub mod PassLemmas

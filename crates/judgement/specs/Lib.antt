@@ -1,0 +1,5 @@
+pub mod Decided
+pub mod Judgement
+pub mod KnownCode
+pub mod Numbering
+pub mod Passes

@@ -1,0 +1,73 @@
+//! What is known.
+
+ghost use Rattle.std.specs.Prelude.{◌≡◌, ◌∷◌, ◌++◌, [], OnOk, OnErr, IsTrue, ◌↔◌, Contains};
+ghost use Rattle.tuple_text.specs.Refs.{set_value};
+ghost use Rattle.tuple_text.specs.Tuples.{fact_of};
+
+use crate::facts::Facts;
+use std::alloc::{AllocError, Global};
+use std::marker::Model;
+use tuple_text::{Fact, SetRef};
+
+/// The facts that are known to hold, and those that are known not to. Contracts see the two lists, in the order in which facts
+/// were added.
+///
+/// A look-up takes no memory, and its comparisons are few against what is known, whatever the texts are.
+#[derive(Drop)]
+pub struct Known {
+    yes: Facts,
+    no: Facts,
+}
+
+impl Model for Known {
+    ghost use Rattle.judgement.specs.Judgement.{KnownValue};
+    ghost use Rattle.judgement.specs.KnownCode.{known_code};
+
+    ghost Value = { KnownValue };
+
+    ghost coded = { known_code };
+
+    ghost view = { λ k. record { yes = k.yes; no = k.no } };
+}
+
+impl Known {
+    /// Nothing is known. Nothing is allocated before the first fact.
+    pub fn new(alloc: Global) -> Known
+        ensures { result ≡ record { yes = []; no = [] } }
+    {
+        Known {
+            yes: Facts::new(alloc),
+            no: Facts::new(alloc),
+        }
+    }
+
+    /// From now on the fact is known to hold. For want of memory it is dropped, and what is known stays.
+    pub fn add_yes(&mut self, fact: Fact) -> Result<(), AllocError>
+        ensures ok { OnOk result (self.new ≡ record self.old { yes = self.old.yes ++ fact ∷ [] }) }
+        ensures err { OnErr result (self.new ≡ self.old) }
+    {
+        self.yes.add(fact)
+    }
+
+    /// From now on the fact is known not to hold. For want of memory it is dropped, and what is known stays.
+    pub fn add_no(&mut self, fact: Fact) -> Result<(), AllocError>
+        ensures ok { OnOk result (self.new ≡ record self.old { no = self.old.no ++ fact ∷ [] }) }
+        ensures err { OnErr result (self.new ≡ self.old) }
+    {
+        self.no.add(fact)
+    }
+
+    /// Whether it is known that the user is in the userset.
+    pub fn yes(&self, set: SetRef<'_>, user: u64) -> bool
+        ensures { IsTrue result ↔ Contains self.now.yes (fact_of (set_value set.entry) user) }
+    {
+        self.yes.has(set, user)
+    }
+
+    /// Whether it is known that the user is not in the userset.
+    pub fn no(&self, set: SetRef<'_>, user: u64) -> bool
+        ensures { IsTrue result ↔ Contains self.now.no (fact_of (set_value set.entry) user) }
+    {
+        self.no.has(set, user)
+    }
+}

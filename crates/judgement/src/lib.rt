@@ -1,0 +1,21 @@
+//! What follows for one rule from facts that are known: the table by which evidence is judged (Zanzibar, section 2.3, gives the rules).
+//!
+//! [`Known`] holds the facts that are known to hold and those that are known not to. [`established`] says whether a rule gives a fact by
+//! them, [`refuted`] whether it cannot give it. Contracts see what is known as `KnownValue`, the two lists of facts, and the table as the
+//! relations `Established` and `Refuted` over the rules in force, the tuples stored at a timestamp, and an `Expression`.
+//!
+//! Callers may rely on this: both answers are those relations, exactly, for all six forms of a rule; neither searches, nor looks into
+//! another relation's rule; neither takes memory. A userset that is undeclared at the timestamp counts as refuted where it is stored, in a
+//! tupleset too, and a user id in a tupleset contributes nobody. A look-up among known facts goes by comparisons in order, so that no
+//! choice of texts makes it slow.
+#![tactic(auto)]
+
+mod facts;
+mod judged;
+mod known;
+mod passes;
+#[cfg(test)]
+mod tests;
+
+pub use judged::{established, refuted};
+pub use known::Known;
