@@ -9,6 +9,7 @@ use Rattle.evidence_check.specs.Reading as evidence
 use Rattle.evidence_check.specs.Reading.{evidence_of}
 use Rattle.evidence_check.specs.declared.cause.EvidenceFault.{EvidenceFault}
 use Rattle.evidence_check.specs.Steps.{StepValue}
+use Rattle.token_order.specs.Order.{IsInOrder}
 use Rattle.new_enemy.specs.Findings.{findings_of}
 use Rattle.new_enemy.specs.Report.{report_text}
 use Rattle.new_enemy.specs.declared.finding.Finding.{Finding}
@@ -60,6 +61,10 @@ abbrev pub Audits : List ℕ → List ℕ → Option (List ℕ) → Option (List
 Audits a b old new v =
     (t : TraceValue) × (given : List (Option (List StepValue))) × (trace_of true a ≡ Ok t) × (evidence_of t.entries true b ≡ Ok given)
     × Appends old new (report_on t given) × (v ≡ verdict_of (findings_of t given))
+
+-- the bytes say a trace, in which every content check is latest, every entry closed and every check fresh
+abbrev pub SaysInOrder : List ℕ → Type 0
+SaysInOrder a = (t : TraceValue) × (trace_of true a ≡ Ok t) × IsInOrder t
 
 -- the fault is that of the bytes of a trace
 abbrev pub RefusesTrace : List ℕ → TraceFault → Type 0

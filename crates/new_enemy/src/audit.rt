@@ -9,17 +9,20 @@ ghost use Rattle.trace_lines.specs.Traces.{trace_of};
 ghost use Rattle.evidence_check.specs.Reading as evidence;
 ghost use Rattle.evidence_check.specs.Reading.{evidence_of};
 ghost use Rattle.evidence_check.specs.Evidences.{evidence_value};
-ghost use Rattle.new_enemy.specs.Audit.{verdict_of, report_on, Audits, IsQuiet, RefusesTrace, RefusesEvidence, IsWrite, IsUnwritten, FailsWriting, IsOfTrace, IsOfEvidence, IsOfAudit};
+ghost use Rattle.new_enemy.specs.Audit.{verdict_of, report_on, Audits, SaysInOrder, IsQuiet, RefusesTrace, RefusesEvidence, IsWrite, IsUnwritten, FailsWriting, IsOfTrace, IsOfEvidence, IsOfAudit};
 ghost use Rattle.new_enemy.specs.declared.audit.AuditFault.TheVariants as faults;
 ghost use Rattle.new_enemy.specs.Findings.{findings_of};
 ghost use Rattle.new_enemy.specs.Report.{report_text};
 ghost use Rattle.new_enemy.specs.declared.audit.Verdict.{Verdict};
+ghost use Rattle.new_enemy.specs.declared.audit.Verdict.TheVariants.{Clean};
+ghost use Rattle.token_order.specs.Order.{IsInOrder};
 
 use crate::finding::Finding;
 use crate::findings::{findings_of, report_of};
 use evidence_check::{Evidence, EvidenceCause, EvidenceFault, read_evidence};
 use std::alloc::{AllocError, Global};
 use thiserror::Error;
+use token_order::laws::fresh_without_findings;
 use trace_lines::{Cause, Sink, Source, Trace, TraceFault, read_trace, send};
 
 /// What an audit answers.
@@ -93,12 +96,15 @@ pub fn audit_values<W: Sink>(
 ) -> Result<Verdict, AuditFault>
     ensures verdict { IfOk result (λ v. v ≡ verdict_of (findings_of trace.now (evidence_value evidence.now))) }
     ensures report { OnOk result (Appends (W.contents out.old) (W.contents out.new) (report_on trace.now (evidence_value evidence.now))) }
+    // Where nothing is found, the tokens are in order.
+    ensures in_order { result ≡ Ok Clean → IsInOrder trace.now }
     // The first bytes went out, and the writer failed or took none of some.
     ensures write { (n : ℕ) → result ≡ Err (faults.Write n) → FailsWriting (W.contents out.old) (W.contents out.new) n (report_on trace.now (evidence_value evidence.now)) }
     // Of memory alone nothing is written.
     ensures faults { IfErr result (λ e. (e ≡ faults.OutOfMemory) ⊎ IsWrite e) }
     ensures unwritten { IfErr result (λ e. IsUnwritten e → Keeps (W.contents out.old) (W.contents out.new)) }
 {
+    fresh_without_findings(trace);
     let (text, verdict) = report_on(alloc, trace, evidence)?;
     match send(out, text.as_bytes()) {
         Ok(()) => Ok(verdict),
@@ -165,6 +171,8 @@ pub fn audit_plain<A: Source, B: Source, W: Sink>(
     ensures audits { IfOk result (λ v. IfSome (A.remaining trace.old) (λ a. IfSome (B.remaining evidence.old) (λ b.
         IsQuiet (A.failures trace.old) (A.failures trace.new) → IsQuiet (B.failures evidence.old) (B.failures evidence.new)
         → Audits a b (W.contents out.old) (W.contents out.new) v))) }
+    // Where nothing is found, every content check is latest, every entry closed and every check fresh, over all commits.
+    ensures in_order { result ≡ Ok Clean → IfSome (A.remaining trace.old) (λ a. IsQuiet (A.failures trace.old) (A.failures trace.new) → SaysInOrder a) }
     ensures trace { (f : TraceFault) → result ≡ Err (faults.Trace f) → IfSome (A.remaining trace.old) (λ a.
         IsQuiet (A.failures trace.old) (A.failures trace.new) → RefusesTrace a f) }
     ensures evidence { (f : EvidenceFault) → result ≡ Err (faults.Evidence f) → IfSome (A.remaining trace.old) (λ a. IfSome (B.remaining evidence.old) (λ b.
