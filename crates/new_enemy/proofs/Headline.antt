@@ -1,5 +1,5 @@
 -- A report without findings is on a trace whose replies are right and fresh.
-use Rattle.std.proofs.Common.{◌≡◌, ℕ, zero, suc, ◌+◌, ◌<◌, List, [], ◌∷◌, ◌++◌, get_or, length, Bool, true, false, Option, None, Some, option_map, ◌↔◌, refl, sym, subst, ap, ◌∙◌, arith}
+use Rattle.std.proofs.Common.{◌≡◌, ℕ, zero, suc, ◌+◌, ◌<◌, List, [], ◌∷◌, ◌++◌, get_or, length, Bool, true, false, Option, None, Some, option_map, Result, Ok, ◌↔◌, refl, sym, subst, ap, ◌∙◌, arith}
 use Rattle.std.specs.Prelude.{IsTrue, All, slice_get}
 use Rattle.std.proofs.lemmas.Option.{slice_get-get_or}
 use Rattle.trace_lines.specs.Values.{TraceValue, EntryValue}
@@ -94,3 +94,9 @@ clean_is_right_and_fresh t evidence valid ordered clean =
           supported_right t e (valid e.snapshot) (steps_of evidence i) (on i e (slice_get-get_or t.entries i d lt)).1;
       fresh = ordered (λ i e at. (on i e at).0);
     }
+
+pub answered_clean : {E : Type 0} (v : Verdict) (t : TraceValue) (evidence : List (Option (List StepValue))) → v ≡ verdict_of (findings_of t evidence) → ((at : ℕ) → HasValidStrataAt t at)
+    → (HasNoOrderFindings t → IsInOrder t) → ◌≡◌ {A = Result Verdict E} (Ok v) (Ok Clean) → IsRightAndFresh t
+answered_clean v t evidence is valid ordered h =
+    let clean : v ≡ Clean = cc in
+    clean_is_right_and_fresh t evidence valid ordered (sym is ∙ clean)

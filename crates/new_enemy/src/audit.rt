@@ -96,7 +96,7 @@ pub fn audit_values<W: Sink>(
 ) -> Result<Verdict, AuditFault>
     ensures verdict { IfOk result (λ v. v ≡ verdict_of (findings_of trace.now (evidence_value evidence.now))) }
     // Whoever made the evidence.
-    ensures headline { IfOk result (λ v. v ≡ Clean → IsRightAndFresh trace.now) }
+    ensures headline { result ≡ Ok Clean → IsRightAndFresh trace.now }
     ensures report { OnOk result (Appends (W.contents out.old) (W.contents out.new) (report_on trace.now (evidence_value evidence.now))) }
     // The first bytes went out, and the writer failed or took none of some.
     ensures write { (n : ℕ) → result ≡ Err (faults.Write n) → FailsWriting (W.contents out.old) (W.contents out.new) n (report_on trace.now (evidence_value evidence.now)) }
@@ -175,8 +175,8 @@ pub fn audit_plain<A: Source, B: Source, W: Sink>(
         → Audits a b (W.contents out.old) (W.contents out.new) v))) }
     // A clean verdict says that each reply is what the rules mean over the tuples committed up to its snapshot, and that no check is older
     // than its zookie, nor than any access change committed before the content check of the version that it names.
-    ensures headline { IfOk result (λ v. v ≡ Clean → IfSome (A.remaining trace.old) (λ a.
-        IsQuiet (A.failures trace.old) (A.failures trace.new) → IsTraceRightAndFresh a)) }
+    ensures headline { result ≡ Ok Clean → IfSome (A.remaining trace.old) (λ a.
+        IsQuiet (A.failures trace.old) (A.failures trace.new) → IsTraceRightAndFresh a) }
     ensures trace { (f : TraceFault) → result ≡ Err (faults.Trace f) → IfSome (A.remaining trace.old) (λ a.
         IsQuiet (A.failures trace.old) (A.failures trace.new) → RefusesTrace a f) }
     ensures evidence { (f : EvidenceFault) → result ≡ Err (faults.Evidence f) → IfSome (A.remaining trace.old) (λ a. IfSome (B.remaining evidence.old) (λ b.

@@ -1,5 +1,5 @@
 -- Versions of content: which content check issued each, and which one a check means.
-use Rattle.std.specs.Prelude.{ℕ, Bool, false, true, ◌&&◌, List, take, slice_get, is_some, nat_eq, Option, None, Some, option_map, option_and_then}
+use Rattle.std.specs.Prelude.{ℕ, Bool, false, List, take, slice_get, is_some, nat_eq, Option, None, Some, option_map, option_and_then}
 use Rattle.std.specs.List.{position_from}
 use Rattle.std.specs.declared.cmp.Ordering.{Ordering}
 use Rattle.std.specs.Ordering.{nat_cmp, on, then_cmp, eq_of_both}

@@ -32,6 +32,7 @@ fn issued_version_found(rt: HostRuntime) -> Result<(), Fail> {
         assert_eq!(rt; trace.len(), 2);
         assert_eq!(rt; trace.content_of(1), issued);
         assert_eq!(rt; trace.content_of(0), None);
+        assert!(rt; trace.chains().commits().len() == 2);
         assert_eq!(rt; trace.commit_line(0), 2);
         assert_eq!(rt; trace.commit_line(1), 3);
         assert_eq!(rt; trace.entry(0).before, 2);

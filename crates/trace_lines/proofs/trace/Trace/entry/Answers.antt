@@ -1,6 +1,5 @@
 use Rattle.std.proofs.Common.{◌<◌, ◌≤◌, All, take, drop, length, sym, subst}
-use Rattle.trace_lines.specs.Values.{TraceValue, entry_value}
-use Rattle.trace_lines.specs.Kept.{IsPlaced}
+use Rattle.trace_lines.specs.Values.{TraceValue}
 use Rattle.trace_lines.proofs.Recording.{placed_recorded}
 use Rattle.trace_lines.proofs.trace.Trace.entry.Goals as goal
 

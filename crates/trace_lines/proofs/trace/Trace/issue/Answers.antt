@@ -1,7 +1,7 @@
-use Rattle.std.proofs.Common.{◌≡◌, ◌≤◌, ◌∷◌, ◌++◌, [], Some, None, length, refl, sym, subst, ap, ◌∙◌}
-use Rattle.trace_lines.specs.Values.{TraceValue, entry_value, next_line}
+use Rattle.std.proofs.Common.{◌≡◌, ◌≤◌, None, length, refl, sym, subst, ap, ◌∙◌}
+use Rattle.trace_lines.specs.Values.{TraceValue, next_line}
 use Rattle.trace_lines.specs.declared.trace.Recorded.{Recorded}
-use Rattle.trace_lines.proofs.Recording.{kept_content, recorded_new, not_there}
+use Rattle.trace_lines.proofs.Recording.{kept_content, not_there}
 use Rattle.trace_lines.proofs.trace.Trace.issue.Goals as goal
 
 pub invariant_of-self-2 : goal.invariant_of-self-2

@@ -1,4 +1,4 @@
-use Rattle.std.proofs.Common.{◌≡◌, ◌≤◌, ◌∙◌, length, subst}
+use Rattle.std.proofs.Common.{◌≡◌, ◌∙◌, length, subst}
 use Rattle.serde_json.specs.View.{view}
 use Rattle.trace_lines.specs.Values.{TraceValue, entry_value}
 use Rattle.trace_lines.proofs.RisingLines.{entry_stands}
