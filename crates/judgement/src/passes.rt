@@ -50,7 +50,8 @@ fn bars_user(
     id: u64,
     user: UserRef<'_>,
 ) -> bool
-    ensures { IsTrue result ↔ BarsUser (rule_at rules.now at) known.now (option_map (λ s. s.now) relation.entry) id (user_value user.entry) }
+    ensures { IsTrue result
+        ↔ BarsUser (rule_at rules.now at) known.now (option_map (λ s. s.now) relation.entry) id (user_value user.entry) }
 {
     match user {
         UserRef::Id(_) => true,
@@ -77,7 +78,8 @@ fn bars_each(
     id: u64,
     users: Users<'_>,
 ) -> bool
-    ensures { IsTrue result ↔ EachUser (BarsUser (rule_at rules.now at) known.now (option_map (λ s. s.now) relation.entry) id) users.entry }
+    ensures { IsTrue result
+        ↔ EachUser (BarsUser (rule_at rules.now at) known.now (option_map (λ s. s.now) relation.entry) id) users.entry }
 {
     for user in users {
         if !bars_user(rules, at, known, relation, id, user) {
@@ -103,7 +105,8 @@ pub(crate) fn is_led(
     relation: Option<&str>,
     user: u64,
 ) -> bool
-    ensures { IsTrue result ↔ IsLed (store_at trace.now.commits at) known.now (set_value set.entry) (option_map (λ s. s.now) relation.entry) user }
+    ensures { IsTrue result
+        ↔ IsLed (store_at trace.now.commits at) known.now (set_value set.entry) (option_map (λ s. s.now) relation.entry) user }
 {
     let users = trace.chains().users(set, at);
     gives_some(known, relation, user, users)
@@ -118,7 +121,8 @@ pub(crate) fn is_barred(
     relation: Option<&str>,
     user: u64,
 ) -> bool
-    ensures { IsTrue result ↔ IsBarred (rule_at trace.now.declarations at) (store_at trace.now.commits at) known.now (set_value set.entry)
+    ensures { IsTrue result
+        ↔ IsBarred (rule_at trace.now.declarations at) (store_at trace.now.commits at) known.now (set_value set.entry)
         (option_map (λ s. s.now) relation.entry) user }
 {
     let users = trace.chains().users(set, at);

@@ -5,10 +5,13 @@ use std::test::Fail;
 use trace_lines::{Trace, read_trace};
 use tuple_text::{SetRef, parse_fact};
 
-const NONE: &[&str] = &[];
-
 const TRACE: &str =
     "{\"kind\":\"namespace\",\"name\":\"doc\",\"relations\":[{\"name\":\"viewer\"},{\"name\":\"banned\"},{\"name\":\"parent\"}]}\n{\"kind\":\"namespace\",\"name\":\"group\",\"relations\":[{\"name\":\"member\"}]}\n{\"kind\":\"namespace\",\"name\":\"folder\",\"relations\":[{\"name\":\"viewer\"}]}\n{\"kind\":\"commit\",\"at\":2,\"add\":[\"doc:1#viewer@7\",\"doc:1#viewer@team:x#member\",\"doc:1#banned@group:bad#member\",\"doc:1#parent@folder:A#...\",\"doc:1#parent@9\"]}\n";
+
+fn trace_of(alloc: Global) -> Result<Trace, Fail> {
+    let mut reader = TRACE.as_bytes();
+    Ok(read_trace(alloc, &mut reader)?)
+}
 
 fn set(relation: &str) -> SetRef<'_> {
     SetRef {
@@ -18,62 +21,99 @@ fn set(relation: &str) -> SetRef<'_> {
     }
 }
 
-fn known_of(alloc: Global, yes: &[&str], no: &[&str]) -> Result<Known, Fail> {
+fn knows_yes(alloc: Global, text: &str) -> Result<Known, Fail> {
     let mut known = Known::new(alloc);
-    for text in yes {
-        known.add_yes(parse_fact(alloc, text)?)?;
-    }
-    for text in no {
-        known.add_no(parse_fact(alloc, text)?)?;
-    }
+    known.add_yes(parse_fact(alloc, text)?)?;
     Ok(known)
+}
+
+fn knows_no(alloc: Global, text: &str) -> Result<Known, Fail> {
+    let mut known = Known::new(alloc);
+    known.add_no(parse_fact(alloc, text)?)?;
+    Ok(known)
+}
+
+fn computed(alloc: Global, relation: &str) -> Result<Rewrite, Fail> {
+    Ok(Rewrite::Computed(String::from_str(alloc, relation)?))
+}
+
+fn tuple_to(alloc: Global, relation: &str) -> Result<Rewrite, Fail> {
+    let tupleset = String::from_str(alloc, "parent")?;
+    let computed = String::from_str(alloc, relation)?;
+    Ok(Rewrite::TupleTo { tupleset, computed })
+}
+
+/// The stored tuples and the relation `banned`.
+fn both(alloc: Global) -> Result<Vec<Rewrite>, Fail> {
+    let mut children = Vec::new(alloc);
+    children.push(Rewrite::This)?;
+    children.push(computed(alloc, "banned")?)?;
+    Ok(children)
+}
+
+fn minus(alloc: Global) -> Result<Rewrite, Fail> {
+    let base = Box::new(alloc, Rewrite::This)?;
+    let subtract = Box::new(alloc, computed(alloc, "banned")?)?;
+    Ok(Rewrite::Minus(base, subtract))
+}
+
+/// Whether a rule of `doc:1#relation` is established for a user, and whether it is refuted, at timestamp 2: where nothing is
+/// known, where the fact is known to hold, and where it is known not to.
+fn answers(
+    alloc: Global,
+    rewrite: &Rewrite,
+    relation: &str,
+    user: u64,
+    fact: &str,
+) -> Result<[(bool, bool); 3], Fail> {
+    let trace = trace_of(alloc)?;
+    let nothing = Known::new(alloc);
+    let yes = knows_yes(alloc, fact)?;
+    let no = knows_no(alloc, fact)?;
+    let set = set(relation);
+    Ok([
+        (
+            established(rewrite, set, user, &trace, 2, &nothing),
+            refuted(rewrite, set, user, &trace, 2, &nothing),
+        ),
+        (
+            established(rewrite, set, user, &trace, 2, &yes),
+            refuted(rewrite, set, user, &trace, 2, &yes),
+        ),
+        (
+            established(rewrite, set, user, &trace, 2, &no),
+            refuted(rewrite, set, user, &trace, 2, &no),
+        ),
+    ])
 }
 
 #[test]
 fn known_facts_are_found(rt: HostRuntime) -> Result<(), Fail> {
-    let facts: &[&str] = &["doc:1#viewer@7", "doc:2#viewer@7", "doc:1#viewer@8"];
-    let known = known_of(rt.alloc(), facts, NONE)?;
+    let known = knows_yes(rt.alloc(), "doc:1#viewer@7")?;
     assert!(rt; known.yes(set("viewer"), 7) && !known.no(set("viewer"), 7));
     assert!(rt; !known.yes(set("viewer"), 9) && !known.yes(set("editor"), 7));
-    let known = known_of(rt.alloc(), NONE, facts)?;
+    let known = knows_no(rt.alloc(), "doc:1#viewer@7")?;
     assert!(rt; known.no(set("viewer"), 7) && !known.yes(set("viewer"), 7));
     Ok(())
-}
-
-/// Whether a rule is established and whether it is refuted, at timestamp 2.
-fn answers(
-    alloc: Global,
-    trace: &Trace,
-    asked: (&Rewrite, &str, u64),
-    yes: &[&str],
-    no: &[&str],
-) -> Result<(bool, bool), Fail> {
-    let (rewrite, relation, user) = asked;
-    let known = known_of(alloc, yes, no)?;
-    Ok((
-        established(rewrite, set(relation), user, trace, 2, &known),
-        refuted(rewrite, set(relation), user, trace, 2, &known),
-    ))
 }
 
 #[test]
 fn stored_tuples_answer(rt: HostRuntime) -> Result<(), Fail> {
     let alloc = rt.alloc();
-    let mut reader = TRACE.as_bytes();
-    let trace = read_trace(alloc, &mut reader)?;
-    let member: &[&str] = &["group:bad#member@7"];
-    for (relation, user, yes, no, wanted) in [
-        ("viewer", 7, NONE, NONE, (true, false)),
+    for (relation, user, wanted) in [
+        ("viewer", 7, [(true, false), (true, false), (true, false)]),
         // its one stored userset is of an undeclared relation
-        ("viewer", 8, NONE, NONE, (false, true)),
-        ("banned", 7, NONE, NONE, (false, false)),
-        ("banned", 7, member, NONE, (true, false)),
-        ("banned", 8, member, NONE, (false, false)),
-        ("banned", 7, NONE, member, (false, true)),
+        ("viewer", 8, [(false, true), (false, true), (false, true)]),
+        ("banned", 7, [(false, false), (true, false), (false, true)]),
+        (
+            "banned",
+            8,
+            [(false, false), (false, false), (false, false)],
+        ),
         // a userset whose relation is three dots has no members
-        ("parent", 8, NONE, NONE, (false, true)),
+        ("parent", 8, [(false, true), (false, true), (false, true)]),
     ] {
-        let given = answers(alloc, &trace, (&Rewrite::This, relation, user), yes, no)?;
+        let given = answers(alloc, &Rewrite::This, relation, user, "group:bad#member@7")?;
         assert!(rt; given == wanted, "{relation} of {user}");
     }
     Ok(())
@@ -82,69 +122,54 @@ fn stored_tuples_answer(rt: HostRuntime) -> Result<(), Fail> {
 #[test]
 fn other_relations_answer(rt: HostRuntime) -> Result<(), Fail> {
     let alloc = rt.alloc();
-    let mut reader = TRACE.as_bytes();
-    let trace = read_trace(alloc, &mut reader)?;
-    let banned = Rewrite::Computed(String::from_str(alloc, "banned")?);
-    let fact: &[&str] = &["doc:1#banned@7"];
-    for (yes, no, wanted) in [
-        (NONE, NONE, (false, false)),
-        (fact, NONE, (true, false)),
-        (NONE, fact, (false, true)),
-    ] {
-        assert!(rt; answers(alloc, &trace, (&banned, "viewer", 7), yes, no)? == wanted);
-    }
-    let above = Rewrite::TupleTo {
-        tupleset: String::from_str(alloc, "parent")?,
-        computed: String::from_str(alloc, "viewer")?,
-    };
-    let fact: &[&str] = &["folder:A#viewer@9"];
-    for (yes, no, wanted) in [
-        // user 9 of the tupleset's own tuple contributes nobody
-        (NONE, NONE, (false, false)),
-        (fact, NONE, (true, false)),
-        (NONE, fact, (false, true)),
-    ] {
-        assert!(rt; answers(alloc, &trace, (&above, "viewer", 9), yes, no)? == wanted);
-    }
-    let undeclared = Rewrite::TupleTo {
-        tupleset: String::from_str(alloc, "parent")?,
-        computed: String::from_str(alloc, "editor")?,
-    };
-    let given = answers(alloc, &trace, (&undeclared, "viewer", 9), NONE, NONE)?;
-    assert!(rt; given == (false, true));
+    let asked = computed(alloc, "banned")?;
+    let given = answers(alloc, &asked, "viewer", 7, "doc:1#banned@7")?;
+    assert!(rt; given == [(false, false), (true, false), (false, true)]);
     Ok(())
 }
 
-/// A rule of two: the stored tuples, and the relation `banned`.
-fn both(alloc: Global) -> Result<Vec<Rewrite>, Fail> {
-    let mut children = Vec::new(alloc);
-    children.push(Rewrite::This)?;
-    children.push(Rewrite::Computed(String::from_str(alloc, "banned")?))?;
-    Ok(children)
+#[test]
+fn tuplesets_answer(rt: HostRuntime) -> Result<(), Fail> {
+    let alloc = rt.alloc();
+    // user 9 of the tupleset's own tuple contributes nobody
+    let asked = tuple_to(alloc, "viewer")?;
+    let given = answers(alloc, &asked, "viewer", 9, "folder:A#viewer@9")?;
+    assert!(rt; given == [(false, false), (true, false), (false, true)]);
+    let undeclared = tuple_to(alloc, "editor")?;
+    let given = answers(alloc, &undeclared, "viewer", 9, "folder:A#viewer@9")?;
+    assert!(rt; given == [(false, true), (false, true), (false, true)]);
+    Ok(())
 }
 
 #[test]
-fn combined_rules_answer(rt: HostRuntime) -> Result<(), Fail> {
+fn unions_answer(rt: HostRuntime) -> Result<(), Fail> {
     let alloc = rt.alloc();
-    let mut reader = TRACE.as_bytes();
-    let trace = read_trace(alloc, &mut reader)?;
     let union = Rewrite::Union(both(alloc)?);
+    let given = answers(alloc, &union, "viewer", 7, "doc:1#banned@7")?;
+    assert!(rt; given == [(true, false), (true, false), (true, false)]);
+    let given = answers(alloc, &union, "viewer", 8, "doc:1#banned@8")?;
+    assert!(rt; given == [(false, false), (true, false), (false, true)]);
+    Ok(())
+}
+
+#[test]
+fn intersections_answer(rt: HostRuntime) -> Result<(), Fail> {
+    let alloc = rt.alloc();
     let inter = Rewrite::Inter(both(alloc)?);
-    let banned = Rewrite::Computed(String::from_str(alloc, "banned")?);
-    let minus = Rewrite::Minus(Box::new(alloc, Rewrite::This)?, Box::new(alloc, banned)?);
-    let seven: &[&str] = &["doc:1#banned@7"];
-    let eight: &[&str] = &["doc:1#banned@8"];
-    for (user, yes, no, of_union, of_inter, of_minus) in [
-        (7, NONE, NONE, (true, false), (false, false), (false, false)),
-        (7, seven, NONE, (true, false), (true, false), (false, true)),
-        (7, NONE, seven, (true, false), (false, true), (true, false)),
-        (8, NONE, NONE, (false, false), (false, true), (false, true)),
-        (8, eight, NONE, (true, false), (false, true), (false, true)),
-        (8, NONE, eight, (false, true), (false, true), (false, true)),
-    ] {
-        assert!(rt; answers(alloc, &trace, (&union, "viewer", user), yes, no)? == of_union);
-        assert!(rt; answers(alloc, &trace, (&inter, "viewer", user), yes, no)? == of_inter);
-        assert!(rt; answers(alloc, &trace, (&minus, "viewer", user), yes, no)? == of_minus);
-    }
+    let given = answers(alloc, &inter, "viewer", 7, "doc:1#banned@7")?;
+    assert!(rt; given == [(false, false), (true, false), (false, true)]);
+    let given = answers(alloc, &inter, "viewer", 8, "doc:1#banned@8")?;
+    assert!(rt; given == [(false, true), (false, true), (false, true)]);
+    Ok(())
+}
+
+#[test]
+fn exclusions_answer(rt: HostRuntime) -> Result<(), Fail> {
+    let alloc = rt.alloc();
+    let minus = minus(alloc)?;
+    let given = answers(alloc, &minus, "viewer", 7, "doc:1#banned@7")?;
+    assert!(rt; given == [(false, false), (false, true), (true, false)]);
+    let given = answers(alloc, &minus, "viewer", 8, "doc:1#banned@8")?;
+    assert!(rt; given == [(false, true), (false, true), (false, true)]);
     Ok(())
 }
