@@ -134,18 +134,18 @@ by_none known goal reply e h =
 
 -- ---- what an answer shows of the entry
 
-pub if_supported : {E : Type 0} → (t : TraceValue) (i : ℕ) (x : EntryValue) (steps : Option (List StepValue)) (r : Result Judged E) → slice_get t.entries i ≡ Some x
+pub if_supported : {E : Type 0} → (t : TraceValue) → ((at : ℕ) → HasValidStrataAt t at) → (i : ℕ) (x : EntryValue) (steps : Option (List StepValue)) (r : Result Judged E) → slice_get t.entries i ≡ Some x
     → IfOk r (λ j. j ≡ judged t x steps)
-    → IfOk r (λ j. j ≡ Supported → (e : EntryValue) → slice_get t.entries i ≡ Some e → HasValidStrataAt t e.snapshot → (IsTrue e.reply ↔ IsMemberAt t e.snapshot e.goal))
-if_supported t i x steps (Ok j) at h = λ s e here valid.
+    → IfOk r (λ j. j ≡ Supported → (e : EntryValue) → slice_get t.entries i ≡ Some e → (IsTrue e.reply ↔ IsMemberAt t e.snapshot e.goal))
+if_supported t valid i x steps (Ok j) at h = λ s e here.
     let same : x ≡ e = (let p : Some x ≡ Some e = sym at ∙ here in cc) in
-    supported_right t e valid steps (subst (λ (y : EntryValue). judged t y steps ≡ Supported) same (sym h ∙ s))
-if_supported t i x steps (Err f) at h = tt
+    supported_right t e (valid e.snapshot) steps (subst (λ (y : EntryValue). judged t y steps ≡ Supported) same (sym h ∙ s))
+if_supported t valid i x steps (Err f) at h = tt
 
-pub if_contradicted : {E : Type 0} → (t : TraceValue) (i : ℕ) (x : EntryValue) (steps : Option (List StepValue)) (r : Result Judged E) → slice_get t.entries i ≡ Some x
+pub if_contradicted : {E : Type 0} → (t : TraceValue) → ((at : ℕ) → HasValidStrataAt t at) → (i : ℕ) (x : EntryValue) (steps : Option (List StepValue)) (r : Result Judged E) → slice_get t.entries i ≡ Some x
     → IfOk r (λ j. j ≡ judged t x steps)
-    → IfOk r (λ j. j ≡ Contradicted → (e : EntryValue) → slice_get t.entries i ≡ Some e → HasValidStrataAt t e.snapshot → (IsTrue e.reply ↔ ¬ IsMemberAt t e.snapshot e.goal))
-if_contradicted t i x steps (Ok j) at h = λ s e here valid.
+    → IfOk r (λ j. j ≡ Contradicted → (e : EntryValue) → slice_get t.entries i ≡ Some e → (IsTrue e.reply ↔ ¬ IsMemberAt t e.snapshot e.goal))
+if_contradicted t valid i x steps (Ok j) at h = λ s e here.
     let same : x ≡ e = (let p : Some x ≡ Some e = sym at ∙ here in cc) in
-    contradicted_right t e valid steps (subst (λ (y : EntryValue). judged t y steps ≡ Contradicted) same (sym h ∙ s))
-if_contradicted t i x steps (Err f) at h = tt
+    contradicted_right t e (valid e.snapshot) steps (subst (λ (y : EntryValue). judged t y steps ≡ Contradicted) same (sym h ∙ s))
+if_contradicted t valid i x steps (Err f) at h = tt

@@ -9,7 +9,7 @@ ghost use Rattle.trace_lines.specs.Values.{EntryValue, entry_value};
 ghost use Rattle.evidence_check.specs.Accepted.{IsProved, IsDisproved, with_no, after_step, after_steps, nothing_known};
 ghost use Rattle.evidence_check.specs.Evidences.{evidence_value, steps_of};
 ghost use Rattle.evidence_check.specs.Judged.{is_accepted, first_bad, by_reply, by_goal, judged};
-ghost use Rattle.evidence_check.specs.Laws.{IsMemberAt, HasValidStrataAt};
+ghost use Rattle.evidence_check.specs.Laws.{IsMemberAt};
 ghost use Rattle.evidence_check.specs.Steps.{step_value, step_values};
 ghost use Rattle.evidence_check.specs.declared.judged.Judged.TheVariants.{Supported, Contradicted};
 
@@ -167,9 +167,11 @@ pub fn judge_entry(trace: &Trace, evidence: &Evidence, i: usize) -> Result<Judge
 
     // Whoever made the evidence: a supported reply is what the rules mean at the snapshot, and a contradicted one is not.
     ensures supported { IfOk result (λ j. j ≡ Supported → (e : EntryValue) → slice_get trace.now.entries i ≡ Some e →
-        HasValidStrataAt trace.now e.snapshot → (IsTrue e.reply ↔ IsMemberAt trace.now e.snapshot e.goal)) }
+        (IsTrue e.reply ↔ IsMemberAt trace.now e.snapshot e.goal)) }
     ensures contradicted { IfOk result (λ j. j ≡ Contradicted → (e : EntryValue) → slice_get trace.now.entries i ≡ Some e →
-        HasValidStrataAt trace.now e.snapshot → (IsTrue e.reply ↔ ¬ IsMemberAt trace.now e.snapshot e.goal)) }
+        (IsTrue e.reply ↔ ¬ IsMemberAt trace.now e.snapshot e.goal)) }
 {
+    // Their strata are valid.
+    let _ = trace.rules();
     judge(trace, trace.entry(i), evidence.steps(i))
 }
