@@ -75,19 +75,22 @@ nothing_found_on line f j h =
     let stale = not_told Stale f.stale a.0 in
     let old = not_mapped OldToken f.old_token b.0 in
     let latest = not_mapped NotLatest f.not_latest c.0 in
-    let open = not_mapped OpenSnapshot f.open_snapshot d.0 in
+    let opened = not_mapped OpenSnapshot f.open_snapshot d.0 in
     let wrong = not_told WrongToken f.wrong_token e.0 in
     let unknown = not_told UnknownVersion f.unknown_version g.0 in (
-      (λ i. record { stale = stale i; old_token = old i; not_latest = latest i; open_snapshot = open i; wrong_token = wrong i; unknown_version = unknown i }),
+      (λ i. record { stale = stale i; old_token = old i; not_latest = latest i; open_snapshot = opened i; wrong_token = wrong i; unknown_version = unknown i }),
       supported j k.0,
     )
+
+first_place : (i : ℕ) → 0 + i ≡ i
+first_place i = omega arith
 
 pub clean_is_right_and_fresh : (t : TraceValue) (evidence : List (Option (List StepValue))) → ((at : ℕ) → HasValidStrataAt t at)
     → (HasNoOrderFindings t → IsInOrder t) → verdict_of (findings_of t evidence) ≡ Clean → IsRightAndFresh t
 clean_is_right_and_fresh t evidence valid ordered clean =
     let none = no_findings (findings_of t evidence) clean in
     let on : (i : ℕ) (e : EntryValue) → slice_get t.entries i ≡ Some e → (order_of t i e ≡ nothing_found) × (judged t e (steps_of evidence i) ≡ by.Supported) =
-        λ i e at. nothing_found_on e.line (order_of t i e) (judged t e (steps_of evidence i)) (nothing_on t evidence 0 t.entries none i e at) in
+        λ i e at. nothing_found_on e.line (order_of t i e) (judged t e (steps_of evidence i)) (subst (λ (n : ℕ). on_line e.line (found_on t evidence n e) ≡ []) (first_place i) (nothing_on t evidence 0 t.entries none i e at)) in
     record {
       right = λ i d lt.
           let e = get_or t.entries i d in

@@ -14,5 +14,5 @@ returns c =
     let both = barred_by_users c.args.trace.now.commits c.args.at (set_value c.args.set) c.users-users.result
     (λ u. subst (λ (cs : List Commit). list_any (user_eq u) c.users-users.result ≡ is_stored cs c.args.at (tuple_of (set_value c.args.set) u)) c.chains.ensures (c.users-users.ensures.stored u))
     c.args.known.now (option_map (λ s. s.now) c.args.relation) c.args.user (rule_at c.args.trace.now.declarations c.args.at) in
-    let pass = rw c.rules.ensures at c.bars_each.ensures in
+    let pass = rw c.rules.ensures.declarations at c.bars_each.ensures in
     (λ h. both.0 (pass.0 h), λ l. pass.1 (both.1 l))
