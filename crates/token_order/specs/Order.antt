@@ -22,7 +22,7 @@ on_lines [] cs = []
 on_lines (l ∷ ls) [] = []
 on_lines (l ∷ ls) (c ∷ cs) = record { line = l; at = c.at } ∷ on_lines ls cs
 
--- all commits of a trace, in line order
+-- all commits of a trace, in line order: each has a line, as the type of a trace keeps
 abbrev pub commit_lines_of : TraceValue → List CommitLine
 commit_lines_of t = on_lines t.commit_lines t.commits
 
