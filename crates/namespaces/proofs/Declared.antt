@@ -11,11 +11,11 @@ use Rattle.namespaces.specs.Declaration.{Relation, Declaration}
 use Rattle.namespaces.specs.Lookup.{relation_named, declared_in, history, history_numbered, relations_of, relation_of, in_force, relation_at, namespace_names, namespace_numbered, relation_numbered, relation_names, number_of, item_at}
 use Rattle.namespaces.specs.Adding.{is_declared}
 use Rattle.namespaces.specs.Changing.{keeps_names, keeps_strata}
-use Rattle.namespaces.specs.WellFormed.{IsFit, IsWellFormed}
+use Rattle.namespaces.specs.WellFormed.{IsWellFormed}
 use Rattle.namespaces.specs.declared.number.RelNo.{RelNo}
 use Rattle.namespaces.proofs.Names.{by_bool, one_name, and_true}
 use Rattle.namespaces.proofs.Kept.{absent_before}
-use Rattle.namespaces.proofs.Times.{IsKeptIn, newest_keeps, not_named, from_one}
+use Rattle.namespaces.proofs.Times.{IsKeptIn, newest_keeps, not_named}
 use Rattle.namespaces.proofs.Growth.{is_declared-names}
 use Rattle.namespaces.proofs.Numbers.{item_at-place}
 use Rattle.namespaces.proofs.Indexes.{position-map}

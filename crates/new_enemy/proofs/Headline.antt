@@ -90,7 +90,7 @@ pub clean_is_right_and_fresh : (t : TraceValue) (evidence : List (Option (List S
 clean_is_right_and_fresh t evidence valid ordered clean =
     let none = no_findings (findings_of t evidence) clean in
     let on : (i : ℕ) (e : EntryValue) → slice_get t.entries i ≡ Some e → (order_of t i e ≡ nothing_found) × (judged t e (steps_of evidence i) ≡ by.Supported) =
-        λ i e at. nothing_found_on e.line (order_of t i e) (judged t e (steps_of evidence i)) (subst (λ (n : ℕ). on_line e.line (found_on t evidence n e) ≡ []) (first_place i) (nothing_on t evidence 0 t.entries none i e at)) in
+    λ i e at. nothing_found_on e.line (order_of t i e) (judged t e (steps_of evidence i)) (subst (λ (n : ℕ). on_line e.line (found_on t evidence n e) ≡ []) (first_place i) (nothing_on t evidence 0 t.entries none i e at)) in
     record {
       right = λ i d lt.
           let e = get_or t.entries i d in

@@ -32,11 +32,7 @@ fn if_told(what: What, told: bool) -> Option<What>
 }
 
 /// What is found on entry `i`, by the findings' numbers.
-fn found_on(
-    trace: &Trace,
-    evidence: &Evidence,
-    i: usize,
-) -> Result<[Option<What>; 7], AllocError>
+fn found_on(trace: &Trace, evidence: &Evidence, i: usize) -> Result<[Option<What>; 7], AllocError>
     requires { i < length trace.now.entries }
     ensures { IfOk result (λ found. (e : EntryValue) → slice_get trace.now.entries i ≡ Some e → found ≡ found_on trace.now (evidence_value evidence.now) i e) }
 {

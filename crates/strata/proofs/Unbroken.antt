@@ -1,8 +1,8 @@
 -- What it says that no edge of a list is broken, and which edges stand in the lists.
-use Rattle.std.proofs.Common.{◌≡◌, ℕ, zero, suc, ◌+◌, ◌-◌, ◌<◌, ◌≤◌, List, [], ◌∷◌, ◌++◌, length, slice_get, Bool, true, false, find, Option, None, Some, option_map, option_and_then, unwrap_or, Ok, Err, ◌⊎◌, inl, inr, refl, subst, sym, ap, ◌∙◌, arith}
-use Rattle.std.specs.Prelude.{Contains, All}
+use Rattle.std.proofs.Common.{◌≡◌, ℕ, zero, suc, ◌+◌, ◌-◌, ◌<◌, ◌≤◌, List, [], ◌∷◌, ◌++◌, length, slice_get, Bool, true, false, Option, None, Some, option_and_then, Ok, Err, ◌⊎◌, inl, inr, refl, subst, sym, ap, ◌∙◌, arith}
+use Rattle.std.specs.Prelude.{Contains}
 use Rattle.std.specs.List.{flat_map, filter_map, cons_option, enumerate_from, range_with_len}
-use Rattle.std.proofs.lemmas.List.Elements.{All-contains, Contains-append_left, Contains-append_right}
+use Rattle.std.proofs.lemmas.List.Elements.{Contains-append_left, Contains-append_right}
 use Rattle.std.proofs.lemmas.Option.{slice_get_within}
 use Rattle.namespaces.specs.declared.number.RelNo.{RelNo}
 use Rattle.namespaces.specs.Declaration.{Relation, Declaration}
@@ -10,7 +10,7 @@ use Rattle.namespaces.specs.Lookup.{namespace_names, relations_of, namespace_num
 use Rattle.namespaces.proofs.Declared.{IsPlaced}
 use Rattle.namespaces.proofs.Numbers.{item_at-place}
 use Rattle.strata.specs.declared.edge.Edge.{Edge}
-use Rattle.strata.specs.Edges.{RelationName, Place, places, edge_at, edges_in, relation_edges, relations_in, namespace_edges, rule_edges, read_by_rule, is_broken, refused, first_broken}
+use Rattle.strata.specs.Edges.{RelationName, Place, places, edge_at, edges_in, relation_edges, relations_in, namespace_edges, rule_edges, read_by_rule, is_broken, first_broken}
 use Rattle.strata.proofs.Lists.{Contains-cons_cases, Contains-here, Contains-there, not_in_nil}
 
 by_bool : {A : Type 0} (b : Bool) → (b ≡ true → A) → (b ≡ false → A) → A

@@ -1,7 +1,7 @@
 -- The edges of the rules do not turn on timestamps.
-use Rattle.std.proofs.Common.{◌≡◌, ℕ, List, [], ◌∷◌, ◌++◌, map, length, Bool, false, if◌then◌else◌, Option, None, Some, option_map, option_and_then, unwrap_or, find, Result, Ok, Err, refl, sym, ap, ◌∙◌}
+use Rattle.std.proofs.Common.{◌≡◌, ℕ, List, [], ◌∷◌, ◌++◌, length, Bool, false, if◌then◌else◌, Option, None, Some, option_map, option_and_then, unwrap_or, find, Result, Ok, Err, refl, ap, ◌∙◌}
 use Rattle.std.proofs.Math.Path.{fun_ext}
-use Rattle.std.specs.List.{flat_map, filter_map, enumerate_from, range_with_len, cons_option, list_any}
+use Rattle.std.specs.List.{flat_map, filter_map, enumerate_from, range_with_len, cons_option}
 use Rattle.std.specs.Option.{option_or}
 use Rattle.std.specs.Str.{bytes_eq}
 use Rattle.serde_json.specs.Data.{Data}
@@ -9,10 +9,10 @@ use Rattle.namespaces.specs.declared.number.RelNo.{RelNo}
 use Rattle.namespaces.specs.declared.fault.RulesFault.{RulesFault}
 use Rattle.namespaces.specs.Fault.{◌>>=◌}
 use Rattle.namespaces.specs.Declaration.{Relation, Namespace, Declaration, change}
-use Rattle.namespaces.specs.Lookup.{declared_in, history, relations_of, with_name, names_after, namespace_names, namespace_numbered, relation_names, relation_numbered, history_numbered, number_of, place_of, item_at}
+use Rattle.namespaces.specs.Lookup.{declared_in, history, relations_of, with_name, names_after, namespace_names, namespace_numbered, relation_numbered, history_numbered, number_of, item_at}
 use Rattle.namespaces.specs.Changing.{changed, rules_change}
 use Rattle.strata.specs.declared.edge.Edge.{Edge}
-use Rattle.strata.specs.Edges.{RelationName, Place, places, edge_to, edge_at, edges_in, relation_edges, relations_in, namespace_edges, rule_edges, read_by_rule, stratum_numbered, is_broken_between, is_broken, refused, first_broken}
+use Rattle.strata.specs.Edges.{RelationName, Place, places, edge_at, edges_in, relation_edges, relations_in, namespace_edges, rule_edges, read_by_rule, stratum_numbered, is_broken, refused, first_broken}
 
 -- the same declarations, but for when they are in force
 pub record AreAlike (ds es : List Declaration) : Type 0 where

@@ -1,9 +1,9 @@
 -- Where no edge of the rules is broken, and none of the tuples, strata are valid at each timestamp.
-use Rattle.std.proofs.Common.{◌≡◌, ℕ, zero, suc, ◌≤◌, ◌<◌, List, [], ◌∷◌, ◌++◌, slice_get, Bool, true, false, Option, None, Some, option_map, option_and_then, Ok, refl, subst, sym, ap, ◌∙◌, arith}
-use Rattle.std.specs.Prelude.{Contains, All}
+use Rattle.std.proofs.Common.{◌≡◌, ℕ, zero, suc, ◌≤◌, ◌<◌, List, [], ◌∷◌, slice_get, Bool, true, false, Option, None, Some, option_map, option_and_then, refl, subst, sym, ap, ◌∙◌, arith}
+use Rattle.std.specs.Prelude.{Contains}
 use Rattle.std.specs.List.{AllByRecursion}
 use Rattle.std.specs.Str.{bytes_eq}
-use Rattle.std.proofs.lemmas.List.Elements.{All-contains, Contains-append_left, Contains-append_right}
+use Rattle.std.proofs.lemmas.List.Elements.{Contains-append_left, Contains-append_right}
 use Rattle.std.proofs.lemmas.Bool.Decides.{nat_tests}
 use Rattle.std.proofs.lemmas.Slice.Eq.{bytes_eq-Decides}
 use Rattle.tuple_text.specs.Sets.{SetValue}
@@ -12,13 +12,13 @@ use Rattle.tuple_text.specs.declared.users.User.TheVariants.{Set}
 use Rattle.namespaces.specs.declared.number.RelNo.{RelNo}
 use Rattle.namespaces.specs.Expression.{Expression, this, computed, tuple_to, union, inter, minus, Expressions, no_child, child}
 use Rattle.namespaces.specs.Declaration.{Relation, Declaration}
-use Rattle.namespaces.specs.Lookup.{Rule, rule_of, as_rule, relation_at, rule_at, history, relation_of, namespace_numbered, relation_numbered, history_numbered, number_of, place_of, namespace_names, relation_names, relations_of}
+use Rattle.namespaces.specs.Lookup.{Rule, rule_of, as_rule, relation_at, rule_at, history, namespace_numbered, relation_numbered, history_numbered, number_of, place_of, namespace_names, relation_names, relations_of}
 use Rattle.namespaces.specs.WellFormed.{IsWellFormed}
-use Rattle.namespaces.proofs.Declared.{IsPlaced, one_stratum, in_force_placed, stays_declared, IsNumbered, numbered, history_of_number}
+use Rattle.namespaces.proofs.Declared.{IsPlaced, one_stratum, in_force_placed, stays_declared, numbered, history_of_number}
 use Rattle.strata.specs.declared.edge.Edge.{Edge}
 use Rattle.strata.specs.Meaning.{with_relation, same_user, IsStored}
 use Rattle.strata.specs.Strata.{EachPremise, EachPremises, IsAtMost, IsLower, HasValidStrata}
-use Rattle.strata.specs.Edges.{RelationName, Place, at_this, at_computed, at_tuple_to, places, all_places, read_by_rule, read_in_userset, read_through, relation_edges, namespace_edges, rule_edges, this_edges, tuple_to_edges, userset_edges, tuple_edges, edges_of_tuples, stratum_numbered, is_broken_between, is_broken, first_broken, HasNoBrokenEdge}
+use Rattle.strata.specs.Edges.{Place, at_this, at_computed, at_tuple_to, places, all_places, read_by_rule, read_in_userset, read_through, rule_edges, this_edges, tuple_to_edges, userset_edges, tuple_edges, edges_of_tuples, stratum_numbered, is_broken_between, is_broken, HasNoBrokenEdge}
 use Rattle.strata.proofs.Lists.{Contains-here}
 use Rattle.strata.proofs.Unbroken.{Contains-flat_map, unbroken, edge_of_place, edge_of_namespace, edge_of_rules}
 

@@ -1,5 +1,5 @@
 -- The edges that rules and tuples give, in the order in which they are looked at, and which of them are broken.
-use Rattle.std.specs.Prelude.{◌≡◌, ℕ, List, [], ◌∷◌, ◌++◌, length, Bool, true, false, not, nat_lt, nat_le, find, Option, None, Some, option_map, option_and_then, unwrap_or, if◌then◌else◌, Result, Ok, Err}
+use Rattle.std.specs.Prelude.{◌≡◌, ℕ, List, [], ◌∷◌, ◌++◌, length, Bool, true, false, not, nat_lt, find, Option, None, Some, option_map, option_and_then, unwrap_or, if◌then◌else◌, Result, Ok, Err}
 use Rattle.std.specs.List.{flat_map, filter_map, enumerate_from, range_with_len}
 use Rattle.std.specs.Str.{bytes_eq}
 use Rattle.tuple_text.specs.Sets.{SetValue}

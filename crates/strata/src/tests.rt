@@ -30,11 +30,14 @@ fn edge(reader: (u16, u16), premise: (u16, u16), strict: bool) -> Edge {
     }
 }
 
-const EXCLUSION: &str = "{\"name\":\"doc\",\"relations\":[{\"name\":\"banned\"},{\"name\":\"viewer\",\"stratum\":1,\"rewrite\":{\"exclusion\":{\"base\":{\"this\":{}},\"subtract\":{\"computed\":\"banned\"}}}}]}";
+const EXCLUSION: &str =
+    "{\"name\":\"doc\",\"relations\":[{\"name\":\"banned\"},{\"name\":\"viewer\",\"stratum\":1,\"rewrite\":{\"exclusion\":{\"base\":{\"this\":{}},\"subtract\":{\"computed\":\"banned\"}}}}]}";
 
-const ON_ONE_STRATUM: &str = "{\"name\":\"doc\",\"relations\":[{\"name\":\"banned\"},{\"name\":\"viewer\",\"rewrite\":{\"exclusion\":{\"base\":{\"this\":{}},\"subtract\":{\"computed\":\"banned\"}}}}]}";
+const ON_ONE_STRATUM: &str =
+    "{\"name\":\"doc\",\"relations\":[{\"name\":\"banned\"},{\"name\":\"viewer\",\"rewrite\":{\"exclusion\":{\"base\":{\"this\":{}},\"subtract\":{\"computed\":\"banned\"}}}}]}";
 
-const PARENT: &str = "{\"name\":\"doc\",\"relations\":[{\"name\":\"parent\"},{\"name\":\"viewer\",\"rewrite\":{\"tuple_to\":{\"tupleset\":\"parent\",\"computed\":\"viewer\"}}}]}";
+const PARENT: &str =
+    "{\"name\":\"doc\",\"relations\":[{\"name\":\"parent\"},{\"name\":\"viewer\",\"rewrite\":{\"tuple_to\":{\"tupleset\":\"parent\",\"computed\":\"viewer\"}}}]}";
 
 const FOLDER: &str = "{\"name\":\"folder\",\"relations\":[{\"name\":\"viewer\",\"stratum\":2}]}";
 
@@ -89,7 +92,9 @@ fn checks_changes(rt: HostRuntime) -> Result<(), Fail> {
         ("{\"this\":{}}", Ok(())),
     ] {
         let rules = rules_of(alloc, &[EXCLUSION])?;
-        let text = format!(in alloc; "{{\"name\":\"doc\",\"relations\":[{{\"name\":\"banned\",\"rewrite\":{rewrite}}},{{\"name\":\"viewer\",\"stratum\":1}}]}}")?;
+        let text = format!(in alloc;
+            "{{\"name\":\"doc\",\"relations\":[{{\"name\":\"banned\",\"rewrite\":{rewrite}}},{{\"name\":\"viewer\",\"stratum\":1}}]}}"
+        )?;
         let value = Value::from_str(alloc, text.as_str())?;
         match rules.try_change(&value) {
             Ok(()) => assert_eq!(rt; check_change(&rules, &value), want, "at {rewrite}"),
@@ -103,9 +108,14 @@ fn checks_changes(rt: HostRuntime) -> Result<(), Fail> {
 fn shows_each_edge(rt: HostRuntime) -> Result<(), Fail> {
     let alloc = rt.alloc();
     let plain = format!(in alloc; "{}", edge((1, 2), (3, 4), false))?;
-    assert!(rt; plain.as_str() == "strata, relation 2 of namespace 1 reads relation 4 of namespace 3");
+    assert!(rt;
+        plain.as_str() == "strata, relation 2 of namespace 1 reads relation 4 of namespace 3"
+    );
     let strict = format!(in alloc; "{}", ChangeFault::Strata(edge((1, 2), (3, 4), true)))?;
-    assert!(rt; strict.as_str() == "strata, relation 2 of namespace 1 reads relation 4 of namespace 3 strictly");
+    assert!(rt;
+        strict.as_str()
+            == "strata, relation 2 of namespace 1 reads relation 4 of namespace 3 strictly"
+    );
     let memory = format!(in alloc; "{}", ChangeFault::OutOfMemory)?;
     assert!(rt; memory.as_str() == "out of memory");
     Ok(())

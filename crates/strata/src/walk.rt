@@ -89,8 +89,7 @@ fn premise<'a>(sight: Sight<'a>, rewrite: &'a Rewrite) -> Option<SetRef<'a>>
         }),
         (Sight::Userset(set), Rewrite::This) => Some(set),
         (Sight::Through(relation, set), Rewrite::TupleTo { tupleset, computed })
-            if tupleset.as_str() == relation =>
-        {
+            if tupleset.as_str() == relation => {
             Some(SetRef {
                 relation: computed,
                 ..set

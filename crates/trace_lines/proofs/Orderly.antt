@@ -128,7 +128,7 @@ pub orderly_commit : (ds : List Declaration) (commits : List Commit) (sample now
 orderly_commit ds commits sample now is c fine fault more =
     let a = accepted commits c fault in
     let tuples : first_broken ds (edges_of_tuples ds (added commits ++ c.adds)) ≡ Ok (tt {0}) =
-        tuples_joined ds (added commits) c.adds ∙ rw (is.unbroken.of_tuples, none_broken (first_broken ds (edges_of_tuples ds c.adds)) fine) refl in
+    tuples_joined ds (added commits) c.adds ∙ rw (is.unbroken.of_tuples, none_broken (first_broken ds (edges_of_tuples ds c.adds)) fine) refl in
     record {
       well_formed = is.well_formed;
       unbroken = record {

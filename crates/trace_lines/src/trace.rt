@@ -275,7 +275,14 @@ impl Trace {
         }
         self.commit_lines.reserve(1)?;
         let known = self.sample.len();
-        match commit(&self.rules, &mut self.sample, &mut self.chains, at, adds, removes) {
+        match commit(
+            &self.rules,
+            &mut self.sample,
+            &mut self.chains,
+            at,
+            adds,
+            removes,
+        ) {
             Ok(()) => {}
             Err(cause) => {
                 self.sample.truncate(known);

@@ -1,4 +1,4 @@
-use Rattle.std.proofs.Common.{◌≡◌, ◌∙◌, subst}
+use Rattle.std.proofs.Common.{◌∙◌, subst}
 use Rattle.serde_json.specs.View.{view}
 use Rattle.strata.specs.Changes.{Answers}
 use Rattle.strata.proofs.Untimed.{same_at_any_time}

@@ -1,4 +1,4 @@
-use Rattle.std.proofs.Common.{◌≡◌, sym, ◌∙◌, rules, arith}
+use Rattle.std.proofs.Common.{sym, ◌∙◌, rules, arith}
 use Rattle.strata.specs.Sights.{reads}
 use Rattle.strata.proofs.Walks.{relations_next, relations_end, relation_within, few_relations}
 use Rattle.strata.proofs.check.check_namespace.Goals as goal

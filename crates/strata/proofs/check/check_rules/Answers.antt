@@ -1,4 +1,4 @@
-use Rattle.std.proofs.Common.{◌≡◌, sym, ◌∙◌, rules, arith}
+use Rattle.std.proofs.Common.{sym, ◌∙◌, rules, arith}
 use Rattle.strata.proofs.Walks.{namespaces_next, namespaces_end, namespace_within}
 use Rattle.strata.proofs.check.check_rules.Goals as goal
 

@@ -17,7 +17,7 @@ invariant_of-self-2 c =
     let lines : c.push.new.self.items ≡ c.self.inside.commit_lines.items ++ c.args.line ∷ [] = rw c.in_ok-reserve.ensures.items at (rw c.if-is_err.ensures.negation at c.push.ensures.items) in
     let fine = commit_ok c.self.inside.rules c.self.inside.chains commit c.in-Ok.ensures.answer in
     let accepted : append_fault (record { limit = 2 ^ 32 - 1; commits = c.self.inside.chains.commits }) commit.at commit.adds commit.removes ≡ None =
-        subst (λ (n : ℕ). append_fault (record { limit = n; commits = c.self.inside.chains.commits }) commit.at commit.adds commit.removes ≡ None) c.self.invariant.0 fine.1 in
+    subst (λ (n : ℕ). append_fault (record { limit = n; commits = c.self.inside.chains.commits }) commit.at commit.adds commit.removes ≡ None) c.self.invariant.0 fine.1 in
     rw (c.in-Ok.ensures.appended, lines) (
       c.self.invariant.0,
       kept_commit _ _ _ _ _ c.self.invariant.1 commit c.args.line (omega (arith, room)) (omega (arith, room)),
