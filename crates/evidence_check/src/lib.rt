@@ -5,7 +5,7 @@
 //! may lean on one another. Contracts see [`Evidence`] by `evidence_value` as the list of the steps given for each entry.
 //!
 //! Callers may rely on this: [`read_evidence`] answers the evidence that its input says, or its first fault, also
-//! of a reader that fails; [`judge_entry`] is the definition `judged`, and where strata are valid, whoever made the evidence, a supported
+//! of a reader that fails; [`judge_entry`] is the definition `judged`, and whoever made the evidence, a supported
 //! reply is what the rules mean at the entry's snapshot (Zanzibar, section 2.3) and a contradicted one is not. The laws in [`laws`] say the
 //! same of each accepted step.
 #![tactic(auto)]

@@ -1,3 +1,4 @@
 pub mod Entries
 pub mod Headline
+pub mod JoinedParts
 pub mod Readers

@@ -1,8 +1,10 @@
 //! The audit of joined input.
 
-ghost use Rattle.std.specs.Prelude.{◌≡◌, IfErr};
+ghost use Rattle.std.specs.Prelude.{◌≡◌, drop, option_map, IfErr};
 ghost use Rattle.std.specs.Io.KnownBytes.{Keeps};
+ghost use Rattle.trace_lines.specs.Lines.{line_len};
 ghost use Rattle.new_enemy.specs.Audit.{IsUnwritten};
+ghost use Rattle.new_enemy.specs.Joined.{is_marker, joined_of};
 
 use crate::audit::{AuditFault, Verdict, audit_plain};
 use memchr::memchr;
@@ -33,15 +35,36 @@ fn read_whole<R: Source>(alloc: Global, input: &mut R) -> Result<Vec<u8>, AuditF
     Err(AuditFault::Joined)
 }
 
-/// What stands before the first line `---`, and what stands after it.
-fn parts_of(bytes: &[u8]) -> Option<(&[u8], &[u8])> {
+/// How many bytes stand before the first newline, or all.
+fn line_len(bytes: &[u8]) -> usize
+    ensures { result ≡ line_len bytes.now }
+{
+    memchr(b'\n', bytes).unwrap_or(bytes.len())
+}
+
+fn is_marker(line: &[u8]) -> bool
+    ensures { result ≡ is_marker line.now }
+{
+    line == b"---".as_slice()
+}
+
+/// What stands behind the first `n` bytes.
+fn behind(bytes: &[u8], n: usize) -> &[u8]
+    ensures { result.now ≡ drop n bytes.now }
+{
+    bytes.get(n..).unwrap_or(&[])
+}
+
+/// What stands before the first line `---`, and what stands behind it.
+fn parts_of(bytes: &[u8]) -> Option<(&[u8], &[u8])>
+    ensures { option_map (λ p. (p.0.now, p.1.now)) result ≡ joined_of bytes.now }
+{
     let mut from = 0;
-    for _line in 0..bytes.len() {
-        let rest = bytes.get(from..)?;
-        let len = memchr(b'\n', rest).unwrap_or(rest.len());
-        if rest.get(..len)? == b"---".as_slice() {
-            let after = bytes.get(from + len + 1..).unwrap_or(&[]);
-            return Some((bytes.get(..from)?, after));
+    while from < bytes.len() {
+        let rest = behind(bytes, from);
+        let len = line_len(rest);
+        if is_marker(&rest[..len]) {
+            return Some((&bytes[..from], behind(rest, len + 1)));
         }
         from += len + 1;
     }

@@ -7,7 +7,8 @@
 //! count of failures.
 //!
 //! Callers may rely on this: what is written is the report text of the findings of the values read, and nothing
-//! else; the verdict is clean exactly where there is none; nothing is written where input is refused.
+//! else; the verdict is clean exactly where there is none; nothing is written where input is refused. Where it is clean, each reply is what
+//! the rules mean over the tuples committed up to its snapshot, and no check is older than its zookie or than its version's content check.
 #![tactic(auto)]
 
 mod audit;
