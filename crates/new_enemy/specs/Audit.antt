@@ -96,3 +96,13 @@ IsOfAudit faults.OutOfMemory = ⊤
 IsOfAudit faults.Limits = ⊥
 IsOfAudit faults.Joined = ⊥
 IsOfAudit faults.Input = ⊥
+
+-- a fault of reading joined input whole
+abbrev pub IsOfReading : AuditFault → Type 0
+IsOfReading (faults.Trace f) = ⊥
+IsOfReading (faults.Evidence f) = ⊥
+IsOfReading (faults.Write n) = ⊥
+IsOfReading faults.OutOfMemory = ⊤
+IsOfReading faults.Limits = ⊥
+IsOfReading faults.Joined = ⊤
+IsOfReading faults.Input = ⊤

@@ -1,5 +1,5 @@
 -- The two parts of joined input.
-use Rattle.std.specs.Prelude.{ℕ, Bool, List, [], ◌∷◌, ◌++◌, Option, None, Some, option_map, codes, bytes_eq, if◌then◌else◌}
+use Rattle.std.specs.Prelude.{◌≡◌, ℕ, ◌^◌, ◌<◌, ◌≤◌, ◌⊎◌, Bool, List, [], ◌∷◌, ◌++◌, length, Option, None, Some, option_map, codes, bytes_eq, if◌then◌else◌}
 use Rattle.std.specs.List.{flat_map, join_with_byte}
 use Rattle.trace_lines.specs.Reading.{parts}
 
@@ -22,3 +22,11 @@ bytes_of p = (with_newlines p.0, join_with_byte 10 p.1)
 -- the trace and the evidence of joined input
 abbrev pub joined_of : List ℕ → Option (List ℕ × List ℕ)
 joined_of input = option_map bytes_of (lines_joined (parts input))
+
+-- the input has 2^30 bytes at most, and two parts of which that holds
+abbrev pub OfParts : (List ℕ → List ℕ → Type 0) → List ℕ → Type 0
+OfParts P input = (a : List ℕ) × (b : List ℕ) × (joined_of input ≡ Some (a, b)) × (length input ≤ 2 ^ 30) × P a b
+
+-- the input has no line that is exactly `---`, or too many bytes
+abbrev pub HasNoParts : List ℕ → Type 0
+HasNoParts input = (joined_of input ≡ None) ⊎ (2 ^ 30 < length input)

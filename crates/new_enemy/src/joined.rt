@@ -1,10 +1,15 @@
 //! The audit of joined input.
 
-ghost use Rattle.std.specs.Prelude.{◌≡◌, drop, option_map, IfErr};
+ghost use Rattle.std.specs.Prelude.{◌≡◌, ℕ, List, ◌<◌, ◌≤◌, ◌^◌, length, drop, option_map, Ok, Err, IfOk, IfErr, IfSome};
 ghost use Rattle.std.specs.Io.KnownBytes.{Keeps};
 ghost use Rattle.trace_lines.specs.Lines.{line_len};
-ghost use Rattle.new_enemy.specs.Audit.{IsUnwritten};
-ghost use Rattle.new_enemy.specs.Joined.{is_marker, joined_of};
+ghost use Rattle.trace_lines.specs.declared.cause.TraceFault.{TraceFault};
+ghost use Rattle.evidence_check.specs.declared.cause.EvidenceFault.{EvidenceFault};
+ghost use Rattle.new_enemy.specs.Audit.{Audits, RefusesTrace, RefusesEvidence, IsUnwritten, IsOfReading};
+ghost use Rattle.new_enemy.specs.Headline.{IsTraceRightAndFresh};
+ghost use Rattle.new_enemy.specs.Joined.{is_marker, joined_of, OfParts, HasNoParts};
+ghost use Rattle.new_enemy.specs.declared.audit.AuditFault.TheVariants as faults;
+ghost use Rattle.new_enemy.specs.declared.audit.Verdict.TheVariants.{Clean};
 
 use crate::audit::{AuditFault, Verdict, audit_plain};
 use memchr::memchr;
@@ -16,7 +21,11 @@ const MAX_INPUT: usize = 1 << 30;
 const CHUNK: usize = 65536;
 
 /// All bytes of a reader.
-fn read_whole<R: Source>(alloc: Global, input: &mut R) -> Result<Vec<u8>, AuditFault> {
+fn read_whole<R: Source>(alloc: Global, input: &mut R) -> Result<Vec<u8>, AuditFault>
+    ensures whole { IfOk result (λ v. (length v.items ≤ 2 ^ 30) × IfSome (R.remaining input.old) (λ bytes. v.items ≡ bytes)) }
+    ensures long { result ≡ Err faults.Joined → IfSome (R.remaining input.old) (λ bytes. 2 ^ 30 < length bytes) }
+    ensures causes { IfErr result IsOfReading }
+{
     let mut bytes: Vec<u8> = Vec::new(alloc);
     let mut chunk = vec![in alloc; 0u8; CHUNK]?;
     for _turn in 0..u64::MAX {
@@ -27,12 +36,12 @@ fn read_whole<R: Source>(alloc: Global, input: &mut R) -> Result<Vec<u8>, AuditF
         if given == 0 {
             return Ok(bytes);
         }
-        if bytes.len() > MAX_INPUT || given > MAX_INPUT - bytes.len() {
+        if given > MAX_INPUT - bytes.len() {
             return Err(AuditFault::Joined);
         }
         bytes.extend_from_slice(&chunk[..given])?;
     }
-    Err(AuditFault::Joined)
+    unreachable!()
 }
 
 /// How many bytes stand before the first newline, or all.
@@ -81,6 +90,13 @@ pub fn audit_joined<R: Source, W: Sink>(
     input: &mut R,
     out: &mut W,
 ) -> Result<Verdict, AuditFault>
+    // The report on what the two parts say went out, and the verdict is its last line.
+    ensures audits { IfOk result (λ v. IfSome (R.remaining input.old) (OfParts (λ a b. Audits a b (W.contents out.old) (W.contents out.new) v))) }
+    // A clean verdict is right and fresh, as that of `audit_plain`.
+    ensures headline { result ≡ Ok Clean → IfSome (R.remaining input.old) (OfParts (λ a b. IsTraceRightAndFresh a)) }
+    ensures trace { (f : TraceFault) → result ≡ Err (faults.Trace f) → IfSome (R.remaining input.old) (OfParts (λ a b. RefusesTrace a f)) }
+    ensures evidence { (f : EvidenceFault) → result ≡ Err (faults.Evidence f) → IfSome (R.remaining input.old) (OfParts (λ a b. RefusesEvidence a b f)) }
+    ensures joined { result ≡ Err faults.Joined → IfSome (R.remaining input.old) HasNoParts }
     ensures unwritten { IfErr result (λ e. IsUnwritten e → Keeps (W.contents out.old) (W.contents out.new)) }
 {
     let bytes = read_whole(alloc, input)?;
