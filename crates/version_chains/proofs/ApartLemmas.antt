@@ -6,9 +6,9 @@ use Rattle.tuple_text.specs.Tuples.{TupleValue}
 use Rattle.tuple_text.specs.Order.{tuple_eq}
 use Rattle.tuple_text.specs.OrderLaws.{tuple_equiv}
 use Rattle.tuple_text.proofs.ValueLemmas.{tuple_eq-same, tuple_eq-itself}
-use Rattle.version_chains.specs.Appends.{repeat_from}
+use Rattle.version_chains.specs.Appends.{repeat_from, first_repeat}
 use Rattle.version_chains.specs.Commits.{Commit, TouchesOnce}
-use Rattle.version_chains.specs.Rows.{AreApart}
+use Rattle.version_chains.specs.Given.{AreApart}
 use Rattle.std.specs.Prelude.{All}
 use Rattle.std.proofs.lemmas.List.Elements.{All-from_recursion}
 
@@ -53,32 +53,32 @@ has-last t (x ∷ xs) = ap (λ b. tuple_eq x t || b) (has-last t xs) ∙ or-any 
     or-any false = refl
 
 -- what stands before a list without a repeat is not in it
-pub apart-seen : (seen : List TupleValue) (n : ℕ) (ts : List TupleValue) (t : TupleValue) → repeat_from seen n ts ≡ None → has t seen ≡ true → has t ts ≡ false
+pub apart-seen : (seen : List TupleValue) (n : ℕ) (ts : List TupleValue) (t : TupleValue) → repeat_from tuple_eq seen n ts ≡ None → has t seen ≡ true → has t ts ≡ false
 apart-seen seen n [] t e h = refl
 apart-seen seen n (x ∷ xs) t e h =
-    let p = cond-none (has x seen) n (repeat_from (seen ++ x ∷ []) (n + 1) xs) e in
+    let p = cond-none (has x seen) n (repeat_from tuple_eq (seen ++ x ∷ []) (n + 1) xs) e in
     or-false (tuple_eq x t) (has t xs)
     (differs (tuple_eq x t) (λ q. true-false (has x seen) (ap (λ v. has v seen) (tuple_eq-same x t q) ∙ h) p.0))
     (apart-seen (seen ++ x ∷ []) (n + 1) xs t p.1 (has-push t seen x h))
 
 -- a list without a repeat, in two parts
-pub apart-parts : (seen : List TupleValue) (n : ℕ) (fs bs : List TupleValue) (t : TupleValue) → repeat_from seen n (fs ++ bs) ≡ None → has t fs ≡ true → has t bs ≡ false
+pub apart-parts : (seen : List TupleValue) (n : ℕ) (fs bs : List TupleValue) (t : TupleValue) → repeat_from tuple_eq seen n (fs ++ bs) ≡ None → has t fs ≡ true → has t bs ≡ false
 apart-parts seen n [] bs t e h = cc
 apart-parts seen n (x ∷ xs) bs t e h =
-    let p = cond-none (has x seen) n (repeat_from (seen ++ x ∷ []) (n + 1) (xs ++ bs)) e in
+    let p = cond-none (has x seen) n (repeat_from tuple_eq (seen ++ x ∷ []) (n + 1) (xs ++ bs)) e in
     pick (tuple_eq x t) refl h p.1 (apart-parts (seen ++ x ∷ []) (n + 1) xs bs t p.1)
   where
-    pick : (b : Bool) → tuple_eq x t ≡ b → (b || has t xs) ≡ true → repeat_from (seen ++ x ∷ []) (n + 1) (xs ++ bs) ≡ None → (has t xs ≡ true → has t bs ≡ false) → has t bs ≡ false
+    pick : (b : Bool) → tuple_eq x t ≡ b → (b || has t xs) ≡ true → repeat_from tuple_eq (seen ++ x ∷ []) (n + 1) (xs ++ bs) ≡ None → (has t xs ≡ true → has t bs ≡ false) → has t bs ≡ false
     pick true q h e further =
         or-right (has t xs) (has t bs)
         (sym (list_any-append (λ y. tuple_eq y t) xs bs) ∙ apart-seen (seen ++ x ∷ []) (n + 1) (xs ++ bs) t e (subst (λ (v : TupleValue). has v (seen ++ x ∷ []) ≡ true) (tuple_eq-same x t q) (has-last x seen)))
     pick false q h e further = further h
 
 -- and the first part alone
-pub apart-front : (seen : List TupleValue) (n : ℕ) (fs bs : List TupleValue) → repeat_from seen n (fs ++ bs) ≡ None → repeat_from seen n fs ≡ None
+pub apart-front : (seen : List TupleValue) (n : ℕ) (fs bs : List TupleValue) → repeat_from tuple_eq seen n (fs ++ bs) ≡ None → repeat_from tuple_eq seen n fs ≡ None
 apart-front seen n [] bs e = refl
 apart-front seen n (x ∷ xs) bs e =
-    let p = cond-none (has x seen) n (repeat_from (seen ++ x ∷ []) (n + 1) (xs ++ bs)) e in
+    let p = cond-none (has x seen) n (repeat_from tuple_eq (seen ++ x ∷ []) (n + 1) (xs ++ bs)) e in
     rw p.0 (apart-front (seen ++ x ∷ []) (n + 1) xs bs p.1)
 
 none-same : (t : TupleValue) (ts : List TupleValue) → has t ts ≡ false → AllByRecursion (λ y. tuple_eq t y ≡ false) ts
@@ -86,12 +86,16 @@ none-same t [] h = tt
 none-same t (y ∷ ys) h = (tuple_equiv.symm t y ∙ or-left _ _ h, none-same t ys (or-right (tuple_eq y t) _ h))
 
 -- where no place repeats, the tuples are distinct
-pub distinct-apart : (seen : List TupleValue) (n : ℕ) (ts : List TupleValue) → repeat_from seen n ts ≡ None → IsDistinct tuple_eq ts
+pub distinct-apart : (seen : List TupleValue) (n : ℕ) (ts : List TupleValue) → repeat_from tuple_eq seen n ts ≡ None → IsDistinct tuple_eq ts
 unfolding IsDistinct
 distinct-apart seen n [] e = tt
 distinct-apart seen n (x ∷ xs) e =
-    let p = cond-none (has x seen) n (repeat_from (seen ++ x ∷ []) (n + 1) xs) e in
+    let p = cond-none (has x seen) n (repeat_from tuple_eq (seen ++ x ∷ []) (n + 1) xs) e in
     (none-same x xs (apart-seen (seen ++ x ∷ []) (n + 1) xs x p.1 (has-last x seen)), distinct-apart (seen ++ x ∷ []) (n + 1) xs p.1)
+
+pub apart_more : (cs : List Commit) (c : Commit) → AreApart cs → first_repeat (c.adds ++ c.removes) ≡ None → AreApart (cs ++ c ∷ [])
+apart_more [] c h e = (e, tt)
+apart_more (d ∷ ds) c h e = (h.0, apart_more ds c h.1 e)
 
 pub touch-once : (commits : List Commit) → AreApart commits → All TouchesOnce commits
 touch-once commits h =

@@ -1,7 +1,14 @@
 pub mod ApartLemmas
+pub mod AppendLemmas
+pub mod ArenaLemmas
+pub mod BackLemmas
 pub mod CallerLemmas
-pub mod HistoryLemmas
-pub mod LiveLemmas
+pub mod CommitLemmas
+pub mod FindLemmas
+pub mod NewestLemmas
+pub mod PlacedLemmas
+pub mod LinkLemmas
 pub mod RepeatLemmas
 pub mod StoreLemmas
 pub mod UserLemmas
+pub mod WalkLemmas

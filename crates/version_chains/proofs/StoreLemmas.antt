@@ -10,7 +10,7 @@ use Rattle.tuple_text.specs.Order.{tuple_eq}
 use Rattle.tuple_text.specs.OrderLaws.{tuple_equiv}
 use Rattle.tuple_text.proofs.ValueLemmas.{tuple_eq-same}
 use Rattle.version_chains.specs.Commits.{Commit, Touch, touches, changelog, touches_to, until, last_live, is_stored, store_at, added}
-use Rattle.version_chains.proofs.LiveLemmas.{side}
+use Rattle.version_chains.proofs.CommitLemmas.{side}
 
 -- one of these tuples is t
 abbrev among : TupleValue → List TupleValue → Bool

@@ -1,183 +1,143 @@
--- The users that the scan finds are those stored, each once.
-use Rattle.std.proofs.Common.{◌≡◌, ℕ, ◌+◌, Bool, true, false, cond, List, [], ◌∷◌, ◌++◌, refl, sym, ◌∙◌, ap, leb, ◌||◌, ◌&&◌, not, None}
+-- The users that the arena gives are those stored, each once.
+use Rattle.std.proofs.Common.{◌≡◌, ℕ, zero, suc, ◌<◌, Bool, true, false, cond, List, [], ◌∷◌, length, map, refl, sym, ◌∙◌, ap, subst, Some, None, Option, arith, ◌&&◌, ◌||◌, nat_eq}
+use Rattle.std.specs.Prelude.{slice_get}
 use Rattle.std.specs.List.{list_any, IsDistinct, AllByRecursion}
-use Rattle.std.proofs.lemmas.List.Folds.{list_any-append}
+use Rattle.std.proofs.lemmas.Option.{slice_get_within}
+use Rattle.std.proofs.lemmas.Bool.{eqb-true, eq-eqb}
 use Rattle.tuple_text.specs.Sets.{SetValue, set_eq}
 use Rattle.tuple_text.specs.Tuples.{TupleValue, tuple_of}
 use Rattle.tuple_text.specs.Order.{user_eq}
 use Rattle.tuple_text.specs.declared.users.User.{User}
-use Rattle.tuple_text.proofs.ValueLemmas.{set_eq-same, user_eq-itself, tuple_eq-same}
-use Rattle.tuple_text.specs.OrderLaws.{user_equiv}
-use Rattle.version_chains.specs.Commits.{Commit, is_stored}
-use Rattle.version_chains.specs.Appends.{repeat_from}
-use Rattle.version_chains.specs.Rows.{AreApart}
-use Rattle.version_chains.specs.Scan.{live_after, touches_until, gives, users_in, users_from}
-use Rattle.version_chains.proofs.ApartLemmas.{has, or-false, or-left, or-right, or-true, cond-none, has-last, apart-seen, apart-parts, apart-front}
-use Rattle.version_chains.proofs.LiveLemmas.{live_from, live_from-cons}
+use Rattle.tuple_text.proofs.ValueLemmas.{set_eq-same, set_eq-itself, user_eq-same, user_eq-itself, tuple_eq-same}
+use Rattle.version_chains.specs.Arena.{Held, AreApartAt}
+use Rattle.version_chains.specs.Commits.{touches_to, until, last_live}
+use Rattle.version_chains.specs.Given.{AreTouchesKnown, is_given, users_before, has_mark_of}
+use Rattle.version_chains.specs.Marks.{set_mark}
+use Rattle.version_chains.specs.Placed.{in_front, last_place, newest_first, IsLinkedPlace}
+use Rattle.version_chains.proofs.NewestLemmas.{live_touched}
+use Rattle.version_chains.proofs.PlacedLemmas.{given_at, given_from, last_place-within, newest_first-here, newest_first-not_here}
+use Rattle.version_chains.proofs.WalkLemmas.{linked_item, linked_older, left_older}
 
-after-untouched : (q a r b : Bool) → (q && (a || r)) ≡ false → cond q (cond r false (cond a true b)) b ≡ b
-after-untouched false a r b h = refl
-after-untouched true true r b h = cc
-after-untouched true false true b h = cc
-after-untouched true false false b h = refl
+and-left : (a b : Bool) → (a && b) ≡ true → a ≡ true
+and-left true b h = refl
+and-left false b h = h
 
-after-touched : (q a r b d : Bool) → (q && (a || r)) ≡ true → cond q (cond r false (cond a true b)) b ≡ cond q (cond r false (cond a true d)) d
-after-touched false a r b d h = cc
-after-touched true true true b d h = refl
-after-touched true true false b d h = refl
-after-touched true false true b d h = refl
-after-touched true false false b d h = cc
+and-right : (a b : Bool) → (a && b) ≡ true → b ≡ true
+and-right true b h = h
+and-right false b h = cc
 
-from-or : (x y : Bool) → (x || y) ≡ true → y ≡ false → x ≡ true
-from-or true y h k = refl
-from-or false y h k = cc
+list_any-map : {X Y : Type 0} (f : X → Y) (p : Y → Bool) (xs : List X) → list_any p (map f xs) ≡ list_any (λ x. p (f x)) xs
+list_any-map f p [] = refl
+list_any-map f p (x ∷ xs) = ap (λ b. p (f x) || b) (list_any-map f p xs)
 
--- where no commit touches the tuple, what was live stays
-pub live_from-untouched : (b : Bool) (cs : List Commit) (s : ℕ) (t : TupleValue) → list_any (touches_until s t) cs ≡ false → live_from b cs s t ≡ b
-live_from-untouched b [] s t e = refl
-live_from-untouched b (c ∷ cs) s t e =
-    live_from-cons b c cs s t
-    ∙ ap (λ v. live_from v cs s t) (after-untouched (leb c.at s) (has t c.adds) (has t c.removes) b (or-left _ _ e))
-    ∙ live_from-untouched b cs s t (or-right (touches_until s t c) _ e)
-
--- where one does, it does not matter what was live
-pub live_from-touched : (b d : Bool) (cs : List Commit) (s : ℕ) (t : TupleValue) → list_any (touches_until s t) cs ≡ true → live_from b cs s t ≡ live_from d cs s t
-live_from-touched b d [] s t e = cc
-live_from-touched b d (c ∷ cs) s t e =
-    live_from-cons b c cs s t ∙ pick (list_any (touches_until s t) cs) refl (live_from-touched (live_after c s t b) (live_after c s t d) cs s t) ∙ sym (live_from-cons d c cs s t)
+none_same : (u : User) (us : List User) → list_any (user_eq u) us ≡ false → AllByRecursion (λ y. user_eq u y ≡ false) us
+none_same u [] h = tt
+none_same u (y ∷ ys) h = pick (user_eq u y) refl h (none_same u ys)
   where
-    pick : (v : Bool) → list_any (touches_until s t) cs ≡ v → (list_any (touches_until s t) cs ≡ true → live_from (live_after c s t b) cs s t ≡ live_from (live_after c s t d) cs s t) → live_from (live_after c s t b) cs s t ≡ live_from (live_after c s t d) cs s t
-    pick true q further = further q
-    pick false q further =
-        ap (λ v. live_from v cs s t) (after-touched (leb c.at s) (has t c.adds) (has t c.removes) b d (from-or (touches_until s t c) (list_any (touches_until s t) cs) e q))
+    pick : (b : Bool) → user_eq u y ≡ b → (b || list_any (user_eq u) ys) ≡ false → (list_any (user_eq u) ys ≡ false → AllByRecursion (λ y. user_eq u y ≡ false) ys) → (user_eq u y ≡ false) × AllByRecursion (λ y. user_eq u y ≡ false) ys
+    pick true e k further = absurd cc
+    pick false e k further = (e, further k)
 
-any-cond : (p : User → Bool) (b : Bool) (y : User) (us : List User) → list_any p (cond b (y ∷ us) us) ≡ cond b (p y || list_any p us) (list_any p us)
-any-cond p true y us = refl
-any-cond p false y us = refl
+module _ (g : SetValue) (s : ℕ) (h : Held) where
+  -- a tuple that is given is the userset's
+  of_set : (t : TupleValue) → is_given g s h.touches t ≡ true → t.set ≡ g
+  of_set t e = set_eq-same t.set g (and-left (set_eq t.set g) _ e)
 
-given-step : (p q h tx tu : Bool) → ((p && q) ≡ true → tx ≡ tu) → cond (p && not tx) (q || (h && not tu)) (h && not tu) ≡ (((p && q) || h) && not tu)
-given-step false q h tx tu k = refl
-given-step true false h true tu k = refl
-given-step true false h false tu k = refl
-given-step true true h true true k = elim h as (λ v. (v && false) ≡ false) [ true ↦ refl | false ↦ refl ]
-given-step true true h true false k = let e = k refl in cc
-given-step true true h false true k = let e = k refl in cc
-given-step true true h false false k = refl
+  given_marked : (t : TupleValue) → is_given g s h.touches t ≡ true → has_mark_of g t ≡ true
+  given_marked t e = eq-eqb (set_mark g) (set_mark t.set) (ap set_mark (sym (of_set t e)))
 
--- a user is among those of these adds where its tuple is among the adds and is not touched later
-pub users_in-is : (g : SetValue) (s : ℕ) (ts : List TupleValue) (later : List Commit) (u : User) → list_any (user_eq u) (users_in g s ts later) ≡ (has (tuple_of g u) ts && not (list_any (touches_until s (tuple_of g u)) later))
-users_in-is g s [] later u = refl
-users_in-is g s (x ∷ xs) later u =
-    let t = tuple_of g u in
-    any-cond (user_eq u) (gives g s later x) x.user (users_in g s xs later)
-    ∙ ap (λ v. cond (gives g s later x) (v || list_any (user_eq u) (users_in g s xs later)) (list_any (user_eq u) (users_in g s xs later))) (user_equiv.symm u x.user)
-    ∙ ap (λ v. cond (gives g s later x) (user_eq x.user u || v) v) (users_in-is g s xs later u)
-    ∙ given-step (set_eq x.set g) (user_eq x.user u) (has t xs) (list_any (touches_until s x) later) (list_any (touches_until s t) later) (λ q. ap (λ v. list_any (touches_until s v) later) (tuple_eq-same x t q))
+  -- one with the same user is the same tuple
+  same_tuple : (t u : TupleValue) → is_given g s h.touches t ≡ true → is_given g s h.touches u ≡ true → user_eq t.user u.user ≡ true → t ≡ u
+  same_tuple t u p q e = λ i. record { set = (of_set t p ∙ sym (of_set u q)) i; user = user_eq-same t.user u.user e i }
 
-stored-step : (q a r t i l : Bool) → (a ≡ true → r ≡ false) → (t ≡ true → l ≡ i) → (t ≡ false → i ≡ false) → (t ≡ false → l ≡ cond q (cond r false (cond a true false)) false) → (cond q (a && not t) false || i) ≡ l
-stored-step q a r true i l h k m n = sym (k refl ∙ sym (drops q a i))
-  where
-    drops : (q a i : Bool) → (cond q (a && false) false || i) ≡ i
-    drops true true i = refl
-    drops true false i = refl
-    drops false a i = refl
-stored-step q a r false i l h k m n = ap (λ v. cond q (a && true) false || v) (m refl) ∙ same q a r h ∙ sym (n refl)
-  where
-    same : (q a r : Bool) → (a ≡ true → r ≡ false) → (cond q (a && true) false || false) ≡ cond q (cond r false (cond a true false)) false
-    same false a r h = refl
-    same true true true h = let e = h refl in cc
-    same true true false h = refl
-    same true false true h = refl
-    same true false false h = refl
+  module _ (apart : AreApartAt h.tuples) where
+    not_before : (n : ℕ) (t : TupleValue) → slice_get h.tuples n ≡ Some t → is_given g s h.touches t ≡ true → list_any (user_eq t.user) (users_before g s h n) ≡ false
+    not_before n t here p = by_test (list_any (user_eq t.user) (users_before g s h n)) refl
+      where
+        by_test : (b : Bool) → list_any (user_eq t.user) (users_before g s h n) ≡ b → b ≡ false
+        by_test false e = refl
+        by_test true e =
+            let w = given_at (is_given g s h.touches) (λ u. user_eq t.user u.user) h.tuples n (sym (list_any-map (λ u. u.user) (user_eq t.user) (newest_first (is_given g s h.touches) h.tuples n)) ∙ e) in
+            let same = same_tuple t w.1 p w.4 w.5 in
+            let place : n ≡ w.0 = apart n w.0 t here (subst (λ (u : TupleValue). slice_get h.tuples w.0 ≡ Some u) (sym same) w.3) in
+            let less = w.2 in
+            absurd (omega (arith, place, less))
 
-cond-any : (p : User → Bool) (b : Bool) (us : List User) → list_any p (cond b us []) ≡ cond b (list_any p us) false
-cond-any p true us = refl
-cond-any p false us = refl
+    pub users_distinct : (n : ℕ) → IsDistinct user_eq (users_before g s h n)
+    unfolding IsDistinct
+    users_distinct zero = tt
+    users_distinct (suc n) = pick (slice_get h.tuples n) refl (users_distinct n)
+      where
+        by_test : (t : TupleValue) → slice_get h.tuples n ≡ Some t → (b : Bool) → is_given g s h.touches t ≡ b → IsDistinct user_eq (users_before g s h n) → IsDistinct user_eq (map (λ t. t.user) (cond b (t ∷ newest_first (is_given g s h.touches) h.tuples n) (newest_first (is_given g s h.touches) h.tuples n)))
+        by_test t here true p before = (none_same t.user (users_before g s h n) (not_before n t here p), before)
+        by_test t here false p before = before
 
-pub users_from-stored : (g : SetValue) (s : ℕ) (cs : List Commit) → AreApart cs → (u : User) → list_any (user_eq u) (users_from g s cs) ≡ is_stored cs s (tuple_of g u)
-users_from-stored g s [] apart u = refl
-users_from-stored g s (c ∷ cs) apart u =
-    let t = tuple_of g u in
-    list_any-append (user_eq u) (cond (leb c.at s) (users_in g s c.adds cs) []) (users_from g s cs)
-    ∙ ap (λ v. v || list_any (user_eq u) (users_from g s cs)) (cond-any (user_eq u) (leb c.at s) (users_in g s c.adds cs) ∙ ap (λ v. cond (leb c.at s) v false) (users_in-is g s c.adds cs u))
-    ∙ ap (λ v. cond (leb c.at s) (has t c.adds && not (list_any (touches_until s t) cs)) false || v) (users_from-stored g s cs apart.1 u)
-    ∙ stored-step (leb c.at s) (has t c.adds) (has t c.removes) (list_any (touches_until s t) cs) (is_stored cs s t) (is_stored (c ∷ cs) s t)
-    (apart-parts [] 0 c.adds c.removes t apart.0)
-    (λ h. live_from-cons false c cs s t ∙ live_from-touched (live_after c s t false) false cs s t h)
-    (λ h. live_from-untouched false cs s t h)
-    (λ h. live_from-cons false c cs s t ∙ live_from-untouched (live_after c s t false) cs s t h)
+        pick : (o : Option TupleValue) → slice_get h.tuples n ≡ o → IsDistinct user_eq (users_before g s h n) → IsDistinct user_eq (map (λ t. t.user) (in_front (is_given g s h.touches) o (newest_first (is_given g s h.touches) h.tuples n)))
+        pick None here before = before
+        pick (Some t) here before = by_test t here (is_given g s h.touches t) refl before
 
--- each user differs from the later ones
-abbrev AreSeparate : List User → Type 0
-AreSeparate [] = Unit {0}
-AreSeparate (u ∷ us) = (list_any (user_eq u) us ≡ false) × AreSeparate us
+  module _ (known : AreTouchesKnown h) (u : User) where
+    abbrev stored : Bool
+    stored = last_live false (touches_to (tuple_of g u) (until s h.touches))
 
-none-given : (u : User) (us : List User) → list_any (user_eq u) us ≡ false → AllByRecursion (λ y. user_eq u y ≡ false) us
-none-given u [] h = tt
-none-given u (y ∷ ys) h = (or-left _ _ h, none-given u ys (or-right (user_eq u y) _ h))
+    abbrev given : Bool
+    given = list_any (user_eq u) (users_before g s h (length h.tuples))
 
-distinct-from : (us : List User) → AreSeparate us → IsDistinct user_eq us
-unfolding IsDistinct
-distinct-from [] h = tt
-distinct-from (u ∷ us) h = (none-given u us h.0, distinct-from us h.1)
+    by_user : given ≡ list_any (λ t. user_eq u t.user) (newest_first (is_given g s h.touches) h.tuples (length h.tuples))
+    by_user = list_any-map (λ t. t.user) (user_eq u) (newest_first (is_given g s h.touches) h.tuples (length h.tuples))
 
-separate-append : (us vs : List User) → AreSeparate us → AreSeparate vs → ((u : User) → list_any (user_eq u) us ≡ true → list_any (user_eq u) vs ≡ false) → AreSeparate (us ++ vs)
-separate-append [] vs h k m = k
-separate-append (u ∷ us) vs h k m = (
-  list_any-append (user_eq u) us vs ∙ or-false _ _ h.0 (m u (or-true (user_eq u u) _ (user_eq-itself u))),
-  separate-append us vs h.1 k (λ x q. m x (or-second (user_eq x u) (list_any (user_eq x) us) q)),
-)
-  where
-    or-second : (a b : Bool) → b ≡ true → (a || b) ≡ true
-    or-second true b h = refl
-    or-second false b h = h
+    stored_given : stored ≡ true → given ≡ true
+    stored_given e =
+        let touch = live_touched (tuple_of g u) s h.touches e in
+        let number = known touch.0 touch.1 touch.2 in
+        let here : slice_get h.tuples number.0 ≡ Some (tuple_of g u) = number.1 ∙ ap Some (tuple_eq-same touch.1.tuple (tuple_of g u) touch.3) in
+        by_user
+        ∙ given_from (is_given g s h.touches) (λ t. user_eq u t.user) h.tuples (length h.tuples) number.0 (tuple_of g u) (slice_get_within h.tuples number.0 (tuple_of g u) here) here
+        (rw (set_eq-itself g, e) refl) (user_eq-itself u)
 
-and-first : (a b : Bool) → (a && b) ≡ true → a ≡ true
-and-first true b h = refl
-and-first false b h = h
+    given_stored : given ≡ true → stored ≡ true
+    given_stored e =
+        let w = given_at (is_given g s h.touches) (λ t. user_eq u t.user) h.tuples (length h.tuples) (sym by_user ∙ e) in
+        let same : w.1 ≡ tuple_of g u = λ i. record { set = of_set w.1 w.4 i; user = sym (user_eq-same u w.1.user w.5) i } in
+        subst (λ (t : TupleValue). last_live false (touches_to t (until s h.touches)) ≡ true) same (and-right (set_eq w.1.set g) _ w.4)
 
-and-second : (a b : Bool) → (a && b) ≡ true → b ≡ true
-and-second true b h = h
-and-second false b h = cc
+    pub users_stored : given ≡ stored
+    users_stored = by_tests given stored refl refl
+      where
+        by_tests : (a b : Bool) → given ≡ a → stored ≡ b → a ≡ b
+        by_tests true true p q = refl
+        by_tests false false p q = refl
+        by_tests true false p q = sym (given_stored p) ∙ q
+        by_tests false true p q = sym p ∙ stored_given q
 
-not-true : (b : Bool) → not b ≡ true → b ≡ false
-not-true true h = cc
-not-true false h = refl
+  -- ---- the walk over them
 
-separate-in : (g : SetValue) (s : ℕ) (seen : List TupleValue) (n : ℕ) (ts : List TupleValue) (later : List Commit) → repeat_from seen n ts ≡ None → AreSeparate (users_in g s ts later)
-separate-in g s seen n [] later e = tt
-separate-in g s seen n (x ∷ xs) later e =
-    let p = cond-none (has x seen) n (repeat_from (seen ++ x ∷ []) (n + 1) xs) e in
-    let rest = separate-in g s (seen ++ x ∷ []) (n + 1) xs later p.1 in
-    let alone = apart-seen (seen ++ x ∷ []) (n + 1) xs x p.1 (has-last x seen) in
-    pick (gives g s later x) refl alone rest
-  where
-    pick : (b : Bool) → gives g s later x ≡ b → has x xs ≡ false → AreSeparate (users_in g s xs later) → AreSeparate (cond b (x.user ∷ users_in g s xs later) (users_in g s xs later))
-    pick false q alone rest = rest
-    pick true q alone rest = (
-      users_in-is g s xs later x.user
-          ∙ ap (λ v. v && not (list_any (touches_until s (tuple_of g x.user)) later)) (ap (λ (v : SetValue). has (tuple_of v x.user) xs) (sym (set_eq-same x.set g (and-first (set_eq x.set g) _ q))) ∙ alone),
-      rest,
-    )
+  pub users_start : (place : ℕ) → place ≡ last_place (has_mark_of g) h.tuples (length h.tuples) → users_before g s h place ≡ users_before g s h (length h.tuples)
+  users_start place e = ap (map (λ t. t.user)) (sym (left_older (has_mark_of g) (is_given g s h.touches) given_marked h.tuples (length h.tuples) place e))
 
-separate-cond : (b : Bool) (us : List User) → AreSeparate us → AreSeparate (cond b us [])
-separate-cond true us h = h
-separate-cond false us h = tt
+  pub user_at : (m : ℕ) → IsLinkedPlace (has_mark_of g) h.tuples (suc m) → (t : TupleValue) × (slice_get h.tuples m ≡ Some t)
+  user_at m on = let w = linked_item (has_mark_of g) h.tuples m on in (w.0, w.1)
 
-separate-from : (g : SetValue) (s : ℕ) (cs : List Commit) → AreApart cs → AreSeparate (users_from g s cs)
-separate-from g s [] apart = tt
-separate-from g s (c ∷ cs) apart =
-    separate-append (cond (leb c.at s) (users_in g s c.adds cs) []) (users_from g s cs)
-    (separate-cond (leb c.at s) _ (separate-in g s [] 0 c.adds cs (apart-front [] 0 c.adds c.removes apart.0)))
-    (separate-from g s cs apart.1)
-    (λ u h.
-    let given = sym (cond-any (user_eq u) (leb c.at s) (users_in g s c.adds cs) ∙ ap (λ v. cond (leb c.at s) v false) (users_in-is g s c.adds cs u)) ∙ h in
-    users_from-stored g s cs apart.1 u
-    ∙ live_from-untouched false cs s (tuple_of g u) (not-true _ (and-second (has (tuple_of g u) c.adds) _ (cond-true (leb c.at s) _ given))))
-  where
-    cond-true : (b c : Bool) → cond b c false ≡ true → c ≡ true
-    cond-true true c h = h
-    cond-true false c h = cc
+  module _ (m : ℕ) (on : IsLinkedPlace (has_mark_of g) h.tuples (suc m)) (older : ℕ) (link : (t : TupleValue) → slice_get h.tuples m ≡ Some t → older ≡ last_place (has_mark_of t.set) h.tuples m) where
+    link_of_set : older ≡ last_place (has_mark_of g) h.tuples m
+    link_of_set =
+        let w = linked_item (has_mark_of g) h.tuples m on in
+        link w.0 w.1 ∙ ap (λ (mark : ℕ). last_place (λ t. nat_eq mark (set_mark t.set)) h.tuples m) (sym (eqb-true (set_mark g) (set_mark w.0.set) w.2))
 
-pub users_from-distinct : (g : SetValue) (s : ℕ) (cs : List Commit) → AreApart cs → IsDistinct user_eq (users_from g s cs)
-users_from-distinct g s cs apart = distinct-from (users_from g s cs) (separate-from g s cs apart)
+    pub users_smaller : (place : ℕ) → place ≡ suc m → older < place
+    users_smaller place e =
+        let is = link_of_set in
+        let below = last_place-within (has_mark_of g) h.tuples m in
+        omega (arith, is, below, e)
+
+    pub users_on : IsLinkedPlace (has_mark_of g) h.tuples older
+    users_on = linked_older (has_mark_of g) h.tuples m older on link_of_set
+
+    left : newest_first (is_given g s h.touches) h.tuples m ≡ newest_first (is_given g s h.touches) h.tuples older
+    left = left_older (has_mark_of g) (is_given g s h.touches) given_marked h.tuples m older link_of_set
+
+    pub users_give : (t : TupleValue) → slice_get h.tuples m ≡ Some t → is_given g s h.touches t ≡ true → users_before g s h (suc m) ≡ t.user ∷ users_before g s h older
+    users_give t here p = ap (map (λ t. t.user)) (newest_first-here (is_given g s h.touches) h.tuples m t here p ∙ ap (λ ts. t ∷ ts) left)
+
+    pub users_skip : (t : TupleValue) → slice_get h.tuples m ≡ Some t → is_given g s h.touches t ≡ false → users_before g s h (suc m) ≡ users_before g s h older
+    users_skip t here p = ap (map (λ t. t.user)) (newest_first-not_here (is_given g s h.touches) h.tuples m t here p ∙ left)

@@ -1,5 +1,5 @@
 -- When a commit is refused, and what an accepted one leaves.
-use Rattle.std.specs.Prelude.{◌≡◌, ℕ, ◌+◌, ◌-◌, List, [], ◌∷◌, ◌++◌, length, nat_le, nat_lt, map, slice_get, Option, Some, None, if◌then◌else◌, ◌⊎◌}
+use Rattle.std.specs.Prelude.{◌≡◌, ℕ, Bool, ◌+◌, ◌-◌, List, [], ◌∷◌, ◌++◌, length, nat_le, nat_lt, map, slice_get, Option, Some, None, if◌then◌else◌, ◌⊎◌}
 use Rattle.std.specs.List.{list_any}
 use Rattle.tuple_text.specs.Tuples.{TupleValue}
 use Rattle.tuple_text.specs.Order.{tuple_eq}
@@ -7,13 +7,13 @@ use Rattle.version_chains.specs.Commits.{Commit, Changes, changelog}
 use Rattle.version_chains.specs.declared.fault.AppendFault.{AppendFault}
 use Rattle.version_chains.specs.declared.fault.AppendFault.TheVariants.{NotLater, TouchedTwice, Full, OutOfMemory}
 
--- the place of the first tuple that stands earlier too, where `seen` stands before place `n`
-abbrev pub repeat_from : List TupleValue → ℕ → List TupleValue → Option ℕ
-repeat_from seen n [] = None
-repeat_from seen n (t ∷ ts) = if list_any (λ s. tuple_eq s t) seen then Some n else repeat_from (seen ++ t ∷ []) (n + 1) ts
+-- the place of the first item that stands earlier too, where `seen` stands before place `n`
+abbrev pub repeat_from : {X : Type 0} → (X → X → Bool) → List X → ℕ → List X → Option ℕ
+repeat_from eq seen n [] = None
+repeat_from eq seen n (t ∷ ts) = if list_any (λ s. eq s t) seen then Some n else repeat_from eq (seen ++ t ∷ []) (n + 1) ts
 
 abbrev pub first_repeat : List TupleValue → Option ℕ
-first_repeat ts = repeat_from [] 0 ts
+first_repeat ts = repeat_from tuple_eq [] 0 ts
 
 -- the timestamp of the last commit
 abbrev pub last_at : List Commit → Option ℕ

@@ -1,5 +1,9 @@
 pub mod Among
 pub mod Appends
+pub mod Arena
 pub mod Commits
-pub mod Rows
-pub mod Scan
+pub mod Given
+pub mod Jumps
+pub mod Links
+pub mod Marks
+pub mod Placed

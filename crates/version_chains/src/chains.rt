@@ -1,22 +1,23 @@
 //! The store.
 
-ghost use Rattle.std.specs.Prelude.{◌≡◌, [], map, All, IfErr, OnOk, OnErr, None};
+ghost use Rattle.std.specs.Prelude.{◌≡◌, ◌<◌, ◌≤◌, ◌+◌, ◌++◌, [], List, ℕ, map, length, All, IfOk, IfErr, OnOk, OnErr, None};
 ghost use Rattle.std.specs.List.{list_any, IsDistinct};
 ghost use Rattle.std.specs.List.Sorted.{IsStrictlyIncreasing};
 ghost use Rattle.tuple_text.specs.Order.{user_eq};
 ghost use Rattle.tuple_text.specs.Refs.{set_value};
-ghost use Rattle.tuple_text.specs.Tuples.{tuple_of};
+ghost use Rattle.tuple_text.specs.Tuples.{TupleValue, tuple_of};
 ghost use Rattle.tuple_text.specs.declared.users.User.{User};
 ghost use Rattle.tuple_text.specs.declared.users.User.TheVariants.{Id};
-ghost use Rattle.version_chains.specs.Appends.{append_fault, appended, IsRefusal};
-ghost use Rattle.version_chains.specs.Commits.{TouchesOnce, is_stored, history_of};
+ghost use Rattle.version_chains.specs.Appends.{append_fault, appended, last_at, late_fault, IsRefusal};
+ghost use Rattle.version_chains.specs.Arena.{AreNumbersOf, AreNumbersOfParts, AreUpTo};
+ghost use Rattle.version_chains.specs.Commits.{TouchesOnce, touches, is_stored, history_of};
 
+use crate::arena::Arena;
 use crate::fault::AppendFault;
 use crate::history::History;
-use crate::repeats::first_repeat_in;
-use crate::rows::{Row, copies, is_live};
+use crate::repeats::first_repeat;
 use crate::users::Users;
-use std::alloc::Global;
+use std::alloc::{AllocError, Global};
 use std::marker::Model;
 use tuple_text::{SetRef, Tuple, UserRef};
 
@@ -26,22 +27,78 @@ use tuple_text::{SetRef, Tuple, UserRef};
 pub struct Chains {
     alloc: Global,
     times: Vec<u64>,
-    rows: Vec<Row>,
-    touches: u32,
+    arena: Arena,
     limit: u32,
 }
 
 impl Model for Chains {
-    ghost use Rattle.std.specs.Prelude.{map};
     ghost use Rattle.version_chains.specs.Commits.{Changes};
 
     ghost Value = { Changes };
 
-    ghost use Rattle.version_chains.specs.Rows.{commit_of, IsSound};
+    ghost use Rattle.version_chains.specs.Given.{AreCommits, commits_of};
 
-    ghost view = { λ s. record { limit = s.limit; commits = map commit_of s.rows.items } };
+    ghost view = { λ s. record { limit = s.limit; commits = commits_of s.times.items s.arena.touches } };
 
-    ghost invariant = { λ s. IsSound s.times.items s.rows.items s.touches s.limit };
+    ghost invariant = { λ s. AreCommits s.times.items s.arena.touches s.limit };
+}
+
+/// Adds the numbers of these tuples, each of which gets one where it has none. No touch changes.
+fn number_all(
+    arena: &mut Arena,
+    tuples: &[Tuple],
+    numbers: &mut Vec<usize>,
+) -> Result<(), AllocError>
+    ensures numbers { OnOk result ((ts : List TupleValue) → AreNumbersOf arena.old.tuples numbers.old.items ts → AreNumbersOf arena.new.tuples numbers.new.items (ts ++ tuples.now)) }
+    ensures touches { arena.new.touches ≡ arena.old.touches }
+{
+    for tuple in tuples {
+        let number = arena.number(tuple)?;
+        numbers.push(number)?;
+    }
+    Ok(())
+}
+
+/// Adds a touch of each of these tuples, for which there is room.
+fn push_all(arena: &mut Arena, at: u64, live: bool, numbers: &[usize])
+    requires numbers { (ts : List TupleValue) × AreNumbersOf arena.old.tuples numbers.now ts }
+    requires room { length numbers.now ≤ arena.old.room }
+    requires late { AreUpTo at arena.old.touches }
+    ensures tuples { arena.new.tuples ≡ arena.old.tuples }
+    ensures pushes { (ts : List TupleValue) → AreNumbersOf arena.old.tuples numbers.now ts → arena.new.touches ≡ arena.old.touches ++ map (λ t. record { at = at; live = live; tuple = t }) ts }
+    ensures room { arena.old.room ≤ arena.new.room + length numbers.now }
+{
+    for number in numbers {
+        arena.push(at, live, *number);
+    }
+}
+
+/// The numbers of the tuples of a commit, each of which gets one where it has none. No touch changes.
+fn numbers_of(
+    alloc: Global,
+    arena: &mut Arena,
+    adds: &[Tuple],
+    removes: &[Tuple],
+) -> Result<Vec<usize>, AllocError>
+    ensures numbers { IfOk result (λ numbers. AreNumbersOf arena.new.tuples numbers.items (adds.now ++ removes.now)) }
+    ensures touches { arena.new.touches ≡ arena.old.touches }
+{
+    let mut numbers = Vec::new(alloc);
+    number_all(arena, adds, &mut numbers)?;
+    number_all(arena, removes, &mut numbers)?;
+    Ok(numbers)
+}
+
+/// Adds the touches of a commit, of which the first `adds` numbers are those added. There is room for them.
+fn push_commit(arena: &mut Arena, at: u64, adds: usize, numbers: &[usize])
+    requires numbers { AreNumbersOfParts arena.old.tuples adds numbers.now }
+    requires room { length numbers.now ≤ arena.old.room }
+    requires late { AreUpTo at arena.old.touches }
+    ensures { (added removed : List TupleValue) → length added ≡ adds → AreNumbersOf arena.old.tuples numbers.now (added ++ removed) → arena.new.touches ≡ arena.old.touches ++ touches (record { at = at; adds = added; removes = removed }) }
+{
+    let (added, removed) = numbers.split_at(adds);
+    push_all(arena, at, true, added);
+    push_all(arena, at, false, removed);
 }
 
 impl Chains {
@@ -52,9 +109,20 @@ impl Chains {
         Chains {
             alloc,
             times: Vec::new(alloc),
-            rows: Vec::new(alloc),
-            touches: 0,
+            arena: Arena::new(alloc),
             limit,
+        }
+    }
+
+    /// The refusal of a timestamp that is not above the last one.
+    fn late_fault(&self, at: u64) -> Option<AppendFault>
+        ensures { result ≡ late_fault (last_at self.now.commits) at }
+    {
+        let last = *self.times.last()?;
+        if at <= last {
+            Some(AppendFault::NotLater { last })
+        } else {
+            None
         }
     }
 
@@ -75,30 +143,23 @@ impl Chains {
         ensures refused { IfErr result (IsRefusal (append_fault self.old at adds.now removes.now)) }
         ensures unchanged { OnErr result (self.new ≡ self.old) }
     {
-        if let Some(last) = self.times.last() {
-            if at <= *last {
-                return Err(AppendFault::NotLater { last: *last });
-            }
+        if let Some(fault) = self.late_fault(at) {
+            return Err(fault);
         }
-        if let Some(place) = first_repeat_in(adds, removes) {
+        let numbers = numbers_of(self.alloc, &mut self.arena, adds, removes)?;
+        let room = self.limit as usize - self.arena.len();
+        if let Some(place) = first_repeat(self.alloc, numbers.as_slice())? {
             return Err(AppendFault::TouchedTwice { place });
         }
-        let room = (self.limit - self.touches) as usize;
-        if adds.len() > room || removes.len() > room - adds.len() {
+        if numbers.len() > room {
             return Err(AppendFault::Full);
         }
-        let touched = (adds.len() + removes.len()) as u32;
-        let row = Row {
-            at,
-            adds: copies(self.alloc, adds)?,
-            removes: copies(self.alloc, removes)?,
-        };
         self.times.reserve(1)?;
-        self.rows.push(row)?;
+        self.arena.reserve(numbers.len())?;
+        push_commit(&mut self.arena, at, adds.len(), numbers.as_slice());
         if self.times.push(at).is_err() {
             unreachable!();
         }
-        self.touches += touched;
         Ok(())
     }
 
@@ -107,14 +168,14 @@ impl Chains {
     pub fn has(&self, tuple: &Tuple, at: u64) -> bool
         ensures { result ≡ is_stored self.now.commits at tuple.now }
     {
-        is_live(self.rows.as_slice(), tuple.set(), tuple.user(), at)
+        self.arena.is_stored(tuple.set(), tuple.user(), at)
     }
 
     /// Whether the tuple of this userset and this user id is stored at the timestamp.
     pub fn has_id(&self, set: SetRef<'_>, user: u64, at: u64) -> bool
         ensures { result ≡ is_stored self.now.commits at (tuple_of (set_value set.entry) (Id user)) }
     {
-        is_live(self.rows.as_slice(), set, UserRef::Id(user), at)
+        self.arena.is_stored(set, UserRef::Id(user), at)
     }
 
     /// The users of the userset's tuples that are stored at the timestamp, each once, in no promised order
@@ -123,14 +184,14 @@ impl Chains {
         ensures distinct { IsDistinct user_eq result }
         ensures stored { (user : User) → list_any (user_eq user) result ≡ is_stored self.now.commits at (tuple_of (set_value set.entry) user) }
     {
-        Users::over(self.rows.as_slice(), set, at)
+        Users::over(&self.arena, set, at)
     }
 
     /// Each touch of the tuple as its timestamp and whether it adds, the newest first.
     pub fn history<'a>(&'a self, tuple: &'a Tuple) -> History<'a>
         ensures { result ≡ history_of self.now.commits tuple.now }
     {
-        History::over(self.rows.as_slice(), tuple)
+        History::over(&self.arena, tuple)
     }
 
     /// The timestamps of the commits, in order.
@@ -140,5 +201,12 @@ impl Chains {
         ensures apart { All TouchesOnce self.now.commits }
     {
         self.times.as_slice()
+    }
+}
+
+#[cfg(test)]
+impl Chains {
+    pub(crate) fn arena(&self) -> &Arena {
+        &self.arena
     }
 }

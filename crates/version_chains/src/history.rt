@@ -1,32 +1,33 @@
 //! The touches of one tuple.
 
-ghost use Rattle.std.specs.Prelude.{◌≡◌, map};
+ghost use Rattle.std.specs.Prelude.{◌≡◌, map, reverse};
 ghost use Rattle.std.specs.Iterator.{YieldsFirst, item_count};
-ghost use Rattle.version_chains.specs.Commits.{history_of};
-ghost use Rattle.version_chains.specs.Rows.{commit_of, AreApart};
+ghost use Rattle.version_chains.specs.Commits.{touches_to};
 
-use crate::rows::{Row, touch_by};
+use crate::arena::Arena;
 use std::marker::Model;
 use tuple_text::Tuple;
 
 /// The touches of a tuple, the newest first. A contract sees the list of those that are left to give.
 #[derive(Drop)]
 pub struct History<'a> {
-    rows: &'a [Row],
+    arena: &'a Arena,
     tuple: &'a Tuple,
+    place: usize,
 }
 
 impl<'a> Model for History<'a> {
-    ghost use Rattle.std.specs.Prelude.{ℕ, Bool, List, map};
-    ghost use Rattle.version_chains.specs.Commits.{history_of};
+    ghost use Rattle.std.specs.Prelude.{ℕ, Bool, List};
 
     ghost Value = { List (ℕ × Bool) };
 
-    ghost use Rattle.version_chains.specs.Rows.{commit_of, AreApart};
+    ghost use Rattle.tuple_text.specs.Order.{tuple_eq};
+    ghost use Rattle.version_chains.specs.Given.{history_before};
+    ghost use Rattle.version_chains.specs.Placed.{IsLinkedPlace};
 
-    ghost view = { λ it. history_of (map commit_of it.rows.now) it.tuple.now };
+    ghost view = { λ it. history_before it.tuple.now it.arena.now it.place };
 
-    ghost invariant = { λ it. AreApart (map commit_of it.rows.now) };
+    ghost invariant = { λ it. IsLinkedPlace (λ x. tuple_eq x.tuple it.tuple.now) it.arena.now.touches it.place };
 }
 
 impl<'a> Iterator for History<'a> {
@@ -37,23 +38,25 @@ impl<'a> Iterator for History<'a> {
     ghost remaining = { item_count (λ touches. touches) };
 
     fn next(&mut self) -> Option<(u64, bool)> {
-        while let Some((row, rest)) = self.rows.split_last() {
-            self.rows = rest;
-            match touch_by(row, self.tuple) {
-                Some(live) => return Some((row.at, live)),
-                None => {}
-            }
+        if self.place == 0 {
+            return None;
         }
-        None
+        let touch = self.arena.touch(self.place - 1)?;
+        self.place = touch.older;
+        Some((touch.at, touch.live))
     }
 }
 
 impl<'a> History<'a> {
-    /// The tuple's touches in these rows.
-    pub(crate) fn over(rows: &'a [Row], tuple: &'a Tuple) -> History<'a>
-        requires { AreApart (map commit_of rows.now) }
-        ensures { result ≡ history_of (map commit_of rows.now) tuple.now }
+    /// The tuple's touches in the arena.
+    pub(crate) fn over(arena: &'a Arena, tuple: &'a Tuple) -> History<'a>
+        ensures { result ≡ reverse (map (λ x. (x.at, x.live)) (touches_to tuple.now arena.now.touches)) }
     {
-        History { rows, tuple }
+        let place = arena.newest_touch(tuple.set(), tuple.user());
+        History {
+            arena,
+            tuple,
+            place,
+        }
     }
 }

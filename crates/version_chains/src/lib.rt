@@ -11,12 +11,15 @@
 //! model is the list of what is left to give; `proofs.CallerLemmas` says what a loop over them shows.
 #![tactic(auto)]
 
+mod arena;
 mod chains;
 mod fault;
 mod history;
 pub mod laws;
+mod marks;
+mod node;
+mod places;
 mod repeats;
-mod rows;
 #[cfg(test)]
 mod tests;
 mod users;

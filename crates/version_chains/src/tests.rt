@@ -150,6 +150,105 @@ fn presence_along_a_long_chain(rt: HostRuntime) -> Result<(), Fail> {
     Ok(())
 }
 
+/// The plain program: whether the tuple is stored, by a scan of all commits.
+fn scanned(commits: &[Texts], text: &str, at: u64) -> bool {
+    let mut stored = false;
+    for (time, adds, removes) in commits {
+        if *time <= at {
+            if adds.contains(&text) {
+                stored = true;
+            } else if removes.contains(&text) {
+                stored = false;
+            }
+        }
+    }
+    stored
+}
+
+#[test]
+fn same_as_by_a_scan(rt: HostRuntime) -> Result<(), Fail> {
+    let commits: &[Texts] = &[
+        (2, &["doc:x#viewer@1", "doc:x#viewer@2"], NONE),
+        (3, &["doc:y#viewer@1"], &["doc:x#viewer@2"]),
+        (5, NONE, &["doc:x#viewer@1", "doc:y#viewer@1"]),
+        (6, &["doc:x#viewer@group:a#member"], NONE),
+        (8, &["doc:x#viewer@1", "doc:x#viewer@2"], NONE),
+        (9, NONE, &["doc:x#viewer@group:a#member"]),
+    ];
+    let chains = chains_of(&rt, commits)?;
+    let viewers: &[&str] = &[
+        "doc:x#viewer@1",
+        "doc:x#viewer@2",
+        "doc:x#viewer@group:a#member",
+        "doc:x#viewer@3",
+    ];
+    for at in 0..10u64 {
+        let mut stored = 0usize;
+        for text in viewers {
+            let plain = scanned(commits, text, at);
+            assert_eq!(rt; chains.has(&tuple(&rt, text)?, at), plain, "{text} at {at}");
+            if plain {
+                stored = stored.saturating_add(1);
+            }
+        }
+        let users = ids(&rt, &chains, VIEWED, at)?;
+        assert_eq!(rt; users.len(), stored, "users at {at}");
+    }
+    Ok(())
+}
+
+#[test]
+fn links_between_touches(rt: HostRuntime) -> Result<(), Fail> {
+    let chains = chains_of(
+        &rt,
+        &[
+            (5, VIEWER, NONE),
+            (7, NONE, VIEWER),
+            (9, VIEWER, NONE),
+            (10, &["doc:x#viewer@2"], NONE),
+        ],
+    )?;
+    let arena = chains.arena();
+    for (index, older) in [(0, 0), (1, 1), (2, 2), (3, 0)] {
+        let found = arena.touch(index).map(|touch| touch.older);
+        assert_eq!(rt; found, Some(older), "of touch {index}");
+    }
+    assert_eq!(rt; arena.sibling(0), 0);
+    assert_eq!(rt; arena.sibling(1), 1);
+    Ok(())
+}
+
+#[test]
+fn jumps_along_a_chain(rt: HostRuntime) -> Result<(), Fail> {
+    let chains = chains_of(
+        &rt,
+        &[
+            (10, VIEWER, NONE),
+            (20, NONE, VIEWER),
+            (30, VIEWER, NONE),
+            (40, NONE, VIEWER),
+            (50, VIEWER, NONE),
+            (60, NONE, VIEWER),
+            (70, VIEWER, NONE),
+            (80, NONE, VIEWER),
+        ],
+    )?;
+    for (index, jump) in [
+        (0, 1),
+        (1, 1),
+        (2, 2),
+        (3, 1),
+        (4, 4),
+        (5, 5),
+        (6, 4),
+        (7, 1),
+    ] {
+        let found = chains.arena().touch(index).map(|touch| touch.jump);
+        assert_eq!(rt; found, Some(jump), "of touch {index}");
+    }
+    Ok(())
+}
+
 #[test]
 fn touches_without_effect_are_accepted(rt: HostRuntime) -> Result<(), Fail> {
     let viewer = tuple(&rt, "doc:x#viewer@1")?;

@@ -1,35 +1,40 @@
 //! The users of a userset.
 
-ghost use Rattle.std.specs.Prelude.{◌≡◌, ◌∷◌, [], map, MatchOption};
+ghost use Rattle.std.specs.Prelude.{◌≡◌, false};
 ghost use Rattle.std.specs.Iterator.{YieldsFirstBy, item_count};
+ghost use Rattle.std.specs.List.{list_any, IsDistinct};
+ghost use Rattle.tuple_text.specs.Order.{user_eq};
 ghost use Rattle.tuple_text.specs.Refs.{set_value, user_value};
-ghost use Rattle.version_chains.specs.Rows.{commit_of};
-ghost use Rattle.version_chains.specs.Scan.{users_in, users_from};
+ghost use Rattle.tuple_text.specs.Tuples.{tuple_of};
+ghost use Rattle.tuple_text.specs.declared.users.User.{User};
+ghost use Rattle.version_chains.specs.Commits.{touches_to, until, last_live};
 
-use crate::rows::{Row, is_touched};
+use crate::arena::Arena;
 use std::marker::Model;
-use tuple_text::{SetRef, Tuple, UserRef};
+use tuple_text::{SetRef, UserRef};
 
 /// The users of a userset at a timestamp. A contract sees the list of those that are left to give.
 #[derive(Drop)]
 pub struct Users<'a> {
-    rows: &'a [Row],
-    adds: &'a [Tuple],
+    arena: &'a Arena,
     set: SetRef<'a>,
     at: u64,
+    place: usize,
 }
 
 impl<'a> Model for Users<'a> {
-    ghost use Rattle.std.specs.Prelude.{List, ◌++◌, map};
+    ghost use Rattle.std.specs.Prelude.{List};
     ghost use Rattle.tuple_text.specs.declared.users.User.{User};
     ghost use Rattle.tuple_text.specs.Refs.{set_value};
 
     ghost Value = { List User };
 
-    ghost use Rattle.version_chains.specs.Rows.{commit_of};
-    ghost use Rattle.version_chains.specs.Scan.{users_in, users_from};
+    ghost use Rattle.version_chains.specs.Given.{users_before, has_mark_of};
+    ghost use Rattle.version_chains.specs.Placed.{IsLinkedPlace};
 
-    ghost view = { λ it. users_in (set_value it.set) it.at it.adds.now (map commit_of it.rows.now) ++ users_from (set_value it.set) it.at (map commit_of it.rows.now) };
+    ghost view = { λ it. users_before (set_value it.set) it.at it.arena.now it.place };
+
+    ghost invariant = { λ it. IsLinkedPlace (has_mark_of (set_value it.set)) it.arena.now.tuples it.place };
 }
 
 impl<'a> Iterator for Users<'a> {
@@ -40,52 +45,30 @@ impl<'a> Iterator for Users<'a> {
     ghost remaining = { item_count (λ users. users) };
 
     fn next(&mut self) -> Option<UserRef<'a>> {
-        loop {
-            if let Some((user, rest)) = first_given(self.adds, self.rows, self.set, self.at) {
-                self.adds = rest;
-                return Some(user);
+        while self.place > 0 {
+            let number = self.place - 1;
+            self.place = self.arena.sibling(number);
+            match self.arena.given(number, self.set, self.at) {
+                Some(user) => return Some(user),
+                None => {}
             }
-            let (row, rest) = self.rows.split_first()?;
-            self.rows = rest;
-            self.adds = if row.at <= self.at {
-                row.adds.as_slice()
-            } else {
-                &[]
-            };
         }
+        None
     }
 }
 
 impl<'a> Users<'a> {
-    /// The users that these rows give at the timestamp.
-    pub(crate) fn over(rows: &'a [Row], set: SetRef<'a>, at: u64) -> Users<'a>
-        ensures { result ≡ users_from (set_value set.entry) at (map commit_of rows.now) }
+    /// The users that the arena gives at the timestamp.
+    pub(crate) fn over(arena: &'a Arena, set: SetRef<'a>, at: u64) -> Users<'a>
+        ensures distinct { IsDistinct user_eq result }
+        ensures stored { (user : User) → list_any (user_eq user) result ≡ last_live false (touches_to (tuple_of (set_value set.entry) user) (until at arena.now.touches)) }
     {
+        let place = arena.newest_of_set(set);
         Users {
-            rows,
-            adds: &[],
+            arena,
             set,
             at,
+            place,
         }
     }
-}
-
-/// The first user that these adds give, where `later` follow, and the adds behind it.
-#[tactic(auto, using(crate::proofs::LiveLemmas::list_any_rows))]
-fn first_given<'a>(
-    adds: &'a [Tuple],
-    later: &[Row],
-    set: SetRef<'_>,
-    at: u64,
-) -> Option<(UserRef<'a>, &'a [Tuple])>
-    ensures { MatchOption result (users_in (set_value set.entry) at adds.now (map commit_of later.now) ≡ []) (λ r. users_in (set_value set.entry) at adds.now (map commit_of later.now) ≡ user_value r.0 ∷ users_in (set_value set.entry) at r.1.now (map commit_of later.now)) }
-{
-    let mut left = adds;
-    while let Some((tuple, rest)) = left.split_first() {
-        left = rest;
-        if tuple.set() == set && !is_touched(later, tuple, at) {
-            return Some((tuple.user(), left));
-        }
-    }
-    None
 }

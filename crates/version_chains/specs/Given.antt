@@ -1,0 +1,61 @@
+-- The users that the arena gives, and the commits that its touches make. No public clause cites this module.
+use Rattle.std.specs.Prelude.{◌≡◌, ℕ, Bool, false, List, ◌++◌, None, map, filter, length, ◌&&◌, ◌≤◌, not, nat_eq, nat_le, suc, slice_get, Some}
+use Rattle.std.specs.List.{AllByRecursion}
+use Rattle.std.specs.List.Sorted.{IsStrictlyIncreasing}
+use Rattle.tuple_text.specs.Sets.{SetValue, set_eq}
+use Rattle.tuple_text.specs.Tuples.{TupleValue}
+use Rattle.tuple_text.specs.Order.{tuple_eq}
+use Rattle.tuple_text.specs.declared.users.User.{User}
+use Rattle.version_chains.specs.Appends.{first_repeat}
+use Rattle.version_chains.specs.Arena.{Held}
+use Rattle.version_chains.specs.Commits.{Commit, Touch, changelog, touches_to, until, last_live}
+use Rattle.version_chains.specs.Placed.{newest_first, IsLinkedPlace}
+use Rattle.version_chains.specs.Marks.{set_mark}
+
+-- each touch is one of a tuple that is there
+abbrev pub AreTouchesKnown : Held → Type 0
+AreTouchesKnown h = (i : ℕ) (x : Touch) → slice_get h.touches i ≡ Some x → (k : ℕ) × (slice_get h.tuples k ≡ Some x.tuple)
+
+-- the tuple is of the userset and stored
+abbrev pub is_given : SetValue → ℕ → List Touch → TupleValue → Bool
+is_given g s touches t = set_eq t.set g && last_live false (touches_to t (until s touches))
+
+-- the users of such tuples at the first places, the last first
+abbrev pub users_before : SetValue → ℕ → Held → ℕ → List User
+users_before g s h place = map (λ t. t.user) (newest_first (is_given g s h.touches) h.tuples place)
+
+-- the tuple's userset has this mark
+abbrev pub has_mark_of : SetValue → TupleValue → Bool
+has_mark_of g t = nat_eq (set_mark g) (set_mark t.set)
+
+-- the tuple's touches at the first places, the last first
+abbrev pub history_before : TupleValue → Held → ℕ → List (ℕ × Bool)
+history_before t h place = map (λ x. (x.at, x.live)) (newest_first (λ x. tuple_eq x.tuple t) h.touches place)
+
+-- from the touch at an index to a place: no touch of the tuple up to the timestamp lies between
+pub record LeadsBack (t : TupleValue) (s : ℕ) (touches : List Touch) (index place : ℕ) : Type 0 where
+  pub nearer : place ≤ index
+  pub on : IsLinkedPlace (λ x. tuple_eq x.tuple t) touches place
+  pub passes_none : newest_first (λ x. tuple_eq x.tuple t && nat_le x.at s) touches (suc index) ≡ newest_first (λ x. tuple_eq x.tuple t && nat_le x.at s) touches place
+
+-- the commit of a timestamp: its touches, in order
+abbrev pub commit_at : List Touch → ℕ → Commit
+commit_at touches at = record {
+  at = at;
+  adds = map (λ x. x.tuple) (filter (λ x. nat_eq x.at at && x.live) touches);
+  removes = map (λ x. x.tuple) (filter (λ x. nat_eq x.at at && not x.live) touches);
+}
+
+abbrev pub commits_of : List ℕ → List Touch → List Commit
+commits_of times touches = map (commit_at touches) times
+
+-- no commit touches a tuple twice
+abbrev pub AreApart : List Commit → Type 0
+AreApart commits = AllByRecursion (λ c. first_repeat (c.adds ++ c.removes) ≡ None) commits
+
+-- the touches are those of the commits
+pub record AreCommits (times : List ℕ) (touches : List Touch) (limit : ℕ) : Type 0 where
+  pub rising : IsStrictlyIncreasing times
+  pub logged : changelog (commits_of times touches) ≡ touches
+  pub apart : AreApart (commits_of times touches)
+  pub small : length touches ≤ limit

@@ -1,0 +1,245 @@
+//! The arena in which tuples and touches are kept.
+
+ghost use Rattle.std.specs.Prelude.{◌≡◌, ℕ, ◌<◌, ◌≤◌, ◌+◌, ◌∷◌, ◌++◌, [], Some, length, slice_get, IfOk, OnOk, OnErr, MatchOption, false, true, None};
+ghost use Rattle.tuple_text.specs.Order.{tuple_eq};
+ghost use Rattle.tuple_text.specs.Refs.{set_value, user_value};
+ghost use Rattle.tuple_text.specs.Tuples.{tuple_of, TupleValue};
+ghost use Rattle.version_chains.specs.Arena.{AreApartAt, AreUpTo, Extends};
+ghost use Rattle.version_chains.specs.Commits.{Touch, touches_to, until, last_live};
+ghost use Rattle.version_chains.specs.Given.{AreTouchesKnown, LeadsBack, has_mark_of, is_given};
+ghost use Rattle.version_chains.specs.Placed.{last_place};
+
+use crate::marks::{set_mark, tuple_mark};
+use crate::node::{Node, at_place, next_links};
+use crate::places::Places;
+use std::alloc::{AllocError, Global};
+use std::marker::Model;
+use tuple_text::{SetRef, Tuple, UserRef};
+
+/// Tuples, each kept once, and their touches in order. A tuple is named by its number, which counts from 0; a place
+/// counts from 1, and 0 is no place.
+///
+/// From each touch a link leads to the one before it of the same tuple, and from each tuple to the one before it of
+/// the same userset, so that each question is a walk back from the newest.
+#[derive(Drop)]
+pub struct Arena {
+    tuples: Vec<Tuple>,
+    latest: Vec<usize>,
+    named: Places,
+    held: Places,
+    nodes: Vec<Node>,
+}
+
+impl Model for Arena {
+    ghost use Rattle.std.specs.Prelude.{map, ◌-◌, vec_len, vec_capacity};
+    ghost use Rattle.version_chains.specs.Arena.{Held};
+
+    ghost Value = { Held };
+
+    ghost use Rattle.version_chains.specs.Arena.{IsLinked, touch_of};
+
+    ghost view = { λ a. record { tuples = a.tuples.items; touches = map (touch_of a.tuples.items) a.nodes.items; room = vec_capacity a.nodes - vec_len a.nodes } };
+
+    ghost invariant = { λ a. IsLinked a.tuples.items a.latest.items a.named a.held a.nodes.items };
+}
+
+/// Whether the tuple has this userset and this user.
+fn names(tuple: &Tuple, set: SetRef<'_>, user: UserRef<'_>) -> bool
+    ensures { result ≡ tuple_eq tuple.now (tuple_of (set_value set.entry) (user_value user.entry)) }
+{
+    tuple.set() == set && tuple.user() == user
+}
+
+impl Arena {
+    pub fn new(alloc: Global) -> Arena
+        ensures tuples { result.tuples ≡ [] }
+        ensures touches { result.touches ≡ [] }
+    {
+        Arena {
+            tuples: Vec::new(alloc),
+            latest: Vec::new(alloc),
+            named: Places::new(alloc),
+            held: Places::new(alloc),
+            nodes: Vec::new(alloc),
+        }
+    }
+
+    /// How many touches there are. No tuple has two numbers.
+    pub fn len(&self) -> usize
+        ensures count { result ≡ length self.now.touches }
+        ensures apart { AreApartAt self.now.tuples }
+    {
+        self.nodes.len()
+    }
+
+    /// The number of a tuple.
+    pub fn find(&self, set: SetRef<'_>, user: UserRef<'_>) -> Option<usize>
+        ensures found { MatchOption result ((i : ℕ) (t : TupleValue) → slice_get self.now.tuples i ≡ Some t → tuple_eq t (tuple_of (set_value set.entry) (user_value user.entry)) ≡ false) (λ i. slice_get self.now.tuples i ≡ Some (tuple_of (set_value set.entry) (user_value user.entry))) }
+        ensures untouched { result ≡ None → (i : ℕ) (x : Touch) → slice_get self.now.touches i ≡ Some x → tuple_eq x.tuple (tuple_of (set_value set.entry) (user_value user.entry)) ≡ false }
+    {
+        let mut place = self.named.newest(tuple_mark(set, user));
+        while place > 0 {
+            let number = place - 1;
+            if names(&self.tuples[number], set, user) {
+                return Some(number);
+            }
+            place = self.named.older(number);
+        }
+        None
+    }
+
+    /// The place of the newest tuple of the userset, or of one with its mark. No tuple stands at two places, and each
+    /// touch is of a tuple that stands at one.
+    pub fn newest_of_set(&self, set: SetRef<'_>) -> usize
+        ensures apart { AreApartAt self.now.tuples }
+        ensures known { AreTouchesKnown self.now }
+        ensures newest { result ≡ last_place (has_mark_of (set_value set.entry)) self.now.tuples (length self.now.tuples) }
+    {
+        self.held.newest(set_mark(set))
+    }
+
+    /// The place of the tuple before this one whose userset has the same mark.
+    pub fn sibling(&self, number: usize) -> usize
+        ensures { (t : TupleValue) → slice_get self.now.tuples number ≡ Some t → result ≡ last_place (has_mark_of t.set) self.now.tuples number }
+    {
+        self.held.older(number)
+    }
+
+    /// The place of the tuple's newest touch.
+    pub fn newest(&self, number: usize) -> usize
+        ensures { (t : TupleValue) → slice_get self.now.tuples number ≡ Some t → result ≡ last_place (λ x. tuple_eq x.tuple t) self.now.touches (length self.now.touches) }
+    {
+        match self.latest.get(number) {
+            Some(place) => *place,
+            None => 0,
+        }
+    }
+
+    /// The place of the newest touch of this tuple.
+    pub fn newest_touch(&self, set: SetRef<'_>, user: UserRef<'_>) -> usize
+        ensures { result ≡ last_place (λ x. tuple_eq x.tuple (tuple_of (set_value set.entry) (user_value user.entry))) self.now.touches (length self.now.touches) }
+    {
+        match self.find(set, user) {
+            Some(number) => self.newest(number),
+            None => 0,
+        }
+    }
+
+    /// The touch at an index, whose link is to the touch before it of the same tuple.
+    pub fn touch(&self, index: usize) -> Option<&Node>
+        ensures { MatchOption result (length self.now.touches ≤ index) (λ n. (x : Touch) × (slice_get self.now.touches index ≡ Some x) × (n.now.at ≡ x.at) × (n.now.live ≡ x.live) × (n.now.older ≡ last_place (λ y. tuple_eq y.tuple x.tuple) self.now.touches index)) }
+    {
+        self.nodes.get(index)
+    }
+
+    /// The place from which a walk goes on that looks for a touch up to the timestamp, where the touch at this index is
+    /// after it: that of its jump, where the touch there is after it too, else that of the touch before it.
+    fn further(&self, index: usize, at: u64) -> usize
+        ensures { (x : Touch) → slice_get self.now.touches index ≡ Some x → at < x.at → LeadsBack x.tuple at self.now.touches index result }
+    {
+        let Some(touch) = self.nodes.get(index) else {
+            return 0;
+        };
+        match at_place(self.nodes.as_slice(), touch.jump) {
+            Some(far) if far.at > at && touch.jump <= index => touch.jump,
+            _ => touch.older,
+        }
+    }
+
+    /// Whether the last touch of the tuple, up to the timestamp, adds it.
+    pub fn is_live(&self, number: usize, at: u64) -> bool
+        ensures { (t : TupleValue) → slice_get self.now.tuples number ≡ Some t → result ≡ last_live false (touches_to t (until at self.now.touches)) }
+    {
+        let mut place = self.newest(number);
+        while place > 0 {
+            let Some(touch) = self.touch(place - 1) else {
+                return false;
+            };
+            if touch.at <= at {
+                return touch.live;
+            }
+            place = self.further(place - 1, at);
+        }
+        false
+    }
+
+    /// Whether the tuple of this userset and this user is stored at the timestamp.
+    pub fn is_stored(&self, set: SetRef<'_>, user: UserRef<'_>, at: u64) -> bool
+        ensures { result ≡ last_live false (touches_to (tuple_of (set_value set.entry) (user_value user.entry)) (until at self.now.touches)) }
+    {
+        match self.find(set, user) {
+            Some(number) => self.is_live(number, at),
+            None => false,
+        }
+    }
+
+    /// The user of the tuple, where it is of this userset and stored at the timestamp.
+    pub fn given(&self, number: usize, set: SetRef<'_>, at: u64) -> Option<UserRef<'_>>
+        ensures { (t : TupleValue) → slice_get self.now.tuples number ≡ Some t → MatchOption result (is_given (set_value set.entry) at self.now.touches t ≡ false) (λ u. (is_given (set_value set.entry) at self.now.touches t ≡ true) × (user_value u ≡ t.user)) }
+    {
+        let tuple = self.tuples.get(number)?;
+        if tuple.set() == set && self.is_live(number, at) {
+            Some(tuple.user())
+        } else {
+            None
+        }
+    }
+
+    /// The number of the tuple, which gets one where it has none. No touch changes.
+    pub fn number(&mut self, tuple: &Tuple) -> Result<usize, AllocError>
+        ensures ok { IfOk result (λ i. slice_get self.new.tuples i ≡ Some tuple.now) }
+        ensures extends { Extends self.old.tuples self.new.tuples }
+        ensures touches { self.new.touches ≡ self.old.touches }
+    {
+        if let Some(number) = self.find(tuple.set(), tuple.user()) {
+            return Ok(number);
+        }
+        let number = self.tuples.len();
+        let copy = tuple.clone()?;
+        self.tuples.reserve(1)?;
+        self.latest.reserve(1)?;
+        self.named.push(tuple_mark(tuple.set(), tuple.user()))?;
+        if let Err(fault) = self.held.push(set_mark(tuple.set())) {
+            self.named.pop();
+            return Err(fault);
+        }
+        if self.tuples.push(copy).is_err() || self.latest.push(0).is_err() {
+            unreachable!();
+        }
+        Ok(number)
+    }
+
+    /// Makes room for more touches.
+    pub fn reserve(&mut self, touches: usize) -> Result<(), AllocError>
+        ensures tuples { self.new.tuples ≡ self.old.tuples }
+        ensures touches { self.new.touches ≡ self.old.touches }
+        ensures room { OnOk result (touches ≤ self.new.room) }
+    {
+        self.nodes.reserve(touches)
+    }
+
+    /// Adds a touch of the tuple at the end, for which there is room.
+    pub fn push(&mut self, at: u64, live: bool, number: usize)
+        requires known { number < length self.old.tuples }
+        requires late { AreUpTo at self.old.touches }
+        requires room { 0 < self.old.room }
+        ensures tuples { self.new.tuples ≡ self.old.tuples }
+        ensures pushes { (t : TupleValue) → slice_get self.old.tuples number ≡ Some t → self.new.touches ≡ self.old.touches ++ record { at = at; live = live; tuple = t } ∷ [] }
+        ensures room { self.old.room ≤ self.new.room + 1 }
+    {
+        let older = self.latest[number];
+        let (depth, jump) = next_links(self.nodes.as_slice(), older);
+        let node = Node {
+            at,
+            live,
+            tuple: number,
+            older,
+            depth,
+            jump,
+        };
+        if self.nodes.push(node).is_err() {
+            unreachable!();
+        }
+        self.latest[number] = self.nodes.len();
+    }
+}

@@ -1,0 +1,60 @@
+//! One touch as it is kept, and its links.
+
+ghost use Rattle.std.specs.Prelude.{◌≡◌, ℕ, suc, ◌≤◌, ◌<◌, ◌^◌, length, slice_get, Some, None, MatchOption, IfSome};
+ghost use Rattle.version_chains.specs.Jumps.{AreJumps, IsBack};
+ghost use Rattle.version_chains.specs.declared.node.Node.{Node};
+
+/// A touch: its timestamp, whether it adds, the number of its tuple, and the place of the touch of the same tuple
+/// before it.
+///
+/// `depth` counts the touches of the tuple before it, and `jump` is the place of one of them, so that a walk by jumps is
+/// short: the first touch of a tuple jumps to itself, and each other to where the second jump from `older` leads, where
+/// the two jumps from there are equally long, else to `older`.
+#[derive(Drop)]
+pub struct Node {
+    pub at: u64,
+    pub live: bool,
+    pub tuple: usize,
+    pub older: usize,
+    pub depth: usize,
+    pub jump: usize,
+}
+
+/// The touch at a place, which counts from 1.
+pub fn at_place(nodes: &[Node], place: usize) -> Option<&Node>
+    ensures { MatchOption result ((i : ℕ) → place ≡ suc i → length nodes.now ≤ i) (λ n. (i : ℕ) × (place ≡ suc i) × (slice_get nodes.now i ≡ Some n.now)) }
+{
+    if place == 0 {
+        return None;
+    }
+    nodes.get(place - 1)
+}
+
+/// Where the second jump from a touch leads, where it is as long as the first.
+fn second_jump(nodes: &[Node], node: &Node) -> Option<usize>
+    ensures { AreJumps nodes.now → (i : ℕ) → slice_get nodes.now i ≡ Some node.now → IfSome result (λ place. IsBack nodes.now node.now.tuple i place) }
+{
+    let first = at_place(nodes, node.jump)?;
+    let second = at_place(nodes, first.jump)?;
+    if node.depth.abs_diff(first.depth) == first.depth.abs_diff(second.depth) {
+        Some(first.jump)
+    } else {
+        None
+    }
+}
+
+/// The depth and the jump of the next touch of a tuple, whose touch before it stands at the place `older`.
+pub fn next_links(nodes: &[Node], older: usize) -> (usize, usize)
+    requires { length nodes.now < 2 ^ 63 }
+    ensures first { older ≡ 0 → result.1 ≡ suc (length nodes.now) }
+    ensures later { AreJumps nodes.now → (i : ℕ) (n : Node) → older ≡ suc i → slice_get nodes.now i ≡ Some n → IsBack nodes.now n.tuple i result.1 }
+{
+    let Some(node) = at_place(nodes, older) else {
+        return (0, nodes.len() + 1);
+    };
+    let depth = node.depth.saturating_add(1);
+    match second_jump(nodes, node) {
+        Some(jump) => (depth, jump),
+        None => (depth, older),
+    }
+}

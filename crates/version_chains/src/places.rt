@@ -1,0 +1,91 @@
+//! Places of a list that grows, found by their marks.
+
+ghost use Rattle.std.specs.Prelude.{◌≡◌, ℕ, ◌∷◌, ◌++◌, [], Some, length, slice_get, nat_eq, OnOk, OnErr, List};
+ghost use Rattle.version_chains.specs.Placed.{last_place};
+
+use std::alloc::{AllocError, Global};
+use std::collections::BTreeMap;
+use std::marker::Model;
+
+/// A place's mark, and the place before it with the same mark.
+#[derive(Clone, Copy, Drop)]
+pub struct Link {
+    pub mark: u64,
+    pub older: usize,
+}
+
+/// A list of marks, from each of which a walk leads back over the places with this mark. Places count from 1, and 0
+/// is no place.
+///
+/// The newest places are kept in a tree and not hashed: marks come from texts that a stranger chose, and with a hash
+/// whose seed is fixed he could choose them for one bucket.
+#[derive(Drop)]
+pub struct Places {
+    links: Vec<Link>,
+    newest: BTreeMap<u64, usize>,
+}
+
+impl Model for Places {
+    ghost use Rattle.std.specs.Prelude.{ℕ, List, map};
+
+    ghost Value = { List ℕ };
+
+    ghost use Rattle.version_chains.specs.Links.{AreLinked};
+
+    ghost view = { λ p. map (λ l. l.mark) p.links.items };
+
+    ghost invariant = { λ p. AreLinked p.links.items p.newest };
+}
+
+impl Places {
+    pub fn new(alloc: Global) -> Places
+        ensures { result ≡ [] }
+    {
+        Places {
+            links: Vec::new(alloc),
+            newest: BTreeMap::new(alloc),
+        }
+    }
+
+    /// The newest place with the mark.
+    pub fn newest(&self, mark: u64) -> usize
+        ensures { result ≡ last_place (nat_eq mark) self.now (length self.now) }
+    {
+        self.newest.get(&mark).copied().unwrap_or(0)
+    }
+
+    /// The place before the one at this index, with the same mark.
+    pub fn older(&self, index: usize) -> usize
+        ensures { (mark : ℕ) → slice_get self.now index ≡ Some mark → result ≡ last_place (nat_eq mark) self.now index }
+    {
+        match self.links.get(index) {
+            Some(link) => link.older,
+            None => 0,
+        }
+    }
+
+    /// Adds a place with the mark. For want of memory nothing changes.
+    pub fn push(&mut self, mark: u64) -> Result<(), AllocError>
+        ensures ok { OnOk result (self.new ≡ self.old ++ mark ∷ []) }
+        ensures err { OnErr result (self.new ≡ self.old) }
+    {
+        let older = self.newest(mark);
+        self.links.reserve(1)?;
+        self.newest.insert(mark, self.links.len() + 1)?;
+        if self.links.push(Link { mark, older }).is_err() {
+            unreachable!();
+        }
+        Ok(())
+    }
+
+    /// Takes the newest place away.
+    pub fn pop(&mut self)
+        ensures { (marks : List ℕ) (mark : ℕ) → self.old ≡ marks ++ mark ∷ [] → self.new ≡ marks }
+    {
+        if let Some(link) = self.links.pop() {
+            if self.newest.insert(link.mark, link.older).is_err() {
+                unreachable!();
+            }
+        }
+    }
+}
