@@ -1,6 +1,7 @@
 pub mod Decided
 pub mod LeastRound
 pub mod Lists
+pub mod NestedExclusion
 pub mod Premises
 pub mod Renumbered
 pub mod Restratified

@@ -22,6 +22,10 @@ nobody = record { set = record { namespace = []; id = []; relation = [] }; user 
 abbrev pub touch_of : List TupleValue → Node → Touch
 touch_of tuples n = record { at = n.at; live = n.live; tuple = unwrap_or (slice_get tuples n.tuple) nobody }
 
+-- the tuple of a number
+abbrev pub IsNumber : List TupleValue → TupleValue → ℕ → Type 0
+IsNumber tuples t n = slice_get tuples n ≡ Some t
+
 -- no tuple stands at two places
 abbrev pub AreApartAt : List TupleValue → Type 0
 AreApartAt tuples = (i j : ℕ) (t : TupleValue) → slice_get tuples i ≡ Some t → slice_get tuples j ≡ Some t → i ≡ j

@@ -1,24 +1,50 @@
 -- The users that the arena gives, and the commits that its touches make. No public clause cites this module.
-use Rattle.std.specs.Prelude.{◌≡◌, ℕ, Bool, false, List, ◌++◌, None, map, filter, length, ◌&&◌, ◌≤◌, not, nat_eq, nat_le, suc, slice_get, Some}
+use Rattle.std.specs.Prelude.{◌≡◌, ℕ, Bool, false, List, ◌++◌, None, map, filter, length, ◌&&◌, ◌≤◌, not, nat_eq, nat_le, suc, slice_get, Some, Option, MatchOption, true}
 use Rattle.std.specs.List.{AllByRecursion}
 use Rattle.std.specs.List.Sorted.{IsStrictlyIncreasing}
 use Rattle.tuple_text.specs.Sets.{SetValue, set_eq}
 use Rattle.tuple_text.specs.Tuples.{TupleValue}
 use Rattle.tuple_text.specs.Order.{tuple_eq}
+use Rattle.tuple_text.specs.Refs.{user_value}
 use Rattle.tuple_text.specs.declared.users.User.{User}
+use Rattle.tuple_text.specs.declared.users.UserRef.{UserRef}
 use Rattle.version_chains.specs.Appends.{first_repeat}
 use Rattle.version_chains.specs.Arena.{Held}
 use Rattle.version_chains.specs.Commits.{Commit, Touch, changelog, touches_to, until, last_live}
-use Rattle.version_chains.specs.Placed.{newest_first, IsLinkedPlace}
+use Rattle.version_chains.specs.Placed.{last_place, newest_first, IsLinkedPlace}
 use Rattle.version_chains.specs.Marks.{set_mark}
+use Rattle.version_chains.specs.declared.node.Node.{Node}
+
+-- the place of the newest touch of a tuple among the first n
+abbrev pub newest_of : TupleValue → List Touch → ℕ → ℕ
+newest_of t touches n = last_place (λ x. tuple_eq x.tuple t) touches n
+
+-- whether the last touch of a tuple up to a timestamp adds it
+abbrev pub is_stored_by : List Touch → ℕ → TupleValue → Bool
+is_stored_by touches s t = last_live false (touches_to t (until s touches))
+
+-- no tuple with a number is this one, and no touch is of it
+abbrev pub IsUnnumbered : Held → TupleValue → Type 0
+IsUnnumbered h t = (i : ℕ) (u : TupleValue) → slice_get h.tuples i ≡ Some u → tuple_eq u t ≡ false
+
+abbrev pub IsUntouched : Held → TupleValue → Type 0
+IsUntouched h t = (i : ℕ) (x : Touch) → slice_get h.touches i ≡ Some x → tuple_eq x.tuple t ≡ false
 
 -- each touch is one of a tuple that is there
 abbrev pub AreTouchesKnown : Held → Type 0
 AreTouchesKnown h = (i : ℕ) (x : Touch) → slice_get h.touches i ≡ Some x → (k : ℕ) × (slice_get h.tuples k ≡ Some x.tuple)
 
+-- the touch at an index, whose link is to the one of the same tuple before it
+abbrev pub IsTouchAt : List Touch → ℕ → Node → Type 0
+IsTouchAt touches i n = (x : Touch) × (slice_get touches i ≡ Some x) × (n.at ≡ x.at) × (n.live ≡ x.live) × (n.older ≡ newest_of x.tuple touches i)
+
 -- the tuple is of the userset and stored
 abbrev pub is_given : SetValue → ℕ → List Touch → TupleValue → Bool
-is_given g s touches t = set_eq t.set g && last_live false (touches_to t (until s touches))
+is_given g s touches t = set_eq t.set g && is_stored_by touches s t
+
+-- the user is given where the test says so
+abbrev pub Gives : Option UserRef → Bool → User → Type 0
+Gives result given user = MatchOption result (given ≡ false) (λ u. (given ≡ true) × (user_value u ≡ user))
 
 -- the users of such tuples at the first places, the last first
 abbrev pub users_before : SetValue → ℕ → Held → ℕ → List User

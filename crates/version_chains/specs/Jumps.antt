@@ -2,6 +2,10 @@
 use Rattle.std.specs.Prelude.{◌≡◌, ◌≤◌, ℕ, suc, List, slice_get, Some}
 use Rattle.version_chains.specs.declared.node.Node.{Node}
 
+-- the node at a place, which counts from 1
+abbrev pub StandsAt : List Node → ℕ → Node → Type 0
+StandsAt nodes place n = (i : ℕ) × (place ≡ suc i) × (slice_get nodes i ≡ Some n)
+
 -- the place of a touch of this tuple, at the index or before it
 abbrev pub IsBack : List Node → ℕ → ℕ → ℕ → Type 0
 IsBack nodes tuple index place = (j : ℕ) × (n : Node) × (place ≡ suc j) × (j ≤ index) × (slice_get nodes j ≡ Some n) × (n.tuple ≡ tuple)

@@ -4,9 +4,9 @@ ghost use Rattle.std.specs.Prelude.{◌≡◌, ℕ, ◌<◌, ◌≤◌, ◌+◌,
 ghost use Rattle.tuple_text.specs.Order.{tuple_eq};
 ghost use Rattle.tuple_text.specs.Refs.{set_value, user_value};
 ghost use Rattle.tuple_text.specs.Tuples.{tuple_of, TupleValue};
-ghost use Rattle.version_chains.specs.Arena.{AreApartAt, AreUpTo, Extends};
+ghost use Rattle.version_chains.specs.Arena.{AreApartAt, AreUpTo, Extends, IsNumber};
 ghost use Rattle.version_chains.specs.Commits.{Touch, touches_to, until, last_live};
-ghost use Rattle.version_chains.specs.Given.{AreTouchesKnown, LeadsBack, has_mark_of, is_given};
+ghost use Rattle.version_chains.specs.Given.{AreTouchesKnown, Gives, IsTouchAt, IsUnnumbered, IsUntouched, LeadsBack, has_mark_of, is_given, is_stored_by, newest_of};
 ghost use Rattle.version_chains.specs.Placed.{last_place};
 
 use crate::marks::{set_mark, tuple_mark};
@@ -74,8 +74,9 @@ impl Arena {
 
     /// The number of a tuple.
     pub fn find(&self, set: SetRef<'_>, user: UserRef<'_>) -> Option<usize>
-        ensures found { MatchOption result ((i : ℕ) (t : TupleValue) → slice_get self.now.tuples i ≡ Some t → tuple_eq t (tuple_of (set_value set.entry) (user_value user.entry)) ≡ false) (λ i. slice_get self.now.tuples i ≡ Some (tuple_of (set_value set.entry) (user_value user.entry))) }
-        ensures untouched { result ≡ None → (i : ℕ) (x : Touch) → slice_get self.now.touches i ≡ Some x → tuple_eq x.tuple (tuple_of (set_value set.entry) (user_value user.entry)) ≡ false }
+        ensures found { MatchOption result (IsUnnumbered self.now (tuple_of (set_value set.entry) (user_value user.entry)))
+            (IsNumber self.now.tuples (tuple_of (set_value set.entry) (user_value user.entry))) }
+        ensures untouched { result ≡ None → IsUntouched self.now (tuple_of (set_value set.entry) (user_value user.entry)) }
     {
         let mut place = self.named.newest(tuple_mark(set, user));
         while place > 0 {
@@ -100,14 +101,14 @@ impl Arena {
 
     /// The place of the tuple before this one whose userset has the same mark.
     pub fn sibling(&self, number: usize) -> usize
-        ensures { (t : TupleValue) → slice_get self.now.tuples number ≡ Some t → result ≡ last_place (has_mark_of t.set) self.now.tuples number }
+        ensures { (t : TupleValue) → IsNumber self.now.tuples t number → result ≡ last_place (has_mark_of t.set) self.now.tuples number }
     {
         self.held.older(number)
     }
 
     /// The place of the tuple's newest touch.
     pub fn newest(&self, number: usize) -> usize
-        ensures { (t : TupleValue) → slice_get self.now.tuples number ≡ Some t → result ≡ last_place (λ x. tuple_eq x.tuple t) self.now.touches (length self.now.touches) }
+        ensures { (t : TupleValue) → IsNumber self.now.tuples t number → result ≡ newest_of t self.now.touches (length self.now.touches) }
     {
         match self.latest.get(number) {
             Some(place) => *place,
@@ -117,7 +118,7 @@ impl Arena {
 
     /// The place of the newest touch of this tuple.
     pub fn newest_touch(&self, set: SetRef<'_>, user: UserRef<'_>) -> usize
-        ensures { result ≡ last_place (λ x. tuple_eq x.tuple (tuple_of (set_value set.entry) (user_value user.entry))) self.now.touches (length self.now.touches) }
+        ensures { result ≡ newest_of (tuple_of (set_value set.entry) (user_value user.entry)) self.now.touches (length self.now.touches) }
     {
         match self.find(set, user) {
             Some(number) => self.newest(number),
@@ -127,7 +128,7 @@ impl Arena {
 
     /// The touch at an index, whose link is to the touch before it of the same tuple.
     pub fn touch(&self, index: usize) -> Option<&Node>
-        ensures { MatchOption result (length self.now.touches ≤ index) (λ n. (x : Touch) × (slice_get self.now.touches index ≡ Some x) × (n.now.at ≡ x.at) × (n.now.live ≡ x.live) × (n.now.older ≡ last_place (λ y. tuple_eq y.tuple x.tuple) self.now.touches index)) }
+        ensures { MatchOption result (length self.now.touches ≤ index) (λ n. IsTouchAt self.now.touches index n.now) }
     {
         self.nodes.get(index)
     }
@@ -148,7 +149,7 @@ impl Arena {
 
     /// Whether the last touch of the tuple, up to the timestamp, adds it.
     pub fn is_live(&self, number: usize, at: u64) -> bool
-        ensures { (t : TupleValue) → slice_get self.now.tuples number ≡ Some t → result ≡ last_live false (touches_to t (until at self.now.touches)) }
+        ensures { (t : TupleValue) → IsNumber self.now.tuples t number → result ≡ is_stored_by self.now.touches at t }
     {
         let mut place = self.newest(number);
         while place > 0 {
@@ -165,7 +166,7 @@ impl Arena {
 
     /// Whether the tuple of this userset and this user is stored at the timestamp.
     pub fn is_stored(&self, set: SetRef<'_>, user: UserRef<'_>, at: u64) -> bool
-        ensures { result ≡ last_live false (touches_to (tuple_of (set_value set.entry) (user_value user.entry)) (until at self.now.touches)) }
+        ensures { result ≡ is_stored_by self.now.touches at (tuple_of (set_value set.entry) (user_value user.entry)) }
     {
         match self.find(set, user) {
             Some(number) => self.is_live(number, at),
@@ -175,7 +176,8 @@ impl Arena {
 
     /// The user of the tuple, where it is of this userset and stored at the timestamp.
     pub fn given(&self, number: usize, set: SetRef<'_>, at: u64) -> Option<UserRef<'_>>
-        ensures { (t : TupleValue) → slice_get self.now.tuples number ≡ Some t → MatchOption result (is_given (set_value set.entry) at self.now.touches t ≡ false) (λ u. (is_given (set_value set.entry) at self.now.touches t ≡ true) × (user_value u ≡ t.user)) }
+        ensures { (t : TupleValue) → IsNumber self.now.tuples t number
+            → Gives result (is_given (set_value set.entry) at self.now.touches t) t.user }
     {
         let tuple = self.tuples.get(number)?;
         if tuple.set() == set && self.is_live(number, at) {
@@ -187,7 +189,7 @@ impl Arena {
 
     /// The number of the tuple, which gets one where it has none. No touch changes.
     pub fn number(&mut self, tuple: &Tuple) -> Result<usize, AllocError>
-        ensures ok { IfOk result (λ i. slice_get self.new.tuples i ≡ Some tuple.now) }
+        ensures ok { IfOk result (IsNumber self.new.tuples tuple.now) }
         ensures extends { Extends self.old.tuples self.new.tuples }
         ensures touches { self.new.touches ≡ self.old.touches }
     {
@@ -224,7 +226,8 @@ impl Arena {
         requires late { AreUpTo at self.old.touches }
         requires room { 0 < self.old.room }
         ensures tuples { self.new.tuples ≡ self.old.tuples }
-        ensures pushes { (t : TupleValue) → slice_get self.old.tuples number ≡ Some t → self.new.touches ≡ self.old.touches ++ record { at = at; live = live; tuple = t } ∷ [] }
+        ensures pushes { (t : TupleValue) → IsNumber self.old.tuples t number
+            → self.new.touches ≡ self.old.touches ++ record { at = at; live = live; tuple = t } ∷ [] }
         ensures room { self.old.room ≤ self.new.room + 1 }
     {
         let older = self.latest[number];

@@ -49,7 +49,8 @@ fn number_all(
     tuples: &[Tuple],
     numbers: &mut Vec<usize>,
 ) -> Result<(), AllocError>
-    ensures numbers { OnOk result ((ts : List TupleValue) → AreNumbersOf arena.old.tuples numbers.old.items ts → AreNumbersOf arena.new.tuples numbers.new.items (ts ++ tuples.now)) }
+    ensures numbers { OnOk result ((ts : List TupleValue) → AreNumbersOf arena.old.tuples numbers.old.items ts
+        → AreNumbersOf arena.new.tuples numbers.new.items (ts ++ tuples.now)) }
     ensures touches { arena.new.touches ≡ arena.old.touches }
 {
     for tuple in tuples {
@@ -65,7 +66,8 @@ fn push_all(arena: &mut Arena, at: u64, live: bool, numbers: &[usize])
     requires room { length numbers.now ≤ arena.old.room }
     requires late { AreUpTo at arena.old.touches }
     ensures tuples { arena.new.tuples ≡ arena.old.tuples }
-    ensures pushes { (ts : List TupleValue) → AreNumbersOf arena.old.tuples numbers.now ts → arena.new.touches ≡ arena.old.touches ++ map (λ t. record { at = at; live = live; tuple = t }) ts }
+    ensures pushes { (ts : List TupleValue) → AreNumbersOf arena.old.tuples numbers.now ts
+        → arena.new.touches ≡ arena.old.touches ++ map (λ t. record { at = at; live = live; tuple = t }) ts }
     ensures room { arena.old.room ≤ arena.new.room + length numbers.now }
 {
     for number in numbers {
@@ -94,7 +96,8 @@ fn push_commit(arena: &mut Arena, at: u64, adds: usize, numbers: &[usize])
     requires numbers { AreNumbersOfParts arena.old.tuples adds numbers.now }
     requires room { length numbers.now ≤ arena.old.room }
     requires late { AreUpTo at arena.old.touches }
-    ensures { (added removed : List TupleValue) → length added ≡ adds → AreNumbersOf arena.old.tuples numbers.now (added ++ removed) → arena.new.touches ≡ arena.old.touches ++ touches (record { at = at; adds = added; removes = removed }) }
+    ensures { (added removed : List TupleValue) → length added ≡ adds → AreNumbersOf arena.old.tuples numbers.now (added ++ removed)
+        → arena.new.touches ≡ arena.old.touches ++ touches (record { at = at; adds = added; removes = removed }) }
 {
     let (added, removed) = numbers.split_at(adds);
     push_all(arena, at, true, added);

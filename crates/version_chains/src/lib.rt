@@ -9,6 +9,9 @@
 //! [`Chains::append`] adds one commit at the end or changes nothing, each question is answered by those
 //! definitions alone, and none of the questions takes memory. [`Users`] and [`History`] are iterators whose
 //! model is the list of what is left to give; `proofs.CallerLemmas` says what a loop over them shows.
+//!
+//! Each tuple is kept once, and touches are linked, so that a question walks back over the touches or the users that
+//! it is about and no others; nothing of that shows in a contract.
 #![tactic(auto)]
 
 mod arena;

@@ -1,7 +1,7 @@
 //! One touch as it is kept, and its links.
 
 ghost use Rattle.std.specs.Prelude.{◌≡◌, ℕ, suc, ◌≤◌, ◌<◌, ◌^◌, length, slice_get, Some, None, MatchOption, IfSome};
-ghost use Rattle.version_chains.specs.Jumps.{AreJumps, IsBack};
+ghost use Rattle.version_chains.specs.Jumps.{AreJumps, IsBack, StandsAt};
 ghost use Rattle.version_chains.specs.declared.node.Node.{Node};
 
 /// A touch: its timestamp, whether it adds, the number of its tuple, and the place of the touch of the same tuple
@@ -22,7 +22,7 @@ pub struct Node {
 
 /// The touch at a place, which counts from 1.
 pub fn at_place(nodes: &[Node], place: usize) -> Option<&Node>
-    ensures { MatchOption result ((i : ℕ) → place ≡ suc i → length nodes.now ≤ i) (λ n. (i : ℕ) × (place ≡ suc i) × (slice_get nodes.now i ≡ Some n.now)) }
+    ensures { MatchOption result ((i : ℕ) → place ≡ suc i → length nodes.now ≤ i) (λ n. StandsAt nodes.now place n.now) }
 {
     if place == 0 {
         return None;
@@ -32,7 +32,8 @@ pub fn at_place(nodes: &[Node], place: usize) -> Option<&Node>
 
 /// Where the second jump from a touch leads, where it is as long as the first.
 fn second_jump(nodes: &[Node], node: &Node) -> Option<usize>
-    ensures { AreJumps nodes.now → (i : ℕ) → slice_get nodes.now i ≡ Some node.now → IfSome result (λ place. IsBack nodes.now node.now.tuple i place) }
+    ensures { AreJumps nodes.now → (i : ℕ) → slice_get nodes.now i ≡ Some node.now
+        → IfSome result (λ place. IsBack nodes.now node.now.tuple i place) }
 {
     let first = at_place(nodes, node.jump)?;
     let second = at_place(nodes, first.jump)?;
@@ -47,7 +48,8 @@ fn second_jump(nodes: &[Node], node: &Node) -> Option<usize>
 pub fn next_links(nodes: &[Node], older: usize) -> (usize, usize)
     requires { length nodes.now < 2 ^ 63 }
     ensures first { older ≡ 0 → result.1 ≡ suc (length nodes.now) }
-    ensures later { AreJumps nodes.now → (i : ℕ) (n : Node) → older ≡ suc i → slice_get nodes.now i ≡ Some n → IsBack nodes.now n.tuple i result.1 }
+    ensures later { AreJumps nodes.now → (i : ℕ) (n : Node) → older ≡ suc i → slice_get nodes.now i ≡ Some n
+        → IsBack nodes.now n.tuple i result.1 }
 {
     let Some(node) = at_place(nodes, older) else {
         return (0, nodes.len() + 1);

@@ -7,7 +7,7 @@ ghost use Rattle.tuple_text.specs.Order.{user_eq};
 ghost use Rattle.tuple_text.specs.Refs.{set_value, user_value};
 ghost use Rattle.tuple_text.specs.Tuples.{tuple_of};
 ghost use Rattle.tuple_text.specs.declared.users.User.{User};
-ghost use Rattle.version_chains.specs.Commits.{touches_to, until, last_live};
+ghost use Rattle.version_chains.specs.Given.{is_stored_by};
 
 use crate::arena::Arena;
 use std::marker::Model;
@@ -61,7 +61,7 @@ impl<'a> Users<'a> {
     /// The users that the arena gives at the timestamp.
     pub(crate) fn over(arena: &'a Arena, set: SetRef<'a>, at: u64) -> Users<'a>
         ensures distinct { IsDistinct user_eq result }
-        ensures stored { (user : User) → list_any (user_eq user) result ≡ last_live false (touches_to (tuple_of (set_value set.entry) user) (until at arena.now.touches)) }
+        ensures stored { (user : User) → list_any (user_eq user) result ≡ is_stored_by arena.now.touches at (tuple_of (set_value set.entry) user) }
     {
         let place = arena.newest_of_set(set);
         Users {
