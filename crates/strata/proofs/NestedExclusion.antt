@@ -38,20 +38,19 @@ no_edge_broken = refl
 
 -- user 7 is stored in both, so that `a` keeps it from being subtracted from `c`
 c_has_seven : Member (rule_at rules_of_doc 5) (a_seven ∷ c_seven ∷ []) (record { set = doc_one (codes "c"); user = 7 })
-c_has_seven =
+c_has_seven = (
+  record { stratum = 1; expression = minus this (minus this (computed (codes "a"))) },
+  refl,
+  (
+    1,
     (
       record { stratum = 1; expression = minus this (minus this (computed (codes "a"))) },
       refl,
+      omega arith,
       (
-        1,
-        (
-          record { stratum = 1; expression = minus this (minus this (computed (codes "a"))) },
-          refl,
-          omega arith,
-          (
-            inl (Contains-there a_seven (c_seven ∷ []) c_seven (Contains-here c_seven [])),
-            λ b. b.1 (1, (record { stratum = 0; expression = this }, refl, omega arith, inl (Contains-here a_seven (c_seven ∷ [])))),
-          ),
-        ),
+        inl (Contains-there a_seven (c_seven ∷ []) c_seven (Contains-here c_seven [])),
+        λ b. b.1 (1, (record { stratum = 0; expression = this }, refl, omega arith, inl (Contains-here a_seven (c_seven ∷ [])))),
       ),
-    )
+    ),
+  ),
+)

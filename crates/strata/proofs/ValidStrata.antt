@@ -15,15 +15,13 @@ use Rattle.namespaces.specs.Declaration.{Relation, Declaration}
 use Rattle.namespaces.specs.Lookup.{Rule, rule_of, as_rule, relation_at, rule_at, history, namespace_numbered, relation_numbered, history_numbered, number_of, place_of, namespace_names, relation_names, relations_of}
 use Rattle.namespaces.specs.WellFormed.{IsWellFormed}
 use Rattle.namespaces.proofs.Declared.{IsPlaced, one_stratum, in_force_placed, stays_declared, numbered, history_of_number}
+use Rattle.namespaces.proofs.Names.{same_name}
 use Rattle.strata.specs.declared.edge.Edge.{Edge}
 use Rattle.strata.specs.Meaning.{with_relation, same_user, IsStored}
 use Rattle.strata.specs.Strata.{EachPremise, EachPremises, IsAtMost, IsLower, HasValidStrata}
 use Rattle.strata.specs.Edges.{Place, at_this, at_computed, at_tuple_to, places, all_places, read_by_rule, read_in_userset, read_through, rule_edges, this_edges, tuple_to_edges, userset_edges, tuple_edges, edges_of_tuples, stratum_numbered, is_broken_between, is_broken, HasNoBrokenEdge}
 use Rattle.strata.proofs.Lists.{Contains-here}
 use Rattle.strata.proofs.Unbroken.{Contains-flat_map, unbroken, edge_of_place, edge_of_namespace, edge_of_rules}
-
-same_text : (xs : List ℕ) → bytes_eq xs xs ≡ true
-same_text xs = (bytes_eq-Decides xs xs).1 refl
 
 -- ---- premises, place by place
 
@@ -181,7 +179,7 @@ module _ (ds : List Declaration) (w : IsWellFormed ds) (ts : List TupleValue) (k
       (rw (place_of_number ds f.set.namespace f.set.relation own.number own.is)
       (edge_of_namespace ds own.number f.set.namespace own.relation own.namespace own.there (read_through q g) x
       (edge_of_place ds (read_through q g) own.number m own.declared b (at_tuple_to q p) (record { namespace = g.namespace; relation = p })
-      own.had (own_places b (at_tuple_to q p) c) (rw (same_text q) refl) n)))))
+      own.had (own_places b (at_tuple_to q p) c) (rw (same_name q) refl) n)))))
 
   premises_bounded : EachPremise store (IsAtMost (rule_at ds at) rule.stratum) (IsLower (rule_at ds at) rule.stratum) f rule.expression
   premises_bounded =

@@ -16,6 +16,7 @@ use Rattle.strata.specs.declared.edge.Edge.{Edge}
 use Rattle.strata.specs.Edges.{userset_edges, user_edges, tuple_edges, edges_of_tuples, first_broken, rule_edges}
 use Rattle.strata.proofs.Lists.{Contains-cons_cases, not_in_nil}
 use Rattle.strata.proofs.Walks.{both, edges_joined}
+use Rattle.namespaces.proofs.Names.{and_true, one_name}
 use Rattle.trace_lines.specs.Reading.{◌>>=◌}
 use Rattle.trace_lines.specs.Traces.{strata_cause, tuples_checked}
 use Rattle.trace_lines.specs.Tuples.{is_user_of_kind, is_of_kind, IsSomeOfKind, Represents}
@@ -27,28 +28,21 @@ tuples_joined ds ts us = ap (first_broken ds) (flat_map-append (tuple_edges ds) 
 
 -- ---- kinds
 
-both_true : (a b : Bool) → (a && b) ≡ true → (a ≡ true) × (b ≡ true)
-both_true true b h = (refl, h)
-both_true false b h = cc
-
-same : (xs ys : List ℕ) → bytes_eq xs ys ≡ true → xs ≡ ys
-same xs ys h = (bytes_eq-Decides xs ys).0 h
-
 -- the edges of a tuple do not turn on its object, nor on the object of its user
 edges_of_kind : (ds : List Declaration) (t u : TupleValue) → is_of_kind t u ≡ true → tuple_edges ds t ≡ tuple_edges ds u
 edges_of_kind ds t u h =
-    let n = both_true (bytes_eq t.set.namespace u.set.namespace) _ h in
-    let r = both_true (bytes_eq t.set.relation u.set.relation) (is_user_of_kind t.user u.user) n.1 in
-    by_user t.user u.user (same t.set.namespace u.set.namespace n.0) (same t.set.relation u.set.relation r.0) r.1
+    let n = and_true (bytes_eq t.set.namespace u.set.namespace) _ h in
+    let r = and_true (bytes_eq t.set.relation u.set.relation) (is_user_of_kind t.user u.user) n.1 in
+    by_user t.user u.user (one_name t.set.namespace u.set.namespace n.0) (one_name t.set.relation u.set.relation r.0) r.1
   where
     by_user : (x y : User) → t.set.namespace ≡ u.set.namespace → t.set.relation ≡ u.set.relation → is_user_of_kind x y ≡ true
         → user_edges ds t.set x ≡ user_edges ds u.set y
     by_user (Id k) y n r g = cc
     by_user (Set a) (Id k) n r g = cc
     by_user (Set a) (Set b) n r g =
-        let p = both_true (bytes_eq a.namespace b.namespace) (bytes_eq a.relation b.relation) g in
-        let namespace = same a.namespace b.namespace p.0 in
-        let relation = same a.relation b.relation p.1 in
+        let p = and_true (bytes_eq a.namespace b.namespace) (bytes_eq a.relation b.relation) g in
+        let namespace = one_name a.namespace b.namespace p.0 in
+        let relation = one_name a.relation b.relation p.1 in
         λ i. userset_edges ds (record { namespace = n i; id = []; relation = r i }) (record { namespace = namespace i; id = []; relation = relation i })
 
 both_ok : (a b : Result (Unit {0}) Edge) → both a b ≡ Ok (tt {0}) → (a ≡ Ok (tt {0})) × (b ≡ Ok (tt {0}))

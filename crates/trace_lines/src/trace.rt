@@ -1,6 +1,6 @@
 //! Traces.
 
-ghost use Rattle.std.specs.Prelude.{◌≡◌, ◌+◌, ◌<◌, ◌≤◌, Some, None, slice_get, ◌^◌, ◌&&◌, [], length, take, drop, All, true, false, ℕ, ◌++◌, option_map, Ok, OnOk, OnErr, IfErr, IfSome, IsErr};
+ghost use Rattle.std.specs.Prelude.{◌≡◌, ◌+◌, ◌<◌, ◌≤◌, Some, None, slice_get, ◌^◌, ◌&&◌, [], length, take, drop, All, true, false, ℕ, ◌++◌, option_map, option_and_then, Ok, IfOk, OnOk, OnErr, IfErr, IfSome, IsErr};
 ghost use Rattle.std.specs.Io.KnownBytes.{Consumes};
 ghost use Rattle.serde_json.specs.View.{view};
 ghost use Rattle.tuple_text.specs.Refs.{set_value};
@@ -35,7 +35,7 @@ use crate::texts::tuples_of;
 use crate::versions::{VersionName, version_of};
 use namespaces::{Rules, RulesFault};
 use serde_json::Value;
-use std::alloc::Global;
+use std::alloc::{AllocError, Global};
 use std::collections::BTreeMap;
 use std::marker::Model;
 use tuple_text::{SetRef, Tuple};
@@ -60,6 +60,8 @@ pub struct Trace {
     recorded: Vec<Recorded>,
     // by which entry each version was issued
     versions: BTreeMap<VersionName, usize>,
+    // the version last looked up, kept for its room
+    asked: VersionName,
 }
 
 impl Model for Trace {
@@ -117,6 +119,7 @@ impl Trace {
             commit_lines: Vec::new(alloc),
             recorded: Vec::new(alloc),
             versions: BTreeMap::new(alloc),
+            asked: VersionName::new(alloc),
         }
     }
 
@@ -314,23 +317,28 @@ impl Trace {
         requires before { entry.before ≡ length self.old.commit_lines }
         ensures { Gives (λ _. self.new) result (recorded self.old (entry_value entry)) }
     {
-        match version_of(self.alloc, &entry)? {
-            None => self.push(entry, None),
-            Some(version) => match entry.kind {
-                EntryKind::Check => {
-                    let content = self.issuer(&version);
-                    self.push(entry, content)
-                }
-                EntryKind::Content => self.issue(entry, version),
+        match entry.kind {
+            EntryKind::Check => {
+                let content = self.content_named(&entry)?;
+                self.push(entry, content)
+            }
+            EntryKind::Content => match version_of(self.alloc, &entry)? {
+                Some(version) => self.issue(entry, version),
+                None => self.push(entry, None),
             },
         }
     }
 
-    /// The entry that issued a version.
-    fn issuer(&self, version: &VersionName) -> Option<usize>
-        ensures { result ≡ issuer self.now.entries version.now }
+    /// The entry that issued the version which stands in this one.
+    fn content_named(&mut self, entry: &Entry) -> Result<Option<usize>, AllocError>
+        ensures found { IfOk result (λ content. content ≡ option_and_then (issuer self.old.entries) (entry_version (entry_value entry.now))) }
+        ensures unchanged { self.new ≡ self.old }
     {
-        self.versions.get(version).copied()
+        let Some(label) = &entry.version else {
+            return Ok(None);
+        };
+        self.asked.rename(entry.goal.set(), label.as_str())?;
+        Ok(self.versions.get(&self.asked).copied())
     }
 
     /// Puts an entry last that issues no version, and names the one that `content` issued.

@@ -1,13 +1,15 @@
 //! Versions of content, as keys of a table.
 
-ghost use Rattle.std.specs.Prelude.{◌≡◌, IfOk};
+ghost use Rattle.std.specs.Prelude.{◌≡◌, IfOk, OnOk};
+ghost use Rattle.tuple_text.specs.Refs.{set_value};
 ghost use Rattle.trace_lines.specs.Values.{entry_value};
-ghost use Rattle.trace_lines.specs.Versions.{entry_version};
+ghost use Rattle.trace_lines.specs.Versions.{entry_version, version_of};
 
 use crate::entry::Entry;
 use std::alloc::{AllocError, Global};
 use std::cmp::Ordering;
 use std::marker::Model;
+use tuple_text::SetRef;
 
 /// A version by its object and its label.
 #[derive(Drop)]
@@ -80,6 +82,30 @@ impl Ord for VersionName {
         self.namespace
             .cmp(&other.namespace)
             .then(self.id.cmp(&other.id).then(self.label.cmp(&other.label)))
+    }
+}
+
+impl VersionName {
+    /// The version of nothing.
+    pub(crate) fn new(alloc: Global) -> VersionName {
+        VersionName {
+            namespace: String::new(alloc),
+            id: String::new(alloc),
+            label: String::new(alloc),
+        }
+    }
+
+    /// From now on the version of this object and label, in the room of the texts that stood here. For want of memory
+    /// some of the texts may stay.
+    pub(crate) fn rename(&mut self, object: SetRef<'_>, label: &str) -> Result<(), AllocError>
+        ensures { OnOk result (self.new ≡ version_of (set_value object.entry) label.now) }
+    {
+        self.namespace.clear();
+        self.namespace.push_str(object.namespace)?;
+        self.id.clear();
+        self.id.push_str(object.id)?;
+        self.label.clear();
+        self.label.push_str(label)
     }
 }
 

@@ -13,16 +13,12 @@ use Rattle.version_chains.specs.Given.{LeadsBack}
 use Rattle.version_chains.specs.Placed.{last_place, newest_first}
 use Rattle.version_chains.specs.declared.node.Node.{Node}
 use Rattle.version_chains.proofs.ArenaLemmas.{touch_at}
-use Rattle.version_chains.proofs.PlacedLemmas.{last_place-within, last_place-here, newest_first-not_here, newest_first-past}
+use Rattle.version_chains.proofs.PlacedLemmas.{and-left, last_place-within, last_place-here, newest_first-not_here, newest_first-past}
 use Rattle.version_chains.proofs.WalkLemmas.{left_older}
 
 after-not : (b : Bool) (n s : ℕ) → s < n → (b && leb n s) ≡ false
 after-not true n s h = lt-leb n s h
 after-not false n s h = refl
-
-and-left : (a b : Bool) → (a && b) ≡ true → a ≡ true
-and-left true b h = refl
-and-left false b h = h
 
 module _ (tuples : List TupleValue) (latest named held : List ℕ) (nodes : List Node) (is : IsLinked tuples latest named held nodes) where
   abbrev touches : List Touch

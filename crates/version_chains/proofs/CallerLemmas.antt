@@ -6,6 +6,7 @@ use Rattle.tuple_text.specs.Sets.{SetValue}
 use Rattle.tuple_text.specs.declared.users.User.{User}
 use Rattle.tuple_text.specs.declared.users.User.TheVariants.{Id, Set}
 use Rattle.tuple_text.proofs.ValueLemmas.{user_eq-same, user_eq-itself}
+use Rattle.version_chains.proofs.PlacedLemmas.{or-second}
 
 all-at : (p : User → Bool) (us : List User) (u : User) → list_all p us ≡ true → list_any (user_eq u) us ≡ true → p u ≡ true
 all-at p [] u h k = cc
@@ -27,10 +28,6 @@ any-at p (x ∷ xs) h = pick (p x) refl h (any-at p xs)
     pick : (q : Bool) → p x ≡ q → (q || list_any p xs) ≡ true → (list_any p xs ≡ true → (u : User) × (list_any (user_eq u) xs ≡ true) × (p u ≡ true)) → (u : User) × ((user_eq u x || list_any (user_eq u) xs) ≡ true) × (p u ≡ true)
     pick true e h further = (x, ap (λ b. b || list_any (user_eq x) xs) (user_eq-itself x), e)
     pick false e h further = let w = further h in (w.0, ap (λ b. user_eq w.0 x || b) w.1 ∙ or-any (user_eq w.0 x), w.2)
-
-or-second : (a b : Bool) → b ≡ true → (a || b) ≡ true
-or-second true b h = refl
-or-second false b h = h
 
 and-both : (a b : Bool) → a ≡ true → b ≡ true → (a && b) ≡ true
 and-both a b p q = cc

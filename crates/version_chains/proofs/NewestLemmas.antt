@@ -12,7 +12,7 @@ use Rattle.version_chains.specs.Commits.{Touch, touches_to, until, last_live}
 use Rattle.version_chains.specs.Given.{LeadsBack}
 use Rattle.version_chains.specs.Placed.{in_front, last_place, newest_first, IsLinkedPlace, IsWalk}
 use Rattle.version_chains.proofs.ArenaLemmas.{item_within}
-use Rattle.version_chains.proofs.PlacedLemmas.{newest_first-here, given_at}
+use Rattle.version_chains.proofs.PlacedLemmas.{and-left, newest_first-here, given_at}
 use Rattle.version_chains.proofs.WalkLemmas.{linked_item, linked_older, left_older, walk_start, walk_found, walk_end}
 
 -- the first n items and the next
@@ -98,15 +98,11 @@ pub live_touched : (t : TupleValue) (s : ℕ) (xs : List Touch) → last_live fa
 live_touched t s xs e =
     let some = some_first (newest_first (λ x. tuple_eq x.tuple t && leb x.at s) xs (length xs)) (sym (live_newest t s xs) ∙ e) in
     let w = given_at (λ x. tuple_eq x.tuple t && leb x.at s) (λ _. true) xs (length xs) some in
-    (w.0, w.1, w.3, left (tuple_eq w.1.tuple t) (leb w.1.at s) w.4)
+    (w.0, w.1, w.3, and-left (tuple_eq w.1.tuple t) (leb w.1.at s) w.4)
   where
     some_first : (ys : List Touch) → first_live false ys ≡ true → list_any (λ _. true) ys ≡ true
     some_first [] h = cc
     some_first (y ∷ ys) h = refl
-
-    left : (a b : Bool) → (a && b) ≡ true → a ≡ true
-    left true b h = refl
-    left false b h = h
 
 -- ---- a walk over the touches of a tuple, for the last one up to a timestamp
 
@@ -118,11 +114,7 @@ module _ (t : TupleValue) (s : ℕ) (xs : List Touch) where
   wanted x = tuple_eq x.tuple t && leb x.at s
 
   wanted_linked : (x : Touch) → wanted x ≡ true → linked x ≡ true
-  wanted_linked x h = left (tuple_eq x.tuple t) (leb x.at s) h
-    where
-      left : (a b : Bool) → (a && b) ≡ true → a ≡ true
-      left true b h = refl
-      left false b h = h
+  wanted_linked x h = and-left (tuple_eq x.tuple t) (leb x.at s) h
 
   pub live_start : (place : ℕ) → place ≡ last_place linked xs (length xs) → IsWalk linked wanted xs place
   live_start place e = walk_start linked wanted wanted_linked xs place e

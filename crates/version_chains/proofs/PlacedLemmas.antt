@@ -1,10 +1,22 @@
 -- Places in a list that grows.
-use Rattle.std.proofs.Common.{◌≡◌, ◌≢◌, ℕ, zero, suc, ◌+◌, ◌<◌, ◌≤◌, Bool, true, false, cond, List, [], ◌∷◌, ◌++◌, length, map, refl, sym, ◌∙◌, ap, subst, Option, None, Some, ◌||◌, ◌⊎◌, inl, inr, arith, get_or}
+use Rattle.std.proofs.Common.{◌≡◌, ◌≢◌, ℕ, zero, suc, ◌+◌, ◌<◌, ◌≤◌, Bool, true, false, ◌&&◌, cond, List, [], ◌∷◌, ◌++◌, length, map, refl, sym, ◌∙◌, ap, subst, Option, None, Some, ◌||◌, ◌⊎◌, inl, inr, arith, get_or}
 use Rattle.std.proofs.Math.Nat.{eq-or-lt_of_le}
 use Rattle.std.specs.Prelude.{slice_get, option_map, slice_set}
 use Rattle.std.specs.List.{list_any}
 use Rattle.std.proofs.lemmas.Option.{slice_get_within, slice_get-map, slice_get_read}
 use Rattle.version_chains.specs.Placed.{passes, last_place, in_front, newest_first}
+
+pub and-left : (a b : Bool) → (a && b) ≡ true → a ≡ true
+and-left true b h = refl
+and-left false b h = h
+
+pub and-right : (a b : Bool) → (a && b) ≡ true → b ≡ true
+and-right true b h = h
+and-right false b h = cc
+
+pub or-second : (a b : Bool) → b ≡ true → (a || b) ≡ true
+or-second true b h = refl
+or-second false b h = h
 
 -- ---- items of a longer list
 
@@ -229,10 +241,6 @@ pub given_from : {X : Type 0} (p r : X → Bool) (xs : List X) (n m : ℕ) (x : 
 given_from p r xs zero m x h is t u = absurd (omega (arith, h))
 given_from {X} p r xs (suc n) m x h is t u = by_place (eq-or-lt_of_le (let k : m ≤ n = omega (arith, h) in k)) (λ less. given_from p r xs n m x less is t u)
   where
-    or-second : (a b : Bool) → b ≡ true → (a || b) ≡ true
-    or-second true b e = refl
-    or-second false b e = e
-
     by_test : (y : X) (b : Bool) → list_any r (newest_first p xs n) ≡ true → list_any r (cond b (y ∷ newest_first p xs n) (newest_first p xs n)) ≡ true
     by_test y true e = or-second (r y) _ e
     by_test y false e = e

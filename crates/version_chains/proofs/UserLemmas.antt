@@ -1,5 +1,5 @@
 -- The users that the arena gives are those stored, each once.
-use Rattle.std.proofs.Common.{◌≡◌, ℕ, zero, suc, ◌<◌, Bool, true, false, cond, List, [], ◌∷◌, length, map, refl, sym, ◌∙◌, ap, subst, Some, None, Option, arith, ◌&&◌, ◌||◌, nat_eq}
+use Rattle.std.proofs.Common.{◌≡◌, ℕ, zero, suc, ◌<◌, Bool, true, false, cond, List, [], ◌∷◌, length, map, refl, sym, ◌∙◌, ap, subst, Some, None, Option, arith, ◌||◌, nat_eq}
 use Rattle.std.specs.Prelude.{slice_get}
 use Rattle.std.specs.List.{list_any, IsDistinct, AllByRecursion}
 use Rattle.std.proofs.lemmas.Option.{slice_get_within}
@@ -15,16 +15,8 @@ use Rattle.version_chains.specs.Given.{AreTouchesKnown, is_given, users_before, 
 use Rattle.version_chains.specs.Marks.{set_mark}
 use Rattle.version_chains.specs.Placed.{in_front, last_place, newest_first, IsLinkedPlace}
 use Rattle.version_chains.proofs.NewestLemmas.{live_touched}
-use Rattle.version_chains.proofs.PlacedLemmas.{given_at, given_from, last_place-within, newest_first-here, newest_first-not_here}
+use Rattle.version_chains.proofs.PlacedLemmas.{and-left, and-right, given_at, given_from, last_place-within, newest_first-here, newest_first-not_here}
 use Rattle.version_chains.proofs.WalkLemmas.{linked_item, linked_older, left_older}
-
-and-left : (a b : Bool) → (a && b) ≡ true → a ≡ true
-and-left true b h = refl
-and-left false b h = h
-
-and-right : (a b : Bool) → (a && b) ≡ true → b ≡ true
-and-right true b h = h
-and-right false b h = cc
 
 list_any-map : {X Y : Type 0} (f : X → Y) (p : Y → Bool) (xs : List X) → list_any p (map f xs) ≡ list_any (λ x. p (f x)) xs
 list_any-map f p [] = refl
