@@ -1,9 +1,9 @@
 -- A report without findings is on a trace whose replies are right and fresh.
-use Rattle.std.proofs.Common.{◌≡◌, ℕ, zero, suc, ◌+◌, ◌<◌, List, [], ◌∷◌, ◌++◌, get_or, length, Bool, true, false, Option, None, Some, option_map, Result, Ok, ◌↔◌, refl, sym, subst, ap, ◌∙◌, arith}
-use Rattle.std.specs.Prelude.{IsTrue, All, slice_get}
+use Rattle.std.proofs.Common.{◌≡◌, ℕ, zero, suc, ◌+◌, List, [], ◌∷◌, ◌++◌, get_or, Bool, true, false, Option, None, Some, option_map, Result, Ok, refl, sym, subst, ◌∙◌, arith}
+use Rattle.std.specs.Prelude.{slice_get}
 use Rattle.std.proofs.lemmas.Option.{slice_get-get_or}
 use Rattle.trace_lines.specs.Values.{TraceValue, EntryValue}
-use Rattle.evidence_check.specs.Laws.{IsMemberAt, HasValidStrataAt}
+use Rattle.evidence_check.specs.Laws.{HasValidStrataAt}
 use Rattle.evidence_check.specs.Steps.{StepValue}
 use Rattle.evidence_check.specs.Evidences.{steps_of}
 use Rattle.evidence_check.specs.Judged.{judged}
@@ -16,7 +16,7 @@ use Rattle.new_enemy.specs.Audit.{verdict_of}
 use Rattle.new_enemy.specs.Findings.{found_by, if_told, found_on_tokens, found_on, on_line, findings_from, findings_of}
 use Rattle.new_enemy.specs.Headline.{IsRightAndFresh}
 use Rattle.new_enemy.specs.declared.audit.Verdict.{Verdict}
-use Rattle.new_enemy.specs.declared.audit.Verdict.TheVariants.{Clean, Dirty}
+use Rattle.new_enemy.specs.declared.audit.Verdict.TheVariants.{Clean}
 use Rattle.new_enemy.specs.declared.finding.Finding.{Finding}
 use Rattle.new_enemy.specs.declared.finding.What.{What}
 use Rattle.new_enemy.specs.declared.finding.What.TheVariants.{Stale, OldToken, NotLatest, OpenSnapshot, WrongToken, UnknownVersion}

@@ -1,5 +1,5 @@
 -- Joined input, line by line.
-use Rattle.std.proofs.Common.{◌≡◌, ℕ, zero, suc, ◌+◌, ◌<◌, ◌≤◌, Bool, true, false, ltb, eqb, not, List, [], ◌∷◌, ◌++◌, length, take, drop, Option, Some, None, option_map, arith, refl, sym, ap, ◌∙◌, append_assoc, append-nil, inl, inr}
+use Rattle.std.proofs.Common.{◌≡◌, ℕ, suc, ◌+◌, ◌<◌, ◌≤◌, Bool, true, false, eqb, not, List, [], ◌∷◌, ◌++◌, length, take, drop, Option, Some, None, option_map, arith, refl, sym, ap, ◌∙◌, append_assoc, append-nil, inl, inr}
 use Rattle.std.specs.List.{join_with_byte}
 use Rattle.std.proofs.Math.ListN.{drop_of_length-le}
 use Rattle.std.proofs.Math.Seq.{take-add}
@@ -8,7 +8,7 @@ use Rattle.std.proofs.lemmas.List.{take_all, drop-drop}
 use Rattle.std.proofs.lemmas.List.Splits.{slice_split_first, slice_split_none, join_with_byte-slice_split}
 use Rattle.trace_lines.specs.Lines.{line_len, first_line, after_line, has_newline}
 use Rattle.trace_lines.specs.Reading.{parts}
-use Rattle.trace_lines.proofs.Cuts.{line_len_le, lacks_all}
+use Rattle.trace_lines.proofs.Cuts.{lacks_all}
 use Rattle.trace_lines.proofs.Folds.{none_passes}
 use Rattle.new_enemy.specs.Joined.{is_marker, lines_joined, with_newlines, bytes_of, joined_of}
 

@@ -7,11 +7,12 @@ ghost use Rattle.trace_lines.specs.declared.cause.TraceFault.{TraceFault};
 ghost use Rattle.evidence_check.specs.declared.cause.EvidenceFault.{EvidenceFault};
 ghost use Rattle.new_enemy.specs.Audit.{Audits, RefusesTrace, RefusesEvidence, IsUnwritten, IsOfReading};
 ghost use Rattle.new_enemy.specs.Headline.{IsTraceRightAndFresh};
-ghost use Rattle.new_enemy.specs.Joined.{is_marker, joined_of, OfParts, HasNoParts};
+ghost use Rattle.new_enemy.specs.Joined.{is_marker, joined_of, ArePartsOf, OfParts, HasNoParts};
 ghost use Rattle.new_enemy.specs.declared.audit.AuditFault.TheVariants as faults;
 ghost use Rattle.new_enemy.specs.declared.audit.Verdict.TheVariants.{Clean};
 
 use crate::audit::{AuditFault, Verdict, audit_plain};
+use crate::spent::Spent;
 use memchr::memchr;
 use std::alloc::Global;
 use trace_lines::{Sink, Source};
@@ -80,6 +81,20 @@ fn parts_of(bytes: &[u8]) -> Option<(&[u8], &[u8])>
     None
 }
 
+/// The two parts of joined input, read whole. The input itself is not kept.
+fn read_parts<R: Source>(alloc: Global, input: &mut R) -> Result<(Vec<u8>, Vec<u8>), AuditFault>
+    ensures parts { IfOk result (λ p. IfSome (R.remaining input.old) (ArePartsOf p.0.items p.1.items)) }
+    ensures joined { result ≡ Err faults.Joined → IfSome (R.remaining input.old) HasNoParts }
+    ensures causes { IfErr result IsOfReading }
+{
+    let bytes = read_whole(alloc, input)?;
+    let (trace, evidence) = parts_of(&bytes).ok_or(AuditFault::Joined)?;
+    Ok((
+        Vec::from_slice(alloc, trace)?,
+        Vec::from_slice(alloc, evidence)?,
+    ))
+}
+
 /// Audits joined input: the trace, a line that is exactly `---`, and the evidence. The first such line counts, and
 /// each of the two parts has lines from 1.
 ///
@@ -99,7 +114,8 @@ pub fn audit_joined<R: Source, W: Sink>(
     ensures joined { result ≡ Err faults.Joined → IfSome (R.remaining input.old) HasNoParts }
     ensures unwritten { IfErr result (λ e. IsUnwritten e → Keeps (W.contents out.old) (W.contents out.new)) }
 {
-    let bytes = read_whole(alloc, input)?;
-    let (mut trace, mut evidence) = parts_of(&bytes).ok_or(AuditFault::Joined)?;
+    let (trace, evidence) = read_parts(alloc, input)?;
+    let mut trace = Spent::new(alloc, trace);
+    let mut evidence = Spent::new(alloc, evidence);
     audit_plain(alloc, &mut trace, &mut evidence, out)
 }

@@ -16,6 +16,7 @@ mod finding;
 mod findings;
 mod joined;
 mod run;
+mod spent;
 #[cfg(test)]
 mod tests;
 
