@@ -1,6 +1,6 @@
 //! Reading the evidence for a trace.
 
-ghost use Rattle.std.specs.Prelude.{◌≡◌, ◌+◌, ◌^◌, ◌<◌, ℕ, List, length, true, false, Err, IfSome, IfErr, IfOk};
+ghost use Rattle.std.specs.Prelude.{◌≡◌, ◌≢◌, ℕ, List, true, false, Err, IfSome, IfErr, OnOk};
 ghost use Rattle.std.specs.Io.KnownBytes.{Consumes};
 ghost use Rattle.trace_lines.specs.Counts.{one_more};
 ghost use Rattle.evidence_check.specs.Evidences.{evidence_value};
@@ -35,15 +35,15 @@ pub fn read_evidence<R: Source>(
     reader: &mut R,
     trace: &Trace,
 ) -> Result<Evidence, EvidenceFault>
-    // Of a reader that does not fail.
-    ensures exact { IfSome (R.remaining reader.old) (λ input. R.failures reader.new ≡ R.failures reader.old
-        → R.failures reader.old + 1 < 2 ^ 64 → GivesEvidence evidence_value result (evidence_of trace.now.entries true input)) }
+    ensures exact { IfSome (R.remaining reader.old) (λ input. GivesEvidence evidence_value result (evidence_of trace.now.entries true input)) }
     // Of a reader that failed, by the bytes that it gave before.
     ensures failed { IfErr result (λ e. e.cause ≡ Read → IfSome (R.remaining reader.old) (λ input.
         (given : List ℕ) × Consumes (R.remaining reader.old) (R.remaining reader.new) given
         × (evidence_of trace.now.entries false given ≡ Err e))) }
     // A reader's failure is told, and nothing else is called one.
     ensures counted { IfErr result (λ e. e.cause ≡ Read → R.failures reader.new ≡ one_more (R.failures reader.old)) }
+    ensures kept { OnOk result (R.failures reader.new ≡ R.failures reader.old) }
+    ensures unfailed { IfErr result (λ e. e.cause ≢ Read → R.failures reader.new ≡ R.failures reader.old) }
 {
     let mut recorder = match Recorder::new(alloc, trace) {
         Ok(recorder) => recorder,

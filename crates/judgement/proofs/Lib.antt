@@ -1,2 +1,3 @@
+pub mod AmongLemmas
 pub mod NumberingLemmas
 pub mod PassLemmas

@@ -10,7 +10,6 @@ use Rattle.std.proofs.lemmas.Slice.Eq.{bytes_eq-Decides}
 use Rattle.std.proofs.lemmas.List.Elements.{Contains-append_cases, Contains-append_left, Contains-append_right}
 use Rattle.std.proofs.lemmas.Map.Lookups.{CmpEqualImpliesEq, exact_unsigned, exact_pairs}
 use Rattle.std.proofs.lemmas.Map.Views.{btree_set_contains_iff, tells_apart}
-use Rattle.tuple_text.specs.Sets.{SetValue}
 use Rattle.tuple_text.specs.Tuples.{FactValue}
 use Rattle.strata.proofs.Lists.{Contains-cons_cases, Contains-here, not_in_nil}
 use Rattle.judgement.specs.Numbering.{Numbering, IsOneToOne, KeepsNumbers, KeyValue, key_from, key_of, AreKeysOf}

@@ -1,5 +1,5 @@
 -- What known facts say of a rule can be decided.
-use Rattle.std.specs.Prelude.{◌≡◌, ◌⊎◌, List, Option, None, Some, Contains, refl}
+use Rattle.std.specs.Prelude.{◌≡◌, List, Option, None, Some, Contains, refl}
 use Rattle.tuple_text.specs.Sets.{SetValue}
 use Rattle.tuple_text.specs.Tuples.{TupleValue, FactValue}
 use Rattle.tuple_text.specs.declared.users.User.TheVariants.{Id, Set}

@@ -1,7 +1,7 @@
 -- What a pass over the stored usersets of a userset finds. No public clause cites this module.
 use Rattle.std.specs.Prelude.{ℕ, List, [], ◌∷◌, Option, None, Some, ◌⊎◌, Contains}
 use Rattle.tuple_text.specs.Sets.{SetValue}
-use Rattle.tuple_text.specs.Tuples.{TupleValue, FactValue, fact_of}
+use Rattle.tuple_text.specs.Tuples.{TupleValue, fact_of}
 use Rattle.tuple_text.specs.declared.users.User.{User}
 use Rattle.tuple_text.specs.declared.users.User.TheVariants.{Id, Set}
 use Rattle.namespaces.specs.Lookup.{Lookup}

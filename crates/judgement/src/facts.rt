@@ -1,93 +1,51 @@
-//! A set of facts that is looked into by borrowed texts.
+//! Facts, few or many.
 
-ghost use Rattle.std.specs.Prelude.{◌≡◌, ◌∷◌, ◌++◌, [], Some, IfOk, OnOk, OnErr, IsTrue, ◌↔◌, Contains};
-ghost use Rattle.std.specs.BTreeMap.{get_by_text, btree_map_len};
+ghost use Rattle.std.specs.Prelude.{◌≡◌, ◌∷◌, ◌++◌, [], OnOk, OnErr, IsTrue, ◌↔◌, Contains};
+ghost use Rattle.std.specs.List.{list_any};
+ghost use Rattle.tuple_text.specs.Order.{fact_eq};
 ghost use Rattle.tuple_text.specs.Refs.{set_value};
 ghost use Rattle.tuple_text.specs.Tuples.{fact_of};
-ghost use Rattle.judgement.specs.Numbering.{IsOneToOne, KeepsNumbers, key_of};
 
+use crate::indexed::Indexed;
 use std::alloc::{AllocError, Global};
-use std::collections::{BTreeMap, BTreeSet};
 use std::marker::Model;
 use tuple_text::{Fact, SetRef};
 
-/// The numbers of a fact's namespace, object id and relation, and its user.
-type Key = ((usize, usize), (usize, u64));
+const FEW: usize = 8;
 
 /// Facts, which contracts see as the list of them in the order in which they were added.
 ///
-/// Texts are numbered, and the keys of numbers are kept in order, so that a look-up goes by comparisons: whoever chooses
-/// the texts cannot make it slow, as a hash could.
+/// The first few are looked at one after the other, which needs no memory for an index; all others have one.
 #[derive(Drop)]
 pub(crate) struct Facts {
-    alloc: Global,
-    numbers: BTreeMap<String, usize>,
-    keys: BTreeSet<Key>,
-    facts: Vec<Fact>,
+    first: Vec<Fact>,
+    rest: Indexed,
 }
 
 impl Model for Facts {
-    ghost use Rattle.std.specs.Prelude.{List};
-    ghost use Rattle.std.specs.BTreeMap.{get_by_text, btree_map_len};
+    ghost use Rattle.std.specs.Prelude.{List, ◌≡◌, ◌++◌, ◌<◌, [], vec_len};
     ghost use Rattle.tuple_text.specs.Tuples.{FactValue};
     ghost use Rattle.judgement.specs.KnownCode.{facts_code};
-    ghost use Rattle.judgement.specs.Numbering.{IsOneToOne, AreKeysOf};
 
     ghost Value = { List FactValue };
 
     ghost coded = { facts_code };
 
-    ghost view = { λ s. s.facts.items };
+    ghost view = { λ s. s.first.items ++ s.rest };
 
-    ghost invariant = { λ s. IsOneToOne (get_by_text s.numbers) (btree_map_len s.numbers)
-        × AreKeysOf (get_by_text s.numbers) s.keys.keys s.facts.items };
+    ghost invariant = { λ s. vec_len s.first < 8 → s.rest ≡ [] };
 }
 
-/// The number of a text, which gets one where it has none.
-fn numbered(
-    alloc: Global,
-    numbers: &mut BTreeMap<String, usize>,
-    text: &str,
-) -> Result<usize, AllocError>
-    requires { IsOneToOne (get_by_text numbers.old) (btree_map_len numbers.old) }
-    ensures one_to_one { IsOneToOne (get_by_text numbers.new) (btree_map_len numbers.new) }
-    ensures keeps { KeepsNumbers (get_by_text numbers.old) (get_by_text numbers.new) }
-    ensures number { IfOk result (λ n. get_by_text numbers.new text.now ≡ Some n) }
+fn is_same(fact: &Fact, set: SetRef<'_>, user: u64) -> bool
+    ensures { result ≡ fact_eq (fact_of (set_value set.entry) user) fact.now }
 {
-    if let Some(number) = numbers.get(text) {
-        return Ok(*number);
-    }
-    let number = numbers.len();
-    numbers.insert(String::from_str(alloc, text)?, number)?;
-    Ok(number)
+    set == fact.set() && user == fact.user()
 }
 
-/// The key of a fact, where each of its texts has a number.
-fn key_of(numbers: &BTreeMap<String, usize>, set: SetRef<'_>, user: u64) -> Option<Key>
-    ensures { result ≡ key_of (get_by_text numbers.now) (fact_of (set_value set.entry) user) }
+fn is_among(facts: &[Fact], set: SetRef<'_>, user: u64) -> bool
+    ensures { result ≡ list_any (fact_eq (fact_of (set_value set.entry) user)) facts.now }
 {
-    let namespace = *numbers.get(set.namespace)?;
-    let id = *numbers.get(set.id)?;
-    let relation = *numbers.get(set.relation)?;
-    Some(((namespace, id), (relation, user)))
-}
-
-/// The key of a fact, whose texts get numbers where they have none.
-fn new_key(
-    alloc: Global,
-    numbers: &mut BTreeMap<String, usize>,
-    fact: &Fact,
-) -> Result<Key, AllocError>
-    requires { IsOneToOne (get_by_text numbers.old) (btree_map_len numbers.old) }
-    ensures one_to_one { IsOneToOne (get_by_text numbers.new) (btree_map_len numbers.new) }
-    ensures keeps { KeepsNumbers (get_by_text numbers.old) (get_by_text numbers.new) }
-    ensures key { IfOk result (λ k. key_of (get_by_text numbers.new) fact.now ≡ Some k) }
-{
-    let set = fact.set();
-    let namespace = numbered(alloc, numbers, set.namespace)?;
-    let id = numbered(alloc, numbers, set.id)?;
-    let relation = numbered(alloc, numbers, set.relation)?;
-    Ok(((namespace, id), (relation, fact.user())))
+    facts.iter().any(|fact| is_same(fact, set, user))
 }
 
 impl Facts {
@@ -95,10 +53,8 @@ impl Facts {
         ensures { result ≡ [] }
     {
         Facts {
-            alloc,
-            numbers: BTreeMap::new(alloc),
-            keys: BTreeSet::new(alloc),
-            facts: Vec::new(alloc),
+            first: Vec::new(alloc),
+            rest: Indexed::new(alloc),
         }
     }
 
@@ -107,22 +63,17 @@ impl Facts {
         ensures ok { OnOk result (self.new ≡ self.old ++ fact ∷ []) }
         ensures err { OnErr result (self.new ≡ self.old) }
     {
-        let key = new_key(self.alloc, &mut self.numbers, &fact)?;
-        self.facts.reserve(1)?;
-        self.keys.insert(key)?;
-        if self.facts.push(fact).is_err() {
-            unreachable!();
+        if self.first.len() < FEW {
+            self.first.push(fact)?;
+            return Ok(());
         }
-        Ok(())
+        self.rest.add(fact)
     }
 
     /// Whether the fact of a userset and a user id is there.
     pub(crate) fn has(&self, set: SetRef<'_>, user: u64) -> bool
         ensures { IsTrue result ↔ Contains self.now (fact_of (set_value set.entry) user) }
     {
-        match key_of(&self.numbers, set, user) {
-            Some(key) => self.keys.contains(&key),
-            None => false,
-        }
+        is_among(&self.first, set, user) || self.rest.has(set, user)
     }
 }

@@ -11,6 +11,7 @@
 #![tactic(auto)]
 
 mod facts;
+mod indexed;
 mod judged;
 mod known;
 mod passes;

@@ -1,7 +1,8 @@
 -- All bytes of a reader.
-use Rattle.std.proofs.Common.{◌≡◌, ℕ, ◌+◌, ◌<◌, ◌≤◌, List, [], ◌++◌, length, take, drop, length-append, Option, Some, None, refl, sym, ap, ◌∙◌, append_assoc, append-nil, arith}
-use Rattle.std.specs.Prelude.{IfSome}
+use Rattle.std.proofs.Common.{◌≡◌, ℕ, ◌+◌, ◌<◌, ◌≤◌, List, [], ◌++◌, length, take, drop, ◌^◌, length-append, Option, Some, None, Result, Ok, Err, refl, subst, sym, ap, ◌∙◌, append_assoc, append-nil, arith}
+use Rattle.std.specs.Prelude.{IfSome, IfOk}
 use Rattle.std.specs.Io.KnownBytes.{Consumes, IsAtEnd}
+use Rattle.new_enemy.specs.Joined.{joined_of, OfParts}
 use Rattle.std.proofs.lemmas.List.{take-take, take-append-le, length-take-le}
 
 -- what was read at first, and then
@@ -34,3 +35,15 @@ piece_length bs buf n le = let sum = length-append bs (take n buf) in let short 
 -- the front of a buffer that was written over
 pub front_of : (len n : ℕ) (buf old : List ℕ) → n ≤ length buf → n ≤ len → take n (take len (buf ++ drop (length buf) old)) ≡ take n buf
 front_of len n buf old within le = take-take n len (buf ++ drop (length buf) old) le ∙ take-append-le n buf (drop (length buf) old) within
+
+-- what holds of the two parts of what was read
+pub of_parts : (P : List ℕ → List ℕ → Type 0) (old : Option (List ℕ)) (bytes a b : List ℕ) → length bytes ≤ 2 ^ 30 → IfSome old (λ xs. bytes ≡ xs)
+    → joined_of bytes ≡ Some (a, b) → P a b → IfSome old (OfParts P)
+of_parts P None bytes a b few whole is holds = tt
+of_parts P (Some xs) bytes a b few whole is holds =
+    subst (λ (ys : List ℕ). OfParts P ys) whole (a, b, is, few, holds)
+
+pub of_parts_if : {V E : Type 0} (r : Result V E) (P : V → List ℕ → List ℕ → Type 0) (old : Option (List ℕ)) (bytes a b : List ℕ) → length bytes ≤ 2 ^ 30 → IfSome old (λ xs. bytes ≡ xs)
+    → joined_of bytes ≡ Some (a, b) → IfOk r (λ v. P v a b) → IfOk r (λ v. IfSome old (OfParts (P v)))
+of_parts_if (Ok v) P old bytes a b few whole is holds = of_parts (P v) old bytes a b few whole is holds
+of_parts_if (Err e) P old bytes a b few whole is holds = tt

@@ -23,10 +23,6 @@ bytes_of p = (with_newlines p.0, join_with_byte 10 p.1)
 abbrev pub joined_of : List ℕ → Option (List ℕ × List ℕ)
 joined_of input = option_map bytes_of (lines_joined (parts input))
 
--- the input has 2^30 bytes at most, and these are its two parts
-abbrev pub ArePartsOf : List ℕ → List ℕ → List ℕ → Type 0
-ArePartsOf a b input = (length input ≤ 2 ^ 30) × (joined_of input ≡ Some (a, b))
-
 -- the input has 2^30 bytes at most, and two parts of which that holds
 abbrev pub OfParts : (List ℕ → List ℕ → Type 0) → List ℕ → Type 0
 OfParts P input = (a : List ℕ) × (b : List ℕ) × (joined_of input ≡ Some (a, b)) × (length input ≤ 2 ^ 30) × P a b

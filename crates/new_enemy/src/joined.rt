@@ -1,18 +1,17 @@
 //! The audit of joined input.
 
-ghost use Rattle.std.specs.Prelude.{◌≡◌, ℕ, List, ◌<◌, ◌≤◌, ◌^◌, length, drop, option_map, Ok, Err, IfOk, IfErr, IfSome};
+ghost use Rattle.std.specs.Prelude.{◌≡◌, ◌≢◌, ◌⊎◌, ℕ, ◌<◌, ◌≤◌, ◌^◌, length, drop, option_map, Ok, Err, IfOk, IfErr, IfSome};
 ghost use Rattle.std.specs.Io.KnownBytes.{Keeps};
 ghost use Rattle.trace_lines.specs.Lines.{line_len};
 ghost use Rattle.trace_lines.specs.declared.cause.TraceFault.{TraceFault};
 ghost use Rattle.evidence_check.specs.declared.cause.EvidenceFault.{EvidenceFault};
-ghost use Rattle.new_enemy.specs.Audit.{Audits, RefusesTrace, RefusesEvidence, IsUnwritten, IsOfReading};
+ghost use Rattle.new_enemy.specs.Audit.{Audits, Breaks, RefusesTrace, RefusesEvidence, HasRisen, IsOfDevices, IsUnwritten, IsOfReading, IsOfJoined};
 ghost use Rattle.new_enemy.specs.Headline.{IsTraceRightAndFresh};
-ghost use Rattle.new_enemy.specs.Joined.{is_marker, joined_of, ArePartsOf, OfParts, HasNoParts};
+ghost use Rattle.new_enemy.specs.Joined.{is_marker, joined_of, OfParts, HasNoParts};
 ghost use Rattle.new_enemy.specs.declared.audit.AuditFault.TheVariants as faults;
 ghost use Rattle.new_enemy.specs.declared.audit.Verdict.TheVariants.{Clean};
 
 use crate::audit::{AuditFault, Verdict, audit_plain};
-use crate::spent::Spent;
 use memchr::memchr;
 use std::alloc::Global;
 use trace_lines::{Sink, Source};
@@ -25,6 +24,8 @@ const CHUNK: usize = 65536;
 fn read_whole<R: Source>(alloc: Global, input: &mut R) -> Result<Vec<u8>, AuditFault>
     ensures whole { IfOk result (λ v. (length v.items ≤ 2 ^ 30) × IfSome (R.remaining input.old) (λ bytes. v.items ≡ bytes)) }
     ensures long { result ≡ Err faults.Joined → IfSome (R.remaining input.old) (λ bytes. 2 ^ 30 < length bytes) }
+    ensures device { result ≡ Err faults.Input → HasRisen (R.failures input.old) (R.failures input.new) }
+    ensures kept { result ≢ Err faults.Input → R.failures input.new ≡ R.failures input.old }
     ensures causes { IfErr result IsOfReading }
 {
     let mut bytes: Vec<u8> = Vec::new(alloc);
@@ -81,25 +82,11 @@ fn parts_of(bytes: &[u8]) -> Option<(&[u8], &[u8])>
     None
 }
 
-/// The two parts of joined input, read whole. The input itself is not kept.
-fn read_parts<R: Source>(alloc: Global, input: &mut R) -> Result<(Vec<u8>, Vec<u8>), AuditFault>
-    ensures parts { IfOk result (λ p. IfSome (R.remaining input.old) (ArePartsOf p.0.items p.1.items)) }
-    ensures joined { result ≡ Err faults.Joined → IfSome (R.remaining input.old) HasNoParts }
-    ensures causes { IfErr result IsOfReading }
-{
-    let bytes = read_whole(alloc, input)?;
-    let (trace, evidence) = parts_of(&bytes).ok_or(AuditFault::Joined)?;
-    Ok((
-        Vec::from_slice(alloc, trace)?,
-        Vec::from_slice(alloc, evidence)?,
-    ))
-}
-
 /// Audits joined input: the trace, a line that is exactly `---`, and the evidence. The first such line counts, and
 /// each of the two parts has lines from 1.
 ///
-/// `Input` is a failure of the reader; `Joined` is input without such a line, or with more than 2^30 bytes. Nothing
-/// is written then.
+/// `Input` is a failure of the reader, and `Joined` is input without such a line, or with more than 2^30 bytes. Nothing
+/// is written then. Its two parts are held in memory, so neither of them is refused as `Read`.
 pub fn audit_joined<R: Source, W: Sink>(
     alloc: Global,
     input: &mut R,
@@ -112,10 +99,14 @@ pub fn audit_joined<R: Source, W: Sink>(
     ensures trace { (f : TraceFault) → result ≡ Err (faults.Trace f) → IfSome (R.remaining input.old) (OfParts (λ a b. RefusesTrace a f)) }
     ensures evidence { (f : EvidenceFault) → result ≡ Err (faults.Evidence f) → IfSome (R.remaining input.old) (OfParts (λ a b. RefusesEvidence a b f)) }
     ensures joined { result ≡ Err faults.Joined → IfSome (R.remaining input.old) HasNoParts }
+    ensures write { (n : ℕ) → result ≡ Err (faults.Write n) → IfSome (R.remaining input.old) (OfParts (λ a b. Breaks a b (W.contents out.old) (W.contents out.new) n)) }
     ensures unwritten { IfErr result (λ e. IsUnwritten e → Keeps (W.contents out.old) (W.contents out.new)) }
+    ensures devices { IfErr result (IsOfDevices (HasRisen (R.failures input.old) (R.failures input.new)) ⊥ ⊥
+        (HasRisen (W.failures out.old) (W.failures out.new) ⊎ HasRisen (W.idle out.old) (W.idle out.new))) }
+    ensures kept { result ≢ Err faults.Input → R.failures input.new ≡ R.failures input.old }
+    ensures faults { IfErr result IsOfJoined }
 {
-    let (trace, evidence) = read_parts(alloc, input)?;
-    let mut trace = Spent::new(alloc, trace);
-    let mut evidence = Spent::new(alloc, evidence);
+    let bytes = read_whole(alloc, input)?;
+    let (mut trace, mut evidence) = parts_of(&bytes).ok_or(AuditFault::Joined)?;
     audit_plain(alloc, &mut trace, &mut evidence, out)
 }

@@ -16,7 +16,6 @@ mod finding;
 mod findings;
 mod joined;
 mod run;
-mod spent;
 #[cfg(test)]
 mod tests;
 

@@ -1,5 +1,13 @@
 //! The program, over any reader and writers.
 
+ghost use Rattle.std.specs.Prelude.{◌≡◌, ◌<◌, ◌≤◌, ◌⊎◌, length, IfSome};
+ghost use Rattle.std.specs.Io.KnownBytes.{Keeps};
+ghost use Rattle.new_enemy.specs.Audit.{Audits, HasRisen};
+ghost use Rattle.new_enemy.specs.Headline.{IsTraceRightAndFresh};
+ghost use Rattle.new_enemy.specs.Joined.{OfParts};
+ghost use Rattle.new_enemy.specs.Run.{IsStatus, IsRefused};
+ghost use Rattle.new_enemy.specs.declared.audit.Verdict.TheVariants.{Clean, Dirty};
+
 use crate::audit::{AuditFault, Verdict};
 use crate::joined::audit_joined;
 use evidence_check::{EvidenceCause, EvidenceFault};
@@ -7,7 +15,10 @@ use std::alloc::{AllocError, Global};
 use trace_lines::{Cause, Sink, Source, TraceFault, send};
 
 /// The exit status of a fault.
-fn status_of(fault: &AuditFault) -> u8 {
+fn status_of(fault: &AuditFault) -> u8
+    ensures status { IsStatus fault.now result }
+    ensures failure { 2 ≤ result }
+{
     match fault {
         AuditFault::Trace(
             TraceFault {
@@ -52,14 +63,28 @@ fn tell<E: Sink>(alloc: Global, err: &mut E, fault: &AuditFault) {
 /// Runs the program on the words after its name, and answers its exit status: 0 for clean, 1 for dirty, 2 for
 /// refused input, 3 for usage, 4 for want of memory, 5 for a device that failed.
 ///
-/// Without words it audits joined input. Any word is a fault of usage, until there are commands.
+/// Without words it audits joined input, and writes the report to `out`. Any word is a fault of usage, until there
+/// are commands. A fault is told to `err` in one line; a failure of `err` changes nothing else.
 pub fn run_words<R: Source, W: Sink, E: Sink>(
     alloc: Global,
     words: &[String],
     input: &mut R,
     out: &mut W,
     err: &mut E,
-) -> u8 {
+) -> u8
+    ensures usage { 0 < length words.now → result ≡ 3 }
+    // The report went out, and the status is its verdict.
+    ensures clean { result ≡ 0 → IfSome (R.remaining input.old) (OfParts (λ a b. Audits a b (W.contents out.old) (W.contents out.new) Clean)) }
+    ensures dirty { result ≡ 1 → IfSome (R.remaining input.old) (OfParts (λ a b. Audits a b (W.contents out.old) (W.contents out.new) Dirty)) }
+    // Status 0 says that the trace is right and fresh, as the headline of an audit.
+    ensures headline { result ≡ 0 → IfSome (R.remaining input.old) (OfParts (λ a b. IsTraceRightAndFresh a)) }
+    ensures refused { result ≡ 2 → IfSome (R.remaining input.old) IsRefused }
+    ensures device { result ≡ 5 → HasRisen (R.failures input.old) (R.failures input.new)
+        ⊎ (HasRisen (W.failures out.old) (W.failures out.new) ⊎ HasRisen (W.idle out.old) (W.idle out.new)) }
+    // A report goes out with a verdict, or as far as the writer took it.
+    ensures unwritten { 2 ≤ result → result ≤ 4 → Keeps (W.contents out.old) (W.contents out.new) }
+    ensures statuses { result ≤ 5 }
+{
     if !words.is_empty() {
         let _ = send(err, b"usage: new_enemy < JOINED_INPUT\n");
         return 3;

@@ -1,9 +1,11 @@
 //! A value that grows line by line.
 
-ghost use Rattle.std.specs.Prelude.{◌≡◌, ◌+◌, ◌^◌, ◌<◌, ◌≤◌, ℕ, List, Result, Ok, IfSome, IfErr, OnOk, ◌&&◌, ◌==◌, true, false};
+ghost use Rattle.std.specs.Prelude.{◌≡◌, ◌≢◌, ◌+◌, ◌≤◌, ℕ, List, Result, Ok, IfSome, IfErr, OnOk, ◌&&◌, ◌==◌, true, false};
 ghost use Rattle.std.specs.Io.KnownBytes.{Consumes};
 ghost use Rattle.trace_lines.specs.Counts.{one_more};
 ghost use Rattle.trace_lines.specs.Reading.{read_all, Refuses, Reads, IsReadFault, IsOfSomeLine};
+ghost use Rattle.trace_lines.specs.declared.lines.InputFault.TheVariants.{Read};
+ghost use Rattle.trace_lines.specs.declared.reading.Stop.TheVariants.{Input};
 
 use crate::lines::{InputFault, Lines};
 use crate::source::Source;
@@ -64,9 +66,7 @@ pub fn read_lines<R: Source, T: TakeLine>(
 where
     T::Cause: Drop,
     requires { T.next value.old ≤ 1 }
-    // Of a reader that does not fail.
-    ensures exact { IfSome (R.remaining reader.old) (λ input. R.failures reader.new ≡ R.failures reader.old
-        → R.failures reader.old + 1 < 2 ^ 64 → Reads result value.new (read_all T.taken true value.old input)) }
+    ensures exact { IfSome (R.remaining reader.old) (λ input. Reads result value.new (read_all T.taken true value.old input)) }
     // Of a reader that failed, by the bytes that it gave before.
     ensures failed { IfErr result (λ e. IsReadFault e → IfSome (R.remaining reader.old) (λ input.
         (given : List ℕ) × Consumes (R.remaining reader.old) (R.remaining reader.new) given
@@ -75,6 +75,8 @@ where
     ensures told { IfErr result (IsOfSomeLine T.taken) }
     // A reader's failure is told, and nothing else is called one.
     ensures counted { IfErr result (λ e. IsReadFault e → R.failures reader.new ≡ one_more (R.failures reader.old)) }
+    ensures kept { OnOk result (R.failures reader.new ≡ R.failures reader.old) }
+    ensures unfailed { IfErr result (λ e. e.stop ≢ Input Read → R.failures reader.new ≡ R.failures reader.old) }
 {
     let mut lines = match Lines::new(alloc) {
         Ok(lines) => lines,

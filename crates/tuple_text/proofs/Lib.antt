@@ -1,4 +1,5 @@
 pub mod GrammarLaws
+pub mod JoinedLemmas
 pub mod Numbers
 pub mod Pieces
 pub mod ValueLemmas

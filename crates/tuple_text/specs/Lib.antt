@@ -1,6 +1,7 @@
 pub mod Faults
 pub mod Forms
 pub mod Grammar
+pub mod Joined
 pub mod Order
 pub mod OrderLaws
 pub mod Parts

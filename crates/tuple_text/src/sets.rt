@@ -25,21 +25,23 @@ pub struct SetRef<'a> {
 /// a user, so its relation may be `...` (Zanzibar, section 2.1).
 #[derive(Debug, Drop)]
 pub struct Userset {
-    namespace: String,
-    id: String,
-    relation: String,
+    // the parts, one behind the other
+    text: String,
+    namespace_len: usize,
+    id_len: usize,
 }
 
 impl Model for Userset {
     ghost use Rattle.std.specs.Prelude.{string_bytes};
     ghost use Rattle.tuple_text.specs.Sets.{SetValue};
+    ghost use Rattle.tuple_text.specs.Joined.{cut_set, IsCut};
     ghost use Rattle.tuple_text.specs.Forms.{IsUserset};
 
     ghost Value = { SetValue };
 
-    ghost view = { λ s. record { namespace = string_bytes s.namespace; id = string_bytes s.id; relation = string_bytes s.relation } };
+    ghost view = { λ s. cut_set (string_bytes s.text) s.namespace_len s.id_len };
 
-    ghost invariant = { λ s. IsUserset (record { namespace = string_bytes s.namespace; id = string_bytes s.id; relation = string_bytes s.relation }) };
+    ghost invariant = { λ s. IsUserset (cut_set (string_bytes s.text) s.namespace_len s.id_len) × IsCut (string_bytes s.text) s.namespace_len s.id_len };
 }
 
 impl Clone for Userset {
@@ -47,9 +49,9 @@ impl Clone for Userset {
 
     fn clone(&self) -> Result<Self, AllocError> {
         Ok(Userset {
-            namespace: self.namespace.clone()?,
-            id: self.id.clone()?,
-            relation: self.relation.clone()?,
+            text: self.text.clone()?,
+            namespace_len: self.namespace_len,
+            id_len: self.id_len,
         })
     }
 }
@@ -64,7 +66,7 @@ impl PartialEq for Userset {
     ghost laws = { Prim.search (comparing, rules) };
 
     fn eq(&self, other: &Self) -> bool {
-        self.namespace == other.namespace && self.id == other.id && self.relation == other.relation
+        self.as_ref() == other.as_ref()
     }
 }
 
@@ -105,11 +107,7 @@ impl Ord for Userset {
     ghost matches_eq = { Prim.search (comparing, rules) };
 
     fn cmp(&self, other: &Self) -> Ordering {
-        self.namespace.cmp(&other.namespace).then(
-            self.id
-                .cmp(&other.id)
-                .then(self.relation.cmp(&other.relation)),
-        )
+        self.as_ref().cmp(&other.as_ref())
     }
 }
 
@@ -140,10 +138,15 @@ impl Userset {
         requires { IsUserset (set_value set) }
         ensures { Gives (λ s. s) result (Ok (set_value set.entry)) }
     {
+        let len = set.namespace.len() + set.id.len() + set.relation.len();
+        let mut text = String::with_capacity(alloc, len)?;
+        text.push_str(set.namespace)?;
+        text.push_str(set.id)?;
+        text.push_str(set.relation)?;
         Ok(Userset {
-            namespace: String::from_str(alloc, set.namespace)?,
-            id: String::from_str(alloc, set.id)?,
-            relation: String::from_str(alloc, set.relation)?,
+            text,
+            namespace_len: set.namespace.len(),
+            id_len: set.id.len(),
         })
     }
 
@@ -152,10 +155,12 @@ impl Userset {
         ensures parts { set_value result ≡ self.now }
         ensures form { IsUserset self.now }
     {
+        let (namespace, rest) = self.text.split_at(self.namespace_len);
+        let (id, relation) = rest.split_at(self.id_len);
         SetRef {
-            namespace: self.namespace.as_str(),
-            id: self.id.as_str(),
-            relation: self.relation.as_str(),
+            namespace,
+            id,
+            relation,
         }
     }
 }

@@ -95,12 +95,6 @@ module _ (tuples : List TupleValue) (latest named held : List ℕ) (nodes : List
           (n.tuple, w.1 ∙ ap Some tuple)
 
   -- tuples by their marks
-  pub newest_by_mark : (mark : ℕ) → last_place (nat_eq mark) held (length held) ≡ last_place (λ t. nat_eq mark (set_mark t.set)) tuples (length tuples)
-  newest_by_mark mark =
-      ap (λ (ms : List ℕ). last_place (nat_eq mark) ms (length ms)) is.sets
-      ∙ ap (last_place (nat_eq mark) (map (λ t. set_mark t.set) tuples)) (length-map tuples (λ t. set_mark t.set))
-      ∙ last_place-map (λ t. set_mark t.set) (nat_eq mark) tuples (length tuples)
-
   pub sibling_by_mark : (k p : ℕ) (t : TupleValue) → slice_get tuples k ≡ Some t → ((mark : ℕ) → slice_get held k ≡ Some mark → p ≡ last_place (nat_eq mark) held k) → p ≡ last_place (λ u. nat_eq (set_mark t.set) (set_mark u.set)) tuples k
   sibling_by_mark k p t at older =
       older (set_mark t.set) (ap (λ (ms : List ℕ). slice_get ms k) is.sets ∙ slice_get-map (λ t. set_mark t.set) tuples k ∙ ap (option_map (λ t. set_mark t.set)) at)

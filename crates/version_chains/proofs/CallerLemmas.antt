@@ -1,6 +1,6 @@
 -- What a caller learns from going through the users of a userset.
-use Rattle.std.proofs.Common.{◌≡◌, ℕ, Bool, true, false, List, [], ◌∷◌, refl, sym, ◌∙◌, ap, subst, ◌||◌, ◌&&◌, IsTrue, ◌↔◌}
-use Rattle.std.specs.List.{list_any, list_all, AllByRecursion}
+use Rattle.std.proofs.Common.{◌≡◌, ℕ, Bool, true, false, List, [], ◌∷◌, refl, sym, ◌∙◌, ap, ◌||◌, ◌&&◌, IsTrue, ◌↔◌}
+use Rattle.std.specs.List.{list_any, list_all}
 use Rattle.tuple_text.specs.Order.{user_eq}
 use Rattle.tuple_text.specs.Sets.{SetValue}
 use Rattle.tuple_text.specs.declared.users.User.{User}
@@ -49,22 +49,6 @@ any-from p (x ∷ xs) u h k = pick (user_eq u x) refl h (any-from p xs u)
     pick true e h further = or-first (p x) _ (ap p (sym (user_eq-same u x e)) ∙ k)
     pick false e h further = or-second (p x) _ (further h k)
 
-each-at : (P : User → Type 0) (us : List User) → AllByRecursion P us → (u : User) → list_any (user_eq u) us ≡ true → P u
-each-at P [] h u k = absurd (false-is-not-true k)
-  where
-    false-is-not-true : false ≡ true → ⊥
-    false-is-not-true e = cc
-each-at P (x ∷ xs) h u k = pick (user_eq u x) refl k (each-at P xs h.1 u)
-  where
-    pick : (b : Bool) → user_eq u x ≡ b → (b || list_any (user_eq u) xs) ≡ true → (list_any (user_eq u) xs ≡ true → P u) → P u
-    pick true e k further = subst P (sym (user_eq-same u x e)) h.0
-    pick false e k further = further k
-
-each-from : (P : User → Type 0) (us : List User) → ((u : User) → list_any (user_eq u) us ≡ true → P u) → AllByRecursion P us
-each-from P [] h = tt
-each-from P (x ∷ xs) h =
-    (h x (ap (λ b. b || list_any (user_eq x) xs) (user_eq-itself x)), each-from P xs (λ u k. h u (or-second (user_eq u x) _ k)))
-
 -- p holds of each user that `stored` has exactly where a pass over the users says so
 pub all_stored : (us : List User) (stored : User → Bool) → ((u : User) → list_any (user_eq u) us ≡ stored u) → (p : User → Bool) (r : Bool) → r ≡ list_all p us → IsTrue r ↔ ((u : User) → IsTrue (stored u) → IsTrue (p u))
 all_stored us stored has p r e = (
@@ -78,17 +62,6 @@ some_stored us stored has p r e = (
   λ h. let w = any-at p us (sym e ∙ h) in (w.0, sym (has w.0) ∙ w.1, w.2),
   λ h. e ∙ any-from p us h.0 (has h.0 ∙ h.1) h.2,
 )
-
--- the same of a fact in place of a test: it holds of each user that `stored` has where it holds of each user of the list
-pub each_stored : (us : List User) (stored : User → Bool) → ((u : User) → list_any (user_eq u) us ≡ stored u) → (P : User → Type 0) → AllByRecursion P us → (u : User) → IsTrue (stored u) → P u
-each_stored us stored has P h u k = each-at P us h u (has u ∙ k)
-
-pub each_given : (us : List User) (stored : User → Bool) → ((u : User) → list_any (user_eq u) us ≡ stored u) → (P : User → Type 0) → ((u : User) → IsTrue (stored u) → P u) → AllByRecursion P us
-each_given us stored has P h = each-from P us (λ u k. h u (sym (has u) ∙ k))
-
--- the first user of what is left is stored
-pub stored_first : (us : List User) (stored : User → Bool) (u : User) (rest : List User) → ((v : User) → list_any (user_eq v) us ≡ true → IsTrue (stored v)) → us ≡ u ∷ rest → IsTrue (stored u)
-stored_first us stored u rest has e = has u (ap (list_any (user_eq u)) e ∙ ap (λ b. b || list_any (user_eq u) rest) (user_eq-itself u))
 
 -- a pass that lets ids through: each userset that `stored` has
 pub all_stored_sets : (us : List User) (stored : User → Bool) → ((u : User) → list_any (user_eq u) us ≡ stored u) → (p : User → Bool) (q : SetValue → Bool) → ((n : ℕ) → p (Id n) ≡ true) → ((g : SetValue) → p (Set g) ≡ q g) → (r : Bool) → r ≡ list_all p us → IsTrue r ↔ ((g : SetValue) → IsTrue (stored (Set g)) → IsTrue (q g))

@@ -139,9 +139,6 @@ last_place-through {X} p q sub xs (suc n) = pick (slice_get xs n) refl (last_pla
 pub last_place-here : {X : Type 0} (p : X → Bool) (xs : List X) (m : ℕ) (x : X) → slice_get xs m ≡ Some x → p x ≡ true → last_place p xs (suc m) ≡ suc m
 last_place-here p xs m x is t = rw (is, t) refl
 
-pub last_place-not_here : {X : Type 0} (p : X → Bool) (xs : List X) (m : ℕ) (x : X) → slice_get xs m ≡ Some x → p x ≡ false → last_place p xs (suc m) ≡ last_place p xs m
-last_place-not_here p xs m x is t = rw (is, t) refl
-
 -- tests that agree on the items
 pub last_place-same : {X : Type 0} (p q : X → Bool) (xs : List X) → ((i : ℕ) (x : X) → slice_get xs i ≡ Some x → p x ≡ q x) → (n : ℕ) → last_place p xs n ≡ last_place q xs n
 last_place-same p q xs same zero = refl

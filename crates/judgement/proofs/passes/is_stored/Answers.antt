@@ -1,4 +1,3 @@
-use Rattle.std.proofs.Common.{◌↔◌}
 use Rattle.tuple_text.specs.Refs.{set_value}
 use Rattle.tuple_text.specs.Tuples.{tuple_of}
 use Rattle.tuple_text.specs.declared.users.User.TheVariants.{Id}

@@ -1,5 +1,6 @@
-use Rattle.std.proofs.Common.{◌≡◌, ℕ, ◌^◌, ◌≤◌, ◌++◌, List, length, take, subst, sym, ap, ◌∙◌, arith}
+use Rattle.std.proofs.Common.{◌≡◌, ℕ, ◌^◌, ◌≤◌, ◌++◌, List, length, take, refl, subst, sym, ap, ◌∙◌, arith}
 use Rattle.std.specs.Io.KnownBytes.{Consumes}
+use Rattle.trace_lines.specs.Counts.{one_more}
 use Rattle.new_enemy.proofs.ReadWhole.{read_on, read_start, read_all, read_long, piece_length, front_of}
 use Rattle.new_enemy.proofs.joined.read_whole.Goals as goal
 
@@ -9,6 +10,7 @@ loop-turn-init g c = record {
   room = let none = ap length c.new-bytes.ensures.items in omega (arith, none);
   turns = omega arith;
   chunk = c.in_ok-chunk.ensures.len;
+  kept = refl;
 }
 
 pub returns-then-given-eq0-clause-whole : goal.returns-then-given-eq0-clause-whole
@@ -41,4 +43,17 @@ loop-turn-preserved g c =
       room = omega (arith, size, whole, c.if-given-len.false, c.len.ensures, c.loop-turn.bytes.ok.0, c.loop-turn.invariant.room);
       turns = omega (arith, size, whole, c.if-given-eq0.false, c.loop-turn.invariant.turns);
       chunk = c.loop-turn.invariant.chunk;
+      kept = c.in-Ok.ensures.kept ∙ c.loop-turn.invariant.kept;
     }
+
+pub returns-in-Err-clause-device : goal.returns-in-Err-clause-device
+returns-in-Err-clause-device g c = λ _. c.in-Err.ensures.counted ∙ ap one_more c.loop-turn.invariant.kept
+
+pub returns-then-given-eq0-clause-kept : goal.returns-then-given-eq0-clause-kept
+returns-then-given-eq0-clause-kept g c = λ _. c.in-Ok.ensures.kept ∙ c.loop-turn.invariant.kept
+
+pub returns-then-given-len-clause-kept : goal.returns-then-given-len-clause-kept
+returns-then-given-len-clause-kept g c = λ _. c.in-Ok.ensures.kept ∙ c.loop-turn.invariant.kept
+
+pub returns-in_err-extend_from_slice-clause-kept : goal.returns-in_err-extend_from_slice-clause-kept
+returns-in_err-extend_from_slice-clause-kept g c = λ _. c.in-Ok.ensures.kept ∙ c.loop-turn.invariant.kept

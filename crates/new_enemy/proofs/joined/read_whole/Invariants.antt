@@ -8,4 +8,5 @@ invariant-loop-turn g l = record {
   room : length l.bytes.items ≤ 2 ^ 30;
   turns : l._turn ≤ length l.bytes.items;
   chunk : l.chunk.len ≡ 65536;
+  kept : g.R.Source.failures l.input ≡ g.R.Source.failures l.fn.input;
 }

@@ -1,13 +1,12 @@
 use Rattle.std.proofs.Common.{◌≡◌, ◌∙◌, sym, refl, arith, rules, length, ◌≤◌, ◌^◌, min, true, false, ◌&&◌, eqb}
-use Rattle.trace_lines.proofs.Folds.{Within, under, within_from, cut_ends, over_ends, over_parts, step_cut, last_ends, as_last}
+use Rattle.trace_lines.proofs.Folds.{Within, within_from, cut_ends, over_ends, over_parts, step_cut, last_ends, as_last}
 use Rattle.trace_lines.proofs.Failures.{tracks_from, follows_on, read_fails}
 use Rattle.trace_lines.proofs.reading.read_lines.Goals as goal
 
 pub returns-in-Err-next-clause-exact : goal.returns-in-Err-next-clause-exact
-returns-in-Err-next-clause-exact g c = under (g.R.Read.remaining c.args.reader.now) _ _
-    (cut_ends g.T.TakeLine.taken c.args.value.now (g.R.Read.remaining c.args.reader.now) _ c.loop-number.number c.loop-number.room c.loop-number.value c.in-Err-next.fault (tracks_from g.T.TakeLine.taken c.args.value.now _ _ _ _ _ c.loop-number.invariant.follows)
-    (λ e. rw (← c.min.ensures) (c.next.ensures.long (cc (e)))))
-    (λ xs h _ _. h)
+returns-in-Err-next-clause-exact g c =
+    cut_ends g.T.TakeLine.taken c.args.value.now (g.R.Read.remaining c.args.reader.now) _ c.loop-number.number c.loop-number.room c.loop-number.value c.in-Err-next.fault (tracks_from g.T.TakeLine.taken c.args.value.now _ _ _ _ _ c.loop-number.invariant.follows)
+    (λ e. rw (← c.min.ensures) (c.next.ensures.long (cc (e))))
 
 pub returns-in-Err-next-clause-failed : goal.returns-in-Err-next-clause-failed
 returns-in-Err-next-clause-failed g c = λ e.
@@ -18,28 +17,22 @@ returns-in-Err-next-clause-failed g c = λ e.
 pub returns-then-is_over-clause-exact : goal.returns-then-is_over-clause-exact
 returns-then-is_over-clause-exact g c =
     let o = over_parts c.in-Ok-next.more c.len.result c.loop-number.room (sym c.is_over.ensures ∙ c.if-is_over.true) in
-    under (g.R.Read.remaining c.args.reader.now) _ _
-    (over_ends g.T.TakeLine.taken c.args.value.now (g.R.Read.remaining c.args.reader.now) _ _ c.loop-number.number c.loop-number.room c.loop-number.value c.next.new.line.items (tracks_from g.T.TakeLine.taken c.args.value.now _ _ _ _ _ c.loop-number.invariant.follows)
-    (as_last _ _ c.next.new.line.items c.in-Ok-next.more true o.0 c.in-Ok-next.ensures.line) (omega (arith, o.1, c.len.ensures, c.next.new.line.ok.0)))
-    (λ xs h _ _. h)
+    over_ends g.T.TakeLine.taken c.args.value.now (g.R.Read.remaining c.args.reader.now) _ _ c.loop-number.number c.loop-number.room c.loop-number.value c.next.new.line.items (tracks_from g.T.TakeLine.taken c.args.value.now _ _ _ _ _ c.loop-number.invariant.follows)
+    (as_last _ _ c.next.new.line.items c.in-Ok-next.more true o.0 c.in-Ok-next.ensures.line) (omega (arith, o.1, c.len.ensures, c.next.new.line.ok.0))
 
 pub returns-in-Err-take_line-clause-exact : goal.returns-in-Err-take_line-clause-exact
 returns-in-Err-take_line-clause-exact g c =
     let len : length c.next.new.line.items ≡ c.len.result = omega (arith, c.len.ensures, c.next.new.line.ok.0) in
     let w : Within c.loop-number.room c.next.new.line.items c.in-Ok-next.more =
     within_from c.loop-number.room c.next.new.line.items c.in-Ok-next.more (omega (arith, c.in-Ok-next.ensures.bound, c.next.new.line.ok.0, c.min.ensures)) (rw len (sym c.is_over.ensures ∙ c.if-is_over.false)) in
-    under (g.R.Read.remaining c.args.reader.now) _ _
-    (step_cut g.T.TakeLine.taken c.args.value.now (g.R.Read.remaining c.args.reader.now) _ _ c.loop-number.number c.loop-number.room c.loop-number.value c.next.new.line.items c.in-Ok-next.more c.in-Err-take_line.stop (tracks_from g.T.TakeLine.taken c.args.value.now _ _ _ _ _ c.loop-number.invariant.follows)
-    c.in-Ok-next.ensures.line w (rw (← c.deref.ensures.value) c.in-Err-take_line.ensures.refused))
-    (λ xs h _ _. h)
+    step_cut g.T.TakeLine.taken c.args.value.now (g.R.Read.remaining c.args.reader.now) _ _ c.loop-number.number c.loop-number.room c.loop-number.value c.next.new.line.items c.in-Ok-next.more c.in-Err-take_line.stop (tracks_from g.T.TakeLine.taken c.args.value.now _ _ _ _ _ c.loop-number.invariant.follows)
+    c.in-Ok-next.ensures.line w (rw (← c.deref.ensures.value) c.in-Err-take_line.ensures.refused)
 
 pub returns-then-not-more-clause-exact : goal.returns-then-not-more-clause-exact
 returns-then-not-more-clause-exact g c =
     let w : Within c.loop-number.room c.next.new.line.items false = within_from c.loop-number.room c.next.new.line.items false (omega (arith, c.in-Ok-next.ensures.bound, c.next.new.line.ok.0, c.min.ensures)) refl in
-    under (g.R.Read.remaining c.args.reader.now) _ _
-    (last_ends g.T.TakeLine.taken c.args.value.now (g.R.Read.remaining c.args.reader.now) _ _ c.loop-number.number c.loop-number.room c.loop-number.value c.next.new.line.items c.take_line.new.self (tracks_from g.T.TakeLine.taken c.args.value.now _ _ _ _ _ c.loop-number.invariant.follows)
-    (as_last _ _ c.next.new.line.items c.in-Ok-next.more false c.if-not-more.true c.in-Ok-next.ensures.line) w (rw (← c.deref.ensures.value) c.in_default.ensures.ok))
-    (λ xs h _ _. h)
+    last_ends g.T.TakeLine.taken c.args.value.now (g.R.Read.remaining c.args.reader.now) _ _ c.loop-number.number c.loop-number.room c.loop-number.value c.next.new.line.items c.take_line.new.self (tracks_from g.T.TakeLine.taken c.args.value.now _ _ _ _ _ c.loop-number.invariant.follows)
+    (as_last _ _ c.next.new.line.items c.in-Ok-next.more false c.if-not-more.true c.in-Ok-next.ensures.line) w (rw (← c.deref.ensures.value) c.in_default.ensures.ok)
 
 pub loop-number-preserved : goal.loop-number-preserved
 loop-number-preserved g c =

@@ -1,6 +1,3 @@
-use Rattle.std.proofs.Common.{◌≡◌, ap, sym, ◌∙◌, subst, Ok}
-use Rattle.tuple_text.specs.Faults.{Gives}
-use Rattle.tuple_text.specs.Reading.{fact_at}
 use Rattle.tuple_text.proofs.GrammarLaws.{fact_found, fact_again}
 use Rattle.tuple_text.proofs.reading.parse_fact.Goals as goal
 

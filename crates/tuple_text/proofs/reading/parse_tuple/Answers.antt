@@ -1,6 +1,3 @@
-use Rattle.std.proofs.Common.{◌≡◌, ap, sym, ◌∙◌, subst, Ok}
-use Rattle.tuple_text.specs.Faults.{Gives}
-use Rattle.tuple_text.specs.Reading.{tuple_at}
 use Rattle.tuple_text.proofs.GrammarLaws.{tuple_found, tuple_again}
 use Rattle.tuple_text.proofs.reading.parse_tuple.Goals as goal
 

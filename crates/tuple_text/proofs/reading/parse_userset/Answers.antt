@@ -1,6 +1,3 @@
-use Rattle.std.proofs.Common.{◌≡◌, ap, sym, ◌∙◌, subst, Ok}
-use Rattle.tuple_text.specs.Faults.{Gives}
-use Rattle.tuple_text.specs.Reading.{userset_at}
 use Rattle.tuple_text.proofs.GrammarLaws.{userset_found, userset_again}
 use Rattle.tuple_text.proofs.reading.parse_userset.Goals as goal
 

@@ -5,7 +5,7 @@ use Rattle.std.specs.BTreeMap.{get_by_text, btree_map_len}
 use Rattle.std.proofs.lemmas.Map.Text.{btree_map_updates_text}
 use Rattle.judgement.specs.Numbering.{IsOneToOne}
 use Rattle.judgement.proofs.NumberingLemmas.{more_one_to_one, keeps_numbers}
-use Rattle.judgement.proofs.facts.numbered.Goals as goal
+use Rattle.judgement.proofs.indexed.numbered.Goals as goal
 
 pub returns-clause-one_to_one : goal.returns-clause-one_to_one
 returns-clause-one_to_one c =

@@ -1,7 +1,7 @@
 use Rattle.std.proofs.Common.{rules, ◌≡◌, ◌∷◌, ◌++◌, []}
 use Rattle.judgement.proofs.NumberingLemmas.{kept_keys, more_keys, inserted_key}
 use Rattle.std.specs.BTreeMap.{get_by_text}
-use Rattle.judgement.proofs.facts.Facts.add.Goals as goal
+use Rattle.judgement.proofs.indexed.Indexed.add.Goals as goal
 
 pub invariant_of-self : goal.invariant_of-self
 invariant_of-self c = (c.new_key.ensures.one_to_one, kept_keys _ _ c.new_key.ensures.keeps _ _ c.self.invariant.1)

@@ -1,0 +1,32 @@
+-- What the program answers.
+use Rattle.std.specs.Prelude.{◌≡◌, ◌≢◌, ◌⊎◌, ℕ, true, List, Ok, Err}
+use Rattle.trace_lines.specs.Values.{TraceValue}
+use Rattle.trace_lines.specs.Traces.{trace_of}
+use Rattle.trace_lines.specs.declared.cause.Cause.TheVariants as causes
+use Rattle.trace_lines.specs.declared.cause.TraceFault.{TraceFault}
+use Rattle.evidence_check.specs.Reading.{evidence_of}
+use Rattle.evidence_check.specs.declared.cause.EvidenceCause.TheVariants as evidence_causes
+use Rattle.evidence_check.specs.declared.cause.EvidenceFault.{EvidenceFault}
+use Rattle.new_enemy.specs.Joined.{HasNoParts, OfParts}
+use Rattle.new_enemy.specs.declared.audit.AuditFault.{AuditFault}
+use Rattle.new_enemy.specs.declared.audit.AuditFault.TheVariants as faults
+
+-- the exit status of a fault: 2 for refused input, 3 for limits, 4 for want of memory, 5 for a device that failed
+abbrev pub IsStatus : AuditFault → ℕ → Type 0
+IsStatus (faults.Trace f) s = ((f.cause ≡ causes.Read) × (s ≡ 5)) ⊎ ((f.cause ≢ causes.Read) × (s ≡ 2))
+IsStatus (faults.Evidence f) s = ((f.cause ≡ evidence_causes.Read) × (s ≡ 5)) ⊎ ((f.cause ≢ evidence_causes.Read) × (s ≡ 2))
+IsStatus (faults.Write n) s = s ≡ 5
+IsStatus faults.OutOfMemory s = s ≡ 4
+IsStatus faults.Limits s = s ≡ 3
+IsStatus faults.Joined s = s ≡ 2
+IsStatus faults.Input s = s ≡ 5
+
+-- the bytes say no trace, or no evidence for it
+abbrev pub SayNoAudit : List ℕ → List ℕ → Type 0
+SayNoAudit a b =
+    ((f : TraceFault) × (trace_of true a ≡ Err f))
+    ⊎ ((t : TraceValue) × (trace_of true a ≡ Ok t) × (f : EvidenceFault) × (evidence_of t.entries true b ≡ Err f))
+
+-- joined input that is refused
+abbrev pub IsRefused : List ℕ → Type 0
+IsRefused input = HasNoParts input ⊎ OfParts SayNoAudit input
