@@ -15,7 +15,8 @@ use Rattle.judgement.specs.Judgement.{KnownValue}
 use Rattle.evidence_check.specs.Accepted.{nothing_known, IsAccepted, AreAccepted, after_step, after_steps, IsTrueOf}
 use Rattle.evidence_check.specs.Decided.{decided, dec_accepted}
 use Rattle.evidence_check.specs.Judged.{is_accepted, first_bad, is_among, by_reply, by_goal, by_steps, judged}
-use Rattle.evidence_check.specs.Laws.{IsMemberAt, HasValidStrataAt}
+use Rattle.evidence_check.specs.Members.{IsMemberAt}
+use Rattle.evidence_check.specs.Laws.{HasValidStrataAt}
 use Rattle.evidence_check.specs.Steps.{StepValue}
 use Rattle.evidence_check.specs.declared.judged.Judged.{Judged}
 use Rattle.evidence_check.specs.declared.judged.Judged.TheVariants.{Supported, Contradicted, Silent}

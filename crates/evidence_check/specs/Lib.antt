@@ -1,10 +1,11 @@
 pub mod Accepted
 pub mod Causes
 pub mod Decided
-pub mod Evidences
 pub mod EvidenceCode
+pub mod Evidences
 pub mod Judged
 pub mod Laws
+pub mod Members
 pub mod Reading
 pub mod Records
 pub mod Steps

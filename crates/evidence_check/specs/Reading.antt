@@ -1,20 +1,16 @@
 -- The evidence that the lines of an input say.
-use Rattle.std.specs.Prelude.{◌≡◌, ℕ, ◌+◌, ◌==◌, ◌&&◌, ◌||◌, Bool, true, false, List, [], ◌∷◌, length, nat_lt, Option, None, Some, is_some, replicate, position, slice_get, slice_set, option_and_then, Result, Ok, Err, ⊤, codes, if◌then◌else◌}
-use Rattle.std.specs.Str.{is_utf8}
+use Rattle.std.specs.Prelude.{◌≡◌, ℕ, ◌+◌, ◌==◌, ◌&&◌, ◌||◌, Bool, true, false, List, [], ◌∷◌, length, nat_lt, Option, None, Some, is_some, replicate, position, slice_get, slice_set, option_and_then, Result, Ok, Err, codes, if◌then◌else◌}
 use Rattle.serde_json.specs.Data.{Data, Items, no_items, item}
 use Rattle.serde_json.specs.Find.{get, as_str, as_array, as_object}
-use Rattle.serde_json.specs.Read.{read}
 use Rattle.tuple_text.specs.Reading.{fact_at}
 use Rattle.tuple_text.specs.Tuples.{FactValue}
-use Rattle.trace_lines.specs.Fields.{number_at}
-use Rattle.trace_lines.specs.Reading.{◌>>=◌, read_all}
-use Rattle.trace_lines.specs.Traces.{is_blank}
+use Rattle.json_lines.specs.Fields.{number_at, is_string, are_strings}
+use Rattle.refusals.specs.Refusals.{◌>>=◌, needed, Unless, Gives}
+use Rattle.json_lines.specs.Json.{taken_line}
+use Rattle.json_lines.specs.Reading.{cause_of, read_all}
 use Rattle.trace_lines.specs.Values.{EntryValue, entry_lines}
-use Rattle.trace_lines.specs.declared.lines.InputFault.TheVariants as inputs
-use Rattle.trace_lines.specs.declared.reading.Stop.{Stop}
-use Rattle.trace_lines.specs.declared.reading.Stop.TheVariants.{Input, Line}
-use Rattle.trace_lines.specs.declared.reading.LineFault.{LineFault}
-use Rattle.evidence_check.specs.Causes.{needed, text_cause}
+use Rattle.json_lines.specs.declared.reading.LineFault.{LineFault}
+use Rattle.evidence_check.specs.Causes.{text_cause, of_input, is_memory, is_read}
 use Rattle.evidence_check.specs.Records.{Records}
 use Rattle.evidence_check.specs.Steps.{StepValue, yes_step, no_step}
 use Rattle.evidence_check.specs.declared.cause.EvidenceCause.{EvidenceCause}
@@ -41,22 +37,15 @@ abbrev pub are_known : Items → Bool
 are_known no_items = true
 are_known (item d ds) = is_known d && are_known ds
 
-abbrev pub is_text : Data → Bool
-is_text d = is_some (as_str d)
-
-abbrev pub are_texts : Items → Bool
-are_texts no_items = true
-are_texts (item d ds) = is_text d && are_texts ds
-
 abbrev pub all_are_texts : Option Items → Bool
 all_are_texts None = false
-all_are_texts (Some ds) = are_texts ds
+all_are_texts (Some ds) = are_strings ds
 
 abbrev pub is_text_list : Data → Bool
 is_text_list d = all_are_texts (as_array d)
 
 abbrev pub has_shape : Option Data → Option Data → Bool
-has_shape (Some d) other = is_text d
+has_shape (Some d) other = is_string d
 has_shape None (Some d) = is_text_list d
 has_shape None None = true
 
@@ -144,28 +133,11 @@ record_line r d = do
   place ← needed causes.StrayLine (place_of line r.lines)
   put_steps r place steps
 
-abbrev pub of_json : Records → Option Data → Result Records EvidenceCause
-of_json r None = Err causes.NotJson
-of_json r (Some d) = record_line r d
-
-unfoldable pub json_line : Records → List ℕ → Result Records EvidenceCause
-json_line r line = if is_utf8 line then of_json r (read line) else Err causes.NotJson
-
--- what a line makes of the records
-abbrev pub taken_line : ℕ → Records → List ℕ → Result Records EvidenceCause
-taken_line n r line = if is_blank line then Ok r else json_line r line
-
 -- ---- the evidence
-
-abbrev pub cause_of : Stop EvidenceCause → EvidenceCause
-cause_of (Line cause) = cause
-cause_of (Input inputs.Read) = causes.Read
-cause_of (Input inputs.TooLong) = causes.TooLong
-cause_of (Input inputs.OutOfMemory) = causes.OutOfMemory
 
 abbrev pub faulted : Result Records (LineFault EvidenceCause) → Result (List (Option (List StepValue))) EvidenceFault
 faulted (Ok r) = Ok r.steps
-faulted (Err e) = Err (record { line = e.line; cause = cause_of e.stop })
+faulted (Err e) = Err (record { line = e.line; cause = cause_of of_input e.stop })
 
 -- no record yet, for entries on these lines
 abbrev pub no_records : List EntryValue → Records
@@ -173,21 +145,11 @@ no_records entries = record { lines = entry_lines entries; steps = replicate (le
 
 -- The steps for each entry that an input says, or its first fault. Whole says that the input ended, and did not fail.
 abbrev pub evidence_of : List EntryValue → Bool → List ℕ → Result (List (Option (List StepValue))) EvidenceFault
-evidence_of entries whole input = faulted (read_all taken_line whole (no_records entries) input)
+evidence_of entries whole input = faulted (read_all (taken_line causes.NotJson (λ n. record_line)) whole (no_records entries) input)
 
 -- a fault that was answered is the one that the input gives, unless memory ran out or the reader failed
 abbrev pub FailsBy : {Y : Type 0} → EvidenceCause → EvidenceFault → Result Y EvidenceFault → Type 0
-FailsBy causes.Read e given = ⊤
-FailsBy causes.OutOfMemory e given = ⊤
-FailsBy causes.TooLong e given = given ≡ Err e
-FailsBy causes.NotJson e given = given ≡ Err e
-FailsBy causes.Shape e given = given ≡ Err e
-FailsBy (causes.Text f) e given = given ≡ Err e
-FailsBy causes.UnknownStep e given = given ≡ Err e
-FailsBy causes.StrayLine e given = given ≡ Err e
-FailsBy causes.RepeatedLine e given = given ≡ Err e
-FailsBy causes.TooMany e given = given ≡ Err e
+FailsBy cause e given = Unless (is_memory cause || is_read cause) (given ≡ Err e)
 
 abbrev pub GivesEvidence : {X Y : Type 0} → (X → Y) → Result X EvidenceFault → Result Y EvidenceFault → Type 0
-GivesEvidence view (Ok x) given = given ≡ Ok (view x)
-GivesEvidence view (Err e) given = FailsBy e.cause e given
+GivesEvidence view result given = Gives (λ e. is_memory e.cause || is_read e.cause) view result given

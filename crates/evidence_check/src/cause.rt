@@ -3,6 +3,7 @@
 ghost use Rattle.std.specs.Prelude.{◌≡◌};
 ghost use Rattle.evidence_check.specs.declared.cause.EvidenceCause.TheVariants.{OutOfMemory};
 
+use json_lines::{InputFault, LineCause};
 use std::alloc::{AllocError, AllocFailed};
 use thiserror::Error;
 use tuple_text::TupleFault;
@@ -54,6 +55,33 @@ impl<T: Drop> From<AllocFailed<T>> for EvidenceCause {
 
     fn from(_: AllocFailed<T>) -> EvidenceCause {
         EvidenceCause::OutOfMemory
+    }
+}
+
+impl LineCause for EvidenceCause {
+    ghost use Rattle.evidence_check.specs.Causes.{of_input, is_memory};
+    ghost use Rattle.evidence_check.specs.declared.cause.EvidenceCause.TheVariants as causes;
+
+    ghost of_input = { of_input };
+
+    ghost not_json = { causes.NotJson };
+
+    ghost is_memory = { is_memory };
+
+    fn of_input(fault: InputFault) -> EvidenceCause {
+        match fault {
+            InputFault::Read => EvidenceCause::Read,
+            InputFault::TooLong => EvidenceCause::TooLong,
+            InputFault::OutOfMemory => EvidenceCause::OutOfMemory,
+        }
+    }
+
+    fn not_json() -> EvidenceCause {
+        EvidenceCause::NotJson
+    }
+
+    fn is_memory(&self) -> bool {
+        matches!(self, EvidenceCause::OutOfMemory)
     }
 }
 

@@ -9,7 +9,7 @@ ghost use Rattle.trace_lines.specs.Values.{EntryValue, entry_value};
 ghost use Rattle.evidence_check.specs.Accepted.{IsProved, IsDisproved, with_no, after_step, after_steps, nothing_known};
 ghost use Rattle.evidence_check.specs.Evidences.{evidence_value, steps_of};
 ghost use Rattle.evidence_check.specs.Judged.{is_accepted, first_bad, by_reply, by_goal, judged};
-ghost use Rattle.evidence_check.specs.Laws.{IsMemberAt};
+ghost use Rattle.evidence_check.specs.Members.{IsMemberAt};
 ghost use Rattle.evidence_check.specs.Steps.{step_value, step_values};
 ghost use Rattle.evidence_check.specs.declared.judged.Judged.TheVariants.{Supported, Contradicted};
 
@@ -17,6 +17,7 @@ use crate::evidence::Evidence;
 use crate::step::{Step, Steps};
 use judgement::{Known, established, refuted};
 use std::alloc::AllocError;
+use trace_lines::laws::valid_strata;
 use trace_lines::{Entry, Trace};
 use tuple_text::Fact;
 
@@ -171,7 +172,6 @@ pub fn judge_entry(trace: &Trace, evidence: &Evidence, i: usize) -> Result<Judge
     ensures contradicted { IfOk result (λ j. j ≡ Contradicted → (e : EntryValue) → slice_get trace.now.entries i ≡ Some e →
         (IsTrue e.reply ↔ ¬ IsMemberAt trace.now e.snapshot e.goal)) }
 {
-    // Their strata are valid.
-    let _ = trace.rules();
+    valid_strata(trace);
     judge(trace, trace.entry(i), evidence.steps(i))
 }

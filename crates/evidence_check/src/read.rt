@@ -2,31 +2,17 @@
 
 ghost use Rattle.std.specs.Prelude.{◌≡◌, ◌≢◌, ℕ, List, true, false, Err, IfSome, IfErr, OnOk};
 ghost use Rattle.std.specs.Io.KnownBytes.{Consumes};
-ghost use Rattle.trace_lines.specs.Counts.{one_more};
+ghost use Rattle.json_lines.specs.Counts.{one_more};
 ghost use Rattle.evidence_check.specs.Evidences.{evidence_value};
-ghost use Rattle.evidence_check.specs.Reading.{cause_of, evidence_of, GivesEvidence};
+ghost use Rattle.evidence_check.specs.Reading.{evidence_of, GivesEvidence};
 ghost use Rattle.evidence_check.specs.declared.cause.EvidenceCause.TheVariants.{Read};
 
 use crate::cause::{EvidenceCause, EvidenceFault};
 use crate::evidence::Evidence;
 use crate::recorder::Recorder;
+use json_lines::{Source, read_lines};
 use std::alloc::Global;
-use trace_lines::{InputFault, LineFault, Source, Stop, Trace, read_lines};
-
-fn fault_of(fault: LineFault<EvidenceCause>) -> EvidenceFault
-    ensures { result ≡ record { line = fault.line; cause = cause_of fault.stop } }
-{
-    let cause = match fault.stop {
-        Stop::Line(cause) => cause,
-        Stop::Input(InputFault::Read) => EvidenceCause::Read,
-        Stop::Input(InputFault::TooLong) => EvidenceCause::TooLong,
-        Stop::Input(InputFault::OutOfMemory) => EvidenceCause::OutOfMemory,
-    };
-    EvidenceFault {
-        line: fault.line,
-        cause,
-    }
-}
+use trace_lines::Trace;
 
 /// Reads the evidence for a trace: a record for an entry on each line that is not blank, in any order. Lines and
 /// limits are those of a trace.
@@ -56,6 +42,9 @@ pub fn read_evidence<R: Source>(
         Ok(()) => Ok(Evidence {
             steps: recorder.into_steps(),
         }),
-        Err(fault) => Err(fault_of(fault)),
+        Err(fault) => Err(EvidenceFault {
+            line: fault.line,
+            cause: fault.cause(),
+        }),
     }
 }

@@ -5,18 +5,19 @@ ghost use Rattle.std.specs.List.Sorted.{IsStrictlyIncreasing};
 ghost use Rattle.serde_json.specs.View.{view};
 ghost use Rattle.trace_lines.specs.Values.{entry_lines};
 ghost use Rattle.evidence_check.specs.Causes.{Gives};
-ghost use Rattle.evidence_check.specs.Reading.{place_of, is_taken, put_steps, record_line, json_line, no_records};
+ghost use Rattle.evidence_check.specs.Reading.{place_of, is_taken, put_steps, record_line, no_records};
 ghost use Rattle.evidence_check.specs.Evidences.{shown_steps, all_shown};
 ghost use Rattle.evidence_check.specs.Steps.{step_values};
 
 use crate::cause::EvidenceCause;
 use crate::records::{are_known, has_too_many, steps_at, steps_in};
 use crate::step::Steps;
+use json_lines::TakeJson;
+use json_lines::fields::number_at;
 use serde_json::Value;
 use std::alloc::{AllocError, Global};
 use std::marker::Model;
-use trace_lines::fields::number_at;
-use trace_lines::{InputFault, Stop, TakeLine, Trace, is_blank};
+use trace_lines::Trace;
 
 /// The lines of the entries, and the steps that were given for each.
 #[derive(Drop)]
@@ -142,40 +143,19 @@ impl Recorder {
         let place = self.place(line).ok_or(EvidenceCause::StrayLine)?;
         self.put(place, steps)
     }
-
-    /// Takes a line that is not blank.
-    fn take_json(&mut self, bytes: &[u8]) -> Result<(), EvidenceCause>
-        ensures { Gives (λ _. self.new) result (json_line self.old bytes.now) }
-    {
-        match Value::from_slice(self.alloc, bytes) {
-            Ok(value) => self.take_record(&value),
-            Err(e) => Err(if e.is_memory() {
-                EvidenceCause::OutOfMemory
-            } else {
-                EvidenceCause::NotJson
-            }),
-        }
-    }
 }
 
-impl TakeLine for Recorder {
+impl TakeJson for Recorder {
     ghost use Rattle.std.specs.Prelude.{ℕ};
-    ghost use Rattle.evidence_check.specs.Reading.{taken_line};
+    ghost use Rattle.evidence_check.specs.Reading.{record_line};
 
     type Cause = EvidenceCause;
 
     ghost next = { λ _. 0 };
 
-    ghost taken = { taken_line };
+    ghost taken = { λ _. record_line };
 
-    fn take_line(&mut self, _number: u64, line: &[u8]) -> Result<(), Stop<EvidenceCause>> {
-        if is_blank(line) {
-            return Ok(());
-        }
-        match self.take_json(line) {
-            Ok(()) => Ok(()),
-            Err(EvidenceCause::OutOfMemory) => Err(Stop::Input(InputFault::OutOfMemory)),
-            Err(cause) => Err(Stop::Line(cause)),
-        }
+    fn take_value(&mut self, _number: u64, value: &Value) -> Result<(), EvidenceCause> {
+        self.take_record(value)
     }
 }

@@ -4,11 +4,12 @@ ghost use Rattle.std.specs.Prelude.{◌≡◌, option_map, map, nat_lt};
 ghost use Rattle.serde_json.specs.View.{view, items_view};
 ghost use Rattle.tuple_text.specs.Reading.{fact_at};
 ghost use Rattle.evidence_check.specs.Causes.{Gives, text_cause};
-ghost use Rattle.evidence_check.specs.Reading.{at_only, are_texts, is_text_list, is_step, are_shaped, is_known, are_known, fact_in, facts_in, step_in, steps_in, steps_at, count_of, fact_count};
+ghost use Rattle.evidence_check.specs.Reading.{at_only, is_text_list, is_step, are_shaped, is_known, are_known, fact_in, facts_in, step_in, steps_in, steps_at, count_of, fact_count};
 ghost use Rattle.evidence_check.specs.Steps.{step_value, step_values};
 
 use crate::cause::EvidenceCause;
 use crate::step::{Step, Steps};
+use json_lines::fields::are_strings;
 use serde_json::Value;
 use std::alloc::Global;
 use tuple_text::{Fact, TupleFault, parse_fact};
@@ -26,22 +27,11 @@ fn at_only<'a>(step: &'a Value, key: &str, other: &str) -> Option<&'a Value>
     }
 }
 
-fn are_texts(items: &[Value]) -> bool
-    ensures { result ≡ are_texts (items_view items.now) }
-{
-    for item in items {
-        if !item.is_string() {
-            return false;
-        }
-    }
-    true
-}
-
 fn is_text_list(value: &Value) -> bool
     ensures { result ≡ is_text_list (view value.now) }
 {
     match value.as_array() {
-        Some(items) => are_texts(items.as_slice()),
+        Some(items) => are_strings(items.as_slice()),
         None => false,
     }
 }

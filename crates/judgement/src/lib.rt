@@ -12,11 +12,11 @@
 
 mod facts;
 mod indexed;
-mod judged;
+mod table;
 mod known;
-mod passes;
+mod stored;
 #[cfg(test)]
 mod tests;
 
-pub use judged::{established, refuted};
+pub use table::{established, refuted};
 pub use known::Known;

@@ -15,14 +15,14 @@ use Rattle.namespaces.specs.Changing.{change_count}
 use Rattle.namespaces.specs.View.{expression_of}
 use Rattle.namespaces.specs.WellFormed.{IsFit, IsWellFormed}
 use Rattle.namespaces.specs.Shown.{show_line, show_lines, show_relation, show_relations}
-use Rattle.namespaces.specs.Index.{show_index, version, with_version, index_of, versions_of, relations_at, unless_empty}
+use Rattle.namespaces.specs.Index.{show_index, revision, with_revision, index_of, revisions_of, relations_at, unless_empty}
 use Rattle.namespaces.specs.Consistent.{AreConsistent}
 use Rattle.namespaces.specs.declared.number.RelNo.{RelNo}
 use Rattle.namespaces.specs.declared.rules.Line.{Line}
-use Rattle.namespaces.specs.declared.index.Version.{Version}
+use Rattle.namespaces.specs.declared.index.Revision.{Revision}
 use Rattle.namespaces.proofs.Tables.{Entry, is_text}
 use Rattle.namespaces.proofs.Indexes.{IndexEntry, lookup-index_of, lookup-show_index, names-index_of, names-show_index, index_of-push, length-mapped, position-map}
-use Rattle.namespaces.proofs.Versions.{last_or-slice_get, relations_of-versions, relations_at-versions}
+use Rattle.namespaces.proofs.Revisions.{last_or-slice_get, relations_of-revisions, relations_at-revisions}
 use Rattle.namespaces.proofs.Times.{from_one}
 use Rattle.namespaces.proofs.Growth.{is_declared-names, change_count-push, each_push}
 use Rattle.namespaces.proofs.Numbers.{item_at-place, same_then}
@@ -66,16 +66,16 @@ module _ (lines : List Line) (es : List IndexEntry) (changes : ℕ) (ds : List D
   indexed : show_index es ≡ index_of ds
   indexed = fields.indexed ∙ ap index_of shown
 
-  found : (q : List ℕ) → option_map (λ v. v.items) (lookup (is_text q) es) ≡ unless_empty (versions_of q ds)
+  found : (q : List ℕ) → option_map (λ v. v.items) (lookup (is_text q) es) ≡ unless_empty (revisions_of q ds)
   found q = sym (lookup-show_index q es) ∙ ap (lookup (bytes_eq q)) indexed ∙ lookup-index_of q ds
 
-  -- a name that is not in the table has no versions
-  pub none_found : (q : List ℕ) → lookup (is_text q) es ≡ None → versions_of q ds ≡ []
-  none_found q none = empty_from (versions_of q ds) (rw none at (found q))
+  -- a name that is not in the table has no revisions
+  pub none_found : (q : List ℕ) → lookup (is_text q) es ≡ None → revisions_of q ds ≡ []
+  none_found q none = empty_from (revisions_of q ds) (rw none at (found q))
 
   -- one that is in the table has those that are there
-  pub some_found : (q : List ℕ) (v : Vec Version) → lookup (is_text q) es ≡ Some v → versions_of q ds ≡ v.items
-  some_found q v some = full_from v.items (versions_of q ds) (rw some at (found q))
+  pub some_found : (q : List ℕ) (v : Vec Revision) → lookup (is_text q) es ≡ Some v → revisions_of q ds ≡ v.items
+  some_found q v some = full_from v.items (revisions_of q ds) (rw some at (found q))
 
   pub names : map string_bytes (keys_of es) ≡ namespace_names ds
   names = sym (names-show_index es) ∙ ap keys_of indexed ∙ names-index_of ds
@@ -98,17 +98,17 @@ module _ (lines : List Line) (es : List IndexEntry) (changes : ℕ) (ds : List D
       item_at-place n i (namespace_names ds) least is ∙ ap (λ ns. slice_get ns i) (sym names) ∙ slice_get-map string_bytes (keys_of es) i
       ∙ ap (option_map string_bytes) (slice_get-map (λ (e : IndexEntry). e.0) es i) ∙ map-map (λ (e : IndexEntry). e.0) string_bytes (slice_get es i)
 
--- the relations of a namespace, by its versions
-pub newest_led : (q : List ℕ) (ds : List Declaration) (vs : List Version) → versions_of q ds ≡ vs
+-- the relations of a namespace, by its revisions
+pub newest_led : (q : List ℕ) (ds : List Declaration) (vs : List Revision) → revisions_of q ds ≡ vs
     → relations_of q ds ≡ option_and_then (λ v. option_map (λ d. d.relations) (slice_get ds v.line)) (slice_get vs (length vs - 1))
-newest_led q ds vs e = relations_of-versions q ds ∙ rw (e, last_or-slice_get vs) refl
+newest_led q ds vs e = relations_of-revisions q ds ∙ rw (e, last_or-slice_get vs) refl
 
-pub at_led : (at : ℕ) (q : List ℕ) (ds : List Declaration) (vs : List Version) → versions_of q ds ≡ vs
+pub at_led : (at : ℕ) (q : List ℕ) (ds : List Declaration) (vs : List Revision) → revisions_of q ds ≡ vs
     → relations_at at q ds ≡ option_and_then (λ v. option_map (λ d. d.relations) (slice_get ds v.line)) (last_or None (filter (λ v. nat_le v.at at) vs))
-at_led at q ds vs e = relations_at-versions at q ds ∙ rw e refl
+at_led at q ds vs e = relations_at-revisions at q ds ∙ rw e refl
 
--- the relation that has a number, by the versions of its namespace
-pub numbered_led : (ds : List Declaration) (number : RelNo) (q : List ℕ) (i : ℕ) (vs : List Version) → namespace_numbered number.namespace ds ≡ Some q → 1 ≤ number.relation → number.relation - 1 ≡ i → versions_of q ds ≡ vs
+-- the relation that has a number, by the revisions of its namespace
+pub numbered_led : (ds : List Declaration) (number : RelNo) (q : List ℕ) (i : ℕ) (vs : List Revision) → namespace_numbered number.namespace ds ≡ Some q → 1 ≤ number.relation → number.relation - 1 ≡ i → revisions_of q ds ≡ vs
     → relation_numbered number ds ≡ option_and_then (λ rs. slice_get rs i) (option_and_then (λ v. option_map (λ d. d.relations) (slice_get ds v.line)) (slice_get vs (length vs - 1)))
 numbered_led ds number q i vs named least is e =
     rw (named, ← newest_led q ds vs e) (same_then (item_at number.relation) (λ rs. slice_get rs i) (λ xs. item_at-place number.relation i xs least is) (relations_of q ds))
@@ -146,21 +146,21 @@ show_lines-push [] l = refl
 show_lines-push (k ∷ ls) l = ap (λ ds. show_line k ∷ ds) (show_lines-push ls l)
 
 -- what is written when a declaration is put last
-pub record IsPut (lines new_lines : List Line) (es new_es : List IndexEntry) (l : Line) (v : Version) (changes new_changes : ℕ) : Type 0 where
+pub record IsPut (lines new_lines : List Line) (es new_es : List IndexEntry) (l : Line) (v : Revision) (changes new_changes : ℕ) : Type 0 where
   pub lines_put : new_lines ≡ lines ++ l ∷ []
-  pub noted : show_index new_es ≡ with_version (string_bytes l.namespace.name) v (show_index es)
-  pub place : v ≡ version (length lines) (show_line l)
+  pub noted : show_index new_es ≡ with_revision (string_bytes l.namespace.name) v (show_index es)
+  pub place : v ≡ revision (length lines) (show_line l)
   pub counted : new_changes ≡ changes + cond l.is_change 1 0
   pub timestamp : l.at < 18446744073709551616
 
-pub consistent_put : (lines new_lines : List Line) (es new_es : List IndexEntry) (l : Line) (v : Version) (changes new_changes : ℕ) (ds : List Declaration) → show_lines lines ≡ ds → AreConsistent lines es changes
+pub consistent_put : (lines new_lines : List Line) (es new_es : List IndexEntry) (l : Line) (v : Revision) (changes new_changes : ℕ) (ds : List Declaration) → show_lines lines ≡ ds → AreConsistent lines es changes
     → IsWellFormed (ds ++ show_line l ∷ []) → IsPut lines new_lines es new_es l v changes new_changes → AreConsistent new_lines new_es new_changes
 consistent_put lines new_lines es new_es l v changes new_changes ds shown fields w put =
     let all : show_lines new_lines ≡ ds ++ show_line l ∷ [] = ap show_lines put.lines_put ∙ show_lines-push lines l ∙ ap (λ cs. cs ++ show_line l ∷ []) shown in
-    let place : v ≡ version (length ds) (show_line l) = put.place ∙ ap (λ n. version n (show_line l)) (sym (length-mapped show_line lines) ∙ ap length shown) in
+    let place : v ≡ revision (length ds) (show_line l) = put.place ∙ ap (λ n. revision n (show_line l)) (sym (length-mapped show_line lines) ∙ ap length shown) in
     record {
       well_formed = rw all w;
-      indexed = put.noted ∙ ap (λ i. with_version (string_bytes l.namespace.name) v i) (fields.indexed ∙ ap index_of shown) ∙ ap (λ u. with_version (string_bytes l.namespace.name) u (index_of ds)) place ∙ sym (index_of-push ds (show_line l)) ∙ ap index_of (sym all);
+      indexed = put.noted ∙ ap (λ i. with_revision (string_bytes l.namespace.name) v i) (fields.indexed ∙ ap index_of shown) ∙ ap (λ u. with_revision (string_bytes l.namespace.name) u (index_of ds)) place ∙ sym (index_of-push ds (show_line l)) ∙ ap index_of (sym all);
       counted = put.counted ∙ ap (λ n. n + cond l.is_change 1 0) (fields.counted ∙ ap change_count shown) ∙ sym (change_count-push ds (show_line l)) ∙ ap change_count (sym all);
       timestamps = rw (ap show_lines put.lines_put ∙ show_lines-push lines l) (each_push (λ (d : Declaration). d.at < 18446744073709551616) (show_lines lines) (show_line l) fields.timestamps put.timestamp);
     }

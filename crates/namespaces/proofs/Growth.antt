@@ -10,7 +10,7 @@ use Rattle.std.specs.List.{AllByRecursion, list_any, list_all}
 use Rattle.serde_json.specs.Data.{Data}
 use Rattle.namespaces.specs.declared.fault.RulesFault.{RulesFault}
 use Rattle.namespaces.specs.declared.fault.RulesFault.TheVariants.{Name, RepeatedNamespace, RepeatedRelation, UndeclaredRelation, TooDeep, TooMany, RelationsChanged, StratumChanged}
-use Rattle.namespaces.specs.Fault.{◌>>=◌}
+use Rattle.refusals.specs.Refusals.{◌>>=◌}
 use Rattle.namespaces.specs.Declaration.{Relation, Namespace, Declaration, addition, change}
 use Rattle.namespaces.specs.Lookup.{relations_of, relation_names, with_name, names_after, namespace_names}
 use Rattle.namespaces.specs.Expression.{counts_fit}

@@ -8,13 +8,13 @@ use Rattle.std.specs.Map.{lookup, keys_of, values_of}
 use Rattle.indexmap.specs.IndexMap.{set_value_at}
 use Rattle.namespaces.specs.Declaration.{Declaration}
 use Rattle.namespaces.specs.Lookup.{with_name, names_after, namespace_names}
-use Rattle.namespaces.specs.Index.{Index, show_index, version, with_version, with_version_at, index_after, index_of, versions_from, versions_of, unless_empty}
-use Rattle.namespaces.specs.declared.index.Version.{Version}
+use Rattle.namespaces.specs.Index.{Index, show_index, revision, with_revision, with_revision_at, index_after, index_of, revisions_from, revisions_of, unless_empty}
+use Rattle.namespaces.specs.declared.index.Revision.{Revision}
 use Rattle.namespaces.proofs.Names.{by_bool, clash, one_name}
 use Rattle.namespaces.proofs.Tables.{is_text}
 
 abbrev pub IndexEntry : Type 0
-IndexEntry = String Global × Vec Version
+IndexEntry = String Global × Vec Revision
 
 -- ---- what is looked up
 
@@ -31,24 +31,24 @@ appended-nil : {X : Type 0} (o : Option (List X)) → o ≡ appended o []
 appended-nil None = refl
 appended-nil (Some xs) = ap Some (sym (append-nil xs))
 
-lookup-with_version : (q n : List ℕ) (v : Version) (es : Index)
-    → lookup (bytes_eq q) (with_version n v es) ≡ cond (bytes_eq q n) (appended (lookup (bytes_eq q) es) (v ∷ [])) (lookup (bytes_eq q) es)
-lookup-with_version q n v [] = refl
-lookup-with_version q n v (e ∷ es) = by_bool (bytes_eq n e.0)
+lookup-with_revision : (q n : List ℕ) (v : Revision) (es : Index)
+    → lookup (bytes_eq q) (with_revision n v es) ≡ cond (bytes_eq q n) (appended (lookup (bytes_eq q) es) (v ∷ [])) (lookup (bytes_eq q) es)
+lookup-with_revision q n v [] = refl
+lookup-with_revision q n v (e ∷ es) = by_bool (bytes_eq n e.0)
     (λ t. rw (t, one_name n e.0 t) (by_bool (bytes_eq q e.0) (λ u. rw u refl) (λ u. rw u refl)))
     (λ f. rw f (by_bool (bytes_eq q e.0)
     (λ u. by_bool (bytes_eq q n) (λ w. clash (bytes_eq n e.0) (rw (← one_name q n w) u) f) (λ w. rw (u, w) refl))
-    (λ u. rw u (lookup-with_version q n v es))))
+    (λ u. rw u (lookup-with_revision q n v es))))
 
 lookup-index_after : (q : List ℕ) (es : Index) (line : ℕ) (ds : List Declaration)
-    → lookup (bytes_eq q) (index_after es line ds) ≡ appended (lookup (bytes_eq q) es) (versions_from line q ds)
+    → lookup (bytes_eq q) (index_after es line ds) ≡ appended (lookup (bytes_eq q) es) (revisions_from line q ds)
 lookup-index_after q es line [] = appended-nil (lookup (bytes_eq q) es)
 lookup-index_after q es line (d ∷ ds) =
-    lookup-index_after q (with_version d.name (version line d) es) (line + 1) ds
-    ∙ rw (lookup-with_version q d.name (version line d) es)
-    (by_bool (bytes_eq q d.name) (λ t. rw t (appended-appended (lookup (bytes_eq q) es) (version line d) (versions_from (line + 1) q ds))) (λ f. rw f refl))
+    lookup-index_after q (with_revision d.name (revision line d) es) (line + 1) ds
+    ∙ rw (lookup-with_revision q d.name (revision line d) es)
+    (by_bool (bytes_eq q d.name) (λ t. rw t (appended-appended (lookup (bytes_eq q) es) (revision line d) (revisions_from (line + 1) q ds))) (λ f. rw f refl))
 
-pub lookup-index_of : (q : List ℕ) (ds : List Declaration) → lookup (bytes_eq q) (index_of ds) ≡ unless_empty (versions_of q ds)
+pub lookup-index_of : (q : List ℕ) (ds : List Declaration) → lookup (bytes_eq q) (index_of ds) ≡ unless_empty (revisions_of q ds)
 lookup-index_of q ds = lookup-index_after q [] 0 ds
 
 pub lookup-show_index : (q : List ℕ) (es : List IndexEntry) → lookup (bytes_eq q) (show_index es) ≡ option_map (λ v. v.items) (lookup (is_text q) es)
@@ -57,14 +57,14 @@ lookup-show_index q (e ∷ es) = by_bool (is_text q e.0) (λ t. rw t refl) (λ f
 
 -- ---- the names in order
 
-names-with_version : (n : List ℕ) (v : Version) (es : Index) → keys_of (with_version n v es) ≡ with_name (keys_of es) n
-names-with_version n v [] = refl
-names-with_version n v (e ∷ es) = by_bool (bytes_eq n e.0) (λ t. rw t refl)
-    (λ f. rw f (ap (λ ns. e.0 ∷ ns) (names-with_version n v es) ∙ by_bool (list_any (bytes_eq n) (keys_of es)) (λ t. rw t refl) (λ g. rw g refl)))
+names-with_revision : (n : List ℕ) (v : Revision) (es : Index) → keys_of (with_revision n v es) ≡ with_name (keys_of es) n
+names-with_revision n v [] = refl
+names-with_revision n v (e ∷ es) = by_bool (bytes_eq n e.0) (λ t. rw t refl)
+    (λ f. rw f (ap (λ ns. e.0 ∷ ns) (names-with_revision n v es) ∙ by_bool (list_any (bytes_eq n) (keys_of es)) (λ t. rw t refl) (λ g. rw g refl)))
 
 names-index_after : (es : Index) (line : ℕ) (ds : List Declaration) → keys_of (index_after es line ds) ≡ names_after (keys_of es) ds
 names-index_after es line [] = refl
-names-index_after es line (d ∷ ds) = names-index_after (with_version d.name (version line d) es) (line + 1) ds ∙ ap (λ ns. names_after ns ds) (names-with_version d.name (version line d) es)
+names-index_after es line (d ∷ ds) = names-index_after (with_revision d.name (revision line d) es) (line + 1) ds ∙ ap (λ ns. names_after ns ds) (names-with_revision d.name (revision line d) es)
 
 pub names-index_of : (ds : List Declaration) → keys_of (index_of ds) ≡ namespace_names ds
 names-index_of ds = names-index_after [] 0 ds
@@ -77,40 +77,40 @@ names-show_index (e ∷ es) = ap (λ ns. string_bytes e.0 ∷ ns) (names-show_in
 
 -- a declaration behind the others
 index_after-push : (es : Index) (line : ℕ) (ds : List Declaration) (d : Declaration)
-    → index_after es line (ds ++ d ∷ []) ≡ with_version d.name (version (line + length ds) d) (index_after es line ds)
+    → index_after es line (ds ++ d ∷ []) ≡ with_revision d.name (revision (line + length ds) d) (index_after es line ds)
 index_after-push es line [] d = let e : line + 0 ≡ line = omega arith in rw e refl
 index_after-push es line (c ∷ ds) d =
     let e : line + length (c ∷ ds) ≡ line + 1 + length ds = omega arith in
-    rw e (index_after-push (with_version c.name (version line c) es) (line + 1) ds d)
+    rw e (index_after-push (with_revision c.name (revision line c) es) (line + 1) ds d)
 
-pub index_of-push : (ds : List Declaration) (d : Declaration) → index_of (ds ++ d ∷ []) ≡ with_version d.name (version (length ds) d) (index_of ds)
+pub index_of-push : (ds : List Declaration) (d : Declaration) → index_of (ds ++ d ∷ []) ≡ with_revision d.name (revision (length ds) d) (index_of ds)
 index_of-push ds d = let e : 0 + length ds ≡ length ds = omega arith in rw e at (index_after-push [] 0 ds d)
 
--- a version behind the others of a namespace
-pub show_index-set : (es : List IndexEntry) (i : ℕ) (was w : Vec Version) (v : Version) → slice_get (values_of es) i ≡ Some was → w.items ≡ was.items ++ v ∷ []
-    → show_index (set_value_at es i w) ≡ with_version_at i v (show_index es)
+-- a revision behind the others of a namespace
+pub show_index-set : (es : List IndexEntry) (i : ℕ) (was w : Vec Revision) (v : Revision) → slice_get (values_of es) i ≡ Some was → w.items ≡ was.items ++ v ∷ []
+    → show_index (set_value_at es i w) ≡ with_revision_at i v (show_index es)
 show_index-set [] i was w v at more = cc
 show_index-set (e ∷ es) zero was w v at more = let same : e.1 ≡ was = cc in rw (more, same) refl
 show_index-set (e ∷ es) (suc i) was w v at more = ap (λ r. (string_bytes e.0, e.1.items) ∷ r) (show_index-set es i was w v at more)
 
--- the same versions of a namespace
-pub show_index-same : (es : List IndexEntry) (i : ℕ) (was w : Vec Version) → slice_get (values_of es) i ≡ Some was → w.items ≡ was.items → show_index (set_value_at es i w) ≡ show_index es
+-- the same revisions of a namespace
+pub show_index-same : (es : List IndexEntry) (i : ℕ) (was w : Vec Revision) → slice_get (values_of es) i ≡ Some was → w.items ≡ was.items → show_index (set_value_at es i w) ≡ show_index es
 show_index-same [] i was w at same = cc
 show_index-same (e ∷ es) zero was w at same = let here : e.1 ≡ was = cc in rw (same, here) refl
 show_index-same (e ∷ es) (suc i) was w at same = ap (λ r. (string_bytes e.0, e.1.items) ∷ r) (show_index-same es i was w at same)
 
 -- past the last namespace there is none
-pub with_version_at-past : (es : List IndexEntry) (i : ℕ) (v : Version) → slice_get (values_of es) i ≡ None → show_index es ≡ with_version_at i v (show_index es)
-with_version_at-past [] i v at = refl
-with_version_at-past (e ∷ es) zero v at = cc
-with_version_at-past (e ∷ es) (suc i) v at = ap (λ r. (string_bytes e.0, e.1.items) ∷ r) (with_version_at-past es i v at)
+pub with_revision_at-past : (es : List IndexEntry) (i : ℕ) (v : Revision) → slice_get (values_of es) i ≡ None → show_index es ≡ with_revision_at i v (show_index es)
+with_revision_at-past [] i v at = refl
+with_revision_at-past (e ∷ es) zero v at = cc
+with_revision_at-past (e ∷ es) (suc i) v at = ap (λ r. (string_bytes e.0, e.1.items) ∷ r) (with_revision_at-past es i v at)
 
 pub show_index-push : (es : List IndexEntry) (e : IndexEntry) → show_index (es ++ e ∷ []) ≡ show_index es ++ (string_bytes e.0, e.1.items) ∷ []
 show_index-push [] e = refl
 show_index-push (x ∷ es) e = ap (λ r. (string_bytes x.0, x.1.items) ∷ r) (show_index-push es e)
 
-there_by_index : (n : List ℕ) (v : Version) (es : Index) (i : ℕ) (d : List ℕ) → i < length (keys_of es) → bytes_eq n (get_or (keys_of es) i d) ≡ true
-    → ((k : ℕ) → k < i → bytes_eq n (get_or (keys_of es) k d) ≡ false) → with_version n v es ≡ with_version_at i v es
+there_by_index : (n : List ℕ) (v : Revision) (es : Index) (i : ℕ) (d : List ℕ) → i < length (keys_of es) → bytes_eq n (get_or (keys_of es) i d) ≡ true
+    → ((k : ℕ) → k < i → bytes_eq n (get_or (keys_of es) k d) ≡ false) → with_revision n v es ≡ with_revision_at i v es
 there_by_index n v [] i d within here before = absurd (omega arith)
 there_by_index n v (e ∷ es) zero d within here before = rw here refl
 there_by_index n v (e ∷ es) (suc i) d within here before =
@@ -128,18 +128,18 @@ pub position-map : {X Y : Type 0} (p : Y → Bool) (f : X → Y) (xs : List X) �
 position-map p f xs = rw (prefix_len-map (λ y. not (p y)) f xs, length-mapped f xs) refl
 
 -- where the name stands first
-pub with_version-there : (n : List ℕ) (v : Version) (es : List IndexEntry) (i : ℕ) → position (is_text n) (keys_of es) ≡ Some i → with_version n v (show_index es) ≡ with_version_at i v (show_index es)
-with_version-there n v es i at =
+pub with_revision-there : (n : List ℕ) (v : Revision) (es : List IndexEntry) (i : ℕ) → position (is_text n) (keys_of es) ≡ Some i → with_revision n v (show_index es) ≡ with_revision_at i v (show_index es)
+with_revision-there n v es i at =
     let shown : position (bytes_eq n) (keys_of (show_index es)) ≡ Some i = rw (names-show_index es) (position-map (bytes_eq n) string_bytes (keys_of es) ∙ at) in
     let found = position-Some (bytes_eq n) (keys_of (show_index es)) i [] shown in
     there_by_index n v (show_index es) i [] found.0 found.1 found.2
 
-new_by_lookup : (n : List ℕ) (v : Version) (es : Index) → lookup (bytes_eq n) es ≡ None → with_version n v es ≡ es ++ (n, v ∷ []) ∷ []
+new_by_lookup : (n : List ℕ) (v : Revision) (es : Index) → lookup (bytes_eq n) es ≡ None → with_revision n v es ≡ es ++ (n, v ∷ []) ∷ []
 new_by_lookup n v [] none = refl
 new_by_lookup n v (e ∷ es) none = by_bool (bytes_eq n e.0)
     (λ t. let some = rw t at none in cc)
     (λ f. rw f (ap (λ r. e ∷ r) (new_by_lookup n v es (rw f at none))))
 
 -- where the name is new
-pub with_version-new : (n : List ℕ) (v : Version) (es : List IndexEntry) → lookup (is_text n) es ≡ None → with_version n v (show_index es) ≡ show_index es ++ (n, v ∷ []) ∷ []
-with_version-new n v es none = new_by_lookup n v (show_index es) (lookup-show_index n es ∙ rw none refl)
+pub with_revision-new : (n : List ℕ) (v : Revision) (es : List IndexEntry) → lookup (is_text n) es ≡ None → with_revision n v (show_index es) ≡ show_index es ++ (n, v ∷ []) ∷ []
+with_revision-new n v es none = new_by_lookup n v (show_index es) (lookup-show_index n es ∙ rw none refl)

@@ -7,13 +7,13 @@ use Rattle.namespaces.specs.Declaration.{Relation, Declaration}
 use Rattle.namespaces.specs.Lookup.{relation_named, relation_names, relations_of, history, item_at, namespace_numbered, history_numbered}
 use Rattle.namespaces.specs.Adding.{has_repeats}
 use Rattle.namespaces.specs.WellFormed.{IsFit, IsWellFormed}
-use Rattle.namespaces.specs.Index.{versions_of}
-use Rattle.namespaces.specs.declared.index.Version.{Version}
+use Rattle.namespaces.specs.Index.{revisions_of}
+use Rattle.namespaces.specs.declared.index.Revision.{Revision}
 use Rattle.namespaces.specs.declared.number.RelNo.{RelNo}
 use Rattle.namespaces.proofs.Names.{by_bool}
 use Rattle.namespaces.proofs.Times.{IsKeptIn, newest_keeps, not_named, from_one}
 use Rattle.namespaces.proofs.Kept.{named_before, keeps_names-length}
-use Rattle.namespaces.proofs.Versions.{picked, versions_lead}
+use Rattle.namespaces.proofs.Revisions.{picked, revisions_lead}
 
 get_past : {X : Type 0} (xs : List X) (i : ℕ) → nat_lt i (length xs) ≡ false → slice_get xs i ≡ None
 get_past [] i h = refl
@@ -63,19 +63,19 @@ then_map : {X Y Z : Type 0} (f : X → Y) (g : Y → Option Z) (o : Option X) �
 then_map f g None = refl
 then_map f g (Some x) = refl
 
--- what stands at a place of the declarations to which the versions lead that reach so far
+-- what stands at a place of the declarations to which the revisions lead that reach so far
 abbrev pub placed : List ℕ → ℕ → ℕ → List Declaration → Option Relation
 placed q i k ds =
     option_and_then (λ v. option_and_then (λ rs. slice_get rs i) (option_map (λ (d : Declaration). d.relations) (slice_get ds v.line)))
-    (slice_get (filter (λ (v : Version). nat_lt i v.relations) (versions_of q ds)) k)
+    (slice_get (filter (λ (v : Revision). nat_lt i v.relations) (revisions_of q ds)) k)
 
-led : (i : ℕ) (f : Version → Option Declaration) (o : Option Version)
+led : (i : ℕ) (f : Revision → Option Declaration) (o : Option Revision)
     → option_and_then (λ d. slice_get d.relations i) (option_and_then f o) ≡ option_and_then (λ v. option_and_then (λ rs. slice_get rs i) (option_map (λ (d : Declaration). d.relations) (f v))) o
 led i f None = refl
 led i f (Some v) = then_map (λ (d : Declaration). d.relations) (λ rs. slice_get rs i) (f v)
 
 picked-placed : (q : List ℕ) (i k : ℕ) (ds : List Declaration) → option_and_then (λ d. slice_get d.relations i) (slice_get (picked (λ a n. nat_lt i n) q ds) k) ≡ placed q i k ds
-picked-placed q i k ds = rw (versions_lead (λ a n. nat_lt i n) q ds k) (led i (λ v. slice_get ds v.line) (slice_get (filter (λ (v : Version). nat_lt i v.relations) (versions_of q ds)) k))
+picked-placed q i k ds = rw (revisions_lead (λ a n. nat_lt i n) q ds k) (led i (λ v. slice_get ds v.line) (slice_get (filter (λ (v : Revision). nat_lt i v.relations) (revisions_of q ds)) k))
 
 nothing-placed : (q : List ℕ) (rs : List Relation) (i k : ℕ) (ds : List Declaration) → slice_get rs i ≡ None → AllByRecursion (λ e. bytes_eq q e.name ≡ true → IsKeptIn rs e) ds → None ≡ placed q i k ds
 nothing-placed q rs i k ds none kept = rw (beyond q rs i ds none kept) at (picked-placed q i k ds)

@@ -8,7 +8,8 @@ use Rattle.serde_json.specs.Find.{get, get_member, as_array}
 use Rattle.serde_json.specs.View.{view, items_view}
 use Rattle.serde_json.specs.declared.value.Value.{Value}
 use Rattle.namespaces.specs.declared.fault.RulesFault.{RulesFault}
-use Rattle.namespaces.specs.Fault.{◌>>=◌, needed}
+use Rattle.namespaces.specs.Fault.{needed}
+use Rattle.refusals.specs.Refusals.{◌>>=◌}
 use Rattle.namespaces.specs.Expression.{minus}
 use Rattle.namespaces.specs.Shape.{forms_in, only_form, expression, child_list, expressions, exclusion, expression_at, child_list_at, exclusion_at}
 

@@ -8,8 +8,8 @@ use Rattle.namespaces.specs.Declaration.{Relation, Declaration}
 use Rattle.namespaces.specs.Lookup.{relation_named, in_force, relation_at, relations_of}
 use Rattle.namespaces.specs.Changing.{keeps_names, keeps_strata}
 use Rattle.namespaces.specs.WellFormed.{Continues, AreContinued}
-use Rattle.namespaces.specs.Index.{version, versions_from, relations_at}
-use Rattle.namespaces.specs.declared.index.Version.{Version}
+use Rattle.namespaces.specs.Index.{revision, revisions_from, relations_at}
+use Rattle.namespaces.specs.declared.index.Revision.{Revision}
 use Rattle.namespaces.proofs.Names.{by_bool, clash, one_name, and_true}
 use Rattle.namespaces.proofs.Kept.{absent_before, keeps_names-same, keeps_strata-same, keeps_names-length}
 
@@ -103,7 +103,7 @@ relation_at-relations_at (d ∷ ds) at q r all =
     rw (relation_at-relations_at ds at q r all.1)
     (at_step at q r d (relations_at at q ds) (λ rs found named. kept_later q rs d named (from_one_at (λ e. d.name ≡ e.name → Continues d e) q rs at ds all.0 found)))
 
--- ---- versions rise
+-- ---- revisions rise
 
 get_all : {X : Type 0} (P : X → Type 0) (xs : List X) (j : ℕ) (d : X) → AllByRecursion P xs → j < length xs → P (get_or xs j d)
 get_all P [] j d all h = absurd (omega arith)
@@ -116,27 +116,27 @@ rises n x xs all rest zero (suc j) d h k = get_all (λ y. n x ≤ n y) xs j d al
 rises n x xs all rest (suc i) zero d h k = absurd (omega arith)
 rises n x xs all rest (suc i) (suc j) d h k = rest i j d (omega arith) (omega arith)
 
-module _ (n : Version → ℕ) (grows : (d e : Declaration) (i j : ℕ) → Continues d e → n (version i d) ≤ n (version j e)) where
-  versions_above : (q : List ℕ) (d : Declaration) (i line : ℕ) (ds : List Declaration) → bytes_eq q d.name ≡ true → AllByRecursion (λ e. d.name ≡ e.name → Continues d e) ds → AllByRecursion (λ v. n (version i d) ≤ n v) (versions_from line q ds)
-  versions_above q d i line [] named all = tt
-  versions_above q d i line (e ∷ ds) named all =
-      let rest = versions_above q d i (line + 1) ds named all.1 in
+module _ (n : Revision → ℕ) (grows : (d e : Declaration) (i j : ℕ) → Continues d e → n (revision i d) ≤ n (revision j e)) where
+  revisions_above : (q : List ℕ) (d : Declaration) (i line : ℕ) (ds : List Declaration) → bytes_eq q d.name ≡ true → AllByRecursion (λ e. d.name ≡ e.name → Continues d e) ds → AllByRecursion (λ v. n (revision i d) ≤ n v) (revisions_from line q ds)
+  revisions_above q d i line [] named all = tt
+  revisions_above q d i line (e ∷ ds) named all =
+      let rest = revisions_above q d i (line + 1) ds named all.1 in
       by_bool (bytes_eq q e.name)
       (λ t. rw t (grows d e i line (all.0 (sym (one_name q d.name named) ∙ one_name q e.name t)), rest))
       (λ f. rw f rest)
 
-  versions_rise : (q : List ℕ) (line : ℕ) (ds : List Declaration) → AreContinued ds → IsNonDecreasingBy n (versions_from line q ds)
-  versions_rise q line [] all = λ i j d h k. absurd (omega arith)
-  versions_rise q line (d ∷ ds) all =
-      let rest = versions_rise q (line + 1) ds all.1 in
+  revisions_rise : (q : List ℕ) (line : ℕ) (ds : List Declaration) → AreContinued ds → IsNonDecreasingBy n (revisions_from line q ds)
+  revisions_rise q line [] all = λ i j d h k. absurd (omega arith)
+  revisions_rise q line (d ∷ ds) all =
+      let rest = revisions_rise q (line + 1) ds all.1 in
       by_bool (bytes_eq q d.name)
-      (λ t. rw t (rises n (version line d) (versions_from (line + 1) q ds) (versions_above q d line (line + 1) ds t all.0) rest))
+      (λ t. rw t (rises n (revision line d) (revisions_from (line + 1) q ds) (revisions_above q d line (line + 1) ds t all.0) rest))
       (λ f. rw f rest)
 
 -- in their timestamps
-pub versions_rise_in_time : (q : List ℕ) (ds : List Declaration) → AreContinued ds → IsNonDecreasingBy (λ (v : Version). v.at) (versions_from 0 q ds)
-versions_rise_in_time q ds all = versions_rise (λ v. v.at) (λ d e i j c. c.at) q 0 ds all
+pub revisions_rise_in_time : (q : List ℕ) (ds : List Declaration) → AreContinued ds → IsNonDecreasingBy (λ (v : Revision). v.at) (revisions_from 0 q ds)
+revisions_rise_in_time q ds all = revisions_rise (λ v. v.at) (λ d e i j c. c.at) q 0 ds all
 
 -- and in their numbers of relations
-pub versions_grow : (q : List ℕ) (ds : List Declaration) → AreContinued ds → IsNonDecreasingBy (λ (v : Version). v.relations) (versions_from 0 q ds)
-versions_grow q ds all = versions_rise (λ v. v.relations) (λ d e i j c. keeps_names-length d.relations e.relations c.names) q 0 ds all
+pub revisions_grow : (q : List ℕ) (ds : List Declaration) → AreContinued ds → IsNonDecreasingBy (λ (v : Revision). v.relations) (revisions_from 0 q ds)
+revisions_grow q ds all = revisions_rise (λ v. v.relations) (λ d e i j c. keeps_names-length d.relations e.relations c.names) q 0 ds all

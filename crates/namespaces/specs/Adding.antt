@@ -7,7 +7,8 @@ use Rattle.serde_json.specs.Data.{Data, null, boolean, number, string, array, ob
 use Rattle.serde_json.specs.Find.{get, as_number, as_u64, as_array}
 use Rattle.namespaces.specs.declared.fault.RulesFault.{RulesFault}
 use Rattle.namespaces.specs.declared.fault.RulesFault.TheVariants.{Shape, Name, RepeatedNamespace, RepeatedRelation, UndeclaredRelation, TooDeep, TooMany}
-use Rattle.namespaces.specs.Fault.{◌>>=◌, needed}
+use Rattle.namespaces.specs.Fault.{needed}
+use Rattle.refusals.specs.Refusals.{◌>>=◌}
 use Rattle.namespaces.specs.Expression.{Expression, this, depth, names_in, own_relations, counts_fit}
 use Rattle.namespaces.specs.Declaration.{Relation, Namespace, Declaration, addition}
 use Rattle.namespaces.specs.Lookup.{relations_of, relation_names, namespace_names}

@@ -5,7 +5,7 @@ use Rattle.std.specs.Str.{bytes_eq}
 use Rattle.serde_json.specs.Data.{Data}
 use Rattle.namespaces.specs.declared.fault.RulesFault.{RulesFault}
 use Rattle.namespaces.specs.declared.fault.RulesFault.TheVariants.{RelationsChanged, StratumChanged}
-use Rattle.namespaces.specs.Fault.{◌>>=◌}
+use Rattle.refusals.specs.Refusals.{◌>>=◌}
 use Rattle.namespaces.specs.Declaration.{Relation, Namespace, Declaration, change}
 use Rattle.namespaces.specs.Lookup.{relations_of}
 use Rattle.namespaces.specs.Adding.{namespace, tested, is_declared, is_full}

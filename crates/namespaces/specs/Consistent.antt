@@ -9,9 +9,9 @@ use Rattle.namespaces.specs.WellFormed.{IsWellFormed}
 use Rattle.namespaces.specs.Shown.{show_lines}
 use Rattle.namespaces.specs.Index.{show_index, index_of}
 use Rattle.namespaces.specs.declared.rules.Line.{Line}
-use Rattle.namespaces.specs.declared.index.Version.{Version}
+use Rattle.namespaces.specs.declared.index.Revision.{Revision}
 
-pub record AreConsistent (lines : List Line) (index : List (String Global × Vec Version)) (changes : ℕ) : Type 0 where
+pub record AreConsistent (lines : List Line) (index : List (String Global × Vec Revision)) (changes : ℕ) : Type 0 where
   pub well_formed : IsWellFormed (show_lines lines)
   pub indexed : show_index index ≡ index_of (show_lines lines)
   pub counted : changes ≡ change_count (show_lines lines)

@@ -5,45 +5,45 @@ use Rattle.std.specs.Str.{bytes_eq}
 use Rattle.std.specs.Global.{Vec}
 use Rattle.std.specs.declared.alloc.Global.{Global}
 use Rattle.namespaces.specs.Declaration.{Relation, Declaration}
-use Rattle.namespaces.specs.declared.index.Version.{Version}
+use Rattle.namespaces.specs.declared.index.Revision.{Revision}
 
 -- each namespace, in order, with its declarations in theirs
 abbrev pub Index : Type 0
-Index = List (List ℕ × List Version)
+Index = List (List ℕ × List Revision)
 
-abbrev pub show_index : List (String Global × Vec Version) → Index
+abbrev pub show_index : List (String Global × Vec Revision) → Index
 show_index es = map (λ e. (string_bytes e.0, e.1.items)) es
 
 -- the declaration that stands at a place
-abbrev pub version : ℕ → Declaration → Version
-version line d = record { at = d.at; relations = length d.relations; line = line }
+abbrev pub revision : ℕ → Declaration → Revision
+revision line d = record { at = d.at; relations = length d.relations; line = line }
 
 -- a declaration of this namespace more
-abbrev pub with_version : List ℕ → Version → Index → Index
-with_version name v [] = (name, v ∷ []) ∷ []
-with_version name v (e ∷ es) = if bytes_eq name e.0 then (e.0, e.1 ++ v ∷ []) ∷ es else e ∷ with_version name v es
+abbrev pub with_revision : List ℕ → Revision → Index → Index
+with_revision name v [] = (name, v ∷ []) ∷ []
+with_revision name v (e ∷ es) = if bytes_eq name e.0 then (e.0, e.1 ++ v ∷ []) ∷ es else e ∷ with_revision name v es
 
 -- a declaration more of the namespace at a place
-abbrev pub with_version_at : ℕ → Version → Index → Index
-with_version_at i v [] = []
-with_version_at zero v (e ∷ es) = (e.0, e.1 ++ v ∷ []) ∷ es
-with_version_at (suc i) v (e ∷ es) = e ∷ with_version_at i v es
+abbrev pub with_revision_at : ℕ → Revision → Index → Index
+with_revision_at i v [] = []
+with_revision_at zero v (e ∷ es) = (e.0, e.1 ++ v ∷ []) ∷ es
+with_revision_at (suc i) v (e ∷ es) = e ∷ with_revision_at i v es
 
 -- the index after the declarations that stand from a place on
 abbrev pub index_after : Index → ℕ → List Declaration → Index
 index_after index line [] = index
-index_after index line (d ∷ ds) = index_after (with_version d.name (version line d) index) (line + 1) ds
+index_after index line (d ∷ ds) = index_after (with_revision d.name (revision line d) index) (line + 1) ds
 
 abbrev pub index_of : List Declaration → Index
 index_of ds = index_after [] 0 ds
 
 -- the declarations of a namespace among those that stand from a place on
-abbrev pub versions_from : ℕ → List ℕ → List Declaration → List Version
-versions_from line name [] = []
-versions_from line name (d ∷ ds) = if bytes_eq name d.name then version line d ∷ versions_from (line + 1) name ds else versions_from (line + 1) name ds
+abbrev pub revisions_from : ℕ → List ℕ → List Declaration → List Revision
+revisions_from line name [] = []
+revisions_from line name (d ∷ ds) = if bytes_eq name d.name then revision line d ∷ revisions_from (line + 1) name ds else revisions_from (line + 1) name ds
 
-abbrev pub versions_of : List ℕ → List Declaration → List Version
-versions_of name ds = versions_from 0 name ds
+abbrev pub revisions_of : List ℕ → List Declaration → List Revision
+revisions_of name ds = revisions_from 0 name ds
 
 -- the relations of the last declaration of a namespace that is in force at a timestamp
 abbrev pub relations_at : ℕ → List ℕ → List Declaration → Option (List Relation)

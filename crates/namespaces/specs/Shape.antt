@@ -5,7 +5,8 @@ use Rattle.serde_json.specs.Data.{Data, null, boolean, number, string, array, ob
 use Rattle.serde_json.specs.Find.{get, as_str}
 use Rattle.namespaces.specs.declared.fault.RulesFault.{RulesFault}
 use Rattle.namespaces.specs.declared.fault.RulesFault.TheVariants.{Shape}
-use Rattle.namespaces.specs.Fault.{◌>>=◌, needed}
+use Rattle.namespaces.specs.Fault.{needed}
+use Rattle.refusals.specs.Refusals.{◌>>=◌}
 use Rattle.namespaces.specs.Expression.{Expression, this, computed, tuple_to, union, inter, minus}
 use Rattle.namespaces.specs.View.{children}
 

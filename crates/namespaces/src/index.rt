@@ -12,81 +12,81 @@ use std::alloc::Global;
 
 /// A declaration of a namespace: from when it is in force, how many relations it has, and at which line it stands.
 #[derive(Clone, Copy)]
-pub(crate) struct Version {
+pub(crate) struct Revision {
     pub(crate) at: u64,
     pub(crate) relations: usize,
     pub(crate) line: usize,
 }
 
-/// The last of the versions that are in force at a timestamp.
-pub(crate) fn version_at(versions: &[Version], at: u64) -> Option<Version>
-    requires { IsNonDecreasingBy (λ (v : Version). v.at) versions.now }
-    ensures { result ≡ last_or None (filter (λ (v : Version). nat_le v.at at) versions.now) }
+/// The last of the revisions that are in force at a timestamp.
+pub(crate) fn revision_at(revisions: &[Revision], at: u64) -> Option<Revision>
+    requires { IsNonDecreasingBy (λ (v : Revision). v.at) revisions.now }
+    ensures { result ≡ last_or None (filter (λ (v : Revision). nat_le v.at at) revisions.now) }
 {
-    let count = versions.partition_point(|version| version.at <= at);
+    let count = revisions.partition_point(|revision| revision.at <= at);
     let last = count.checked_sub(1)?;
-    versions.get(last).copied()
+    revisions.get(last).copied()
 }
 
-/// The k-th of the versions that have a relation at `index`, counted from 0.
-pub(crate) fn version_with(versions: &[Version], index: usize, k: usize) -> Option<Version>
-    requires { IsNonDecreasingBy (λ (v : Version). v.relations) versions.now }
-    ensures { result ≡ slice_get (filter (λ (v : Version). nat_lt index v.relations) versions.now) k }
+/// The k-th of the revisions that have a relation at `index`, counted from 0.
+pub(crate) fn revision_with(revisions: &[Revision], index: usize, k: usize) -> Option<Revision>
+    requires { IsNonDecreasingBy (λ (v : Revision). v.relations) revisions.now }
+    ensures { result ≡ slice_get (filter (λ (v : Revision). nat_lt index v.relations) revisions.now) k }
 {
-    let first = versions.partition_point(|version| version.relations <= index);
-    versions[first..].get(k).copied()
+    let first = revisions.partition_point(|revision| revision.relations <= index);
+    revisions[first..].get(k).copied()
 }
 
-/// Notes a version of a namespace.
+/// Notes a revision of a namespace.
 pub(crate) fn note(
     alloc: Global,
-    namespaces: &mut IndexMap<String, Vec<Version>>,
+    namespaces: &mut IndexMap<String, Vec<Revision>>,
     name: String,
-    version: Version,
+    revision: Revision,
 ) -> Result<(), RulesFault>
     ensures ok { OnOk result (show_index namespaces.new.entries
-        ≡ spec.with_version (string_bytes name) version (show_index namespaces.old.entries)) }
+        ≡ spec.with_revision (string_bytes name) revision (show_index namespaces.old.entries)) }
     ensures unchanged { OnErr result (show_index namespaces.new.entries ≡ show_index namespaces.old.entries) }
     ensures memory { IfErr result (λ e. e ≡ RulesFault.OutOfMemory) }
 {
     match namespaces.get_index_of(name.as_str()) {
-        Some(index) => note_further(namespaces, index, version),
-        None => note_first(alloc, namespaces, name, version),
+        Some(index) => note_further(namespaces, index, revision),
+        None => note_first(alloc, namespaces, name, revision),
     }
 }
 
-/// Notes a version of the namespace at a place.
+/// Notes a revision of the namespace at a place.
 fn note_further(
-    namespaces: &mut IndexMap<String, Vec<Version>>,
+    namespaces: &mut IndexMap<String, Vec<Revision>>,
     index: usize,
-    version: Version,
+    revision: Revision,
 ) -> Result<(), RulesFault>
     ensures ok { OnOk result (show_index namespaces.new.entries
-        ≡ spec.with_version_at index version (show_index namespaces.old.entries)) }
+        ≡ spec.with_revision_at index revision (show_index namespaces.old.entries)) }
     ensures unchanged { OnErr result (show_index namespaces.new.entries ≡ show_index namespaces.old.entries) }
     ensures memory { IfErr result (λ e. e ≡ RulesFault.OutOfMemory) }
 {
-    if let Some(versions) = namespaces.get_index_mut(index) {
-        versions.push(version)?;
+    if let Some(revisions) = namespaces.get_index_mut(index) {
+        revisions.push(revision)?;
     }
     Ok(())
 }
 
-/// Notes the first version of a namespace.
+/// Notes the first revision of a namespace.
 fn note_first(
     alloc: Global,
-    namespaces: &mut IndexMap<String, Vec<Version>>,
+    namespaces: &mut IndexMap<String, Vec<Revision>>,
     name: String,
-    version: Version,
+    revision: Revision,
 ) -> Result<(), RulesFault>
     requires { is_some (get_by_text namespaces.old (string_bytes name)) ≡ false }
     ensures ok { OnOk result (show_index namespaces.new.entries
-        ≡ show_index namespaces.old.entries ++ (string_bytes name, version ∷ []) ∷ []) }
+        ≡ show_index namespaces.old.entries ++ (string_bytes name, revision ∷ []) ∷ []) }
     ensures unchanged { OnErr result (show_index namespaces.new.entries ≡ show_index namespaces.old.entries) }
     ensures memory { IfErr result (λ e. e ≡ RulesFault.OutOfMemory) }
 {
-    let mut versions = Vec::new(alloc);
-    versions.push(version)?;
-    namespaces.insert(name, versions)?;
+    let mut revisions = Vec::new(alloc);
+    revisions.push(revision)?;
+    namespaces.insert(name, revisions)?;
     Ok(())
 }

@@ -7,7 +7,7 @@ ghost use Rattle.namespaces.specs.View.{expression_of};
 ghost use Rattle.namespaces.specs.WellFormed.{IsWellFormed};
 
 use crate::fault::RulesFault;
-use crate::index::{Version, note, version_at, version_with};
+use crate::index::{Revision, note, revision_at, revision_with};
 use crate::number::RelNo;
 use crate::reading::{Draft, read_draft};
 use crate::rewrite::Rewrite;
@@ -41,7 +41,7 @@ pub struct Rules {
     // every declaration, in order
     lines: Vec<Line>,
     // each namespace in order of its first declaration, and where its declarations stand
-    namespaces: IndexMap<String, Vec<Version>>,
+    namespaces: IndexMap<String, Vec<Revision>>,
     // how many of the declarations are changes
     changes: u16,
 }
@@ -71,7 +71,7 @@ impl Rules {
     ghost use Rattle.namespaces.specs.Changing.{rules_change, change_answer, IsLater};
     ghost use Rattle.namespaces.specs.Fault.{Gives};
     ghost use Rattle.namespaces.specs.Shown.{show_namespace, show_relations};
-    ghost use Rattle.namespaces.specs.Index.{versions_of, relations_at};
+    ghost use Rattle.namespaces.specs.Index.{revisions_of, relations_at};
 
     /// No namespaces. Nothing is allocated before the first is declared.
     pub fn new(alloc: Global) -> Rules
@@ -156,10 +156,10 @@ impl Rules {
         ensures { option_map (λ r. expression_of r.now) result
             ≡ option_map (λ r. r.expression) (slice_get (history_numbered number self.now) k) }
     {
-        let (_, versions) = self.numbered(number.namespace)?;
+        let (_, revisions) = self.numbered(number.namespace)?;
         let index = number.relation.checked_sub(1)? as usize;
-        let version = version_with(versions.as_slice(), index, k)?;
-        let (_, relation) = self.relations_in(version)?.get_index(index)?;
+        let revision = revision_with(revisions.as_slice(), index, k)?;
+        let (_, relation) = self.relations_in(revision)?.get_index(index)?;
         Some(&relation.rewrite)
     }
 
@@ -214,9 +214,9 @@ impl Rules {
         ensures value { option_map (λ s. s.now) result ≡ option_map (λ r. r.name) (relation_numbered number self.now) }
         ensures well_formed { IsWellFormed self.now }
     {
-        let (_, versions) = self.numbered(number.namespace)?;
+        let (_, revisions) = self.numbered(number.namespace)?;
         let index = number.relation.checked_sub(1)?;
-        let newest = versions.last().copied()?;
+        let newest = revisions.last().copied()?;
         let (name, _) = self.relations_in(newest)?.get_index(index as usize)?;
         Some(name.as_str())
     }
@@ -233,24 +233,24 @@ impl Rules {
         Ok(rules)
     }
 
-    /// The name and the versions of the namespace that has this number.
-    fn numbered(&self, number: u16) -> Option<(&str, &Vec<Version>)>
+    /// The name and the revisions of the namespace that has this number.
+    fn numbered(&self, number: u16) -> Option<(&str, &Vec<Revision>)>
         ensures name { option_map (λ p. p.0.now) result ≡ namespace_numbered number self.now }
-        ensures versions { IfSome result (λ p. p.1.now.items ≡ versions_of p.0.now self.now) }
+        ensures revisions { IfSome result (λ p. p.1.now.items ≡ revisions_of p.0.now self.now) }
         ensures well_formed { IsWellFormed self.now }
     {
         let namespaces = &self.namespaces;
         let index = number.checked_sub(1)?;
-        let (name, versions) = namespaces.get_index(index as usize)?;
-        Some((name.as_str(), versions))
+        let (name, revisions) = namespaces.get_index(index as usize)?;
+        Some((name.as_str(), revisions))
     }
 
-    /// The relations of the declaration that a version stands for.
-    fn relations_in(&self, version: Version) -> Option<&IndexMap<String, Relation>>
+    /// The relations of the declaration that a revision stands for.
+    fn relations_in(&self, revision: Revision) -> Option<&IndexMap<String, Relation>>
         ensures { option_map (λ m. show_relations m.now.entries) result
-            ≡ option_map (λ d. d.relations) (slice_get self.now version.line) }
+            ≡ option_map (λ d. d.relations) (slice_get self.now revision.line) }
     {
-        let line = self.lines.get(version.line)?;
+        let line = self.lines.get(revision.line)?;
         Some(&line.namespace.relations)
     }
 
@@ -268,9 +268,9 @@ impl Rules {
         ensures relations { option_map (λ m. show_relations m.now.entries) result ≡ relations_at at namespace.now self.now }
         ensures well_formed { IsWellFormed self.now }
     {
-        let versions = self.namespaces.get(namespace)?;
-        let version = version_at(versions.as_slice(), at)?;
-        self.relations_in(version)
+        let revisions = self.namespaces.get(namespace)?;
+        let revision = revision_at(revisions.as_slice(), at)?;
+        self.relations_in(revision)
     }
 
     /// The namespace that `add` would declare.
@@ -344,7 +344,7 @@ impl Rules {
         ensures memory { IfErr result (λ e. e ≡ RulesFault.OutOfMemory) }
         ensures unchanged { OnErr result (self.new ≡ self.old) }
     {
-        let version = Version {
+        let revision = Revision {
             at,
             relations: namespace.relations.len(),
             line: self.lines.len(),
@@ -356,7 +356,7 @@ impl Rules {
             is_change,
             namespace,
         })?;
-        if let Err(fault) = note(alloc, &mut self.namespaces, name, version) {
+        if let Err(fault) = note(alloc, &mut self.namespaces, name, revision) {
             let _ = self.lines.pop();
             return Err(fault);
         }

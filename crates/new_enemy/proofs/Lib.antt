@@ -1,6 +1,1 @@
-pub mod Entries
-pub mod Headline
-pub mod JoinedParts
-pub mod ReadWhole
-pub mod Readers
 pub mod Statuses

@@ -7,47 +7,29 @@ use Rattle.trace_lines.specs.Results.{FailsBy}
 use Rattle.trace_lines.specs.declared.cause.Cause.{Cause}
 use Rattle.trace_lines.specs.declared.cause.Cause.TheVariants as causes
 use Rattle.trace_lines.specs.declared.cause.TraceFault.{TraceFault}
-use Rattle.trace_lines.proofs.Folds.{under}
+use Rattle.json_lines.proofs.Folds.{under}
 use Rattle.evidence_check.specs.Reading as evidence
 use Rattle.evidence_check.specs.Reading.{evidence_of}
 use Rattle.evidence_check.specs.declared.cause.EvidenceCause.{EvidenceCause}
 use Rattle.evidence_check.specs.declared.cause.EvidenceCause.TheVariants as evidence_causes
 use Rattle.evidence_check.specs.declared.cause.EvidenceFault.{EvidenceFault}
-use Rattle.new_enemy.specs.Audit.{RefusesTrace, RefusesEvidence, IsOfJoined}
-use Rattle.new_enemy.specs.Joined.{OfParts, HasNoParts}
+use Rattle.audit.specs.Audit.{RefusesTrace, RefusesEvidence, IsOfJoined}
+use Rattle.audit.specs.Joined.{OfParts, HasNoParts}
 use Rattle.new_enemy.specs.Run.{IsStatus, IsRefused}
-use Rattle.new_enemy.specs.declared.audit.AuditFault.{AuditFault}
-use Rattle.new_enemy.specs.declared.audit.AuditFault.TheVariants as faults
+use Rattle.audit.specs.declared.audit.AuditFault.{AuditFault}
+use Rattle.audit.specs.declared.audit.AuditFault.TheVariants as faults
 
 -- a fault that is neither the reader's nor want of memory is that of the bytes
 said_by_trace : (c : Cause) (f : TraceFault) (read : Result TraceValue TraceFault) → c ≢ causes.Read → c ≢ causes.OutOfMemory → FailsBy c f read → read ≡ Err f
 said_by_trace causes.Read f read n m h = absurd (n refl)
 said_by_trace causes.OutOfMemory f read n m h = absurd (m refl)
-said_by_trace causes.TooLong f read n m h = h
-said_by_trace causes.NotJson f read n m h = h
-said_by_trace causes.Kind f read n m h = h
-said_by_trace causes.Shape f read n m h = h
-said_by_trace (causes.Text t) f read n m h = h
-said_by_trace (causes.Token t) f read n m h = h
-said_by_trace (causes.Namespace t) f read n m h = h
-said_by_trace causes.Late f read n m h = h
-said_by_trace causes.Unknown f read n m h = h
-said_by_trace (causes.Strata t) f read n m h = h
-said_by_trace (causes.Commit t) f read n m h = h
-said_by_trace causes.RepeatedVersion f read n m h = h
+said_by_trace _ f read n m h = h
 
 said_by_evidence : {Y : Type 0} (c : EvidenceCause) (f : EvidenceFault) (given : Result Y EvidenceFault) → c ≢ evidence_causes.Read → c ≢ evidence_causes.OutOfMemory
     → evidence.FailsBy c f given → given ≡ Err f
 said_by_evidence evidence_causes.Read f given n m h = absurd (n refl)
 said_by_evidence evidence_causes.OutOfMemory f given n m h = absurd (m refl)
-said_by_evidence evidence_causes.TooLong f given n m h = h
-said_by_evidence evidence_causes.NotJson f given n m h = h
-said_by_evidence evidence_causes.Shape f given n m h = h
-said_by_evidence (evidence_causes.Text t) f given n m h = h
-said_by_evidence evidence_causes.UnknownStep f given n m h = h
-said_by_evidence evidence_causes.StrayLine f given n m h = h
-said_by_evidence evidence_causes.RepeatedLine f given n m h = h
-said_by_evidence evidence_causes.TooMany f given n m h = h
+said_by_evidence _ f given n m h = h
 
 -- the status tells two from five
 two_or_five : {X : Type 0} (s : ℕ) → s ≡ 2 → s ≡ 5 → X

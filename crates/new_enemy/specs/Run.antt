@@ -7,9 +7,9 @@ use Rattle.trace_lines.specs.declared.cause.TraceFault.{TraceFault}
 use Rattle.evidence_check.specs.Reading.{evidence_of}
 use Rattle.evidence_check.specs.declared.cause.EvidenceCause.TheVariants as evidence_causes
 use Rattle.evidence_check.specs.declared.cause.EvidenceFault.{EvidenceFault}
-use Rattle.new_enemy.specs.Joined.{HasNoParts, OfParts}
-use Rattle.new_enemy.specs.declared.audit.AuditFault.{AuditFault}
-use Rattle.new_enemy.specs.declared.audit.AuditFault.TheVariants as faults
+use Rattle.audit.specs.Joined.{HasNoParts, OfParts}
+use Rattle.audit.specs.declared.audit.AuditFault.{AuditFault}
+use Rattle.audit.specs.declared.audit.AuditFault.TheVariants as faults
 
 -- the exit status of a fault: 2 for refused input, 3 for limits, 4 for want of memory, 5 for a device that failed
 abbrev pub IsStatus : AuditFault → ℕ → Type 0

@@ -2,17 +2,17 @@
 
 ghost use Rattle.std.specs.Prelude.{◌≡◌, ◌<◌, ◌≤◌, ◌⊎◌, length, IfSome};
 ghost use Rattle.std.specs.Io.KnownBytes.{Keeps};
-ghost use Rattle.new_enemy.specs.Audit.{Audits, HasRisen};
-ghost use Rattle.new_enemy.specs.Headline.{IsTraceRightAndFresh};
-ghost use Rattle.new_enemy.specs.Joined.{OfParts};
+ghost use Rattle.audit.specs.Audit.{Audits, HasRisen};
+ghost use Rattle.audit.specs.Headline.{IsTraceRightAndFresh};
+ghost use Rattle.audit.specs.Joined.{OfParts};
 ghost use Rattle.new_enemy.specs.Run.{IsStatus, IsRefused};
-ghost use Rattle.new_enemy.specs.declared.audit.Verdict.TheVariants.{Clean, Dirty};
+ghost use Rattle.audit.specs.declared.audit.Verdict.TheVariants.{Clean, Dirty};
 
-use crate::audit::{AuditFault, Verdict};
-use crate::joined::audit_joined;
+use audit::{AuditFault, Verdict, audit_joined};
 use evidence_check::{EvidenceCause, EvidenceFault};
+use json_lines::{Sink, Source, send};
 use std::alloc::{AllocError, Global};
-use trace_lines::{Cause, Sink, Source, TraceFault, send};
+use trace_lines::{Cause, TraceFault};
 
 /// The exit status of a fault.
 fn status_of(fault: &AuditFault) -> u8

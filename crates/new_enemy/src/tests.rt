@@ -1,10 +1,11 @@
 //! Runs over readers and writers that fail, and one run of each kind.
 
-use crate::audit::{AuditFault, Verdict, audit_plain};
 use crate::run::run_words;
+use audit::{AuditFault, Verdict, audit_plain};
+use json_lines::{Counted, Failing};
 use std::alloc::Global;
 use std::test::Fail;
-use trace_lines::{Cause, Counted, Failing, TraceFault};
+use trace_lines::{Cause, TraceFault};
 
 const TRACE: &str =
     "{\"kind\":\"namespace\",\"name\":\"doc\",\"relations\":[{\"name\":\"viewer\"}]}\n{\"kind\":\"commit\",\"at\":5,\"add\":[\"doc:readme#viewer@10\"]}\n{\"kind\":\"check\",\"goal\":\"doc:readme#viewer@10\",\"snapshot\":5,\"reply\":true,\"zookie\":\"z1-0000000000000005\"}\n";

@@ -7,7 +7,7 @@ use Rattle.std.specs.Str.{bytes_eq}
 use Rattle.serde_json.specs.Data.{Data}
 use Rattle.namespaces.specs.declared.number.RelNo.{RelNo}
 use Rattle.namespaces.specs.declared.fault.RulesFault.{RulesFault}
-use Rattle.namespaces.specs.Fault.{◌>>=◌}
+use Rattle.refusals.specs.Refusals.{◌>>=◌}
 use Rattle.namespaces.specs.Declaration.{Relation, Namespace, Declaration, change}
 use Rattle.namespaces.specs.Lookup.{declared_in, history, relations_of, with_name, names_after, namespace_names, namespace_numbered, relation_numbered, history_numbered, number_of, item_at}
 use Rattle.namespaces.specs.Changing.{changed, rules_change}

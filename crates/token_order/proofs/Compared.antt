@@ -8,7 +8,8 @@ use Rattle.std.proofs.lemmas.List.{length-map}
 use Rattle.std.proofs.lemmas.Option.{get_or_from_slice_get}
 use Rattle.version_chains.specs.Commits.{Commit}
 use Rattle.trace_lines.specs.Values.{EntryValue, TraceValue}
-use Rattle.token_order.specs.Order.{CommitLine, is_content, earlier_commits, later_commits, not_latest, open_snapshot}
+use Rattle.token_order.specs.Order.{CommitLine}
+use Rattle.token_order.specs.Found.{is_content, earlier_commits, later_commits, not_latest, open_snapshot}
 use Rattle.token_order.proofs.Neighbours.{earlier_are, later_are, last_above, none_above, first_covered, none_covered, none_behind}
 
 -- of a check nothing is said

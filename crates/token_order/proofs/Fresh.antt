@@ -15,7 +15,8 @@ use Rattle.trace_lines.specs.Versions.{Version, entry_version, version_named, ve
 use Rattle.trace_lines.specs.declared.entry.EntryKind.{EntryKind}
 use Rattle.trace_lines.specs.declared.entry.EntryKind.TheVariants.{Check, Content}
 use Rattle.trace_lines.proofs.IssuedVersions.{Means, named_content-means}
-use Rattle.token_order.specs.Order.{CommitLine, commit_lines_of, IsLatest, IsClosed, CoversVersion, IsFresh, IsInOrder, is_check, is_content, is_above, line_if_short, old_token, earlier_commits, later_commits, first_line, last_line, not_latest, open_snapshot, is_unknown_version, order_of, nothing_found, HasNoOrderFindings}
+use Rattle.token_order.specs.Order.{CommitLine, commit_lines_of, IsLatest, IsClosed, CoversVersion, IsFresh, IsInOrder}
+use Rattle.token_order.specs.Found.{is_check, is_content, is_above, line_if_short, old_token, earlier_commits, later_commits, first_line, last_line, not_latest, open_snapshot, is_unknown_version, order_of, nothing_found, HasNoOrderFindings}
 use Rattle.token_order.specs.declared.findings.OrderFindings.{OrderFindings}
 
 -- what a filter passes and a test does not

@@ -10,7 +10,8 @@ use Rattle.std.proofs.lemmas.List.Elements.{filter-append, recursion_from_All}
 use Rattle.std.proofs.lemmas.List.Folds.{list_any-append, list_any_none}
 use Rattle.std.proofs.lemmas.List.Kept.{AllPairs-from_increasing}
 use Rattle.version_chains.specs.Commits.{Commit}
-use Rattle.token_order.specs.Order.{CommitLine, on_lines, first_line, last_line}
+use Rattle.token_order.specs.Order.{CommitLine, on_lines}
+use Rattle.token_order.specs.Found.{first_line, last_line}
 
 lines-on_lines : (ls : List ℕ) (cs : List Commit) → length ls ≡ length cs → map (λ (c : CommitLine). c.line) (on_lines ls cs) ≡ ls
 lines-on_lines [] cs e = refl

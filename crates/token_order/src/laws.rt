@@ -1,14 +1,15 @@
 //! What a trace without findings is.
 
-ghost use Rattle.token_order.specs.Order.{HasNoOrderFindings, IsInOrder};
+ghost use Rattle.token_order.specs.Order.{IsInOrder};
+ghost use Rattle.token_order.specs.Found.{HasNoOrderFindings};
 
 use trace_lines::Trace;
+use trace_lines::laws::entries_rise;
 
 /// Where nothing is found on the tokens of any entry, every content check covers all commits on earlier lines, every entry is below all
 /// commits on later lines, and every check is as new as its zookie and as the content check of the version that it names.
 pub fn fresh_without_findings(trace: &Trace)
     ensures { HasNoOrderFindings trace.now → IsInOrder trace.now }
 {
-    // The entries stand on lines that rise.
-    let _ = trace.len();
+    entries_rise(trace);
 }

@@ -3,7 +3,7 @@
 ghost use Rattle.std.specs.Prelude.{◌≡◌, ◌<◌, ◌≤◌, length, slice_get, take, drop, map, All, Some};
 ghost use Rattle.std.specs.List.Sorted.{IsStrictlyIncreasing};
 ghost use Rattle.trace_lines.specs.Values.{EntryValue, entry_value};
-ghost use Rattle.token_order.specs.Order.{is_content, is_above, is_short_of, is_stale, line_if_short, old_token, not_latest, open_snapshot, may_stand_for_content, is_token_of, is_wrong_token, is_unknown_version, order_of};
+ghost use Rattle.token_order.specs.Found.{is_content, is_above, is_short_of, is_stale, line_if_short, old_token, not_latest, open_snapshot, may_stand_for_content, is_token_of, is_wrong_token, is_unknown_version, order_of};
 
 use crate::findings::OrderFindings;
 use trace_lines::{Entry, EntryKind, Trace};

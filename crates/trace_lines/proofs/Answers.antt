@@ -2,7 +2,7 @@
 use Rattle.std.proofs.Common.{◌≡◌, List, Result, Ok, Err, refl}
 use Rattle.serde_json.specs.Data.{Data}
 use Rattle.namespaces.specs.declared.fault.RulesFault.{RulesFault}
-use Rattle.namespaces.specs.Fault.{◌>>=◌}
+use Rattle.refusals.specs.Refusals.{◌>>=◌}
 use Rattle.namespaces.specs.Declaration.{Namespace, Declaration}
 use Rattle.namespaces.specs.Changing.{changed, change_answer}
 

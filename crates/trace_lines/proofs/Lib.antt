@@ -1,16 +1,8 @@
 pub mod Answers
-pub mod Cuts
-pub mod Failures
-pub mod Folds
 pub mod IssuedVersions
-pub mod JsonLines
 pub mod Keeping
 pub mod LineCauses
 pub mod Orderly
-pub mod ReadFaults
 pub mod Recording
 pub mod RisingLines
 pub mod Sampling
-pub mod Sent
-pub mod Steps
-pub mod TextLoops

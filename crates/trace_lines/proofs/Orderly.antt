@@ -27,7 +27,7 @@ use Rattle.strata.specs.Edges.{first_broken, rule_edges, edges_of_tuples, HasNoB
 use Rattle.strata.specs.Strata.{HasValidStrata}
 use Rattle.strata.proofs.ValidStrata.{valid_at_each_time_law}
 use Rattle.strata.proofs.Walks.{both}
-use Rattle.trace_lines.specs.Reading.{◌>>=◌}
+use Rattle.refusals.specs.Refusals.{◌>>=◌}
 use Rattle.std.specs.Result.{OnOk, OnErr, is_err}
 use Rattle.trace_lines.specs.Causes.{Gives, namespace_cause}
 use Rattle.trace_lines.specs.Values.{TraceValue}

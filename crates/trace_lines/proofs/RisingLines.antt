@@ -1,8 +1,7 @@
 -- Commits and entries stand on lines that rise.
 use Rattle.std.proofs.Common.{◌≡◌, ℕ, ◌+◌, ◌-◌, ◌≤◌, ◌&&◌, Bool, true, false, cond, List, [], ◌∷◌, ◌++◌, length, get_or, Option, Some, None, Result, Ok, Err, arith, refl, subst, inl, inr}
-use Rattle.std.specs.Prelude.{codes, bytes_eq, option_and_then}
+use Rattle.std.specs.Prelude.{codes, bytes_eq, option_and_then, OnOk}
 use Rattle.std.specs.List.Sorted.{IsStrictlyIncreasing}
-use Rattle.std.specs.Str.{is_utf8}
 use Rattle.std.proofs.Math.ListN.{get_or-append}
 use Rattle.std.proofs.Math.Seq.{get_or-append_seam}
 use Rattle.std.proofs.lemmas.Bool.{cases_lt}
@@ -10,7 +9,6 @@ use Rattle.std.proofs.lemmas.List.{length-append, map-append}
 use Rattle.std.proofs.lemmas.Option.{slice_get-get_or}
 use Rattle.serde_json.specs.Data.{Data}
 use Rattle.serde_json.specs.Find.{get, as_str}
-use Rattle.serde_json.specs.Read.{read}
 use Rattle.namespaces.specs.Adding.{rules_add}
 use Rattle.namespaces.specs.Changing.{rules_change}
 use Rattle.tuple_text.specs.Tuples.{TupleValue}
@@ -19,15 +17,16 @@ use Rattle.strata.specs.Edges.{first_broken, rule_edges, edges_of_tuples}
 use Rattle.version_chains.specs.Commits.{Commit, Changes, added}
 use Rattle.version_chains.specs.Appends.{append_fault}
 use Rattle.version_chains.specs.declared.fault.AppendFault.{AppendFault}
-use Rattle.trace_lines.specs.Fields.{number_at, optional_number_at, flag_at, text_at, optional_text_at}
-use Rattle.trace_lines.specs.Reading.{◌>>=◌}
-use Rattle.trace_lines.specs.Causes.{needed, namespace_cause}
+use Rattle.refusals.proofs.Steps.{OkHas, passes, passes_with, either_passes, value_has}
+use Rattle.json_lines.specs.Fields.{number_at, optional_number_at, flag_at, text_at, optional_text_at}
+use Rattle.refusals.specs.Refusals.{◌>>=◌}
+use Rattle.trace_lines.specs.Causes.{needed, namespace_cause, Gives}
 use Rattle.trace_lines.specs.Texts.{goal_of, token_of, version_at}
 use Rattle.trace_lines.specs.Values.{EntryValue, TraceValue, entry_lines, after_last, next_line}
 use Rattle.trace_lines.specs.Versions.{is_repeated}
 use Rattle.trace_lines.specs.declared.entry.EntryKind.{EntryKind}
 use Rattle.trace_lines.specs.declared.entry.EntryKind.TheVariants.{Check, Content}
-use Rattle.trace_lines.specs.Traces.{is_begun, namespace_line, commit_of, changes_of, with_commit, are_declared, entry_of, is_declared, recorded, with_entry, entry_line, of_kind, value_line, of_json, json_line, rules_checked, tuples_checked, with_namespace, append_cause, commit_checked, with_touches, empty_commit, change_line, declared_from, declaration_line}
+use Rattle.trace_lines.specs.Traces.{is_begun, namespace_line, commit_of, changes_of, with_commit, are_declared, entry_of, is_declared, recorded, with_entry, entry_line, of_kind, value_line, rules_checked, tuples_checked, with_namespace, append_cause, commit_checked, with_touches, empty_commit, change_line, declared_from, declaration_line}
 use Rattle.trace_lines.specs.declared.cause.Cause.{Cause}
 
 pub last_of : (x : ℕ) (xs : List ℕ) → after_last (x ∷ xs) ≡ get_or (x ∷ xs) (length xs) 0 + 1
@@ -55,22 +54,6 @@ after_push ns n =
     rw (place, slice_get-get_or (ns ++ n ∷ []) (length ns) 0 (omega (arith, length-append ns (n ∷ []))), get_or-append_seam ns n [] 0) refl
 
 -- ---- what each line leaves
-
-abbrev OkHas : {A : Type 0} → (A → Type 0) → Result A Cause → Type 0
-OkHas P (Ok x) = P x
-OkHas P (Err c) = Unit {0}
-
-passes : {A B : Type 0} (P : B → Type 0) (r : Result A Cause) (f : A → Result B Cause) → ((x : A) → OkHas P (f x)) → OkHas P (r >>= f)
-passes P (Ok x) f k = k x
-passes P (Err c) f k = tt
-
-passes_with : {A B : Type 0} (Q : A → Type 0) (P : B → Type 0) (r : Result A Cause) (f : A → Result B Cause) → OkHas Q r → ((x : A) → Q x → OkHas P (f x)) → OkHas P (r >>= f)
-passes_with Q P (Ok x) f h k = k x h
-passes_with Q P (Err c) f h k = tt
-
-either : {A : Type 0} (P : A → Type 0) (b : Bool) (r s : Result A Cause) → OkHas P r → OkHas P s → OkHas P (cond b r s)
-either P true r s h k = h
-either P false r s h k = k
 
 abbrev Fits : ℕ → TraceValue → Type 0
 Fits n t = next_line t ≤ n + 1
@@ -105,7 +88,7 @@ fits_declaration n t d le = fits_declared (optional_number_at (codes "at") d) n 
 fits_commit : (n : ℕ) (t : TraceValue) (c : Commit) → next_line t ≤ n → OkHas (Fits n) (with_commit n t c)
 unfolding with_commit
 fits_commit n t c le =
-    either (Fits n) (are_declared t.declarations c.adds && are_declared t.declarations c.removes) _ _ (passes (Fits n) (commit_checked t.declarations (changes_of t) c.at c.adds c.removes) _ (λ u. fits_touches n t c le)) tt
+    either_passes (Fits n) (are_declared t.declarations c.adds && are_declared t.declarations c.removes) _ _ (passes (Fits n) (commit_checked t.declarations (changes_of t) c.at c.adds c.removes) _ (λ u. fits_touches n t c le)) tt
 
 -- where an entry of a line stands
 abbrev StandsAt : ℕ → ℕ → EntryValue → Type 0
@@ -125,8 +108,8 @@ stands_at kind n before d =
 fits_entry : (n before : ℕ) (t : TraceValue) (e : EntryValue) → next_line t ≤ n → StandsAt n before e → OkHas (Fits n) (with_entry t e)
 unfolding with_entry
 fits_entry n before t e le at =
-    either (Fits n) (is_declared t.declarations e.goal.set) (recorded t e) _ (
-    either (Fits n) (is_repeated t.entries e) _ (Ok (record t { entries = t.entries ++ e ∷ [] })) tt (
+    either_passes (Fits n) (is_declared t.declarations e.goal.set) (recorded t e) _ (
+    either_passes (Fits n) (is_repeated t.entries e) _ (Ok (record t { entries = t.entries ++ e ∷ [] })) tt (
     let lines : entry_lines (t.entries ++ e ∷ []) ≡ entry_lines t.entries ++ e.line ∷ [] = map-append (λ (x : EntryValue). x.line) t.entries (e ∷ []) in
     let after = after_push (entry_lines t.entries) e.line in
     rw lines (omega (arith, after, at.0, le))
@@ -142,26 +125,19 @@ fits_entry_line kind n t d le =
 fits_kind : (n : ℕ) (t : TraceValue) (d : Data) (kind : Option (List ℕ)) → next_line t ≤ n → OkHas (Fits n) (of_kind n t d kind)
 fits_kind n t d None le = tt
 fits_kind n t d (Some kind) le =
-    either (Fits n) (bytes_eq kind (codes "namespace")) _ _ (fits_declaration n t d le)
-    (either (Fits n) (bytes_eq kind (codes "commit")) _ _ (passes (Fits n) (commit_of d) (with_commit n t) (λ c. fits_commit n t c le))
-    (either (Fits n) (bytes_eq kind (codes "content")) _ _ (fits_entry_line Content n t d le)
-    (either (Fits n) (bytes_eq kind (codes "check")) _ _ (fits_entry_line Check n t d le) tt)))
+    either_passes (Fits n) (bytes_eq kind (codes "namespace")) _ _ (fits_declaration n t d le)
+    (either_passes (Fits n) (bytes_eq kind (codes "commit")) _ _ (passes (Fits n) (commit_of d) (with_commit n t) (λ c. fits_commit n t c le))
+    (either_passes (Fits n) (bytes_eq kind (codes "content")) _ _ (fits_entry_line Content n t d le)
+    (either_passes (Fits n) (bytes_eq kind (codes "check")) _ _ (fits_entry_line Check n t d le) tt)))
 
 fits_value : (n : ℕ) (t : TraceValue) (d : Data) → next_line t ≤ n → OkHas (Fits n) (value_line n t d)
 unfolding value_line
 fits_value n t d le = fits_kind n t d (option_and_then as_str (get (codes "kind") d)) le
 
-fits_json : (n : ℕ) (t : TraceValue) (o : Option Data) → next_line t ≤ n → OkHas (Fits n) (of_json n t o)
-fits_json n t None le = tt
-fits_json n t (Some d) le = fits_value n t d le
-
-fits_line : (n : ℕ) (t : TraceValue) (line : List ℕ) → next_line t ≤ n → OkHas (Fits n) (json_line n t line)
-unfolding json_line
-fits_line n t line le = either (Fits n) (is_utf8 line) _ _ (fits_json n t (read line) le) tt
-
 -- a line leaves room for the next
-pub line_further : (n : ℕ) (t u : TraceValue) (line : List ℕ) → next_line t ≤ n → json_line n t line ≡ Ok u → next_line u ≤ n + 1
-line_further n t u line le e = subst (λ (r : Result TraceValue Cause). OkHas (Fits n) r) e (fits_line n t line le)
+pub line_further : (n : ℕ) (t u : TraceValue) (d : Data) (result : Result (Unit {0}) Cause) → next_line t ≤ n → Gives (λ _. u) result (value_line n t d) → OnOk result (next_line u ≤ n + 1)
+line_further n t u d (Ok x) le e = value_has (Fits n) (value_line n t d) u e (fits_value n t d le)
+line_further n t u d (Err c) le e = tt
 
 pub entry_stands : (kind : EntryKind) (n before : ℕ) (d : Data) (e : EntryValue) → entry_of kind n before d ≡ Ok e → (e.line ≡ n) × (e.before ≡ before)
-entry_stands kind n before d e h = subst (λ (r : Result EntryValue Cause). OkHas (StandsAt n before) r) h (stands_at kind n before d)
+entry_stands kind n before d e h = value_has (StandsAt n before) (entry_of kind n before d) e h (stands_at kind n before d)

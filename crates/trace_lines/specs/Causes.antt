@@ -1,15 +1,17 @@
 -- Reading a line in steps, where the first fault ends it, and what a function answers of it.
-use Rattle.std.specs.Prelude.{◌≡◌, Option, None, Some, Result, Ok, Err, ⊤}
+use Rattle.std.specs.Prelude.{Bool, true, false, ◌||◌, Option, Result, Ok, Err}
+use Rattle.refusals.specs.Refusals as refusals
 use Rattle.tuple_text.specs.declared.fault.TupleFault.{TupleFault}
 use Rattle.zookie.specs.declared.fault.ZookieFault.{ZookieFault}
 use Rattle.namespaces.specs.declared.fault.RulesFault.{RulesFault}
+use Rattle.json_lines.specs.declared.lines.InputFault.{InputFault}
+use Rattle.json_lines.specs.declared.lines.InputFault.TheVariants as inputs
 use Rattle.trace_lines.specs.declared.cause.Cause.{Cause}
 use Rattle.trace_lines.specs.declared.cause.Cause.TheVariants as causes
 
 -- what a wrong shape refuses
 abbrev pub needed : {A : Type 0} → Option A → Result A Cause
-needed (Some x) = Ok x
-needed None = Err causes.Shape
+needed o = refusals.needed causes.Shape o
 
 abbrev pub text_cause : {A : Type 0} → Result A TupleFault → Result A Cause
 text_cause (Ok x) = Ok x
@@ -23,24 +25,24 @@ abbrev pub namespace_cause : {A : Type 0} → Result A RulesFault → Result A C
 namespace_cause (Ok x) = Ok x
 namespace_cause (Err e) = Err (causes.Namespace e)
 
+-- what the input did
+abbrev pub of_input : InputFault → Cause
+of_input inputs.Read = causes.Read
+of_input inputs.TooLong = causes.TooLong
+of_input inputs.OutOfMemory = causes.OutOfMemory
+
+abbrev pub is_memory : Cause → Bool
+is_memory causes.OutOfMemory = true
+is_memory _ = false
+
+abbrev pub is_read : Cause → Bool
+is_read causes.Read = true
+is_read _ = false
+
 -- a cause that was answered is the one that reading gives, want of memory apart
 abbrev pub Fails : {Y : Type 0} → Cause → Result Y Cause → Type 0
-Fails causes.Read read = read ≡ Err causes.Read
-Fails causes.TooLong read = read ≡ Err causes.TooLong
-Fails causes.NotJson read = read ≡ Err causes.NotJson
-Fails causes.Kind read = read ≡ Err causes.Kind
-Fails causes.Shape read = read ≡ Err causes.Shape
-Fails (causes.Text e) read = read ≡ Err (causes.Text e)
-Fails (causes.Token e) read = read ≡ Err (causes.Token e)
-Fails (causes.Namespace e) read = read ≡ Err (causes.Namespace e)
-Fails causes.Late read = read ≡ Err causes.Late
-Fails causes.Unknown read = read ≡ Err causes.Unknown
-Fails (causes.Strata e) read = read ≡ Err (causes.Strata e)
-Fails (causes.Commit e) read = read ≡ Err (causes.Commit e)
-Fails causes.RepeatedVersion read = read ≡ Err causes.RepeatedVersion
-Fails causes.OutOfMemory read = ⊤
+Fails e read = refusals.Fails is_memory e read
 
 -- what a function answered, as `view` sees it, is what reading gives, want of memory apart
 abbrev pub Gives : {X Y : Type 0} → (X → Y) → Result X Cause → Result Y Cause → Type 0
-Gives view (Ok x) read = read ≡ Ok (view x)
-Gives view (Err e) read = Fails e read
+Gives view result read = refusals.Gives is_memory view result read

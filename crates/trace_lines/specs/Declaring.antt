@@ -6,7 +6,7 @@ use Rattle.namespaces.specs.Declaration.{Declaration}
 use Rattle.namespaces.specs.Changing.{rules_change}
 use Rattle.version_chains.specs.Commits.{added}
 use Rattle.version_chains.specs.declared.fault.AppendFault.TheVariants.{NotLater}
-use Rattle.trace_lines.specs.Reading.{◌>>=◌}
+use Rattle.refusals.specs.Refusals.{◌>>=◌}
 use Rattle.trace_lines.specs.Causes.{namespace_cause}
 use Rattle.trace_lines.specs.Values.{TraceValue}
 use Rattle.trace_lines.specs.Traces.{rules_checked, tuples_checked}

@@ -1,11 +1,6 @@
 pub mod Causes
-pub mod Counts
 pub mod Declaring
-pub mod Devices
-pub mod Fields
 pub mod Kept
-pub mod Lines
-pub mod Reading
 pub mod Recorded
 pub mod Results
 pub mod Texts

@@ -6,8 +6,8 @@ use Rattle.tuple_text.specs.Tuples.{TupleValue, FactValue}
 use Rattle.tuple_text.specs.Reading.{tuple_at, fact_at}
 use Rattle.zookie.specs.Tokens.{Token}
 use Rattle.zookie.specs.Reading.{token_at}
-use Rattle.trace_lines.specs.Fields.{optional_text_at}
-use Rattle.trace_lines.specs.Reading.{◌>>=◌}
+use Rattle.json_lines.specs.Fields.{optional_text_at}
+use Rattle.refusals.specs.Refusals.{◌>>=◌}
 use Rattle.trace_lines.specs.Causes.{needed, text_cause, token_cause}
 use Rattle.trace_lines.specs.declared.cause.Cause.{Cause}
 use Rattle.trace_lines.specs.declared.entry.EntryKind.{EntryKind}

@@ -1,10 +1,8 @@
 -- What a line makes of a trace, and the trace of an input.
 use Rattle.std.specs.Prelude.{ℕ, ◌-◌, ◌^◌, ◌==◌, ◌&&◌, ◌||◌, not, Bool, List, [], ◌∷◌, ◌++◌, length, Option, None, Some, is_some, option_and_then, Result, Ok, Err, codes, bytes_eq, if◌then◌else◌}
 use Rattle.std.specs.List.{list_all}
-use Rattle.std.specs.Str.{is_utf8}
 use Rattle.serde_json.specs.Data.{Data}
 use Rattle.serde_json.specs.Find.{get, as_str}
-use Rattle.serde_json.specs.Read.{read}
 use Rattle.tuple_text.specs.Sets.{SetValue}
 use Rattle.tuple_text.specs.Tuples.{TupleValue}
 use Rattle.namespaces.specs.Declaration.{Declaration}
@@ -16,9 +14,11 @@ use Rattle.version_chains.specs.Appends.{append_fault}
 use Rattle.version_chains.specs.declared.fault.AppendFault.{AppendFault}
 use Rattle.strata.specs.declared.edge.Edge.{Edge}
 use Rattle.strata.specs.Edges.{first_broken, rule_edges, edges_of_tuples}
-use Rattle.trace_lines.specs.Fields.{number_at, optional_number_at, flag_at, text_at, optional_text_at, strings_at}
-use Rattle.trace_lines.specs.Reading.{◌>>=◌, read_all}
-use Rattle.trace_lines.specs.Causes.{needed, namespace_cause}
+use Rattle.refusals.specs.Refusals.{◌>>=◌}
+use Rattle.json_lines.specs.Json.{taken_line}
+use Rattle.json_lines.specs.Reading.{cause_of, read_all}
+use Rattle.json_lines.specs.Fields.{number_at, optional_number_at, flag_at, text_at, optional_text_at, strings_at}
+use Rattle.trace_lines.specs.Causes.{needed, namespace_cause, of_input}
 use Rattle.trace_lines.specs.Texts.{tuples_of, goal_of, token_of, version_at}
 use Rattle.trace_lines.specs.Values.{EntryValue, TraceValue, empty_trace}
 use Rattle.trace_lines.specs.Versions.{is_repeated}
@@ -27,10 +27,7 @@ use Rattle.trace_lines.specs.declared.entry.EntryKind.TheVariants.{Check, Conten
 use Rattle.trace_lines.specs.declared.cause.Cause.{Cause}
 use Rattle.trace_lines.specs.declared.cause.Cause.TheVariants as causes
 use Rattle.trace_lines.specs.declared.cause.TraceFault.{TraceFault}
-use Rattle.trace_lines.specs.declared.lines.InputFault.TheVariants as inputs
-use Rattle.trace_lines.specs.declared.reading.Stop.{Stop}
-use Rattle.trace_lines.specs.declared.reading.Stop.TheVariants.{Input, Line}
-use Rattle.trace_lines.specs.declared.reading.LineFault.{LineFault}
+use Rattle.json_lines.specs.declared.reading.LineFault.{LineFault}
 use Rattle.namespaces.specs.declared.fault.RulesFault.TheVariants.{Shape}
 
 -- declared on an earlier line
@@ -152,13 +149,6 @@ entry_line kind n t d = entry_of kind n (length t.commits) d >>= with_entry t
 
 -- ---- lines
 
-abbrev pub is_blank_byte : ℕ → Bool
-is_blank_byte b = (b == 32) || (b == 9) || (b == 13)
-
--- spaces, tabs and carriage returns alone
-abbrev pub is_blank : List ℕ → Bool
-is_blank line = list_all is_blank_byte line
-
 abbrev pub of_kind : ℕ → TraceValue → Data → Option (List ℕ) → Result TraceValue Cause
 of_kind n t d None = Err causes.Kind
 of_kind n t d (Some kind) =
@@ -171,29 +161,12 @@ of_kind n t d (Some kind) =
 unfoldable pub value_line : ℕ → TraceValue → Data → Result TraceValue Cause
 value_line n t d = of_kind n t d (option_and_then as_str (get (codes "kind") d))
 
-abbrev pub of_json : ℕ → TraceValue → Option Data → Result TraceValue Cause
-of_json n t None = Err causes.NotJson
-of_json n t (Some d) = value_line n t d
-
-unfoldable pub json_line : ℕ → TraceValue → List ℕ → Result TraceValue Cause
-json_line n t line = if is_utf8 line then of_json n t (read line) else Err causes.NotJson
-
--- what line number n makes of a trace
-abbrev pub taken_line : ℕ → TraceValue → List ℕ → Result TraceValue Cause
-taken_line n t line = if is_blank line then Ok t else json_line n t line
-
 -- ---- the trace
-
-abbrev pub cause_of : Stop Cause → Cause
-cause_of (Line cause) = cause
-cause_of (Input inputs.Read) = causes.Read
-cause_of (Input inputs.TooLong) = causes.TooLong
-cause_of (Input inputs.OutOfMemory) = causes.OutOfMemory
 
 abbrev pub faulted : Result TraceValue (LineFault Cause) → Result TraceValue TraceFault
 faulted (Ok t) = Ok t
-faulted (Err e) = Err (record { line = e.line; cause = cause_of e.stop })
+faulted (Err e) = Err (record { line = e.line; cause = cause_of of_input e.stop })
 
 -- The trace that an input says, or its first fault. Whole says that the input ended, and did not fail.
 abbrev pub trace_of : Bool → List ℕ → Result TraceValue TraceFault
-trace_of whole input = faulted (read_all taken_line whole empty_trace input)
+trace_of whole input = faulted (read_all (taken_line causes.NotJson value_line) whole empty_trace input)

@@ -3,6 +3,7 @@
 ghost use Rattle.std.specs.Prelude.{◌≡◌};
 ghost use Rattle.trace_lines.specs.declared.cause.Cause.TheVariants.{OutOfMemory};
 
+use json_lines::{InputFault, LineCause};
 use namespaces::RulesFault;
 use std::alloc::{AllocError, AllocFailed};
 use strata::Edge;
@@ -67,6 +68,33 @@ impl<T: Drop> From<AllocFailed<T>> for Cause {
 
     fn from(_: AllocFailed<T>) -> Cause {
         Cause::OutOfMemory
+    }
+}
+
+impl LineCause for Cause {
+    ghost use Rattle.trace_lines.specs.Causes.{of_input, is_memory};
+    ghost use Rattle.trace_lines.specs.declared.cause.Cause.TheVariants as causes;
+
+    ghost of_input = { of_input };
+
+    ghost not_json = { causes.NotJson };
+
+    ghost is_memory = { is_memory };
+
+    fn of_input(fault: InputFault) -> Cause {
+        match fault {
+            InputFault::Read => Cause::Read,
+            InputFault::TooLong => Cause::TooLong,
+            InputFault::OutOfMemory => Cause::OutOfMemory,
+        }
+    }
+
+    fn not_json() -> Cause {
+        Cause::NotJson
+    }
+
+    fn is_memory(&self) -> bool {
+        matches!(self, Cause::OutOfMemory)
     }
 }
 

@@ -8,8 +8,8 @@ ghost use Rattle.trace_lines.specs.Traces.{entry_of};
 
 use crate::cause::Cause;
 use crate::entry::{Entry, EntryKind};
-use crate::fields::{flag_at, number_at, optional_text_at, text_at};
 use crate::texts::{goal_of, label_of, token_of, version_at};
+use json_lines::fields::{flag_at, number_at, optional_text_at, text_at};
 use serde_json::Value;
 use std::alloc::Global;
 

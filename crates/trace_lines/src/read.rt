@@ -2,32 +2,15 @@
 
 ghost use Rattle.std.specs.Prelude.{◌≡◌, ◌≢◌, List, ℕ, true, false, Err, IfSome, IfErr, OnOk};
 ghost use Rattle.std.specs.Io.KnownBytes.{Consumes};
-ghost use Rattle.trace_lines.specs.Counts.{one_more};
+ghost use Rattle.json_lines.specs.Counts.{one_more};
 ghost use Rattle.trace_lines.specs.Results.{GivesTrace};
-ghost use Rattle.trace_lines.specs.Traces.{cause_of, trace_of};
+ghost use Rattle.trace_lines.specs.Traces.{trace_of};
 ghost use Rattle.trace_lines.specs.declared.cause.Cause.TheVariants.{Read};
 
-use crate::cause::{Cause, TraceFault};
-use crate::lines::InputFault;
-use crate::reading::{LineFault, Stop, read_lines};
-use crate::source::Source;
+use crate::cause::TraceFault;
 use crate::trace::Trace;
+use json_lines::{Source, read_lines};
 use std::alloc::Global;
-
-fn fault_of(fault: LineFault<Cause>) -> TraceFault
-    ensures { result ≡ record { line = fault.line; cause = cause_of fault.stop } }
-{
-    let cause = match fault.stop {
-        Stop::Line(cause) => cause,
-        Stop::Input(InputFault::Read) => Cause::Read,
-        Stop::Input(InputFault::TooLong) => Cause::TooLong,
-        Stop::Input(InputFault::OutOfMemory) => Cause::OutOfMemory,
-    };
-    TraceFault {
-        line: fault.line,
-        cause,
-    }
-}
 
 /// Reads a trace, or says which line is the first that is refused, and why.
 ///
@@ -48,6 +31,9 @@ pub fn read_trace<R: Source>(alloc: Global, reader: &mut R) -> Result<Trace, Tra
     let mut trace = Trace::new(alloc);
     match read_lines(alloc, reader, &mut trace) {
         Ok(()) => Ok(trace),
-        Err(fault) => Err(fault_of(fault)),
+        Err(fault) => Err(TraceFault {
+            line: fault.line,
+            cause: fault.cause(),
+        }),
     }
 }

@@ -7,7 +7,7 @@ ghost use Rattle.trace_lines.specs.Texts.{tuple_of_text, tuples_of, goal_of, tok
 
 use crate::cause::Cause;
 use crate::entry::EntryKind;
-use crate::fields::optional_text_at;
+use json_lines::fields::optional_text_at;
 use serde_json::Value;
 use std::alloc::Global;
 use tuple_text::{Fact, Tuple, TupleFault, parse_fact, parse_tuple};

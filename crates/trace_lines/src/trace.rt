@@ -5,10 +5,10 @@ ghost use Rattle.std.specs.Io.KnownBytes.{Consumes};
 ghost use Rattle.serde_json.specs.View.{view};
 ghost use Rattle.tuple_text.specs.Refs.{set_value};
 ghost use Rattle.trace_lines.specs.Causes.{Gives};
-ghost use Rattle.trace_lines.specs.Counts.{one_more};
-ghost use Rattle.trace_lines.specs.Reading.{Refuses};
+ghost use Rattle.json_lines.specs.Counts.{one_more};
+ghost use Rattle.json_lines.specs.Reading.{Refuses};
 ghost use Rattle.trace_lines.specs.Values.{empty_trace, entry_value, entry_lines, next_line};
-ghost use Rattle.trace_lines.specs.Traces.{is_declared, are_declared, is_begun, namespace_line, change_line, declaration_line, commit_checked, commit_of, with_commit, commit_line, entry_of, recorded, with_entry, entry_line, value_line, json_line, is_blank, is_blank_byte, taken_line};
+ghost use Rattle.trace_lines.specs.Traces.{is_declared, are_declared, is_begun, namespace_line, change_line, declaration_line, commit_checked, commit_of, with_commit, commit_line, entry_of, recorded, with_entry, entry_line, value_line};
 ghost use Rattle.trace_lines.specs.Versions.{entry_version, version_issued, issuer, content_among, content_of};
 ghost use Rattle.trace_lines.specs.declared.entry.EntryKind.TheVariants.{Content};
 ghost use Rattle.version_chains.specs.Appends.{appended, late_fault, last_at};
@@ -27,12 +27,11 @@ use crate::cause::Cause;
 use crate::checks::entry_of;
 use crate::declaring::{change, declare, late_change};
 use crate::entry::{Entry, EntryKind};
-use crate::fields::{number_at, optional_number_at, strings_at};
-use crate::lines::InputFault;
-use crate::reading::{Stop, TakeLine};
 use crate::sample::Sample;
 use crate::texts::tuples_of;
 use crate::versions::{VersionName, version_of};
+use json_lines::TakeJson;
+use json_lines::fields::{number_at, optional_number_at, strings_at};
 use namespaces::{Rules, RulesFault};
 use serde_json::Value;
 use std::alloc::{AllocError, Global};
@@ -374,7 +373,7 @@ impl Trace {
     }
 
     #[tactic(auto, unfolding(crate::specs::Traces::value_line))]
-    fn take_value(&mut self, line: u64, value: &Value) -> Result<(), Cause>
+    fn take(&mut self, line: u64, value: &Value) -> Result<(), Cause>
         requires { next_line self.old ≤ line }
         ensures { Gives (λ _. self.new) result (value_line line self.old (view value.now)) }
     {
@@ -395,55 +394,20 @@ impl Trace {
             None => Err(Cause::Kind),
         }
     }
-
-    /// Takes a line that is not blank.
-    fn take_json(&mut self, line: u64, bytes: &[u8]) -> Result<(), Cause>
-        requires { next_line self.old ≤ line }
-        ensures { Gives (λ _. self.new) result (json_line line self.old bytes.now) }
-    {
-        match Value::from_slice(self.alloc, bytes) {
-            Ok(value) => self.take_value(line, &value),
-            Err(e) => Err(if e.is_memory() {
-                Cause::OutOfMemory
-            } else {
-                Cause::NotJson
-            }),
-        }
-    }
 }
 
-fn is_blank_byte(b: u8) -> bool
-    ensures { result ≡ is_blank_byte b }
-{
-    b == b' ' || b == b'\t' || b == b'\r'
-}
-
-/// Whether a line holds spaces, tabs and carriage returns alone.
-pub fn is_blank(line: &[u8]) -> bool
-    ensures { result ≡ is_blank line.now }
-{
-    line.iter().all(|b| is_blank_byte(*b))
-}
-
-impl TakeLine for Trace {
+impl TakeJson for Trace {
     ghost use Rattle.std.specs.Prelude.{◌≡◌};
-    ghost use Rattle.trace_lines.specs.Traces.{taken_line};
+    ghost use Rattle.trace_lines.specs.Traces.{value_line};
     ghost use Rattle.trace_lines.specs.Values.{next_line};
 
     type Cause = Cause;
 
     ghost next = { next_line };
 
-    ghost taken = { taken_line };
+    ghost taken = { value_line };
 
-    fn take_line(&mut self, number: u64, line: &[u8]) -> Result<(), Stop<Cause>> {
-        if is_blank(line) {
-            return Ok(());
-        }
-        match self.take_json(number, line) {
-            Ok(()) => Ok(()),
-            Err(Cause::OutOfMemory) => Err(Stop::Input(InputFault::OutOfMemory)),
-            Err(cause) => Err(Stop::Line(cause)),
-        }
+    fn take_value(&mut self, number: u64, value: &Value) -> Result<(), Cause> {
+        self.take(number, value)
     }
 }

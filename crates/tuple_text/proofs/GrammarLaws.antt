@@ -12,7 +12,8 @@ use Rattle.tuple_text.specs.Sets.{SetValue}
 use Rattle.tuple_text.specs.Tuples.{TupleValue, FactValue, tuple_of, fact_of}
 use Rattle.tuple_text.specs.Forms.{IsUserset, is_name, is_object_id, is_user_relation, plain_number}
 use Rattle.tuple_text.specs.Grammar.{IsUser, IsHead, IsTuple, IsFact, userset_text, user_text, tuple_text, fact_text}
-use Rattle.tuple_text.specs.Faults.{◌>>=◌, Gives}
+use Rattle.tuple_text.specs.Faults.{Gives}
+use Rattle.refusals.specs.Refusals.{◌>>=◌}
 use Rattle.tuple_text.specs.Reading.{part_at, userset_at, id_or, id_only, user_at, head_at, tuple_at, fact_at}
 use Rattle.tuple_text.proofs.Numbers.{plain_takes, plain_again}
 use Rattle.tuple_text.proofs.Pieces.{guard_then, part_takes, part_again, name_lacks_colon, name_lacks_at, id_lacks, name_no_digit}

@@ -8,7 +8,7 @@ use Rattle.tuple_text.specs.declared.users.User.{User}
 use Rattle.tuple_text.specs.declared.users.User.TheVariants as users
 use Rattle.tuple_text.specs.Sets.{SetValue}
 use Rattle.tuple_text.specs.Tuples.{TupleValue, FactValue, tuple_of, fact_of}
-use Rattle.tuple_text.specs.Faults.{◌>>=◌}
+use Rattle.refusals.specs.Refusals.{◌>>=◌}
 use Rattle.tuple_text.specs.Forms.{is_name, is_object_id, is_user_relation, plain_number}
 
 -- the part before the first delimiter, where it passes the test, and what stands after the delimiter

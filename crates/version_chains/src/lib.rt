@@ -14,11 +14,11 @@
 //! it is about and no others; nothing of that shows in a contract.
 #![tactic(auto)]
 
+pub mod among;
 mod arena;
 mod chains;
 mod fault;
 mod history;
-pub mod laws;
 mod marks;
 mod node;
 mod places;

@@ -1,4 +1,4 @@
-use super::laws::{is_every_set_among, is_some_set_among};
+use super::among::{is_every_set_among, is_some_set_among};
 use super::*;
 use std::fmt::InlineText;
 use std::test::Fail;

@@ -3,7 +3,8 @@ use Rattle.std.proofs.lemmas.List.{at_drop_more}
 use Rattle.serde_json.specs.Data.{item}
 use Rattle.serde_json.specs.View.{view, items_view}
 use Rattle.evidence_check.specs.Reading.{facts_in}
-use Rattle.evidence_check.proofs.StepLoops.{with_front, next_fact}
+use Rattle.refusals.proofs.Fronts.{with_front}
+use Rattle.evidence_check.proofs.StepLoops.{next_fact}
 use Rattle.evidence_check.proofs.records.facts_in.Goals as goal
 
 pub loop-item-preserved : goal.loop-item-preserved

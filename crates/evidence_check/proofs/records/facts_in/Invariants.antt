@@ -1,7 +1,7 @@
 use Rattle.std.proofs.Common.{◌≡◌, drop}
 use Rattle.serde_json.specs.View.{items_view}
 use Rattle.evidence_check.specs.Reading.{facts_in}
-use Rattle.evidence_check.proofs.StepLoops.{with_front}
+use Rattle.refusals.proofs.Fronts.{with_front}
 use Rattle.evidence_check.proofs.records.facts_in.Given as goal
 
 abbrev pub invariant-loop-item : goal.invariant-loop-item

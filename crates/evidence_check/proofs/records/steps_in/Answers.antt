@@ -4,7 +4,8 @@ use Rattle.serde_json.specs.Data.{item}
 use Rattle.serde_json.specs.View.{view, items_view}
 use Rattle.evidence_check.specs.Reading.{steps_in}
 use Rattle.evidence_check.specs.Steps.{step_value, step_values}
-use Rattle.evidence_check.proofs.StepLoops.{with_front, next_step}
+use Rattle.refusals.proofs.Fronts.{with_front}
+use Rattle.evidence_check.proofs.StepLoops.{next_step}
 use Rattle.evidence_check.proofs.records.steps_in.Goals as goal
 
 pub loop-item-preserved : goal.loop-item-preserved

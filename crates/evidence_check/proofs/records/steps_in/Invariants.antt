@@ -2,7 +2,7 @@ use Rattle.std.proofs.Common.{◌≡◌, drop}
 use Rattle.serde_json.specs.View.{items_view}
 use Rattle.evidence_check.specs.Reading.{steps_in}
 use Rattle.evidence_check.specs.Steps.{step_values}
-use Rattle.evidence_check.proofs.StepLoops.{with_front}
+use Rattle.refusals.proofs.Fronts.{with_front}
 use Rattle.evidence_check.proofs.records.steps_in.Given as goal
 
 abbrev pub invariant-loop-item : goal.invariant-loop-item

@@ -11,4 +11,4 @@ pub returns-clause-ok : goal.returns-clause-ok
 returns-clause-ok c =
     let m = c.args.namespaces.now in
     let absent = none_there (get_by_text m (string_bytes c.args.name)) c.requires in
-    ap show_index (c.in_ok-insert.ensures.entries ∙ insert_entry-new string_eq m c.args.name c.push.new.self absent) ∙ show_index-push m.entries (c.args.name, c.push.new.self) ∙ rw (c.in_ok-push.ensures.items, c.new-versions.ensures.items) refl
+    ap show_index (c.in_ok-insert.ensures.entries ∙ insert_entry-new string_eq m c.args.name c.push.new.self absent) ∙ show_index-push m.entries (c.args.name, c.push.new.self) ∙ rw (c.in_ok-push.ensures.items, c.new-revisions.ensures.items) refl

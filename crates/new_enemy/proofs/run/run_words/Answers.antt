@@ -1,5 +1,5 @@
 use Rattle.std.proofs.Common.{◌∙◌, ap, Err}
-use Rattle.new_enemy.specs.declared.audit.AuditFault.{AuditFault}
+use Rattle.audit.specs.declared.audit.AuditFault.{AuditFault}
 use Rattle.new_enemy.proofs.Statuses.{refused}
 use Rattle.new_enemy.proofs.run.run_words.Goals as goal
 

@@ -2,7 +2,7 @@ use Rattle.std.proofs.Common.{◌≡◌, ◌-◌, List, Some, None, map, arith, 
 use Rattle.std.proofs.lemmas.Option.{same_Some}
 use Rattle.version_chains.specs.Commits.{Commit}
 use Rattle.trace_lines.specs.Values.{EntryValue, entry_value}
-use Rattle.token_order.specs.Order.{not_latest}
+use Rattle.token_order.specs.Found.{not_latest}
 use Rattle.token_order.proofs.Compared.{first_of_all, latest, late}
 use Rattle.token_order.proofs.order.not_latest.Goals as goal
 

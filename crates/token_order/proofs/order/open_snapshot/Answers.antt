@@ -3,7 +3,7 @@ use Rattle.std.proofs.lemmas.List.{length-map}
 use Rattle.std.proofs.lemmas.Option.{same_Some}
 use Rattle.version_chains.specs.Commits.{Commit}
 use Rattle.trace_lines.specs.Values.{EntryValue, entry_value}
-use Rattle.token_order.specs.Order.{open_snapshot}
+use Rattle.token_order.specs.Found.{open_snapshot}
 use Rattle.token_order.proofs.Compared.{last_of_all, closed, still_open}
 use Rattle.token_order.proofs.order.open_snapshot.Goals as goal
 

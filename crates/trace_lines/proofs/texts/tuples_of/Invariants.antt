@@ -1,7 +1,7 @@
 use Rattle.std.proofs.Common.{◌≡◌, drop}
 use Rattle.serde_json.specs.View.{items_view}
 use Rattle.trace_lines.specs.Texts.{tuples_of}
-use Rattle.trace_lines.proofs.TextLoops.{with_front}
+use Rattle.refusals.proofs.Fronts.{with_front}
 use Rattle.trace_lines.proofs.texts.tuples_of.Given as goal
 
 abbrev pub invariant-loop-item : goal.invariant-loop-item

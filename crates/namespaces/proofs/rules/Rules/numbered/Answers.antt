@@ -19,7 +19,7 @@ returns-clause-name c =
     let named = name_found s.lines.items s.namespaces.entries s.changes c.args.self.now c.self.view_is c.self.invariant c.args.number c.in_ok-index.index c.in_ok-index.ensures.0 (sym c.in_ok-index.ensures.1) in
     rw (c.as_str.ensures.value, named, ← c.in_ok-name.ensures.entry) refl
 
-pub returns-clause-versions : goal.returns-clause-versions
-returns-clause-versions c =
+pub returns-clause-revisions : goal.returns-clause-revisions
+returns-clause-revisions c =
     let s = c.self.inside in
-    rw c.as_str.ensures.value (sym (some_found s.lines.items s.namespaces.entries s.changes c.args.self.now c.self.view_is c.self.invariant (string_bytes c.in_ok-name.name.now) c.in_ok-name.versions.now c.in_ok-name.ensures.value))
+    rw c.as_str.ensures.value (sym (some_found s.lines.items s.namespaces.entries s.changes c.args.self.now c.self.view_is c.self.invariant (string_bytes c.in_ok-name.name.now) c.in_ok-name.revisions.now c.in_ok-name.ensures.value))

@@ -8,7 +8,7 @@ pub returns-in_err-newest-clause-value : goal.returns-in_err-newest-clause-value
 returns-in_err-newest-clause-value c =
     rw (
       c.from_residual-in_err-newest.ensures,
-      numbered_led c.args.self.now c.args.number _ c.in_ok-index.index _ (sym c.in_ok-versions.ensures.name) c.in_ok-index.ensures.0 (sym c.in_ok-index.ensures.1) (sym c.in_ok-versions.ensures.versions),
+      numbered_led c.args.self.now c.args.number _ c.in_ok-index.index _ (sym c.in_ok-revisions.ensures.name) c.in_ok-index.ensures.0 (sym c.in_ok-index.ensures.1) (sym c.in_ok-revisions.ensures.revisions),
       ← c.deref.ensures.value,
       ← c.last.ensures.value,
       ← c.in_err-newest.ensures,
@@ -18,7 +18,7 @@ pub returns-in_err-relations_in-clause-value : goal.returns-in_err-relations_in-
 returns-in_err-relations_in-clause-value c =
     rw (
       c.from_residual-in_err-relations_in.ensures,
-      numbered_led c.args.self.now c.args.number _ c.in_ok-index.index _ (sym c.in_ok-versions.ensures.name) c.in_ok-index.ensures.0 (sym c.in_ok-index.ensures.1) (sym c.in_ok-versions.ensures.versions),
+      numbered_led c.args.self.now c.args.number _ c.in_ok-index.index _ (sym c.in_ok-revisions.ensures.name) c.in_ok-index.ensures.0 (sym c.in_ok-index.ensures.1) (sym c.in_ok-revisions.ensures.revisions),
       ← c.deref.ensures.value,
       ← c.last.ensures.value,
       ← c.in_ok-newest.ensures,
@@ -29,7 +29,7 @@ pub returns-in_err-name-clause-value : goal.returns-in_err-name-clause-value
 returns-in_err-name-clause-value c =
     rw (
       c.from_residual-in_err-name.ensures,
-      numbered_led c.args.self.now c.args.number _ c.in_ok-index.index _ (sym c.in_ok-versions.ensures.name) c.in_ok-index.ensures.0 (sym c.in_ok-index.ensures.1) (sym c.in_ok-versions.ensures.versions),
+      numbered_led c.args.self.now c.args.number _ c.in_ok-index.index _ (sym c.in_ok-revisions.ensures.name) c.in_ok-index.ensures.0 (sym c.in_ok-index.ensures.1) (sym c.in_ok-revisions.ensures.revisions),
       ← c.deref.ensures.value,
       ← c.last.ensures.value,
       ← c.in_ok-newest.ensures,
@@ -41,7 +41,7 @@ returns-in_err-name-clause-value c =
 pub returns-clause-value : goal.returns-clause-value
 returns-clause-value c =
     rw (
-      numbered_led c.args.self.now c.args.number _ c.in_ok-index.index _ (sym c.in_ok-versions.ensures.name) c.in_ok-index.ensures.0 (sym c.in_ok-index.ensures.1) (sym c.in_ok-versions.ensures.versions),
+      numbered_led c.args.self.now c.args.number _ c.in_ok-index.index _ (sym c.in_ok-revisions.ensures.name) c.in_ok-index.ensures.0 (sym c.in_ok-index.ensures.1) (sym c.in_ok-revisions.ensures.revisions),
       ← c.deref.ensures.value,
       ← c.last.ensures.value,
       ← c.in_ok-newest.ensures,

@@ -2,30 +2,30 @@ use Rattle.std.proofs.Common.{refl, sym}
 use Rattle.std.proofs.lemmas.Option.{slice_get-map}
 use Rattle.namespaces.specs.Shown.{show_relation}
 use Rattle.namespaces.proofs.Numbers.{history-numbered}
-use Rattle.namespaces.proofs.Times.{versions_grow}
+use Rattle.namespaces.proofs.Times.{revisions_grow}
 use Rattle.namespaces.proofs.rules.Rules.rule.Goals as goal
 
-pub version_with-requires : goal.version_with-requires
-version_with-requires c = rw (c.as_slice.ensures.value, c.in_ok-versions.ensures.versions) (versions_grow _ c.args.self.now c.in_ok-versions.ensures.well_formed.continued)
+pub revision_with-requires : goal.revision_with-requires
+revision_with-requires c = rw (c.as_slice.ensures.value, c.in_ok-revisions.ensures.revisions) (revisions_grow _ c.args.self.now c.in_ok-revisions.ensures.well_formed.continued)
 
-pub returns-in_err-version : goal.returns-in_err-version
-returns-in_err-version c =
+pub returns-in_err-revision : goal.returns-in_err-revision
+returns-in_err-revision c =
     rw (
-      c.from_residual-in_err-version.ensures,
-      history-numbered c.args.self.now c.args.number _ c.in_ok-index.field-0 c.args.k c.in_ok-versions.ensures.well_formed (sym c.in_ok-versions.ensures.name) c.in_ok-index.ensures.0 (sym c.in_ok-index.ensures.1),
-      ← c.in_ok-versions.ensures.versions,
+      c.from_residual-in_err-revision.ensures,
+      history-numbered c.args.self.now c.args.number _ c.in_ok-index.field-0 c.args.k c.in_ok-revisions.ensures.well_formed (sym c.in_ok-revisions.ensures.name) c.in_ok-index.ensures.0 (sym c.in_ok-index.ensures.1),
+      ← c.in_ok-revisions.ensures.revisions,
       ← c.as_slice.ensures.value,
-      ← c.in_err-version.ensures,
+      ← c.in_err-revision.ensures,
     ) refl
 
 pub returns-in_err-relations_in : goal.returns-in_err-relations_in
 returns-in_err-relations_in c =
     rw (
       c.from_residual-in_err-relations_in.ensures,
-      history-numbered c.args.self.now c.args.number _ c.in_ok-index.field-0 c.args.k c.in_ok-versions.ensures.well_formed (sym c.in_ok-versions.ensures.name) c.in_ok-index.ensures.0 (sym c.in_ok-index.ensures.1),
-      ← c.in_ok-versions.ensures.versions,
+      history-numbered c.args.self.now c.args.number _ c.in_ok-index.field-0 c.args.k c.in_ok-revisions.ensures.well_formed (sym c.in_ok-revisions.ensures.name) c.in_ok-index.ensures.0 (sym c.in_ok-index.ensures.1),
+      ← c.in_ok-revisions.ensures.revisions,
       ← c.as_slice.ensures.value,
-      ← c.in_ok-version.ensures,
+      ← c.in_ok-revision.ensures,
       ← c.in_err-relations_in.ensures,
     ) refl
 
@@ -33,10 +33,10 @@ pub returns-in_err-relation : goal.returns-in_err-relation
 returns-in_err-relation c =
     rw (
       c.from_residual-in_err-relation.ensures,
-      history-numbered c.args.self.now c.args.number _ c.in_ok-index.field-0 c.args.k c.in_ok-versions.ensures.well_formed (sym c.in_ok-versions.ensures.name) c.in_ok-index.ensures.0 (sym c.in_ok-index.ensures.1),
-      ← c.in_ok-versions.ensures.versions,
+      history-numbered c.args.self.now c.args.number _ c.in_ok-index.field-0 c.args.k c.in_ok-revisions.ensures.well_formed (sym c.in_ok-revisions.ensures.name) c.in_ok-index.ensures.0 (sym c.in_ok-index.ensures.1),
+      ← c.in_ok-revisions.ensures.revisions,
       ← c.as_slice.ensures.value,
-      ← c.in_ok-version.ensures,
+      ← c.in_ok-revision.ensures,
       ← c.in_ok-relations_in.ensures,
       slice_get-map show_relation c.in_ok-relations_in.field-0.now.entries c.in_ok-index.field-0,
       ← c.in_err-relation.ensures.entry,
@@ -45,10 +45,10 @@ returns-in_err-relation c =
 pub returns : goal.returns
 returns c =
     rw (
-      history-numbered c.args.self.now c.args.number _ c.in_ok-index.field-0 c.args.k c.in_ok-versions.ensures.well_formed (sym c.in_ok-versions.ensures.name) c.in_ok-index.ensures.0 (sym c.in_ok-index.ensures.1),
-      ← c.in_ok-versions.ensures.versions,
+      history-numbered c.args.self.now c.args.number _ c.in_ok-index.field-0 c.args.k c.in_ok-revisions.ensures.well_formed (sym c.in_ok-revisions.ensures.name) c.in_ok-index.ensures.0 (sym c.in_ok-index.ensures.1),
+      ← c.in_ok-revisions.ensures.revisions,
       ← c.as_slice.ensures.value,
-      ← c.in_ok-version.ensures,
+      ← c.in_ok-revision.ensures,
       ← c.in_ok-relations_in.ensures,
       slice_get-map show_relation c.in_ok-relations_in.field-0.now.entries c.in_ok-index.field-0,
       ← c.in_ok-relation.ensures.entry,

@@ -1,0 +1,5 @@
+pub mod Entries
+pub mod Headline
+pub mod JoinedParts
+pub mod ReadWhole
+pub mod Readers

@@ -1,0 +1,5 @@
+pub mod Audit
+pub mod Findings
+pub mod Headline
+pub mod Joined
+pub mod Report

@@ -1,0 +1,208 @@
+//! The audit on one thread.
+
+ghost use Rattle.std.specs.Prelude.{◌≡◌, ◌⊎◌, ℕ, List, true, false, Ok, IfOk, IfErr, IfSome, OnOk, Err, string_bytes};
+ghost use Rattle.std.specs.Io.KnownBytes.{Appends, Consumes, Keeps};
+ghost use Rattle.trace_lines.specs.declared.cause.Cause.TheVariants as causes;
+ghost use Rattle.trace_lines.specs.declared.cause.TraceFault.{TraceFault};
+ghost use Rattle.evidence_check.specs.declared.cause.EvidenceCause.TheVariants as evidence_causes;
+ghost use Rattle.evidence_check.specs.declared.cause.EvidenceFault.{EvidenceFault};
+ghost use Rattle.trace_lines.specs.Traces.{trace_of};
+ghost use Rattle.evidence_check.specs.Reading as evidence;
+ghost use Rattle.evidence_check.specs.Reading.{evidence_of};
+ghost use Rattle.evidence_check.specs.Evidences.{evidence_value};
+ghost use Rattle.audit.specs.Audit.{verdict_of, report_on, Audits, Breaks, RefusesTrace, RefusesEvidence, CutsTrace, CutsEvidence, HasRisen, IsOfDevices, IsWrite, IsUnwritten, FailsWriting, IsOfTrace, IsOfEvidence, IsOfAudit};
+ghost use Rattle.audit.specs.declared.audit.AuditFault.TheVariants as faults;
+ghost use Rattle.audit.specs.Findings.{findings_of};
+ghost use Rattle.audit.specs.Headline.{IsRightAndFresh, IsTraceRightAndFresh};
+ghost use Rattle.audit.specs.Report.{report_text};
+ghost use Rattle.audit.specs.declared.audit.Verdict.{Verdict};
+ghost use Rattle.audit.specs.declared.audit.Verdict.TheVariants.{Clean};
+
+use crate::finding::Finding;
+use crate::findings::{findings_of, report_of};
+use evidence_check::{Evidence, EvidenceCause, EvidenceFault, read_evidence};
+use json_lines::{Sink, Source, send};
+use std::alloc::{AllocError, Global};
+use thiserror::Error;
+use token_order::laws::fresh_without_findings;
+use trace_lines::laws::valid_strata;
+use trace_lines::{Cause, Trace, TraceFault, read_trace};
+
+/// What an audit answers.
+#[derive(Clone, Copy, Debug, PartialEq, Eq)]
+pub enum Verdict {
+    /// There is no finding.
+    Clean,
+    Dirty,
+}
+
+/// Why an audit gives no verdict.
+#[derive(Clone, Copy, Debug, PartialEq, Eq, Error)]
+pub enum AuditFault {
+    #[error("{0}")]
+    Trace(TraceFault),
+    #[error("{0}")]
+    Evidence(EvidenceFault),
+    /// So many bytes of the report went out before the writer failed or took none.
+    #[error("write fault after {written} bytes")]
+    Write { written: usize },
+    #[error("out of memory")]
+    OutOfMemory,
+    /// The number of workers or the size of a slice is outside its limits.
+    #[error("limits")]
+    Limits,
+    /// Joined input has no line `---`, or more than 2^30 bytes.
+    #[error("joined input refused")]
+    Joined,
+    /// The reader of joined input failed.
+    #[error("read fault")]
+    Input,
+}
+
+impl From<AllocError> for AuditFault {
+    ghost from_gives = { λ _ e. e ≡ faults.OutOfMemory };
+
+    fn from(_: AllocError) -> AuditFault {
+        AuditFault::OutOfMemory
+    }
+}
+
+fn verdict_of(findings: &[Finding]) -> Verdict
+    ensures { result ≡ verdict_of findings.now }
+{
+    match findings {
+        [] => Verdict::Clean,
+        [_, ..] => Verdict::Dirty,
+    }
+}
+
+/// The report on a trace by its evidence, and the verdict.
+fn report_on(
+    alloc: Global,
+    trace: &Trace,
+    evidence: &Evidence,
+) -> Result<(String, Verdict), AllocError>
+    ensures { IfOk result (λ r. (string_bytes r.0 ≡ report_on trace.now (evidence_value evidence.now))
+        × (r.1 ≡ verdict_of (findings_of trace.now (evidence_value evidence.now)))) }
+{
+    let findings = findings_of(alloc, trace, evidence)?;
+    let text = report_of(alloc, &findings, trace.len())?;
+    Ok((text, verdict_of(&findings)))
+}
+
+/// Writes the report on a trace by its evidence.
+pub fn audit_values<W: Sink>(
+    alloc: Global,
+    trace: &Trace,
+    evidence: &Evidence,
+    out: &mut W,
+) -> Result<Verdict, AuditFault>
+    ensures verdict { IfOk result (λ v. v ≡ verdict_of (findings_of trace.now (evidence_value evidence.now))) }
+    // Whoever made the evidence.
+    ensures headline { result ≡ Ok Clean → IsRightAndFresh trace.now }
+    ensures report { OnOk result (Appends (W.contents out.old) (W.contents out.new) (report_on trace.now (evidence_value evidence.now))) }
+    // The first n bytes went out, and the writer failed or took none of some.
+    ensures write { (n : ℕ) → result ≡ Err (faults.Write n) → FailsWriting (W.contents out.old) (W.contents out.new) n (report_on trace.now (evidence_value evidence.now)) }
+    ensures device { IfErr result (λ e. IsWrite e → HasRisen (W.failures out.old) (W.failures out.new) ⊎ HasRisen (W.idle out.old) (W.idle out.new)) }
+    ensures kept { OnOk result (W.failures out.new ≡ W.failures out.old) }
+    // Of memory alone nothing is written.
+    ensures faults { IfErr result (λ e. (e ≡ faults.OutOfMemory) ⊎ IsWrite e) }
+    ensures unwritten { IfErr result (λ e. IsUnwritten e → Keeps (W.contents out.old) (W.contents out.new)) }
+{
+    valid_strata(trace);
+    fresh_without_findings(trace);
+    let (text, verdict) = report_on(alloc, trace, evidence)?;
+    match send(out, text.as_bytes()) {
+        Ok(()) => Ok(verdict),
+        Err(unsent) => Err(AuditFault::Write {
+            written: unsent.written,
+        }),
+    }
+}
+
+/// The trace of a reader.
+fn trace_from<R: Source>(alloc: Global, reader: &mut R) -> Result<Trace, AuditFault>
+    ensures given { IfOk result (λ t. IfSome (R.remaining reader.old) (λ a. trace_of true a ≡ Ok t)) }
+    ensures refused { (f : TraceFault) → result ≡ Err (faults.Trace f) → IfSome (R.remaining reader.old) (λ a. RefusesTrace a f) }
+    ensures cut { (f : TraceFault) → result ≡ Err (faults.Trace f) → f.cause ≡ causes.Read → CutsTrace (R.remaining reader.old) (R.remaining reader.new) f }
+    ensures device { (f : TraceFault) → result ≡ Err (faults.Trace f) → f.cause ≡ causes.Read → HasRisen (R.failures reader.old) (R.failures reader.new) }
+    ensures kept { OnOk result (R.failures reader.new ≡ R.failures reader.old) }
+    ensures faults { IfErr result IsOfTrace }
+{
+    match read_trace(alloc, reader) {
+        Ok(trace) => Ok(trace),
+        Err(
+            TraceFault {
+                cause: Cause::OutOfMemory,
+                ..
+            },
+        ) => Err(AuditFault::OutOfMemory),
+        Err(fault) => Err(AuditFault::Trace(fault)),
+    }
+}
+
+/// The evidence of a reader for a trace.
+fn evidence_from<R: Source>(
+    alloc: Global,
+    reader: &mut R,
+    trace: &Trace,
+) -> Result<Evidence, AuditFault>
+    ensures given { IfOk result (λ e. IfSome (R.remaining reader.old) (λ b. evidence_of trace.now.entries true b ≡ Ok (evidence_value e))) }
+    ensures refused { (f : EvidenceFault) → result ≡ Err (faults.Evidence f) → IfSome (R.remaining reader.old) (λ b. evidence.FailsBy f.cause f (evidence_of trace.now.entries true b)) }
+    ensures cut { (f : EvidenceFault) → result ≡ Err (faults.Evidence f) → f.cause ≡ evidence_causes.Read → IfSome (R.remaining reader.old) (λ b.
+        (given : List ℕ) × Consumes (R.remaining reader.old) (R.remaining reader.new) given × (evidence_of trace.now.entries false given ≡ Err f)) }
+    ensures device { (f : EvidenceFault) → result ≡ Err (faults.Evidence f) → f.cause ≡ evidence_causes.Read → HasRisen (R.failures reader.old) (R.failures reader.new) }
+    ensures kept { OnOk result (R.failures reader.new ≡ R.failures reader.old) }
+    ensures faults { IfErr result IsOfEvidence }
+{
+    match read_evidence(alloc, reader, trace) {
+        Ok(evidence) => Ok(evidence),
+        Err(
+            EvidenceFault {
+                cause: EvidenceCause::OutOfMemory,
+                ..
+            },
+        ) => Err(AuditFault::OutOfMemory),
+        Err(fault) => Err(AuditFault::Evidence(fault)),
+    }
+}
+
+/// Audits a trace by its evidence, and writes the report: a line for each finding, by trace line, then how many
+/// entries and findings there are, and the verdict.
+///
+/// The report is whole before its first byte is written, and nothing is written where a reader's bytes are
+/// refused or memory runs out. `Read` of either reader, and `Write`, are answered only where that device failed; `Write`
+/// also where it took none of some bytes.
+pub fn audit_plain<A: Source, B: Source, W: Sink>(
+    alloc: Global,
+    trace: &mut A,
+    evidence: &mut B,
+    out: &mut W,
+) -> Result<Verdict, AuditFault>
+    // The report on what the readers' bytes say went out, and the verdict is its last line.
+    ensures audits { IfOk result (λ v. IfSome (A.remaining trace.old) (λ a. IfSome (B.remaining evidence.old) (λ b.
+        Audits a b (W.contents out.old) (W.contents out.new) v))) }
+    // A clean verdict says that each reply is what the rules mean over the tuples committed up to its snapshot, and that no check is older
+    // than its zookie, nor than any access change committed before the content check of the version that it names.
+    ensures headline { result ≡ Ok Clean → IfSome (A.remaining trace.old) IsTraceRightAndFresh }
+    ensures trace { (f : TraceFault) → result ≡ Err (faults.Trace f) → IfSome (A.remaining trace.old) (λ a. RefusesTrace a f) }
+    ensures trace_cut { (f : TraceFault) → result ≡ Err (faults.Trace f) → f.cause ≡ causes.Read → CutsTrace (A.remaining trace.old) (A.remaining trace.new) f }
+    ensures evidence { (f : EvidenceFault) → result ≡ Err (faults.Evidence f) → IfSome (A.remaining trace.old) (λ a. IfSome (B.remaining evidence.old) (λ b.
+        RefusesEvidence a b f)) }
+    ensures evidence_cut { (f : EvidenceFault) → result ≡ Err (faults.Evidence f) → f.cause ≡ evidence_causes.Read
+        → CutsEvidence (A.remaining trace.old) (B.remaining evidence.old) (B.remaining evidence.new) f }
+    ensures write { (n : ℕ) → result ≡ Err (faults.Write n) → IfSome (A.remaining trace.old) (λ a. IfSome (B.remaining evidence.old) (λ b.
+        Breaks a b (W.contents out.old) (W.contents out.new) n)) }
+    ensures unwritten { IfErr result (λ e. IsUnwritten e → Keeps (W.contents out.old) (W.contents out.new)) }
+    ensures devices { IfErr result (IsOfDevices ⊥ (HasRisen (A.failures trace.old) (A.failures trace.new)) (HasRisen (B.failures evidence.old) (B.failures evidence.new))
+        (HasRisen (W.failures out.old) (W.failures out.new) ⊎ HasRisen (W.idle out.old) (W.idle out.new))) }
+    ensures kept { OnOk result ((A.failures trace.new ≡ A.failures trace.old) × (B.failures evidence.new ≡ B.failures evidence.old) × (W.failures out.new ≡ W.failures out.old)) }
+    ensures faults { IfErr result IsOfAudit }
+{
+    let trace = trace_from(alloc, trace)?;
+    let evidence = match evidence_from(alloc, evidence, &trace) {
+        Ok(evidence) => evidence,
+        Err(fault) => return Err(fault),
+    };
+    audit_values(alloc, &trace, &evidence, out)
+}

@@ -1,0 +1,36 @@
+-- A line that is a value, and one that is none.
+use Rattle.std.proofs.Common.{◌≡◌, ℕ, false, List, Option, Some, None, Result, Err, refl, inl, inr, IsUtf8}
+use Rattle.std.specs.Str.{is_utf8}
+use Rattle.std.proofs.lemmas.Bool.{cases_Bool}
+use Rattle.std.proofs.lemmas.Str.{IsUtf8-from_is_utf8, is_utf8-from_IsUtf8}
+use Rattle.serde_json.specs.Data.{Data}
+use Rattle.serde_json.specs.Read.{read}
+use Rattle.refusals.proofs.Steps.{ErrHas, either_refused}
+use Rattle.json_lines.specs.Json.{is_blank, of_json, json_line, taken_line}
+
+pub of_a_value : {S C : Type 0} (not_json : C) (taken : Data → Result S C) (bytes : List ℕ) (d : Data) → IsUtf8 bytes → read bytes ≡ Some d → json_line not_json taken bytes ≡ taken d
+unfolding json_line
+of_a_value not_json taken bytes d u e = rw (is_utf8-from_IsUtf8 bytes u, e) refl
+
+pub of_no_value : {S C : Type 0} (not_json : C) (taken : Data → Result S C) (bytes : List ℕ) → (IsUtf8 bytes → read bytes ≡ None) → json_line not_json taken bytes ≡ Err not_json
+unfolding json_line
+of_no_value not_json taken bytes h =
+    elim (cases_Bool (is_utf8 bytes)) [
+      | inl u ↦ let e = h (IsUtf8-from_is_utf8 bytes u) in rw (u, e) refl
+      | inr f ↦ rw f refl
+    ]
+
+of_some_json : {S C : Type 0} (P : C → Type 0) (not_json : C) (taken : Data → Result S C) (o : Option Data) → P not_json → ((d : Data) → ErrHas P (taken d)) → ErrHas P (of_json not_json taken o)
+of_some_json P not_json taken None h k = h
+of_some_json P not_json taken (Some d) h k = k d
+
+-- what refuses a line is that it is no JSON, or what its value gives
+pub line_refused : {S C : Type 0} (P : C → Type 0) (not_json : C) (taken : ℕ → S → Data → Result S C) (n : ℕ) (s : S) (line : List ℕ)
+    → P not_json → ((d : Data) → ErrHas P (taken n s d)) → ErrHas P (taken_line not_json taken n s line)
+unfolding json_line
+line_refused P not_json taken n s line h k =
+    either_refused P (is_blank line) _ _ tt (either_refused P (is_utf8 line) _ _ (of_some_json P not_json (taken n s) (read line) h k) h)
+
+pub of_no_blank : {S C : Type 0} (not_json : C) (taken : ℕ → S → Data → Result S C) (n : ℕ) (s : S) (line : List ℕ) → is_blank line ≡ false
+    → taken_line not_json taken n s line ≡ json_line not_json (taken n s) line
+of_no_blank not_json taken n s line h = rw h refl

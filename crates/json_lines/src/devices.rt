@@ -1,0 +1,193 @@
+//! Readers and writers round others: one that counts, and one that fails, for tests.
+
+ghost use Rattle.std.specs.Prelude.{◌≡◌, ◌≤◌, ◌<◌, false};
+ghost use Rattle.json_lines.specs.Devices.{counted_inner, failing_inner};
+
+use crate::source::{Sink, Source};
+use std::io;
+use std::io::{Error, ErrorKind, Read, Write};
+
+/// A reader or a writer with its counts.
+#[derive(Drop)]
+pub struct Counted<X> {
+    inner: X,
+    failures: u64,
+    idle: u64,
+}
+
+impl<X> Counted<X> {
+    /// The reader or writer, with no failure counted.
+    pub fn new(inner: X) -> Counted<X>
+        ensures { counted_inner result ≡ inner }
+    {
+        Counted {
+            inner,
+            failures: 0,
+            idle: 0,
+        }
+    }
+
+    /// The reader or writer, without its counts.
+    pub fn into_inner(self) -> X
+        ensures { result ≡ counted_inner self }
+    {
+        self.inner
+    }
+}
+
+impl<R: Read> Read for Counted<R> {
+    ghost remaining = { λ s. R.remaining s.inner };
+
+    fn read(&mut self, buf: &mut [u8]) -> io::Result<usize> {
+        self.give(buf)
+    }
+}
+
+impl<R: Read> Source for Counted<R> {
+    ghost failures = { λ s. s.failures };
+
+    fn give(&mut self, buf: &mut [u8]) -> io::Result<usize> {
+        let given = self.inner.read(buf);
+        if given.is_err() {
+            self.failures = self.failures.saturating_add(1);
+        }
+        given
+    }
+}
+
+impl<W: Write> Write for Counted<W> {
+    ghost contents = { λ s. W.contents s.inner };
+
+    fn write(&mut self, buf: &[u8]) -> io::Result<usize> {
+        self.take_some(buf)
+    }
+
+    fn flush(&mut self) -> io::Result<()> {
+        self.finish()
+    }
+}
+
+impl<W: Write> Sink for Counted<W> {
+    ghost failures = { λ s. s.failures };
+
+    ghost idle = { λ s. s.idle };
+
+    fn take_some(&mut self, buf: &[u8]) -> io::Result<usize> {
+        let taken = self.inner.write(buf);
+        match taken {
+            Err(_) => self.failures = self.failures.saturating_add(1),
+            Ok(0) if !buf.is_empty() => self.idle = self.idle.saturating_add(1),
+            Ok(_) => {}
+        }
+        taken
+    }
+
+    fn finish(&mut self) -> io::Result<()> {
+        let done = self.inner.flush();
+        if done.is_err() {
+            self.failures = self.failures.saturating_add(1);
+        }
+        done
+    }
+}
+
+/// A reader or a writer that fails, for tests: at one call, or after some bytes.
+#[derive(Drop)]
+pub struct Failing<X> {
+    inner: X,
+    calls: u64,
+    at_call: u64,
+    room: u64,
+}
+
+impl<X> Failing<X> {
+    /// One that fails at call `call`, counted from 1, a flush included, and at no other.
+    pub fn at_call(inner: X, call: u64) -> Failing<X>
+        ensures { failing_inner result ≡ inner }
+    {
+        Failing {
+            inner,
+            calls: 0,
+            at_call: call,
+            room: u64::MAX,
+        }
+    }
+
+    /// One that fails at every call after `bytes` bytes.
+    pub fn after(inner: X, bytes: u64) -> Failing<X>
+        ensures { failing_inner result ≡ inner }
+    {
+        Failing {
+            inner,
+            calls: 0,
+            at_call: 0,
+            room: bytes,
+        }
+    }
+
+    /// The reader or writer that fails no more.
+    pub fn into_inner(self) -> X
+        ensures { result ≡ failing_inner self }
+    {
+        self.inner
+    }
+
+    fn fails(&mut self) -> bool
+        ensures kept { self.new.inner ≡ self.old.inner }
+        ensures room { result ≡ false → 0 < self.new.room }
+    {
+        self.calls = self.calls.saturating_add(1);
+        self.calls == self.at_call || self.room == 0
+    }
+
+    /// How many of `len` bytes may still go through.
+    fn part(&self, len: usize) -> usize
+        ensures within { result ≤ len }
+        ensures some { 0 < self.now.room → 0 < len → 0 < result }
+    {
+        usize::try_from(self.room).unwrap_or(len).min(len)
+    }
+
+    fn spend(&mut self, len: usize)
+        ensures { self.new.inner ≡ self.old.inner }
+    {
+        if self.room != u64::MAX {
+            self.room = self.room.saturating_sub(len as u64);
+        }
+    }
+}
+
+impl<R: Read> Read for Failing<R> {
+    ghost remaining = { λ s. R.remaining s.inner };
+
+    fn read(&mut self, buf: &mut [u8]) -> io::Result<usize> {
+        if self.fails() {
+            return Err(Error::from(ErrorKind::Other));
+        }
+        let part = self.part(buf.len());
+        let given = self.inner.read(&mut buf[..part])?;
+        self.spend(given);
+        Ok(given)
+    }
+}
+
+impl<W: Write> Write for Failing<W> {
+    ghost contents = { λ s. W.contents s.inner };
+
+    fn write(&mut self, buf: &[u8]) -> io::Result<usize> {
+        if self.fails() {
+            return Err(Error::from(ErrorKind::Other));
+        }
+        let part = self.part(buf.len());
+        let taken = self.inner.write(&buf[..part])?;
+        self.spend(taken);
+        Ok(taken)
+    }
+
+    fn flush(&mut self) -> io::Result<()> {
+        if self.fails() {
+            return Err(Error::from(ErrorKind::Other));
+        }
+        self.inner.flush()
+    }
+}

@@ -1,0 +1,30 @@
+//! Lines of JSON out of any reader, and texts into any writer.
+//!
+//! [`Source`] and [`Sink`] are a reader and a writer whose bytes and failures contracts can name; [`Counted`] makes one of any reader or
+//! writer. [`read_lines`] hands each line of a source, as a JSON value, to a [`TakeJson`], up to the first line that is refused, and [`send`]
+//! writes a whole text. [`fields`] has the fields of an object by their types.
+//!
+//! Callers may rely on this: what is read is `read_all` of the bytes, to their end or to the first fault with its line, also of a reader
+//! that fails; a line has at most 2^20 bytes and the input 2^30, so that input that never ends is refused; lines of spaces, tabs and carriage
+//! returns alone are skipped and counted. One pass over the input, one JSON value at a time.
+//!
+//! ```text
+//! let mut trace = Trace::new(alloc);
+//! read_lines(alloc, reader, &mut trace)?;
+//! ```
+#![tactic(auto)]
+
+mod devices;
+pub mod fields;
+mod json;
+mod lines;
+mod reading;
+mod sending;
+mod source;
+
+pub use devices::{Counted, Failing};
+pub use json::{LineCause, TakeJson, is_blank};
+pub use lines::{CHUNK, InputFault, line_end};
+pub use reading::{LineFault, MAX_INPUT, read_lines};
+pub use sending::{Unsent, send};
+pub use source::{Sink, Source};

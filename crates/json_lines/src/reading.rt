@@ -1,0 +1,112 @@
+//! The lines of a reader, handed to a value that takes them.
+
+ghost use Rattle.std.specs.Prelude.{◌≡◌, ◌≢◌, ◌≤◌, ℕ, List, IfSome, IfErr, OnOk, ◌&&◌, ◌==◌, true, false};
+ghost use Rattle.std.specs.Io.KnownBytes.{Consumes};
+ghost use Rattle.json_lines.specs.Counts.{one_more};
+ghost use Rattle.json_lines.specs.Json.{taken_line};
+ghost use Rattle.json_lines.specs.Reading.{cause_of, read_all, Reads, IsReadFault, IsOfSomeLine};
+ghost use Rattle.json_lines.specs.declared.lines.InputFault.TheVariants.{Read};
+ghost use Rattle.json_lines.specs.declared.reading.Stop.TheVariants.{Input};
+
+use crate::json::{LineCause, TakeJson, take_line};
+use crate::lines::{InputFault, Lines};
+use crate::source::Source;
+use std::alloc::Global;
+
+/// Why reading stopped: the input, or what a line says.
+#[derive(Clone, Copy, Debug, PartialEq, Eq, Drop)]
+pub enum Stop<C> {
+    Input(InputFault),
+    Line(C),
+}
+
+/// The line at which reading stopped, from 1.
+#[derive(Clone, Copy, Debug, PartialEq, Eq, Drop)]
+pub struct LineFault<C> {
+    pub line: u64,
+    pub stop: Stop<C>,
+}
+
+impl<C: LineCause> LineFault<C> {
+    /// Why, whether the input or the line gave it.
+    pub fn cause(self) -> C
+        ensures { result ≡ cause_of C.of_input self.stop }
+    {
+        match self.stop {
+            Stop::Line(cause) => cause,
+            Stop::Input(fault) => C::of_input(fault),
+        }
+    }
+}
+
+/// How many bytes a line may have, without its newline.
+const MAX_LINE: usize = 1 << 20;
+
+/// How many bytes an input may have.
+pub const MAX_INPUT: usize = 1 << 30;
+
+/// Whether the newline of a line is past the end of what may come.
+fn is_over(more: bool, len: usize, room: usize) -> bool
+    ensures { result ≡ (more && (len == room)) }
+{
+    more && len == room
+}
+
+/// Hands the lines of a reader to `value`, up to the first that is refused.
+///
+/// A line has at most 2^20 bytes without its newline, and the input 2^30 bytes; nothing behind the byte that is
+/// too many is read. Any failure of the reader ends the reading.
+pub fn read_lines<R: Source, T: TakeJson>(
+    alloc: Global,
+    reader: &mut R,
+    value: &mut T,
+) -> Result<(), LineFault<T::Cause>>
+    requires { T.next value.old ≤ 1 }
+    ensures exact { IfSome (R.remaining reader.old) (λ input. Reads result value.new (read_all (taken_line T.Cause.not_json T.taken) true value.old input)) }
+    // Of a reader that failed, by the bytes that it gave before.
+    ensures failed { IfErr result (λ e. IsReadFault e → IfSome (R.remaining reader.old) (λ input.
+        (given : List ℕ) × Consumes (R.remaining reader.old) (R.remaining reader.new) given
+        × (read_all (taken_line T.Cause.not_json T.taken) false value.old given ≡ Err e))) }
+    // A cause is what some line gave.
+    ensures told { IfErr result (IsOfSomeLine (taken_line T.Cause.not_json T.taken)) }
+    // A reader's failure is told, and nothing else is called one.
+    ensures counted { IfErr result (λ e. IsReadFault e → R.failures reader.new ≡ one_more (R.failures reader.old)) }
+    ensures kept { OnOk result (R.failures reader.new ≡ R.failures reader.old) }
+    ensures unfailed { IfErr result (λ e. e.stop ≢ Input Read → R.failures reader.new ≡ R.failures reader.old) }
+{
+    let mut lines = match Lines::new(alloc) {
+        Ok(lines) => lines,
+        Err(_) => return Err(LineFault {
+            line: 1,
+            stop: Stop::Input(InputFault::OutOfMemory),
+        }),
+    };
+    let mut line = Vec::new(alloc);
+    let mut room = MAX_INPUT;
+    for number in 1..u64::MAX {
+        let more = match lines.next(reader, room.min(MAX_LINE), &mut line) {
+            Ok(more) => more,
+            Err(fault) => return Err(LineFault {
+                line: number,
+                stop: Stop::Input(fault),
+            }),
+        };
+        if is_over(more, line.len(), room) {
+            return Err(LineFault {
+                line: number,
+                stop: Stop::Input(InputFault::TooLong),
+            });
+        }
+        if let Err(stop) = take_line(alloc, value, number, &line) {
+            return Err(LineFault { line: number, stop });
+        }
+        if !more {
+            return Ok(());
+        }
+        room -= line.len() + 1;
+    }
+    Err(LineFault {
+        line: u64::MAX,
+        stop: Stop::Input(InputFault::TooLong),
+    })
+}

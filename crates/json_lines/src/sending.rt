@@ -1,0 +1,43 @@
+//! Writing a whole text.
+
+ghost use Rattle.std.specs.Prelude.{◌≡◌, ◌≤◌, ◌<◌, ◌⊎◌, length, take, OnOk, IfErr};
+ghost use Rattle.std.specs.Io.KnownBytes.{Appends};
+ghost use Rattle.json_lines.specs.Counts.{one_more};
+
+use crate::source::Sink;
+
+/// How many bytes went out before the writer failed, or took none.
+#[derive(Clone, Copy, Debug, PartialEq, Eq)]
+pub struct Unsent {
+    pub written: usize,
+}
+
+/// Writes all of the bytes and flushes.
+///
+/// Where the writer fails, or takes none of the bytes that are left, it says how many bytes went out. After a
+/// failed flush these are all.
+pub fn send<W: Sink>(out: &mut W, bytes: &[u8]) -> Result<(), Unsent>
+    ensures all { OnOk result (Appends (W.contents out.old) (W.contents out.new) bytes.now) }
+    ensures part { IfErr result (λ e. (e.written ≤ length bytes.now)
+        × Appends (W.contents out.old) (W.contents out.new) (take e.written bytes.now)) }
+    ensures kept { OnOk result (W.failures out.new ≡ W.failures out.old) }
+    // The writer failed, or took none of some bytes.
+    ensures refused { IfErr result (λ e. (W.failures out.new ≡ one_more (W.failures out.old))
+        ⊎ ((W.idle out.new ≡ one_more (W.idle out.old)) × (e.written < length bytes.now))) }
+{
+    let mut written = 0;
+    for _turn in 0..bytes.len() {
+        if written == bytes.len() {
+            break;
+        }
+        match out.take_some(&bytes[written..]) {
+            Ok(0) => return Err(Unsent { written }),
+            Ok(n) => written += n,
+            Err(_) => return Err(Unsent { written }),
+        }
+    }
+    match out.finish() {
+        Ok(()) => Ok(()),
+        Err(_) => Err(Unsent { written }),
+    }
+}

@@ -1,0 +1,34 @@
+use Rattle.std.proofs.Common.{◌↔◌, drop}
+use Rattle.tuple_text.specs.Refs.{set_value}
+use Rattle.tuple_text.specs.Tuples.{fact_of}
+use Rattle.namespaces.specs.Lookup.{rule_at}
+use Rattle.namespaces.specs.View.{expression_of, expressions_of}
+use Rattle.version_chains.specs.Commits.{store_at}
+use Rattle.judgement.specs.Judgement.{Established, SomeEstablished, EachEstablished, Refuted, EachRefuted, SomeRefuted}
+use Rattle.judgement.proofs.table.+judge.Given as goal
+
+abbrev pub decreases-established : goal.decreases-established
+decreases-established l = goal.size-established l
+
+abbrev pub decreases-refuted : goal.decreases-refuted
+decreases-refuted l = goal.size-refuted l
+
+abbrev pub invariant-established-loop-child : goal.invariant-established-loop-child
+invariant-established-loop-child l =
+    SomeEstablished (rule_at l.trace.declarations l.at) (store_at l.trace.commits l.at) l.known (fact_of (set_value l.set) l.user) (expressions_of (drop l.child-index l.child-items))
+    ↔ Established (rule_at l.trace.declarations l.at) (store_at l.trace.commits l.at) l.known (fact_of (set_value l.set) l.user) (expression_of l.fn.rewrite)
+
+abbrev pub invariant-established-loop-child-2 : goal.invariant-established-loop-child-2
+invariant-established-loop-child-2 l =
+    EachEstablished (rule_at l.trace.declarations l.at) (store_at l.trace.commits l.at) l.known (fact_of (set_value l.set) l.user) (expressions_of (drop l.child-index l.child-items))
+    ↔ Established (rule_at l.trace.declarations l.at) (store_at l.trace.commits l.at) l.known (fact_of (set_value l.set) l.user) (expression_of l.fn.rewrite)
+
+abbrev pub invariant-refuted-loop-child : goal.invariant-refuted-loop-child
+invariant-refuted-loop-child l =
+    EachRefuted (rule_at l.trace.declarations l.at) (store_at l.trace.commits l.at) l.known (fact_of (set_value l.set) l.user) (expressions_of (drop l.child-index l.child-items))
+    ↔ Refuted (rule_at l.trace.declarations l.at) (store_at l.trace.commits l.at) l.known (fact_of (set_value l.set) l.user) (expression_of l.fn.rewrite)
+
+abbrev pub invariant-refuted-loop-child-2 : goal.invariant-refuted-loop-child-2
+invariant-refuted-loop-child-2 l =
+    SomeRefuted (rule_at l.trace.declarations l.at) (store_at l.trace.commits l.at) l.known (fact_of (set_value l.set) l.user) (expressions_of (drop l.child-index l.child-items))
+    ↔ Refuted (rule_at l.trace.declarations l.at) (store_at l.trace.commits l.at) l.known (fact_of (set_value l.set) l.user) (expression_of l.fn.rewrite)
