@@ -15,8 +15,6 @@ mod indexed;
 mod judged;
 mod known;
 mod passes;
-#[cfg(test)]
-mod tests;
 
 pub use judged::{established, refuted};
 pub use known::Known;

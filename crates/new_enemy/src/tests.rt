@@ -1,4 +1,4 @@
-//! Runs over readers and writers that fail, and one run of each kind.
+//! Runs over readers and writers that fail, and one plain audit. What a run answers on its input is shown by rows.
 
 use crate::audit::{AuditFault, Verdict, audit_plain};
 use crate::run::run_words;
@@ -15,40 +15,6 @@ const CLEAN: &str = "entries 1\nfindings 0\nverdict clean\n";
 
 fn joined(alloc: Global, evidence: &str) -> Result<String, Fail> {
     Ok(format!(in alloc; "{TRACE}---\n{evidence}")?)
-}
-
-#[test]
-fn runs_answer_by_status(rt: HostRuntime) -> Result<(), Fail> {
-    let alloc = rt.alloc();
-    for (evidence, report, status) in [
-        (EVIDENCE, CLEAN, 0),
-        (
-            "",
-            "line 3: F7 no evidence\nentries 1\nfindings 1\nverdict dirty\n",
-            1,
-        ),
-        (
-            "{\"line\":3,\"steps\":[]}\n",
-            "line 3: F9 silent evidence\nentries 1\nfindings 1\nverdict dirty\n",
-            1,
-        ),
-        (
-            "{\"line\":3,\"steps\":[{\"yes\":\"doc:readme#viewer@10\"},{\"yes\":\"doc:other#viewer@10\"}]}\n",
-            "line 3: F8 bad evidence at step 2\nentries 1\nfindings 1\nverdict dirty\n",
-            1,
-        ),
-        ("{\"line\":2,\"steps\":[]}\n", "", 2),
-    ] {
-        let input = joined(alloc, evidence)?;
-        let mut reader = input.as_bytes();
-        let mut out = Counted::new(Vec::new(alloc));
-        let mut err = Counted::new(Vec::new(alloc));
-        let given = run_words(alloc, &[], &mut reader, &mut out, &mut err);
-        assert!(rt; given == status, "{evidence}");
-        let written: Vec<u8> = out.into_inner();
-        assert!(rt; written.as_slice() == report.as_bytes(), "{evidence}");
-    }
-    Ok(())
 }
 
 #[test]

@@ -22,8 +22,6 @@ mod reading;
 mod sample;
 mod sending;
 mod source;
-#[cfg(test)]
-mod tests;
 mod texts;
 mod trace;
 mod versions;
