@@ -1,7 +1,8 @@
-//! Runs over readers and writers that fail, and one plain audit. What a run answers on its input is shown by rows.
+//! Readers and writers that fail in mid-stream, and one plain audit. What a run answers on its input, with which text and status, is
+//! shown by rows.
 
 use crate::audit::{AuditFault, Verdict, audit_plain};
-use crate::run::run_words;
+use crate::joined::audit_joined;
 use std::alloc::Global;
 use std::test::Fail;
 use trace_lines::{Cause, Counted, Failing, TraceFault};
@@ -13,73 +14,78 @@ const EVIDENCE: &str = "{\"line\":3,\"steps\":[{\"yes\":\"doc:readme#viewer@10\"
 
 const CLEAN: &str = "entries 1\nfindings 0\nverdict clean\n";
 
-fn joined(alloc: Global, evidence: &str) -> Result<String, Fail> {
-    Ok(format!(in alloc; "{TRACE}---\n{evidence}")?)
+fn joined(alloc: Global) -> Result<String, Fail> {
+    Ok(format!(in alloc; "{TRACE}---\n{EVIDENCE}")?)
+}
+
+/// Whether the joined audit stops behind these bytes of the report.
+fn stops_behind(alloc: Global, input: &str, writer: Failing<Vec<u8>>, report: &str) -> bool {
+    let mut reader = input.as_bytes();
+    let mut out = Counted::new(writer);
+    let answer = audit_joined(alloc, &mut reader, &mut out);
+    let went: Vec<u8> = out.into_inner().into_inner();
+    let written = report.len();
+    answer == Err(AuditFault::Write { written }) && went.as_slice() == report.as_bytes()
 }
 
 #[test]
 fn writers_fail(rt: HostRuntime) -> Result<(), Fail> {
     let alloc = rt.alloc();
+    let input = joined(alloc)?;
     // after ten bytes, and at the flush
-    for (failing, written, told) in [
-        (
+    assert!(rt;
+        stops_behind(
+            alloc,
+            &input,
             Failing::after(Vec::new(alloc), 10),
-            "entries 1\n",
-            "write fault after 10 bytes\n",
-        ),
-        (
-            Failing::at_call(Vec::new(alloc), 2),
-            CLEAN,
-            "write fault after 35 bytes\n",
-        ),
-    ] {
-        let input = joined(alloc, EVIDENCE)?;
-        let mut reader = input.as_bytes();
-        let mut out = Counted::new(failing);
-        let mut err = Counted::new(Vec::new(alloc));
-        let status = run_words(alloc, &[], &mut reader, &mut out, &mut err);
-        assert_eq!(rt; status, 5);
-        let went: Vec<u8> = out.into_inner().into_inner();
-        assert!(rt; went.as_slice() == written.as_bytes(), "{told}");
-        let said: Vec<u8> = err.into_inner();
-        assert!(rt; said.as_slice() == told.as_bytes(), "{told}");
-    }
+            "entries 1\n"
+        )
+    );
+    assert!(rt; stops_behind(alloc, &input, Failing::at_call(Vec::new(alloc), 2), CLEAN));
     Ok(())
+}
+
+/// The answer of a plain audit whose trace can be read up to a place, where nothing is written.
+fn cut_trace(alloc: Global, bytes: u64) -> Option<Result<Verdict, AuditFault>> {
+    let mut trace = Counted::new(Failing::after(TRACE.as_bytes(), bytes));
+    let mut evidence = EVIDENCE.as_bytes();
+    let mut out = Counted::new(Vec::new(alloc));
+    let answer = audit_plain(alloc, &mut trace, &mut evidence, &mut out);
+    let written: Vec<u8> = out.into_inner();
+    if written.is_empty() {
+        Some(answer)
+    } else {
+        None
+    }
+}
+
+/// The answer of a joined audit whose input can be read up to a place.
+fn cut_input(alloc: Global, input: &str, bytes: u64) -> Result<Verdict, AuditFault> {
+    let mut reader = Counted::new(Failing::after(input.as_bytes(), bytes));
+    let mut out = Counted::new(Vec::new(alloc));
+    audit_joined(alloc, &mut reader, &mut out)
 }
 
 #[test]
 fn readers_fail(rt: HostRuntime) -> Result<(), Fail> {
     let alloc = rt.alloc();
     let second_line_ends = TRACE.len() as u64 - 104;
-    let mut trace = Counted::new(Failing::after(TRACE.as_bytes(), second_line_ends));
-    let mut evidence = EVIDENCE.as_bytes();
-    let mut out = Counted::new(Vec::new(alloc));
-    let answer = audit_plain(alloc, &mut trace, &mut evidence, &mut out);
     let fault = TraceFault {
         line: 3,
         cause: Cause::Read,
     };
-    assert_eq!(rt; answer, Err(AuditFault::Trace(fault)));
-    let written: Vec<u8> = out.into_inner();
-    assert!(rt; written.is_empty());
-
-    let input = joined(alloc, EVIDENCE)?;
-    let mut reader = Counted::new(Failing::after(input.as_bytes(), TRACE.len() as u64 + 4));
-    let mut out = Counted::new(Vec::new(alloc));
-    let mut err = Counted::new(Vec::new(alloc));
-    assert_eq!(rt; run_words(alloc, &[], &mut reader, &mut out, &mut err), 5);
-    let said: Vec<u8> = err.into_inner();
-    assert!(rt; said.as_slice() == "read fault\n".as_bytes());
+    assert!(rt; cut_trace(alloc, second_line_ends) == Some(Err(AuditFault::Trace(fault))));
+    let input = joined(alloc)?;
+    let in_the_evidence = TRACE.len() as u64 + 4;
+    assert!(rt; cut_input(alloc, &input, in_the_evidence) == Err(AuditFault::Input));
     Ok(())
 }
 
 #[test]
-fn plain_audits_answer(rt: HostRuntime) -> Result<(), Fail> {
-    let alloc = rt.alloc();
+fn plain_audits_answer(rt: HostRuntime) {
     let mut trace = TRACE.as_bytes();
     let mut evidence = EVIDENCE.as_bytes();
-    let mut out = Counted::new(Vec::new(alloc));
-    let answer = audit_plain(alloc, &mut trace, &mut evidence, &mut out);
-    assert_eq!(rt; answer, Ok(Verdict::Clean));
-    Ok(())
+    let mut out = Counted::new(Vec::new(rt.alloc()));
+    let answer = audit_plain(rt.alloc(), &mut trace, &mut evidence, &mut out);
+    assert!(rt; answer == Ok(Verdict::Clean));
 }
