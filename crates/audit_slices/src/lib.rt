@@ -11,9 +11,10 @@
 //! being those named for entry 0, 1 and so on, and on each alert being true.
 //!
 //! No progress and no fairness is promised, and not which worker checks what. So a `Thief::steal` that always answers
-//! `None`, a pool in one thread and a pool whose workers never steal would be proved: the tests of the yards and
-//! `two_workers_are_at_work_at_once` refuse them. No clause says that a new `Board` is empty, since none says what is
-//! on a board that threads share: `one_alert_is_posted` tests it. `Watch::seen` is the caller's, and may do anything.
+//! `None`, a pool in one thread and a pool whose workers never steal would be proved: in the crate `tests_of_slices`
+//! the tests of the yards and `two_workers_are_at_work_at_once` refuse them. No clause says that a new `Board` is empty,
+//! since none says what is on a board that threads share: `one_alert_is_posted` there tests it. `Watch::seen` is the
+//! caller's, and may do anything.
 #![tactic(auto)]
 
 pub mod board;
@@ -27,6 +28,4 @@ pub mod receipts;
 pub mod rule;
 pub mod run;
 pub mod slices;
-#[cfg(test)]
-mod tests;
 pub mod yard;

@@ -18,8 +18,6 @@ mod read;
 mod recorder;
 mod records;
 mod step;
-#[cfg(test)]
-mod tests;
 
 pub use cause::{EvidenceCause, EvidenceFault};
 pub use evidence::Evidence;

@@ -12,11 +12,9 @@
 
 mod facts;
 mod indexed;
-mod table;
 mod known;
 mod stored;
-#[cfg(test)]
-mod tests;
+mod table;
 
-pub use table::{established, refuted};
 pub use known::Known;
+pub use table::{established, refuted};

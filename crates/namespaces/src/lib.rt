@@ -25,6 +25,3 @@ pub use fault::RulesFault;
 pub use number::RelNo;
 pub use rewrite::Rewrite;
 pub use rules::Rules;
-
-#[cfg(test)]
-mod tests;

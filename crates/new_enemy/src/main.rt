@@ -8,8 +8,6 @@
 #![tactic(auto)]
 
 mod run;
-#[cfg(test)]
-mod tests;
 
 use json_lines::Counted;
 use run::run_words;

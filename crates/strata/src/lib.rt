@@ -19,6 +19,3 @@ mod walk;
 pub use change::{ChangeFault, check_change};
 pub use check::{check_rules, check_tuple};
 pub use edge::Edge;
-
-#[cfg(test)]
-mod tests;

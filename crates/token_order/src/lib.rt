@@ -13,8 +13,6 @@
 mod findings;
 pub mod laws;
 mod order;
-#[cfg(test)]
-mod tests;
 
 pub use findings::OrderFindings;
 pub use order::order_of;

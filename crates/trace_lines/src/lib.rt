@@ -21,8 +21,6 @@ mod entry;
 pub mod laws;
 mod read;
 mod sample;
-#[cfg(test)]
-mod tests;
 mod texts;
 mod trace;
 mod versions;

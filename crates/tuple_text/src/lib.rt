@@ -18,8 +18,6 @@ mod fault;
 mod forms;
 mod reading;
 mod sets;
-#[cfg(test)]
-mod tests;
 mod tuples;
 mod users;
 mod writing;

@@ -9,8 +9,6 @@
 #![tactic(auto)]
 
 mod fault;
-#[cfg(test)]
-mod tests;
 mod token;
 
 pub use fault::ZookieFault;

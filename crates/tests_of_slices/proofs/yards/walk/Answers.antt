@@ -1,6 +1,6 @@
 use Rattle.std.proofs.Common.{◌∙◌}
 use Rattle.audit_slices.proofs.FinishLemmas.{yard_start}
-use Rattle.audit_slices.proofs.tests.walk.Goals as goal
+use Rattle.tests_of_slices.proofs.yards.walk.Goals as goal
 
 pub close-receipts-requires : goal.close-receipts-requires
 close-receipts-requires g c =

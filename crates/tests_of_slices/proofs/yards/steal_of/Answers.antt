@@ -4,7 +4,7 @@ use Rattle.std.specs.declared.vec.Vec.{Vec}
 use Rattle.std.specs.declared.alloc.Global.{Global}
 use Rattle.audit_slices.specs.declared.lane.Thief.{Thief}
 use Rattle.audit_slices.specs.Lane.{ThiefPlace, thief_place}
-use Rattle.audit_slices.proofs.tests.steal_of.Goals as goal
+use Rattle.tests_of_slices.proofs.yards.steal_of.Goals as goal
 
 pub returns : goal.returns
 returns c =

@@ -1,6 +1,6 @@
 use Rattle.std.proofs.Common.{◌≡◌, length}
 use Rattle.audit_slices.specs.Machine.{state_of}
-use Rattle.audit_slices.proofs.tests.core_walks.Given as goal
+use Rattle.tests_of_slices.proofs.cores.core_walks.Given as goal
 
 abbrev pub invariant-loop-event : goal.invariant-loop-event
 invariant-loop-event g l = record {

@@ -1,6 +1,6 @@
 use Rattle.std.proofs.Common.{◌≡◌, map}
 use Rattle.audit_slices.specs.Lane.{lane_place, thief_place}
-use Rattle.audit_slices.proofs.tests.walk.Given as goal
+use Rattle.tests_of_slices.proofs.yards.walk.Given as goal
 
 abbrev pub invariant-loop-step : goal.invariant-loop-step
 invariant-loop-step g l = record {

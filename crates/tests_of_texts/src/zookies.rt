@@ -1,7 +1,6 @@
 //! Worked tokens.
 
-use crate::{TokenKind, Zookie, ZookieFault};
-use std::test::Fail;
+use zookie::{TokenKind, Zookie};
 
 const GREATEST: u64 = 18446744073709551615;
 
@@ -23,20 +22,6 @@ const TOKENS: [(&str, Option<TokenKind>, u64); 7] = [
     ),
 ];
 
-const REFUSED: [(&str, ZookieFault); 11] = [
-    ("z1-000000000000005", ZookieFault::Length),
-    ("z1-00000000000000050", ZookieFault::Length),
-    ("", ZookieFault::Length),
-    ("z3-00000000000000050", ZookieFault::Length),
-    ("z1-000000000000000A", ZookieFault::Digit { at: 18 }),
-    ("z1-g00000000000000A", ZookieFault::Digit { at: 3 }),
-    ("z3-0000000000000005", ZookieFault::Prefix),
-    ("z2-x0000000000000008", ZookieFault::KindByte),
-    ("z2-0000000000000008", ZookieFault::Length),
-    ("z2-c000000000000000G", ZookieFault::Digit { at: 19 }),
-    ("z2-x000000000000000G", ZookieFault::Digit { at: 19 }),
-];
-
 #[test]
 fn tokens_are_read_and_written_back(rt: HostRuntime) {
     for (text, kind, at) in TOKENS {
@@ -53,21 +38,4 @@ fn tokens_are_read_and_written_back(rt: HostRuntime) {
             assert!(rt; *byte == wanted, "{text}");
         }
     }
-    for (text, fault) in REFUSED {
-        assert!(rt; Zookie::parse(text) == Err(fault), "{text}");
-    }
-}
-
-#[test]
-fn faults_are_told(rt: HostRuntime) -> Result<(), Fail> {
-    let alloc = rt.alloc();
-    for (fault, text) in [
-        (ZookieFault::Length, "bad zookie, length"),
-        (ZookieFault::Prefix, "bad zookie, prefix"),
-        (ZookieFault::Digit { at: 18 }, "bad zookie, digit at 18"),
-        (ZookieFault::KindByte, "bad zookie, kind"),
-    ] {
-        assert_eq!(rt; format!(in alloc; "{fault}")?.as_str(), text);
-    }
-    Ok(())
 }

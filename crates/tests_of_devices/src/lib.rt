@@ -1,0 +1,7 @@
+//! Tests of the audit over readers and writers that fail in mid-stream. They use public calls alone, and nothing stands on this crate.
+//!
+//! No contract says at which call `Failing` fails, nor that a flush reaches the device: these tests show both.
+#![tactic(auto)]
+
+#[cfg(test)]
+mod devices;
