@@ -1,15 +1,13 @@
 ghost use Rattle.std.specs.Prelude.{◌≡◌, ◌==◌, if◌then◌else◌, map, length};
-ghost use Rattle.audit_slices.specs.Cut.{IsNumbered};
-ghost use Rattle.audit_slices.specs.Lane.{lane_place, thief_place};
-ghost use Rattle.audit_slices.specs.Machine.{state_of};
+ghost use Rattle.slice_yard.specs.Cut.{IsNumbered};
+ghost use Rattle.slice_yard.specs.Lane.{lane_place, thief_place};
+ghost use Rattle.slice_core.specs.Machine.{state_of};
 
 use crate::board::{Alert, Blind, Board, Names, Watch};
 use crate::checks::{Check, Free, Gate, check_slice};
-use crate::lane::{Lane, Thief};
-use crate::machine::{Core, Event};
 use crate::run::run_pool;
-use crate::slices::{Slice, cut};
-use crate::yard::{OpenCause, Yard, close};
+use slice_core::{Core, Event};
+use slice_yard::{Lane, OpenCause, Slice, Thief, Yard, close, cut};
 use std::alloc::{AllocError, Global};
 use std::process::Abort;
 use std::sync::atomic::{AtomicUsize, Ordering};
