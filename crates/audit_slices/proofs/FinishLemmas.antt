@@ -7,21 +7,22 @@ use Rattle.std.specs.declared.alloc.Global.{Global}
 use Rattle.std.proofs.lemmas.List.{length-map}
 use Rattle.std.proofs.lemmas.List.Sums.{sum_by-cons}
 use Rattle.std.proofs.lemmas.List.Elements.{All-head, All-tail}
-use Rattle.audit_slices.specs.declared.slices.Slice.{Slice}
-use Rattle.audit_slices.specs.declared.rule.Hand.{Hand}
-use Rattle.audit_slices.specs.declared.lane.Lane.{Lane}
-use Rattle.audit_slices.specs.declared.lane.Thief.{Thief}
+use Rattle.slice_yard.specs.declared.slices.Slice.{Slice}
+use Rattle.slice_yard.specs.declared.rule.Hand.{Hand}
+use Rattle.slice_yard.specs.declared.lane.Lane.{Lane}
+use Rattle.slice_yard.specs.declared.lane.Thief.{Thief}
 use Rattle.audit_slices.specs.declared.checks.SliceReport.{SliceReport}
 use Rattle.audit_slices.specs.declared.members.Member.{Member}
-use Rattle.audit_slices.specs.Hands.{owner_hand, fresh}
-use Rattle.audit_slices.specs.Lane.{LanePlace, ThiefPlace, lane_hand, lane_state, lane_place, fresh_state, thief_state, thief_place, thief_hand_of}
+use Rattle.slice_yard.specs.Hands.{owner_hand, fresh}
+use Rattle.slice_yard.specs.Lane.{LanePlace, lane_hand, lane_place, thief_place}
 use Rattle.audit_slices.specs.Members.{member_places, member_sum}
-use Rattle.audit_slices.specs.Named.{named_from}
+use Rattle.slice_core.specs.Named.{named_from}
 use Rattle.audit_slices.specs.Run.{IsWhole, IsFinished}
-use Rattle.audit_slices.specs.Shared.{handed_sum, thieves_sum, lists_sum, closed_hands}
-use Rattle.audit_slices.specs.Yard.{filled, seated, dealt, seat_of, thief_lanes, lists_of, with_lists, IsOpened, AreOfOneYard}
-use Rattle.audit_slices.proofs.SumLemmas.{sum_by-mapped, sum_both}
-use Rattle.audit_slices.proofs.Tables.{table_at, table_all, table_map, table_same, table_length, map_map, default_at, All_map, All_unmap}
+use Rattle.slice_yard.specs.Shared.{handed_sum, thieves_sum, lists_sum, closed_hands}
+use Rattle.slice_yard.specs.Yard.{filled, dealt, lists_of, with_lists, IsOpened, AreOfOneYard}
+use Rattle.slice_yard.proofs.OpenedLemmas.{owners_start, others_start}
+use Rattle.slice_core.proofs.SumLemmas.{sum_by-mapped, sum_both}
+use Rattle.slice_core.proofs.Tables.{table_at, table_all, table_map, table_same, table_length, map_map, default_at}
 
 handed_alone : (h : Slice → ℕ) (ls : List Lane) → All (λ v. v.closed ≡ []) (map lane_hand ls) → sum_by (λ l. lists_sum h (lane_hand l)) ls ≡ sum_by (λ l. handed_sum h (lane_hand l)) ls
 handed_alone h [] none = refl
@@ -85,43 +86,10 @@ module _ {X : Type 0} (ms : List (Member X)) (ls : List Lane) (vs : List (Vec Th
             ap (λ (v : Hand). v.closed) (a) ∙ ap (λ (v : Hand). v.closed) (first_is k (omega arith)));
       }
 
-fresh_thieves : (vs : List (Vec Thief Global)) → map (λ v. map thief_place v.items) vs ≡ map (map (λ (p : ThiefPlace). (p.0, p.1, fresh p.2))) (map (λ v. map thief_state v.items) vs)
-fresh_thieves [] = refl
-fresh_thieves (v ∷ vs) = let a = map_map (λ (p : ThiefPlace). (p.0, p.1, fresh p.2)) thief_state v.items in let b = fresh_thieves vs in λ i. sym a i ∷ b i
-
--- a yard that was opened
+-- the workers of a yard that was opened have all its ends
 module _ (xs : List Slice) (n workers : ℕ) (lanes : List Lane) (thieves : List (Vec Thief Global)) (opened : IsOpened xs n workers lanes thieves) where
-  pub nothing_lanes : All (λ l. (lane_hand l).handed ≡ []) lanes
-  nothing_lanes = All_unmap (λ (p : LanePlace). p.1.handed ≡ []) lane_state lanes (subst (All (λ (p : LanePlace). p.1.handed ≡ [])) (sym opened.owners)
-      (table_all (λ (p : LanePlace). p.1.handed ≡ []) (λ l. ((opened.deques l, false), filled (dealt xs n l) workers)) n (λ l lt. refl)))
-
-  pub nothing_thieves : All (λ v. All (λ t. (thief_hand_of t).handed ≡ []) v.items) thieves
-  nothing_thieves =
-      let P : ThiefPlace → Type 0 = λ p. p.2.handed ≡ [] in
-      let each : All (λ v. All P (map thief_state v.items)) thieves = All_unmap (All P) (λ (v : Vec Thief Global). map thief_state v.items) thieves (subst (All (All P)) (sym opened.others)
-      (table_all (All P) (λ w. map (λ l. (l, opened.deques l, seated (dealt xs n l) (seat_of l w))) (thief_lanes n w)) workers
-      (λ w lt. All_map P (λ l. (l, opened.deques l, seated (dealt xs n l) (seat_of l w))) (thief_lanes n w) (λ k d lt. refl)))) in
-      λ k d lt. All_unmap P thief_state (get_or thieves k d).items (each k d lt)
-
-  pub yard_start : 0 < n → n ≤ workers → AreOfOneYard (map lane_place lanes) (map (λ v. map thief_place v.items) thieves)
-  yard_start some enough = record {
-    slices = xs;
-    lane_count = n;
-    workers = workers;
-    some_lane = some;
-    enough = enough;
-    deques = opened.deques;
-    owners = sym (map_map fresh_state lane_state lanes) ∙ ap (map fresh_state) opened.owners ∙ table_map fresh_state (λ l. ((opened.deques l, false), filled (dealt xs n l) workers)) n;
-    others = fresh_thieves thieves ∙ ap (map (map (λ (p : ThiefPlace). (p.0, p.1, fresh p.2)))) opened.others
-        ∙ table_map (map (λ (p : ThiefPlace). (p.0, p.1, fresh p.2))) (λ w. map (λ l. (l, opened.deques l, seated (dealt xs n l) (seat_of l w))) (thief_lanes n w)) workers
-        ∙ table_same _ (λ w. map (λ l. (l, opened.deques l, seated (dealt xs n l) (seat_of l w))) (thief_lanes n w)) workers
-        (λ w lt. map_map (λ (p : ThiefPlace). (p.0, p.1, fresh p.2)) (λ l. (l, opened.deques l, seated (dealt xs n l) (seat_of l w))) (thief_lanes n w));
-  }
-
   pub whole_start : {X : Type 0} (ms : List (Member X)) → 0 < n → n ≤ workers → map (λ m. (member_places m).0) ms ≡ map lane_place lanes → map (λ m. (member_places m).1) ms ≡ map (λ v. map thief_place v.items) thieves → IsWhole xs ms
-  unfolding yard_start
   whole_start ms some enough own others =
-      let yard = yard_start some enough in
       record {
         yard = record {
           slices = xs;
@@ -130,8 +98,8 @@ module _ (xs : List Slice) (n workers : ℕ) (lanes : List Lane) (thieves : List
           some_lane = some;
           enough = enough;
           deques = opened.deques;
-          owners = own ∙ yard.owners;
-          others = others ∙ yard.others;
+          owners = own ∙ owners_start xs n workers lanes thieves opened;
+          others = others ∙ others_start xs n workers lanes thieves opened;
         };
         same = refl;
       }

@@ -1,10 +1,7 @@
-use Rattle.std.proofs.Common.{◌≡◌, ℕ, ◌+◌, ◌<◌, ◌≤◌, List, length, get_or, set, map, sym, ap, ◌∙◌, subst, arith}
-use Rattle.std.specs.Prelude.{sum_by, All}
+use Rattle.std.proofs.Common.{◌≡◌, ℕ, suc, ◌+◌, ◌<◌, ◌≤◌, List, [], ◌∷◌, length, map, sym, refl, ap, ◌∙◌, subst, arith}
+use Rattle.std.specs.Prelude.{sum_by, All, slice_index_or}
 use Rattle.std.proofs.lemmas.List.Elements.{All-contains}
-use Rattle.std.proofs.lemmas.List.{length-map}
-use Rattle.std.proofs.Math.ListN.{get_or-map}
-use Rattle.std.proofs.Math.Seq.{map-set_same}
-use Rattle.audit_slices.specs.declared.slices.Slice.{Slice}
+use Rattle.slice_yard.specs.declared.slices.Slice.{Slice}
 use Rattle.audit_slices.specs.declared.members.Member.{Member}
 use Rattle.audit_slices.specs.Members.{member_sum, member_places, IsNamed, IsSettled, IsOneShort, IsIn, AreBelow, Places, openings}
 
@@ -21,13 +18,12 @@ short f old new x settled same more = record {
   each = λ kept h. let a = settled.each (sym same.1 ∙ kept) h in let b = more h in let e = ap (λ d. sum_by (λ r. h r.slice) d.items) same.0 in omega arith;
 }
 
--- workers in the places of others that were covered are covered
-pub covered_at : {X : Type 0} (n : ℕ) (before now : List (Member X)) (i : ℕ) (d : Member X) → map member_places now ≡ map member_places before
-    → All (λ m. AreBelow n (member_places m)) before → i < length now → AreBelow n (member_places (get_or now i d))
-covered_at n before now i d e all within =
-    let a = length-map now member_places in let b = length-map before member_places in let l = ap length e in
-    let is : member_places (get_or before i d) ≡ member_places (get_or now i d) = sym (get_or-map member_places before i d) ∙ ap (λ p. get_or p i (member_places d)) (sym e) ∙ get_or-map member_places now i d in
-    subst (λ (p : Places). AreBelow n p) is (all i d (omega arith))
-
-pub places_set : {X : Type 0} (before now : List (Member X)) (i : ℕ) (m d : Member X) → map member_places now ≡ map member_places before → member_places m ≡ member_places (get_or now i d) → map member_places (set now i m) ≡ map member_places before
-places_set before now i m d e same = map-set_same member_places now i m d same ∙ e
+-- workers of which each has its places
+pub each_place : {X : Type 0} (before now : List (Member X)) → length now ≡ length before → ((i : ℕ) (d : Member X) → i < length before → member_places (slice_index_or now i d) ≡ member_places (slice_index_or before i d)) → map member_places now ≡ map member_places before
+each_place [] [] e h = refl
+each_place [] (m ∷ ms) e h = absurd (omega arith)
+each_place (m ∷ ms) [] e h = absurd (omega arith)
+each_place (m ∷ ms) (n ∷ ns) e h =
+    let first = h 0 m (omega arith) in
+    let rest = each_place ms ns (omega arith) (λ i d lt. h (suc i) d (omega arith)) in
+    λ i. first i ∷ rest i

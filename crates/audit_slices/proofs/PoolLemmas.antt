@@ -2,26 +2,27 @@
 use Rattle.std.proofs.Common.{◌≡◌, ℕ, ◌+◌, ◌%◌, ◌<◌, ◌≤◌, ◌==◌, false, List, [], ◌∷◌, ◌++◌, length, get_or, map, All, sym, refl, ap, ◌∙◌, subst, arith}
 use Rattle.std.specs.Prelude.{sum_by, slice_index_or}
 use Rattle.std.specs.List.{flat_map, range_with_len}
-use Rattle.audit_slices.specs.Cut.{entries_of}
+use Rattle.slice_yard.specs.Cut.{entries_of}
 use Rattle.std.specs.List.Sorted.{IsPermutation, IsNonDecreasingBy}
 use Rattle.std.proofs.lemmas.List.{map-append}
 use Rattle.std.proofs.lemmas.List.Sums.{sum_by-cons, sum_by-append}
 use Rattle.std.proofs.lemmas.List.Sorted.{sum_by-IsPermutation}
 use Rattle.std.proofs.lemmas.List.Elements.{All-nil, All-cons, All-head, All-tail, All-append, All-filter}
-use Rattle.audit_slices.specs.declared.slices.Slice.{Slice}
-use Rattle.audit_slices.specs.declared.rule.Hand.{Hand}
+use Rattle.slice_yard.specs.declared.slices.Slice.{Slice}
+use Rattle.slice_yard.specs.declared.rule.Hand.{Hand}
 use Rattle.audit_slices.specs.declared.checks.SliceReport.{SliceReport}
 use Rattle.audit_slices.specs.declared.members.Member.{Member}
-use Rattle.audit_slices.specs.Lane.{LanePlace, ThiefPlace}
+use Rattle.slice_yard.specs.Lane.{LanePlace, ThiefPlace}
 use Rattle.audit_slices.specs.Members.{Places, member_places, member_sum, thief_openings, IsSettled, IsNamed, AreBelow}
-use Rattle.audit_slices.specs.Named.{named_from}
+use Rattle.slice_core.specs.Named.{named_from}
 use Rattle.audit_slices.specs.Run.{IsWhole, IsFinished, unspent, rest_sum}
-use Rattle.audit_slices.specs.Shared.{lists_sum, IsSpent}
-use Rattle.audit_slices.specs.Yard.{filled, seated, dealt, seat_of, thief_lanes}
-use Rattle.audit_slices.proofs.Orders.{same_list, counts, rises}
-use Rattle.audit_slices.proofs.Shares.{shared_sum}
-use Rattle.audit_slices.proofs.SumLemmas.{sum_by-mapped, sum_all, sum_none, dealt_sum}
-use Rattle.audit_slices.proofs.Tables.{table_all, map_map, All_map, All_unmap, All_along}
+use Rattle.slice_yard.specs.Shared.{lists_sum, IsSpent}
+use Rattle.slice_yard.specs.Yard.{filled, seated, dealt, seat_of, thief_lanes}
+use Rattle.slice_yard.proofs.Orders.{same_list, counts, rises}
+use Rattle.slice_yard.proofs.Shares.{shared_sum}
+use Rattle.slice_core.proofs.SumLemmas.{sum_by-mapped, sum_all, sum_none}
+use Rattle.slice_yard.proofs.DealLemmas.{dealt_sum}
+use Rattle.slice_core.proofs.Tables.{table_all, map_map, All_map, All_unmap, All_along}
 
 abbrev pub Below : ℕ → List Slice → Type 0
 Below n xs = All (λ x. x.from + x.count ≤ n) xs

@@ -9,17 +9,17 @@ use Rattle.std.proofs.Math.Seq.{map-set_same}
 use Rattle.std.proofs.lemmas.List.Sums.{sum_by-append, sum_by-cons, sum_by-set}
 use Rattle.std.proofs.lemmas.List.Elements.{All-head, All-tail, All-push, All-contains}
 use Rattle.std.proofs.lemmas.Grind.{flat_map-append}
-use Rattle.audit_slices.specs.declared.slices.Slice.{Slice}
-use Rattle.audit_slices.specs.declared.rule.Hand.{Hand}
-use Rattle.audit_slices.specs.declared.lane.Thief.{Thief}
+use Rattle.slice_yard.specs.declared.slices.Slice.{Slice}
+use Rattle.slice_yard.specs.declared.rule.Hand.{Hand}
+use Rattle.slice_yard.specs.declared.lane.Thief.{Thief}
 use Rattle.audit_slices.specs.declared.checks.SliceReport.{SliceReport}
 use Rattle.audit_slices.specs.declared.members.Member.{Member}
-use Rattle.audit_slices.specs.Hands.{owner_hand, handed_rest}
-use Rattle.audit_slices.specs.Lane.{thief_place, thief_hand_of}
+use Rattle.slice_yard.specs.Hands.{owner_hand, handed_rest}
+use Rattle.slice_yard.specs.Lane.{thief_place, thief_hand_of}
 use Rattle.audit_slices.specs.Members.{member_places, IsSettled}
 use Rattle.audit_slices.specs.Run.{unspent, rest_sum}
-use Rattle.audit_slices.proofs.Tables.{All_along, empty}
-use Rattle.audit_slices.specs.Shared.{handed_sum, thieves_sum, HandedLeft}
+use Rattle.slice_core.proofs.Tables.{All_along, empty}
+use Rattle.slice_yard.specs.Shared.{handed_sum, thieves_sum, HandedLeft}
 
 -- thieves that were handed nothing
 pub nothing_handed : (h : Slice → ℕ) (ts : List Thief) → All (λ t. (thief_hand_of t).handed ≡ []) ts → thieves_sum h ts ≡ 0

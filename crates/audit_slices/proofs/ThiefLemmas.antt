@@ -5,14 +5,14 @@ use Rattle.std.proofs.Math.Seq.{map-set_same}
 use Rattle.std.proofs.lemmas.List.Sums.{sum_by-set}
 use Rattle.std.proofs.lemmas.List.Sums.{sum_by-append}
 use Rattle.std.proofs.lemmas.List.{length-map, get_or-map}
-use Rattle.audit_slices.specs.declared.slices.Slice.{Slice}
-use Rattle.audit_slices.specs.declared.lane.Thief.{Thief}
-use Rattle.audit_slices.specs.declared.rule.Hand.{Hand}
-use Rattle.audit_slices.specs.Hands.{took}
-use Rattle.audit_slices.specs.Lane.{ThiefPlace, thief_place, thief_hand_of}
+use Rattle.slice_yard.specs.declared.slices.Slice.{Slice}
+use Rattle.slice_yard.specs.declared.lane.Thief.{Thief}
+use Rattle.slice_yard.specs.declared.rule.Hand.{Hand}
+use Rattle.slice_yard.specs.Hands.{took}
+use Rattle.slice_yard.specs.Lane.{ThiefPlace, thief_place, thief_hand_of}
 use Rattle.audit_slices.specs.Members.{Places, openings, thief_openings, IsIn}
-use Rattle.audit_slices.specs.Shared.{handed_sum, thieves_sum}
-use Rattle.audit_slices.proofs.Tables.{map_map}
+use Rattle.slice_yard.specs.Shared.{handed_sum, thieves_sum}
+use Rattle.slice_core.proofs.Tables.{map_map}
 
 pub handed_sum-took : (h : Slice → ℕ) (v w : Hand) (x : Slice) → w ≡ took v (x ∷ []) → handed_sum h w ≡ handed_sum h v + h x
 handed_sum-took h v w x e = let a = sum_by-append h v.handed (x ∷ []) in let b : handed_sum h w ≡ sum_by h (v.handed ++ x ∷ []) = ap (handed_sum h) e in omega arith

@@ -1,11 +1,12 @@
 -- What a clause says of a worker: its places in the lanes, and what it was handed there.
-use Rattle.std.specs.Prelude.{◌≡◌, ℕ, ◌+◌, ◌≤◌, false, List, ◌∷◌, map, sum_by, All, Contains}
-use Rattle.audit_slices.specs.declared.slices.Slice.{Slice}
+use Rattle.std.specs.Prelude.{◌≡◌, ℕ, ◌+◌, false, List, ◌∷◌, map, sum_by, All, Contains}
+use Rattle.slice_yard.specs.declared.slices.Slice.{Slice}
 use Rattle.audit_slices.specs.declared.checks.SliceReport.{SliceReport}
 use Rattle.audit_slices.specs.declared.members.Member.{Member}
-use Rattle.audit_slices.specs.Lane.{LanePlace, ThiefPlace, lane_place, thief_place, lane_hand}
-use Rattle.audit_slices.specs.Named.{named_from}
-use Rattle.audit_slices.specs.Shared.{handed_sum, thieves_sum}
+use Rattle.slice_yard.specs.Cut.{first_entry, slice_len, IsWithin}
+use Rattle.slice_yard.specs.Lane.{LanePlace, ThiefPlace, lane_place, thief_place, lane_hand}
+use Rattle.slice_core.specs.Named.{named_from}
+use Rattle.slice_yard.specs.Shared.{handed_sum, thieves_sum}
 
 -- a worker's places: in its own lane, and as a thief
 abbrev pub Places : Type 0
@@ -28,7 +29,7 @@ module _ {X : Type 0} where
 
   -- the reports are those that f names for the slice's entries, in order
   abbrev pub IsNamed : (ℕ → X) → SliceReport X → Type 0
-  IsNamed f r = r.reports.items ≡ named_from f r.slice.from r.slice.count
+  IsNamed f r = r.reports.items ≡ named_from f (first_entry r.slice) (slice_len r.slice)
 
   -- its reports are right, and unless it lost a slice, they are of just the slices that it was handed
   pub record IsSettled (f : ℕ → X) (m : Member X) : Type 0 where
@@ -46,4 +47,4 @@ IsIn lists x = (all : List Slice) × Contains lists all × Contains all x
 
 -- each slice that was put in has its entries below n
 pub record AreBelow (n : ℕ) (places : Places) : Type 0 where
-  pub each : All (λ all. All (λ x. x.from + x.count ≤ n) all) (openings places)
+  pub each : All (λ all. All (IsWithin n) all) (openings places)

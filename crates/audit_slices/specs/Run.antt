@@ -1,14 +1,14 @@
 -- What the calls of the pool hand to one another.
 use Rattle.std.specs.Prelude.{◌≡◌, ℕ, ◌+◌, ◌<◌, false, List, [], All, map, sum_by, length}
 use Rattle.std.specs.List.{flat_map}
-use Rattle.audit_slices.specs.declared.slices.Slice.{Slice}
-use Rattle.audit_slices.specs.declared.rule.Hand.{Hand}
+use Rattle.slice_yard.specs.declared.slices.Slice.{Slice}
+use Rattle.slice_yard.specs.declared.rule.Hand.{Hand}
 use Rattle.audit_slices.specs.declared.checks.SliceReport.{SliceReport}
 use Rattle.audit_slices.specs.declared.members.Member.{Member}
 use Rattle.audit_slices.specs.Members.{member_places, member_sum}
-use Rattle.audit_slices.specs.Named.{named_from}
-use Rattle.audit_slices.specs.Shared.{lists_sum}
-use Rattle.audit_slices.specs.Yard.{dealt, AreOfOneYard}
+use Rattle.slice_core.specs.Named.{named_from}
+use Rattle.slice_yard.specs.Shared.{lists_sum}
+use Rattle.slice_yard.specs.Yard.{dealt, AreOfOneYard}
 
 -- before anything was handed out since the lane was closed
 abbrev pub unspent : Hand → Hand

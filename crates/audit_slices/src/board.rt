@@ -1,4 +1,4 @@
-// A board of alerts that threads share: each alert on it is true.
+//! A board of alerts that threads share: each alert on it is true.
 ghost use Rattle.std.specs.Prelude.{◌≡◌, ◌<◌, ◌≤◌, ℕ, Bool, IfOk, IfErr, IfSome, IfNone, OnSome};
 ghost use Rattle.audit_slices.specs.Board.{IsTrueAlert, IsPostedOn, posted_alert, IsOver, place_of, end_of};
 

@@ -1,9 +1,10 @@
-// What a check of an entry gives, and a check of a slice.
+//! What a check of an entry gives, and a check of a slice.
 ghost use Rattle.std.specs.Prelude.{◌≡◌, ◌+◌, ◌<◌, ◌≤◌, ◌^◌, ℕ, Bool, IfOk, IfErr};
-ghost use Rattle.audit_slices.specs.Named.{named_from};
-ghost use Rattle.audit_slices.specs.Reports.{slice_number, slice_len, first_entry, IsWithin, report_slice, report_items};
+ghost use Rattle.slice_core.specs.Named.{named_from};
+ghost use Rattle.slice_yard.specs.Cut.{slice_number, slice_len, first_entry, IsWithin};
+ghost use Rattle.audit_slices.specs.Reports.{report_slice, report_items};
 
-use crate::slices::Slice;
+use slice_yard::Slice;
 use std::alloc::{AllocError, Global};
 
 /// It names one report for each of its entries, and says which reports raise an alert.
@@ -57,7 +58,7 @@ impl<X> SliceReport<X> {
     pub fn number(&self) -> usize
         ensures { result ≡ slice_number (report_slice self.now) }
     {
-        self.slice.number
+        self.slice.number()
     }
 
     /// The reports of the slice's entries, in order.
@@ -68,7 +69,7 @@ impl<X> SliceReport<X> {
     }
 }
 
-#[tactic(auto, using(crate::proofs::NamedLemmas::named_from_more))]
+#[tactic(auto, using(slice_core::proofs::NamedLemmas::named_from_more))]
 fn reports_from<C: Check>(
     alloc: Global,
     check: &C,
@@ -102,7 +103,7 @@ where
         ≡ named_from (C.named check.now) (first_entry slice) (slice_len slice)) }
     ensures back { IfErr result (λ s. s ≡ slice) }
 {
-    match reports_from(alloc, check, slice.from, slice.count) {
+    match reports_from(alloc, check, slice.first(), slice.len()) {
         Ok(reports) => Ok(SliceReport { slice, reports }),
         Err(_) => Err(slice),
     }

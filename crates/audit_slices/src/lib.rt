@@ -1,14 +1,13 @@
 //! Work sharing that loses nothing: entries are checked by several workers, and each report stands in its place.
 //!
-//! `cut` makes slices of the entries, and `Yard::open` deals them to lanes. A worker takes slices from its own lane, at
-//! the front, or steals them from another; neither waits, and no lock stands round the yard. `close` takes all ends of a
-//! yard in, and its `Receipts` hand out what nobody took. `run_pool` does all of it, in 1 to 16 threads, and shows a
-//! watch the alerts that the checks raise on a shared `Board`.
+//! `cut` makes slices of the entries, and `run_pool` has 1 to 16 workers check them, each in a thread and with a lane of its own:
+//! `run_pool(rt, alloc, &check, &Free, Some(&board), &mut watch, cut(alloc, 1000, 64)?, 4)` answers the reports of entry 0, 1 and so
+//! on, and shows the watch the alerts that the checks raise on a shared [`Board`]. The yards below are those of `slice_yard`, and
+//! their core that of `slice_core`; both are passed on here.
 //!
-//! The model of a lane is a `Hand`: what was put in, and the list of what each of its ends was handed. Over every
-//! schedule the lists of a closed lane and what was handed out since hold each slice of it once, and are a run of the
-//! `Core`, a machine whose steps take, steal, finish and fail. Callers may rest on that, on the reports of `run_pool`
-//! being those named for entry 0, 1 and so on, and on each alert being true.
+//! The model of a [`Check`] is the report that it names for each entry, and that of a [`Names`] which reports raise an alert. Callers
+//! may rely on this, over every schedule: the reports of [`run_pool`] are those named for entry 0, 1 and so on, each once, and each
+//! alert on a board is true.
 //!
 //! No progress and no fairness is promised, and not which worker checks what. So a `Thief::steal` that always answers
 //! `None`, a pool in one thread and a pool whose workers never steal would be proved: in the crate `tests_of_slices`
@@ -17,15 +16,14 @@
 //! caller's, and may do anything.
 #![tactic(auto)]
 
-pub mod board;
-pub mod checks;
-pub mod lane;
-pub mod laws;
-pub mod machine;
-pub mod members;
-pub mod pool;
-pub mod receipts;
-pub mod rule;
-pub mod run;
-pub mod slices;
-pub mod yard;
+mod board;
+mod checks;
+mod members;
+mod pool;
+mod run;
+
+pub use board::{Alert, Alerts, Blind, Board, Names, Posted, Watch};
+pub use checks::{Check, Free, Gate, SliceReport, check_slice};
+pub use run::run_pool;
+pub use slice_core::{Core, Event, MOST_WORKERS, NotEnabled, OpenCause, laws};
+pub use slice_yard::{Lane, OpenFault, Receipts, Slice, Thief, Yard, close, cut};

@@ -1,10 +1,9 @@
-// A worker of the pool.
+//! A worker of the pool.
 ghost use Rattle.std.specs.Prelude.{◌≡◌, ◌+◌, ◌<◌, ◌≤◌, ◌^◌, ℕ, map, IfSome, MatchOption};
 
 use crate::board::{Alert, Desk, Names, Watch};
 use crate::checks::{Check, Gate, SliceReport, check_slice};
-use crate::lane::{Lane, Thief};
-use crate::slices::Slice;
+use slice_yard::{Lane, Slice, Thief};
 use std::alloc::Global;
 use std::sync::Wait;
 
@@ -20,8 +19,9 @@ pub struct Member<X> {
     pub(crate) shown: usize,
 }
 
-ghost use Rattle.audit_slices.specs.Lane.{thief_place};
-ghost use Rattle.audit_slices.specs.Shared.{thieves_sum};
+ghost use Rattle.slice_yard.specs.Cut.{first_entry, slice_len, IsWithin};
+ghost use Rattle.slice_yard.specs.Lane.{thief_place};
+ghost use Rattle.slice_yard.specs.Shared.{thieves_sum};
 ghost use Rattle.audit_slices.specs.Members.{IsIn, member_places, openings, thief_openings, IsNamed, IsSettled, IsOneShort, AreBelow};
 ghost use Rattle.audit_slices.specs.Board.{SameNames};
 
@@ -88,13 +88,19 @@ fn raise<X: Drop, C: Check<Report = X>, N: Names<X>, B: Desk<X, N>, R: Wait>(
     board: &B,
     report: &SliceReport<X>,
 )
-    requires fits { report.now.slice.from + report.now.slice.count < 2 ^ 64 }
-    requires slice { report.now.slice.from + report.now.slice.count ≤ C.entries check.now }
+    requires fits { first_entry report.now.slice + slice_len report.now.slice < 2 ^ 64 }
+    requires slice { IsWithin (C.entries check.now) report.now.slice }
     requires reports { IsNamed (C.named check.now) report.now }
     requires names { SameNames (C.named check.now) (C.raises check.now) N.named N.alerts }
 {
     for k in 0..report.reports.len() {
-        raise_one(rt, check, board, report.slice.from + k, &report.reports[k]);
+        raise_one(
+            rt,
+            check,
+            board,
+            report.slice.first() + k,
+            &report.reports[k],
+        );
     }
 }
 
@@ -107,7 +113,7 @@ fn settle<X: Drop, C: Check<Report = X>, N: Names<X>, B: Desk<X, N>, R: Wait>(
     slice: Slice,
     member: &mut Member<X>,
 )
-    requires slice { slice.from + slice.count ≤ C.entries check.now }
+    requires slice { IsWithin (C.entries check.now) slice }
     requires names { SameNames (C.named check.now) (C.raises check.now) N.named N.alerts }
     requires before { IsOneShort (C.named check.now) slice member.old }
     ensures after { IsSettled (C.named check.now) member.new }

@@ -1,4 +1,4 @@
-// The pool: workers in threads of their own, started by halves.
+//! The pool: each worker in a thread of its own.
 ghost use Rattle.std.specs.Prelude.{◌≡◌, ◌<◌, length, map, All};
 ghost use Rattle.std.specs.Thread.{IsSync, IsSend};
 ghost use Rattle.audit_slices.specs.Board.{SameNames};
@@ -9,11 +9,10 @@ use crate::checks::{Check, Gate};
 use crate::members::{Member, work, work_watched};
 use std::alloc::Global;
 use std::sync::Wait;
-use std::thread::{Threads, join_mut};
+use std::thread::{Threads, for_each_mut, join_mut};
 
-/// Each worker takes slices and checks them. A new thread runs the second half of the workers, and this one the first.
-#[cycle(halves)]
-pub(crate) fn run_all<
+/// Each worker takes slices and checks them. A thread starts those of one half of the workers, and goes on with the other.
+fn run_all<
     X: Send + Sync + Drop,
     C: Check<Report = X> + Sync,
     N: Names<X> + Sync,
@@ -21,88 +20,24 @@ pub(crate) fn run_all<
     G: Gate + Sync,
     R: Threads + Wait + Sync,
 >(rt: &R, alloc: Global, check: &C, gate: &G, board: &B, members: &mut [Member<X>])
+    requires some { 0 < length members.old }
     requires covered { All (λ m. AreBelow (C.entries check.now) (member_places m)) members.old }
     requires names { SameNames (C.named check.now) (C.raises check.now) N.named N.alerts }
     requires before { All (IsSettled (C.named check.now)) members.old }
     ensures after { All (IsSettled (C.named check.now)) members.new }
     ensures places { map member_places members.new ≡ map member_places members.old }
 {
-    if members.len() < 2 {
-        run_one(rt, alloc, check, gate, board, members);
-        return;
-    }
-    let (front, back) = members.split_at_mut(members.len() / 2);
-    run_both(rt, alloc, check, gate, board, front, back);
-}
-
-fn run_one<
-    X: Send + Sync + Drop,
-    C: Check<Report = X> + Sync,
-    N: Names<X> + Sync,
-    B: Desk<X, N> + Sync,
-    G: Gate + Sync,
-    R: Threads + Wait + Sync,
->(rt: &R, alloc: Global, check: &C, gate: &G, board: &B, members: &mut [Member<X>])
-    requires covered { All (λ m. AreBelow (C.entries check.now) (member_places m)) members.old }
-    requires names { SameNames (C.named check.now) (C.raises check.now) N.named N.alerts }
-    requires before { All (IsSettled (C.named check.now)) members.old }
-    ensures after { All (IsSettled (C.named check.now)) members.new }
-    ensures places { map member_places members.new ≡ map member_places members.old }
-{
-    for member in members.iter_mut() {
-        work(rt, alloc, check, gate, board, member);
-    }
-}
-
-#[cycle(halves)]
-fn run_both<
-    X: Send + Sync + Drop,
-    C: Check<Report = X> + Sync,
-    N: Names<X> + Sync,
-    B: Desk<X, N> + Sync,
-    G: Gate + Sync,
-    R: Threads + Wait + Sync,
->(
-    rt: &R,
-    alloc: Global,
-    check: &C,
-    gate: &G,
-    board: &B,
-    front: &mut [Member<X>],
-    back: &mut [Member<X>],
-)
-    requires some { (0 < length front.old) × (0 < length back.old) }
-    requires names { SameNames (C.named check.now) (C.raises check.now) N.named N.alerts }
-    requires front_covered { All (λ m. AreBelow (C.entries check.now) (member_places m)) front.old }
-    requires front_before { All (IsSettled (C.named check.now)) front.old }
-    requires back_covered { All (λ m. AreBelow (C.entries check.now) (member_places m)) back.old }
-    requires back_before { All (IsSettled (C.named check.now)) back.old }
-    ensures front_after { All (IsSettled (C.named check.now)) front.new }
-    ensures front_places { map member_places front.new ≡ map member_places front.old }
-    ensures back_after { All (IsSettled (C.named check.now)) back.new }
-    ensures back_places { map member_places back.new ≡ map member_places back.old }
-{
-    let mut theirs = ||
-        requires { IsSync R.row × IsSync C.row × IsSync N.row × IsSync B.row × IsSync G.row × IsSync X.row
-            × IsSend X.row × SameNames (C.named check.now) (C.raises check.now) N.named N.alerts
-            × All (λ m. AreBelow (C.entries check.now) (member_places m)) back.now
-            × All (IsSettled (C.named check.now)) back.now }
-        ensures { All (IsSettled (C.named check.entry.now)) back.exit.now
-            × (map member_places back.exit.now ≡ map member_places back.entry.now) }
-    { run_all(rt, alloc, check, gate, board, back) };
-    let mut ours = ||
-        requires { IsSync R.row × IsSync C.row × IsSync N.row × IsSync B.row × IsSync G.row × IsSync X.row
-            × IsSend X.row × SameNames (C.named check.now) (C.raises check.now) N.named N.alerts
-            × All (λ m. AreBelow (C.entries check.now) (member_places m)) front.now
-            × All (IsSettled (C.named check.now)) front.now }
-        ensures { All (IsSettled (C.named check.entry.now)) front.exit.now
-            × (map member_places front.exit.now ≡ map member_places front.entry.now) }
-    { run_all(rt, alloc, check, gate, board, front) };
-    join_mut(rt, &mut theirs, &mut ours);
+    let threads = members.len();
+    let each = |_place: usize, member: &mut Member<X>|
+        requires { SameNames (C.named check.now) (C.raises check.now) N.named N.alerts
+            × AreBelow (C.entries check.now) (member_places member.now) × IsSettled (C.named check.now) member.now }
+        ensures { IsSettled (C.named check.entry.now) member.exit.now
+            × (member_places member.exit.now ≡ member_places member.entry.now) }
+    { work(rt, alloc, check, gate, board, member) };
+    for_each_mut(rt, members, threads, &each);
 }
 
 /// The same, where the first worker is the one that shows the watch the new alerts. It runs in this thread.
-#[cycle(first)]
 pub(crate) fn run_watched<
     X: Send + Sync + Drop,
     C: Check<Report = X> + Sync,
@@ -118,36 +53,18 @@ pub(crate) fn run_watched<
     ensures after { All (IsSettled (C.named check.now)) members.new }
     ensures places { map member_places members.new ≡ map member_places members.old }
 {
-    if members.len() < 2 {
-        run_one_watched(rt, alloc, check, gate, board, watch, members);
+    let Some((first, others)) = members.split_first_mut() else {
+        return;
+    };
+    if others.is_empty() {
+        work_watched(rt, alloc, check, gate, board, watch, first);
         return;
     }
-    let (front, back) = members.split_at_mut(members.len() / 2);
-    run_both_watched(rt, alloc, check, gate, board, watch, front, back);
+    run_beside(rt, alloc, check, gate, board, watch, first, others);
 }
 
-fn run_one_watched<
-    X: Send + Sync + Drop,
-    C: Check<Report = X> + Sync,
-    N: Names<X> + Sync,
-    B: Desk<X, N> + Sync,
-    G: Gate + Sync,
-    W: Watch<X, N>,
-    R: Threads + Wait + Sync,
->(rt: &R, alloc: Global, check: &C, gate: &G, board: &B, watch: &mut W, members: &mut [Member<X>])
-    requires covered { All (λ m. AreBelow (C.entries check.now) (member_places m)) members.old }
-    requires names { SameNames (C.named check.now) (C.raises check.now) N.named N.alerts }
-    requires before { All (IsSettled (C.named check.now)) members.old }
-    ensures after { All (IsSettled (C.named check.now)) members.new }
-    ensures places { map member_places members.new ≡ map member_places members.old }
-{
-    for member in members.iter_mut() {
-        work_watched(rt, alloc, check, gate, board, watch, member);
-    }
-}
-
-#[cycle(first)]
-fn run_both_watched<
+// The first worker in this thread, and the others beside it.
+fn run_beside<
     X: Send + Sync + Drop,
     C: Check<Report = X> + Sync,
     N: Names<X> + Sync,
@@ -162,35 +79,33 @@ fn run_both_watched<
     gate: &G,
     board: &B,
     watch: &mut W,
-    front: &mut [Member<X>],
-    back: &mut [Member<X>],
+    first: &mut Member<X>,
+    others: &mut [Member<X>],
 )
-    requires some { (0 < length front.old) × (0 < length back.old) }
+    requires some { 0 < length others.old }
     requires names { SameNames (C.named check.now) (C.raises check.now) N.named N.alerts }
-    requires front_covered { All (λ m. AreBelow (C.entries check.now) (member_places m)) front.old }
-    requires front_before { All (IsSettled (C.named check.now)) front.old }
-    requires back_covered { All (λ m. AreBelow (C.entries check.now) (member_places m)) back.old }
-    requires back_before { All (IsSettled (C.named check.now)) back.old }
-    ensures front_after { All (IsSettled (C.named check.now)) front.new }
-    ensures front_places { map member_places front.new ≡ map member_places front.old }
-    ensures back_after { All (IsSettled (C.named check.now)) back.new }
-    ensures back_places { map member_places back.new ≡ map member_places back.old }
+    requires first_covered { AreBelow (C.entries check.now) (member_places first.old) }
+    requires first_before { IsSettled (C.named check.now) first.old }
+    requires covered { All (λ m. AreBelow (C.entries check.now) (member_places m)) others.old }
+    requires before { All (IsSettled (C.named check.now)) others.old }
+    ensures first_after { IsSettled (C.named check.now) first.new }
+    ensures first_places { member_places first.new ≡ member_places first.old }
+    ensures after { All (IsSettled (C.named check.now)) others.new }
+    ensures places { map member_places others.new ≡ map member_places others.old }
 {
     let mut theirs = ||
-        requires { IsSync R.row × IsSync C.row × IsSync N.row × IsSync B.row × IsSync G.row × IsSync X.row
-            × IsSend X.row × SameNames (C.named check.now) (C.raises check.now) N.named N.alerts
-            × All (λ m. AreBelow (C.entries check.now) (member_places m)) back.now
-            × All (IsSettled (C.named check.now)) back.now }
-        ensures { All (IsSettled (C.named check.entry.now)) back.exit.now
-            × (map member_places back.exit.now ≡ map member_places back.entry.now) }
-    { run_all(rt, alloc, check, gate, board, back) };
+        requires { IsSync R.row × IsSync C.row × IsSync N.row × IsSync B.row × IsSync G.row × IsSync X.row × IsSend X.row
+            × SameNames (C.named check.now) (C.raises check.now) N.named N.alerts × (0 < length others.now)
+            × All (λ m. AreBelow (C.entries check.now) (member_places m)) others.now
+            × All (IsSettled (C.named check.now)) others.now }
+        ensures { All (IsSettled (C.named check.entry.now)) others.exit.now
+            × (map member_places others.exit.now ≡ map member_places others.entry.now) }
+    { run_all(rt, alloc, check, gate, board, others) };
     let mut ours = ||
-        requires { IsSync R.row × IsSync C.row × IsSync N.row × IsSync B.row × IsSync G.row × IsSync X.row
-            × IsSend X.row × SameNames (C.named check.now) (C.raises check.now) N.named N.alerts
-            × All (λ m. AreBelow (C.entries check.now) (member_places m)) front.now
-            × All (IsSettled (C.named check.now)) front.now }
-        ensures { All (IsSettled (C.named check.entry.now)) front.exit.now
-            × (map member_places front.exit.now ≡ map member_places front.entry.now) }
-    { run_watched(rt, alloc, check, gate, board, watch, front) };
+        requires { SameNames (C.named check.now) (C.raises check.now) N.named N.alerts
+            × AreBelow (C.entries check.now) (member_places first.now) × IsSettled (C.named check.now) first.now }
+        ensures { IsSettled (C.named check.entry.now) first.exit.now
+            × (member_places first.exit.now ≡ member_places first.entry.now) }
+    { work_watched(rt, alloc, check, gate, board, watch, first) };
     join_mut(rt, &mut theirs, &mut ours);
 }

@@ -1,23 +1,20 @@
-// The pool from its slices to its reports.
+//! The pool from its slices to its reports.
 ghost use Rattle.std.specs.Prelude.{◌≡◌, ◌+◌, ◌<◌, ◌≤◌, ◌∷◌, [], ℕ, List, false, All, IfOk, OnOk, ◌++◌, map, length, sum_by};
 ghost use Rattle.std.specs.List.{flat_map};
 ghost use Rattle.audit_slices.specs.Board.{SameNames};
-ghost use Rattle.audit_slices.specs.Cut.{IsNumbered, entries_of};
-ghost use Rattle.audit_slices.specs.Lane.{lane_hand, lane_place, thief_place, thief_hand_of};
+ghost use Rattle.slice_yard.specs.Cut.{IsNumbered, IsWithin, entries_of};
+ghost use Rattle.slice_yard.specs.Lane.{lane_hand, lane_place, thief_place, thief_hand_of};
 ghost use Rattle.audit_slices.specs.Members.{member_places, IsSettled, AreBelow, IsNamed};
-ghost use Rattle.audit_slices.specs.Receipts.{receipt_hands};
-ghost use Rattle.audit_slices.specs.Reports.{IsWithin, report_slice, report_items};
+ghost use Rattle.slice_yard.specs.Receipts.{receipt_hands};
+ghost use Rattle.audit_slices.specs.Reports.{report_slice, report_items};
 ghost use Rattle.audit_slices.specs.Run.{IsWhole, IsFinished, unspent, rest_sum};
-ghost use Rattle.audit_slices.specs.Shared.{IsSpent};
+ghost use Rattle.slice_yard.specs.Shared.{IsSpent};
 
 use crate::board::{Board, Desk, Names, Nowhere, Watch};
 use crate::checks::{Check, Gate, SliceReport, check_slice};
-use crate::lane::{Lane, Thief};
 use crate::members::Member;
 use crate::pool::run_watched;
-use crate::receipts::Receipts;
-use crate::slices::Slice;
-use crate::yard::{Yard, close};
+use slice_yard::{Lane, Receipts, Slice, Thief, Yard, close};
 use std::alloc::{AllocError, Global};
 use std::sync::Wait;
 use std::thread::Threads;
@@ -131,7 +128,7 @@ fn drain<X: Drop, C: Check<Report = X>, R: Wait>(
     mut receipts: Receipts,
     mut done: Vec<SliceReport<X>>,
 ) -> Result<(Receipts, Vec<SliceReport<X>>), AllocError>
-    requires covered { All (λ v. All (λ x. x.from + x.count ≤ C.entries check.now) v.opening)
+    requires covered { All (λ v. All (IsWithin (C.entries check.now)) v.opening)
         (receipt_hands receipts) }
     requires named { All (IsNamed (C.named check.now)) done.items }
     ensures same { IfOk result (λ r. map unspent (receipt_hands r.0) ≡ map unspent (receipt_hands receipts)) }
@@ -187,7 +184,7 @@ pub fn run_pool<
     let members = run_members(rt, alloc, check, gate, board, watch, members);
     let (receipts, done) = finish(alloc, members)?;
     let (_spent, mut done) = drain(rt, alloc, check, receipts, done)?;
-    done.sort_unstable_by_key(|r| r.slice.number);
+    done.sort_unstable_by_key(|r| r.number());
     Ok(done)
 }
 

@@ -1,10 +1,10 @@
 //! Walks of the core.
 
 ghost use Rattle.std.specs.Prelude.{◌≡◌, length};
-ghost use Rattle.audit_slices.specs.Machine.{state_of};
+ghost use Rattle.slice_core.specs.Machine.{state_of};
 
-use audit_slices::machine::{Core, Event};
-use audit_slices::yard::OpenCause;
+use audit_slices::{Core, Event};
+use audit_slices::OpenCause;
 use std::test::*;
 
 // Whether the core does the event.

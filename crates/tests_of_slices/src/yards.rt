@@ -1,14 +1,14 @@
 //! What owners and thieves of a yard are handed, and what is left when it is closed.
 
 ghost use Rattle.std.specs.Prelude.{◌≡◌, map};
-ghost use Rattle.audit_slices.specs.Cut.{IsNumbered};
-ghost use Rattle.audit_slices.specs.Lane.{lane_place, thief_place};
+ghost use Rattle.slice_yard.specs.Cut.{IsNumbered};
+ghost use Rattle.slice_yard.specs.Lane.{lane_place, thief_place};
 
 use crate::five::FiveChecks;
-use audit_slices::checks::check_slice;
-use audit_slices::lane::{Lane, Thief};
-use audit_slices::slices::{Slice, cut};
-use audit_slices::yard::{OpenCause, Yard, close};
+use audit_slices::check_slice;
+use audit_slices::{Lane, Thief};
+use audit_slices::{Slice, cut};
+use audit_slices::{OpenCause, Yard, close};
 use std::alloc::Global;
 use std::process::Abort;
 use std::test::*;

@@ -1,5 +1,5 @@
 use Rattle.std.proofs.Common.{◌≡◌}
-use Rattle.audit_slices.specs.Named.{named_from}
+use Rattle.slice_core.specs.Named.{named_from}
 use Rattle.audit_slices.proofs.checks.reports_from.Given as goal
 
 abbrev pub invariant-loop-k : goal.invariant-loop-k

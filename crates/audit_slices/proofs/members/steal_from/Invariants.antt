@@ -1,7 +1,7 @@
 use Rattle.std.proofs.Common.{◌≡◌, ℕ, map}
-use Rattle.audit_slices.specs.declared.slices.Slice.{Slice}
-use Rattle.audit_slices.specs.Lane.{thief_place}
-use Rattle.audit_slices.specs.Shared.{thieves_sum}
+use Rattle.slice_yard.specs.declared.slices.Slice.{Slice}
+use Rattle.slice_yard.specs.Lane.{thief_place}
+use Rattle.slice_yard.specs.Shared.{thieves_sum}
 use Rattle.audit_slices.proofs.members.steal_from.Given as goal
 
 abbrev pub invariant-loop-thief : goal.invariant-loop-thief

@@ -1,7 +1,7 @@
 use Rattle.std.proofs.Common.{◌≤◌, ◌+◌, rules, arith}
 use Rattle.std.proofs.lemmas.Grind.{common_steps}
-use Rattle.audit_slices.specs.declared.slices.Slice.{Slice}
-use Rattle.audit_slices.specs.Receipts.{receipt_hands}
+use Rattle.slice_yard.specs.declared.slices.Slice.{Slice}
+use Rattle.slice_yard.specs.Receipts.{receipt_hands}
 use Rattle.audit_slices.proofs.RunLemmas.{drained_sum, drained_same, drained_below}
 use Rattle.audit_slices.proofs.run.drain.Goals as goal
 

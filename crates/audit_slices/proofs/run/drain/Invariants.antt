@@ -1,8 +1,8 @@
 use Rattle.std.proofs.Common.{◌≡◌, ◌+◌, ℕ, map, All}
 use Rattle.std.specs.Prelude.{sum_by}
-use Rattle.audit_slices.specs.declared.slices.Slice.{Slice}
+use Rattle.slice_yard.specs.declared.slices.Slice.{Slice}
 use Rattle.audit_slices.specs.Members.{IsNamed}
-use Rattle.audit_slices.specs.Receipts.{receipt_hands}
+use Rattle.slice_yard.specs.Receipts.{receipt_hands}
 use Rattle.audit_slices.specs.Run.{unspent, rest_sum}
 use Rattle.audit_slices.proofs.run.drain.Given as goal
 

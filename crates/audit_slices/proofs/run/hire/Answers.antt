@@ -1,4 +1,5 @@
-use Rattle.audit_slices.proofs.FinishLemmas.{nothing_lanes, nothing_thieves, whole_start}
+use Rattle.audit_slices.proofs.FinishLemmas.{whole_start}
+use Rattle.slice_yard.proofs.OpenedLemmas.{nothing_lanes, nothing_thieves}
 use Rattle.audit_slices.proofs.run.hire.Goals as goal
 
 pub staff-requires-clause-lanes : goal.staff-requires-clause-lanes

@@ -2,7 +2,7 @@ use Rattle.std.proofs.Common.{List, All, rules, sym, subst}
 use Rattle.std.proofs.lemmas.List.Sorted.{All-permutation, IsNonDecreasingBy-from_sort_by_key}
 use Rattle.audit_slices.specs.declared.checks.SliceReport.{SliceReport}
 use Rattle.audit_slices.specs.Members.{IsNamed}
-use Rattle.audit_slices.specs.Receipts.{receipt_hands}
+use Rattle.slice_yard.specs.Receipts.{receipt_hands}
 use Rattle.audit_slices.proofs.PoolLemmas.{covered_start, covered_left, whole_same, named_all, all_slices, in_order, all_reports}
 use Rattle.audit_slices.proofs.run.run_pool.Goals as goal
 

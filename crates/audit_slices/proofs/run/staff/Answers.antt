@@ -4,11 +4,11 @@ use Rattle.std.specs.declared.vec.Vec.{Vec}
 use Rattle.std.specs.declared.alloc.Global.{Global}
 use Rattle.std.proofs.lemmas.Grind.{common_steps}
 use Rattle.std.proofs.lemmas.List.{map-append, length-map}
-use Rattle.audit_slices.specs.declared.lane.Thief.{Thief}
+use Rattle.slice_yard.specs.declared.lane.Thief.{Thief}
 use Rattle.audit_slices.specs.declared.members.Member.{Member}
-use Rattle.audit_slices.specs.Lane.{lane_place, thief_place, thief_hand_of}
+use Rattle.slice_yard.specs.Lane.{lane_place, thief_place, thief_hand_of}
 use Rattle.audit_slices.specs.Members.{Places, member_places}
-use Rattle.audit_slices.proofs.Tables.{All_mid}
+use Rattle.slice_core.proofs.Tables.{All_mid}
 use Rattle.audit_slices.proofs.RunLemmas.{staffed_more, settled_more, all_taken}
 use Rattle.audit_slices.proofs.run.staff.Goals as goal
 

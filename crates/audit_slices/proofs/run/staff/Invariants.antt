@@ -2,9 +2,9 @@ use Rattle.std.proofs.Common.{◌≡◌, ◌++◌, ℕ, List, map, All}
 use Rattle.std.specs.Vec.Iter.{into_iter_items}
 use Rattle.std.specs.declared.vec.Vec.{Vec}
 use Rattle.std.specs.declared.alloc.Global.{Global}
-use Rattle.audit_slices.specs.declared.lane.Thief.{Thief}
+use Rattle.slice_yard.specs.declared.lane.Thief.{Thief}
 use Rattle.audit_slices.specs.declared.members.Member.{Member}
-use Rattle.audit_slices.specs.Lane.{lane_place, thief_place}
+use Rattle.slice_yard.specs.Lane.{lane_place, thief_place}
 use Rattle.audit_slices.specs.Members.{member_places, IsSettled}
 use Rattle.audit_slices.proofs.run.staff.Given as goal
 

@@ -1,5 +1,5 @@
 use Rattle.std.proofs.Common.{◌≡◌, length}
-use Rattle.audit_slices.specs.Machine.{state_of}
+use Rattle.slice_core.specs.Machine.{state_of}
 use Rattle.tests_of_slices.proofs.cores.core_walks.Given as goal
 
 abbrev pub invariant-loop-event : goal.invariant-loop-event

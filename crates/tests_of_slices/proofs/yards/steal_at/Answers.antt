@@ -1,6 +1,6 @@
 use Rattle.std.proofs.Common.{◌∙◌, ap}
 use Rattle.std.proofs.Math.Seq.{map-set_same}
-use Rattle.audit_slices.specs.Lane.{thief_place}
+use Rattle.slice_yard.specs.Lane.{thief_place}
 use Rattle.tests_of_slices.proofs.yards.steal_at.Goals as goal
 
 pub returns : goal.returns

@@ -2,8 +2,8 @@ use Rattle.std.proofs.Common.{◌∙◌, ap, List, map}
 use Rattle.std.proofs.Math.Seq.{map-set_same}
 use Rattle.std.specs.declared.vec.Vec.{Vec}
 use Rattle.std.specs.declared.alloc.Global.{Global}
-use Rattle.audit_slices.specs.declared.lane.Thief.{Thief}
-use Rattle.audit_slices.specs.Lane.{ThiefPlace, thief_place}
+use Rattle.slice_yard.specs.declared.lane.Thief.{Thief}
+use Rattle.slice_yard.specs.Lane.{ThiefPlace, thief_place}
 use Rattle.tests_of_slices.proofs.yards.steal_of.Goals as goal
 
 pub returns : goal.returns

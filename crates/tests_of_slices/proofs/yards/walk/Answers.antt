@@ -1,5 +1,5 @@
 use Rattle.std.proofs.Common.{◌∙◌}
-use Rattle.audit_slices.proofs.FinishLemmas.{yard_start}
+use Rattle.slice_yard.proofs.OpenedLemmas.{yard_start}
 use Rattle.tests_of_slices.proofs.yards.walk.Goals as goal
 
 pub close-receipts-requires : goal.close-receipts-requires

@@ -1,5 +1,5 @@
 use Rattle.std.proofs.Common.{◌≡◌, map}
-use Rattle.audit_slices.specs.Lane.{lane_place, thief_place}
+use Rattle.slice_yard.specs.Lane.{lane_place, thief_place}
 use Rattle.tests_of_slices.proofs.yards.walk.Given as goal
 
 abbrev pub invariant-loop-step : goal.invariant-loop-step

@@ -1,5 +1,5 @@
 use Rattle.std.proofs.Common.{map, ap}
-use Rattle.audit_slices.specs.Lane.{thief_place}
+use Rattle.slice_yard.specs.Lane.{thief_place}
 use Rattle.audit_slices.specs.Members.{member_places, openings, thief_openings, IsIn}
 use Rattle.audit_slices.proofs.ThiefLemmas.{inside_other, inside_same, on_some}
 use Rattle.audit_slices.proofs.members.Member.take.Goals as goal

@@ -1,7 +1,0 @@
-use Rattle.std.proofs.Common.{◌≡◌}
-use Rattle.std.specs.Prelude.{None}
-use Rattle.audit_slices.specs.Named.{named_from}
-use Rattle.audit_slices.proofs.machine.empty_hands.Given as goal
-
-abbrev pub invariant-loop : goal.invariant-loop
-invariant-loop l = l.hands.items ≡ named_from (λ _. None) 0 l.counter

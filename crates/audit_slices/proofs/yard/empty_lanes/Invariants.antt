@@ -1,7 +1,0 @@
-use Rattle.std.proofs.Common.{◌≡◌, All}
-use Rattle.std.specs.Prelude.{vec_len}
-use Rattle.audit_slices.specs.Yard.{IsEmptyLane}
-use Rattle.audit_slices.proofs.yard.empty_lanes.Given as goal
-
-abbrev pub invariant-loop : goal.invariant-loop
-invariant-loop l = (vec_len l.lanes ≡ l.counter) × All (IsEmptyLane l.room) l.lanes.items

@@ -1,9 +1,0 @@
--- What a clause says of receipts.
-use Rattle.std.specs.Prelude.{List, map}
-use Rattle.audit_slices.specs.declared.rule.Hand.{Hand}
-use Rattle.audit_slices.specs.declared.receipts.Receipts.{Receipts}
-use Rattle.audit_slices.specs.Lane.{lane_hand}
-
--- of each lane: its owner's list, those of its thieves, and what was handed out of it since it was closed
-abbrev pub receipt_hands : Receipts → List Hand
-receipt_hands r = map lane_hand r.lanes.items

@@ -1,0 +1,6 @@
+pub mod NamedLemmas
+pub mod Tables
+pub mod SumLemmas
+pub mod Steps
+pub mod MachineLemmas
+pub mod RunSteps

@@ -1,0 +1,5 @@
+pub mod Machine
+pub mod Named
+pub mod Opening
+pub mod Places
+pub mod Runs

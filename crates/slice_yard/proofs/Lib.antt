@@ -1,0 +1,10 @@
+pub mod Moves
+pub mod CutLemmas
+pub mod YardLemmas
+pub mod DealLemmas
+pub mod SeatLemmas
+pub mod OpenedLemmas
+pub mod CloseLemmas
+pub mod Shares
+pub mod ReceiptLemmas
+pub mod Orders

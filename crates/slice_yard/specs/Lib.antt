@@ -1,0 +1,12 @@
+pub mod ClosedRuns
+pub mod Cut
+pub mod Hands
+pub mod Lane
+pub mod Receipts
+pub mod Shared
+pub mod Yard
+pub use Rattle.slice_core.specs.Machine
+pub use Rattle.slice_core.specs.Named
+pub use Rattle.slice_core.specs.Opening
+pub use Rattle.slice_core.specs.Places
+pub use Rattle.slice_core.specs.Runs
