@@ -1,10 +1,11 @@
 """The edges of rules and of tuples, in the order in which docs/FORMATS.md looks at them."""
 from typing import Callable, Iterator, NamedTuple, Optional
 
-from lib.rules import Rules, places
+from lib.rules import Declaration, Rules, places
 from lib.texts import Tuple, Userset
 
 Name = tuple[str, str]
+Pair = tuple[str, str, str, str]
 
 
 class Edge(NamedTuple):
@@ -18,13 +19,12 @@ class Edge(NamedTuple):
         return "%s#%s reads %s#%s%s" % (*self.reader, *self.read, " strictly" if self.strict else "")
 
 
-def rule_edges(rules: Rules) -> Iterator[Edge]:
-    for namespace in rules.current:
-        for relation in rules.relations(namespace):
-            for rewrite in rules.rewrites(namespace, relation):
-                for place in places(rewrite):
-                    if place.form == "computed" and rules.is_declared(namespace, place.names[0]):
-                        yield Edge((namespace, relation), (namespace, place.names[0]), place.strict)
+def rule_edges(declaration: Declaration) -> Iterator[Edge]:
+    """A rule's `computed` reads a relation of its own declaration."""
+    for relation in declaration.relations:
+        for place in places(relation.rewrite):
+            if place.form == "computed":
+                yield Edge((declaration.name, relation.name), (declaration.name, place.names[0]), place.strict)
 
 
 def tuple_edges(rules: Rules, given: Tuple) -> Iterator[Edge]:
@@ -44,20 +44,33 @@ def tuple_edges(rules: Rules, given: Tuple) -> Iterator[Edge]:
                     yield Edge((namespace, relation), (to, place.names[1]), place.strict)
 
 
+def pair_of(given: Tuple) -> Pair:
+    return given.set.namespace, given.set.relation, given.user.namespace, given.user.relation
+
+
 class TupleEdges:
-    """The edges of tuples, looked up once for each pair of relations."""
+    """The edges of tuples, looked up once for each pair of relations, with the first tuple of each pair."""
 
     def __init__(self, rules: Rules):
         self.rules = rules
-        self.known: dict[tuple[str, str, str, str], list[Edge]] = {}
+        self.known: dict[Pair, list[Edge]] = {}
+        self.first: dict[Pair, Tuple] = {}
 
     def of(self, given: Tuple) -> list[Edge]:
         if not isinstance(given.user, Userset):
             return []
-        key = (given.set.namespace, given.set.relation, given.user.namespace, given.user.relation)
-        if key not in self.known:
-            self.known[key] = list(tuple_edges(self.rules, given))
-        return self.known[key]
+        pair = pair_of(given)
+        if pair not in self.known:
+            self.known[pair] = list(tuple_edges(self.rules, given))
+        return self.known[pair]
+
+    def keep(self, given: Tuple) -> None:
+        if isinstance(given.user, Userset):
+            self.first.setdefault(pair_of(given), given)
+
+    def forget(self) -> None:
+        """The rules have changed."""
+        self.known.clear()
 
 
 def first_broken(edges: Iterator[Edge] | list[Edge], stratum: Callable[[str, str], int]) -> Optional[Edge]:

@@ -70,7 +70,8 @@ def _is_u64(value: object) -> bool:
     return isinstance(value, int) and not isinstance(value, bool) and 0 <= value <= limits.NUMBER
 
 
-def _shape_of_expression(value: object, where: str) -> None:
+def shape_of_expression(value: object, where: str) -> None:
+    """Raises RulesFault where a value is no expression."""
     if not isinstance(value, dict):
         raise RulesFault("shape", "%s is no object" % where)
     forms = [form for form in FORMS if form in value]
@@ -84,14 +85,14 @@ def _shape_of_expression(value: object, where: str) -> None:
         if not isinstance(inner, list):
             raise RulesFault("shape", "%s is no list" % place)
         for number, child in enumerate(inner):
-            _shape_of_expression(child, "%s[%d]" % (place, number))
+            shape_of_expression(child, "%s[%d]" % (place, number))
     if form in ("tuple_to", "exclusion"):
         keys = ("tupleset", "computed") if form == "tuple_to" else ("base", "subtract")
         for key in keys:
             if not isinstance(inner, dict) or inner.get(key) is None:
                 raise RulesFault("shape", "%s has no %s" % (place, key))
             if form == "exclusion":
-                _shape_of_expression(inner[key], "%s.%s" % (place, key))
+                shape_of_expression(inner[key], "%s.%s" % (place, key))
             elif not isinstance(inner[key], str):
                 raise RulesFault("shape", "%s.%s is no text" % (place, key))
 
@@ -113,7 +114,7 @@ def _shape(value: dict) -> Declaration:
         if not _is_u64(stratum) or stratum > limits.STRATUM:
             raise RulesFault("shape", "%s.stratum is no number from 0 to %d" % (where, limits.STRATUM))
         rewrite = {"this": {}} if given.get("rewrite") is None else given["rewrite"]
-        _shape_of_expression(rewrite, "%s.rewrite" % where)
+        shape_of_expression(rewrite, "%s.rewrite" % where)
         relations.append(Relation(given["name"], stratum, rewrite))
     return Declaration(name, at, relations)
 

@@ -71,7 +71,6 @@ class Trace:
         self.timestamps: dict[int, int] = {}
         self.touches = 0
         self._edges = TupleEdges(self.rules)
-        self._added: dict[Tuple, None] = {}
         self._versions: dict[tuple[str, str, str], int] = {}
 
     def take(self, line: int, raw: bytes) -> None:
@@ -98,12 +97,12 @@ class Trace:
             raise Refusal("namespace after other lines",
                           "namespace %s has no `at`, and stands behind lines of other kinds" % declaration.name)
         self.rules.keep(declaration)
-        self._edges = TupleEdges(self.rules)
-        self._refuse_broken(first_broken(rule_edges(self.rules), self.rules.stratum), "a rule gives this edge")
+        self._edges.forget()
+        self._refuse_broken(first_broken(rule_edges(declaration), self.rules.stratum), "a rule gives this edge")
         if declaration.at is None:
             return
         self._refuse_early(declaration.at)
-        for given in self._added:
+        for given in self._edges.first.values():
             broken = first_broken(self._edges.of(given), self.rules.stratum)
             self._refuse_broken(broken, "tuple %s gives this edge under the rules of this line" % (given,))
         self._keep(Commit(line, declaration.at, [], [], _text_or_none(value.get("from")),
@@ -148,7 +147,8 @@ class Trace:
         if self.touches + len(sides[0]) + len(sides[1]) > limits.TOUCHES:
             raise Refusal("too many changes", "more than %d touches" % limits.TOUCHES)
         self.touches += len(sides[0]) + len(sides[1])
-        self._added.update(dict.fromkeys(sides[0]))
+        for given in sides[0]:
+            self._edges.keep(given)
         for live, side in zip((True, False), sides):
             for given in side:
                 self.store.touch(at, given, live)

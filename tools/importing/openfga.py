@@ -1,0 +1,326 @@
+"""OpenFGA: an authorization model, tuple changes as ReadChanges gives them, and checks of a recorder's log."""
+from functools import cache
+from typing import Iterator, NamedTuple, Optional
+
+from importing import located
+from importing.events import Event, RelationRule, Relationship, Stamp, put_stamp, stamp_of
+from importing.located import line_at, line_of
+from importing.refusals import Refusals
+from importing.times import nanoseconds
+from lib import limits
+
+SCHEMAS = ("1.1", "1.2")
+OPERATIONS = {"TUPLE_OPERATION_WRITE": True, "TUPLE_OPERATION_DELETE": False}
+REWRITES = ("this", "computedUserset", "tupleToUserset", "union", "intersection", "difference")
+
+
+class Unmapped(Exception):
+    """A part of a model or a tuple that a trace has no form for."""
+
+    def __init__(self, line: int, reason: str, detail: str):
+        super().__init__(detail)
+        self.line, self.reason, self.detail = line, reason, detail
+
+
+class Bad(Exception):
+    """A line that is not what the service writes."""
+
+
+class Model(NamedTuple):
+    """The rules, and which users a relation takes: (type, relation or None)."""
+
+    id: Optional[str]
+    rules: Event
+    takes: dict[tuple[str, str], set[tuple[str, Optional[str]]]]
+
+
+@cache
+def spelled(name: str) -> str:
+    """A key with underscores in place of capitals, which services write too."""
+    return "".join("_" + letter.lower() if letter.isupper() else letter for letter in name)
+
+
+def key_of(value: dict, name: str) -> Optional[str]:
+    """The spelling under which a key stands."""
+    return name if name in value else spelled(name) if spelled(name) in value else None
+
+
+def get(value: object, name: str) -> object:
+    key = key_of(value, name) if isinstance(value, dict) else None
+    return value[key] if key else None
+
+
+class ModelReader:
+    def __init__(self, path: str, refusals: Refusals):
+        self.path, self.refusals = path, refusals
+
+    def read(self) -> Optional[Model]:
+        try:
+            model = located.parse(located.read_text(self.path))
+        except located.Malformed as fault:
+            self.refusals.refuse(self.path, fault.line, str(fault))
+            return None
+        model = get(model, "authorization_model") or model
+        if not isinstance(model, dict) or not isinstance(get(model, "type_definitions"), list):
+            self.refusals.refuse(self.path, 1, "no authorization model: it has no `type_definitions`")
+            return None
+        if get(model, "schema_version") not in SCHEMAS:
+            self.refusals.refuse(self.path, line_at(model, "schema_version", 1), "schema version %r: only %s are mapped"
+                                 % (get(model, "schema_version"), " and ".join(SCHEMAS)))
+        for name in get(model, "conditions") or ():
+            self.refusals.unmapped(self.path, line_at(model["conditions"], name, line_at(model, "conditions", 1)),
+                                   "condition", name)
+        event = Event("rules", self.path, 1)
+        takes: dict[tuple[str, str], set[tuple[str, Optional[str]]]] = {}
+        for given in get(model, "type_definitions"):
+            self._type(given, event, takes)
+        self._refuse_unknown_users(takes, event)
+        return Model(get(model, "id"), event, takes)
+
+    def _type(self, given: object, event: Event, takes: dict) -> None:
+        line = line_of(given, 1)
+        name = get(given, "type")
+        relations = get(given, "relations")
+        relations = {} if relations is None else relations
+        if not isinstance(name, str) or not name or not isinstance(relations, dict):
+            self.refusals.refuse(self.path, line, "a type definition has no `type`, or no object as its `relations`")
+            return
+        if name in event.namespaces:
+            self.refusals.refuse(self.path, line, "type %s stands twice" % name)
+            return
+        event.namespaces[name] = []
+        listed = get(get(given, "metadata"), "relations") or {}
+        for relation, rewrite in relations.items():
+            where = "%s#%s" % (name, relation)
+            line = line_at(relations, relation, line)
+            try:
+                mapped = self._rewrite(rewrite, relations, where, line)
+            except Unmapped as fault:
+                self.refusals.unmapped(self.path, fault.line, fault.reason, fault.detail)
+                self.refusals.doubt(name, None, relation)
+                mapped = {"this": {}}
+            event.namespaces[name].append(RelationRule(relation, mapped, line))
+            takes[name, relation] = self._users(listed.get(relation), where, line)
+            if _is_direct(rewrite) and not get(listed.get(relation), "directly_related_user_types"):
+                self.refusals.refuse(self.path, line, "%s has `this` and no `directly_related_user_types`" % where)
+
+    def _users(self, given: object, where: str, line: int) -> set[tuple[str, Optional[str]]]:
+        users = set()
+        for user in get(given, "directly_related_user_types") or ():
+            here = line_of(user, line)
+            told = "%s of %s" % (get(user, "type"), where)
+            if get(user, "wildcard") is not None:
+                self.refusals.unmapped(self.path, here, "typed wildcard", told)
+            elif get(user, "condition"):
+                self.refusals.unmapped(self.path, here, "condition", "%s on %s" % (get(user, "condition"), told))
+            else:
+                users.add((get(user, "type"), get(user, "relation") or None))
+        return users
+
+    def _refuse_unknown_users(self, takes: dict, event: Event) -> None:
+        known = {(name, relation.name) for name, listed in event.namespaces.items() for relation in listed}
+        for (name, relation), users in takes.items():
+            line = next(one.line for one in event.namespaces[name] if one.name == relation)
+            for of, of_relation in sorted(users, key=str):
+                if of not in event.namespaces or (of_relation and (of, of_relation) not in known):
+                    self.refusals.refuse(self.path, line, "%s#%s takes %s, which the model does not define"
+                                         % (name, relation, "%s#%s" % (of, of_relation) if of_relation else of))
+
+    def _rewrite(self, given: object, relations: dict, where: str, line: int) -> dict:
+        line = line_of(given, line)
+        forms = [form for form in REWRITES if key_of(given, form)] if isinstance(given, dict) else []
+        if len(forms) != 1 or len(given) != 1:
+            raise Unmapped(line, "rewrite without a form", "%s has %s" % (where, _keys(given)))
+        form, inner = forms[0], get(given, forms[0])
+        if form == "this":
+            return {"this": {}}
+        if form == "computedUserset":
+            return {"computed": self._relation(inner, relations, where, line)}
+        if form == "tupleToUserset":
+            tupleset = self._relation(get(inner, "tupleset"), relations, where, line)
+            if not _is_plain(relations[tupleset]):
+                raise Unmapped(line, "tupleset that is not direct", "%s reads %s" % (where, tupleset))
+            computed = get(get(inner, "computedUserset"), "relation")
+            if not isinstance(computed, str) or not computed:
+                raise Unmapped(line, "rewrite without a form", "%s has no relation behind its tupleset" % where)
+            return {"tuple_to": {"tupleset": tupleset, "computed": computed}}
+        if form == "difference":
+            return {"exclusion": {side: self._rewrite(get(inner, side), relations, where, line)
+                                  for side in ("base", "subtract")}}
+        children = get(inner, "child")
+        if not isinstance(children, list) or not children:
+            raise Unmapped(line, "rewrite without a form", "the %s of %s has no children" % (form, where))
+        return nested(form, [self._rewrite(child, relations, where, line) for child in children])
+
+    @staticmethod
+    def _relation(given: object, relations: dict, where: str, line: int) -> str:
+        name = get(given, "relation")
+        if not isinstance(name, str) or name not in relations or get(given, "object"):
+            raise Unmapped(line_of(given, line), "rewrite without a form",
+                           "%s reads %r, which its type does not define" % (where, name))
+        return name
+
+
+def nested(form: str, children: list[dict]) -> dict:
+    """A union or intersection, in groups where it has more children than a trace takes."""
+    while len(children) > limits.CHILDREN:
+        children = [{form: children[at:at + limits.CHILDREN]} for at in range(0, len(children), limits.CHILDREN)]
+    return {form: children}
+
+
+def _keys(value: object) -> str:
+    return ", ".join(value) if isinstance(value, dict) and value else "none of the six forms"
+
+
+def _is_plain(rewrite: object) -> bool:
+    return isinstance(rewrite, dict) and list(rewrite) == ["this"]
+
+
+def _is_direct(rewrite: object) -> bool:
+    """Whether `this` stands anywhere in a rewrite."""
+    if isinstance(rewrite, dict):
+        return "this" in rewrite or any(_is_direct(inner) for inner in rewrite.values())
+    return isinstance(rewrite, list) and any(_is_direct(inner) for inner in rewrite)
+
+
+def split_object(text: object) -> tuple[str, str]:
+    if not isinstance(text, str) or not text.partition(":")[2] or not text.partition(":")[0] \
+            or "#" in text or any(letter.isspace() for letter in text):
+        raise Bad("%r is no object `type:id`" % (text,))
+    of, _, id_text = text.partition(":")
+    return of, id_text
+
+
+def split_user(text: object) -> tuple[str, str, Optional[str]]:
+    if not isinstance(text, str):
+        raise Bad("%r is no user" % (text,))
+    whole, hash_sign, relation = text.rpartition("#")
+    if not hash_sign:
+        return (*split_object(text), None)
+    if not relation:
+        raise Bad("%r is no user" % text)
+    return (*split_object(whole), relation)
+
+
+def relationship_of(key: object) -> Relationship:
+    """The tuple of a tuple key; raises Bad."""
+    relation = get(key, "relation")
+    if not isinstance(relation, str) or not relation:
+        raise Bad("a tuple key has no `relation`")
+    return Relationship(*split_object(get(key, "object")), relation, *split_user(get(key, "user")))
+
+
+class Log:
+    """Reads base tuples, changes and checks of a store with one model."""
+
+    def __init__(self, model: Model, refusals: Refusals):
+        self.model, self.refusals = model, refusals
+
+    def base(self, path: str, revision: int, shown: str) -> Iterator[Event]:
+        """Tuples as Read gives them: pages with `tuples`, or one tuple a line."""
+        for line, value in located.values(path, self.refusals):
+            page = get(value, "tuples")
+            for one in page if isinstance(page, list) else [value]:
+                here = line_of(one, line)
+                event = Event("write", path, here, revision, shown, base=True)
+                if self._put(event, get(one, "key"), True, path, here):
+                    yield event
+
+    def events(self, path: str) -> Iterator[Event]:
+        for line, value in located.values(path, self.refusals):
+            stamp = stamp_of(value, path, line, self.refusals) if isinstance(value, dict) else None
+            try:
+                if get(value, "request") is not None:
+                    event = put_stamp(self._check(value, path, line), stamp)
+                    reason = self._not_checked(get(value, "request"), event.goal)
+                    if reason:
+                        self.refusals.unmapped_check(event, *reason)
+                    else:
+                        yield event
+                elif isinstance(get(value, "changes"), list) or get(value, "operation") is not None:
+                    yield from self._changes(value, stamp, path, line)
+                else:
+                    raise Bad("neither changes of ReadChanges nor a check with its `request`")
+            except Bad as fault:
+                self.refusals.refuse(path, line, str(fault))
+
+    def _changes(self, value: dict, stamp: Stamp, path: str, line: int) -> Iterator[Event]:
+        page = get(value, "changes")
+        for place, change in enumerate(page if isinstance(page, list) else [value]):
+            here = line_of(change, line)
+            shown = get(change, "timestamp")
+            revision = nanoseconds(shown)
+            live = OPERATIONS.get(get(change, "operation"))
+            if revision is None or live is None:
+                self.refusals.refuse(path, here, "a change has no `timestamp` of RFC 3339" if revision is None
+                                     else "unknown operation %r" % (get(change, "operation"),))
+                continue
+            event = put_stamp(Event("write", path, here, revision, shown), stamp, place)
+            event.time = revision if event.time is None else event.time
+            self._put(event, get(change, "tuple_key"), live, path, here)
+            yield event
+
+    def _put(self, event: Event, key: object, live: bool, path: str, line: int) -> bool:
+        try:
+            given = relationship_of(key)
+        except Bad as fault:
+            self.refusals.refuse(path, line, str(fault))
+            return False
+        reason = self._unmapped(given, key)
+        if reason:
+            self.refusals.unmapped(path, line, reason, str(given))
+            self.refusals.doubt(*given[:3])
+            return False
+        (event.add if live else event.remove).append(given)
+        return True
+
+    def _unmapped(self, given: Relationship, key: object) -> Optional[str]:
+        takes = self.model.takes.get((given.type, given.relation))
+        if get(key, "condition"):
+            return "condition on a tuple"
+        if given.user_id == "*":
+            return "typed wildcard in a tuple"
+        if takes is None or (given.user_type, given.user_relation) not in takes:
+            return "tuple that the model does not take"
+        return None
+
+    def _check(self, value: dict, path: str, line: int) -> Event:
+        request, content = get(value, "request"), get(value, "content")
+        allowed = get(get(value, "response"), "allowed")
+        if not isinstance(allowed, bool):
+            raise Bad("the response has no `allowed`")
+        event = Event("check" if content is None else "content", path, line, reply=allowed)
+        event.shown = get(value, "snapshot")
+        event.snapshot = nanoseconds(event.shown)
+        if event.snapshot is None:
+            raise Bad("the check has no `snapshot`, the timestamp of the newest change that it saw")
+        self._tokens(event, value, content)
+        event.goal = relationship_of(get(request, "tuple_key"))
+        return event
+
+    @staticmethod
+    def _tokens(event: Event, value: dict, content: object) -> None:
+        if content is not None and not isinstance(content, dict):
+            raise Bad("`content` is no object")
+        holder = value if content is None else content
+        token, event.version = get(holder, "token"), get(holder, "version")
+        event.token = nanoseconds(token)
+        if token is not None and event.token is None:
+            raise Bad("`token` is no timestamp of a change")
+        if not isinstance(event.version, (str, type(None))):
+            raise Bad("`version` is no text")
+
+    def _not_checked(self, request: object, goal: Relationship) -> Optional[tuple[str, str]]:
+        """Why a check is not mapped, with what it is about."""
+        model_id = get(request, "authorization_model_id")
+        if get(get(request, "contextual_tuples"), "tuple_keys"):
+            return "contextual tuples", str(goal)
+        if get(request, "context"):
+            return "context of conditions", str(goal)
+        if goal.user_relation is not None:
+            return "check of a userset as the user", str(goal)
+        if goal.user_id == "*":
+            return "check of a typed wildcard as the user", str(goal)
+        if model_id and self.model.id and model_id != self.model.id:
+            return "check with another model", "%s, and the model is %s" % (model_id, self.model.id)
+        return None

@@ -1,0 +1,233 @@
+"""SpiceDB: relationships as text, the JSON of the watch stream, and checks of a recorder's log."""
+import base64
+import binascii
+import re
+from typing import Iterator, NamedTuple, Optional
+
+from importing import located
+from importing.events import Event, Relationship, Stamp, put_stamp, stamp_of
+from importing.located import line_of
+from importing.openfga import Bad, get
+from importing.refusals import Refusals
+from importing.spicedb_schema import Schema
+
+RELATIONSHIP = re.compile(r"(?P<type>[a-z0-9_/]+):(?P<id>[A-Za-z0-9/_|\-=+]+)#(?P<relation>[a-z0-9_]+)"
+                          r"@(?P<user_type>[a-z0-9_/]+):(?P<user_id>[A-Za-z0-9/_|\-=+]+|\*)(?:#(?P<user_relation>[a-z0-9_]+|\.\.\.))?"
+                          r"(?P<traits>(?:\[.*\])*)")
+NUMBER = re.compile(r"([0-9]{1,30})(?:\.([0-9]{10}))?")
+OPERATIONS = {"OPERATION_CREATE": True, "OPERATION_TOUCH": True, "OPERATION_DELETE": False}
+REPLIES = {"PERMISSIONSHIP_HAS_PERMISSION": True, "PERMISSIONSHIP_NO_PERMISSION": False}
+
+
+class Revision(NamedTuple):
+    """A revision as a number that rises with the datastore's, and as it is written."""
+
+    number: int
+    shown: str
+
+
+def _varint(data: bytes, at: int) -> tuple[int, int]:
+    value = shift = 0
+    while True:
+        byte = data[at]
+        value |= (byte & 127) << shift
+        at, shift = at + 1, shift + 7
+        if byte < 128:
+            return value, at
+
+
+def _fields(data: bytes) -> dict[int, object]:
+    """The fields of a protocol buffer that are numbers or bytes."""
+    found, at = {}, 0
+    while at < len(data):
+        tag, at = _varint(data, at)
+        value, at = _varint(data, at)
+        if tag & 7 == 2:
+            if at + value > len(data):
+                raise IndexError
+            value, at = data[at:at + value], at + value
+        elif tag & 7:
+            raise IndexError
+        found[tag >> 3] = value
+    return found
+
+
+def _token_text(token: str) -> Optional[str]:
+    """The datastore's revision that a ZedToken holds."""
+    try:
+        fields = _fields(base64.b64decode(token, validate=True))
+        if isinstance(fields.get(3), bytes):
+            return _fields(fields[3])[1].decode("ascii")
+        return str(int(_fields(fields[2])[1]))
+    except (binascii.Error, IndexError, KeyError, TypeError, ValueError, AttributeError):
+        return None
+
+
+def read_revision(text: object) -> Optional[Revision]:
+    """A ZedToken, or a revision as a number; None where its order can't be read."""
+    if not isinstance(text, str):
+        return None
+    shown = text if NUMBER.fullmatch(text) else _token_text(text)
+    found = NUMBER.fullmatch(shown) if shown else None
+    return Revision(int(found[1]) * 10 ** 10 + int(found[2] or 0), shown) if found else None
+
+
+def revision_of(text: object) -> Optional[int]:
+    revision = read_revision(text)
+    return revision.number if revision else None
+
+
+def _revision(holder: object, what: str) -> Revision:
+    revision = read_revision(get(holder, "token"))
+    if revision is None:
+        raise Bad("%s has no token whose revision is a number" % what)
+    return revision
+
+
+def _object(given: object, what: str) -> tuple[str, str]:
+    of, id_text = get(given, "objectType"), get(given, "objectId")
+    if not isinstance(of, str) or not of or not isinstance(id_text, str) or not id_text:
+        raise Bad("the %s has no type and id" % what)
+    return of, id_text
+
+
+def _subject(given: object) -> tuple[str, str, Optional[str]]:
+    relation = get(given, "optionalRelation")
+    if not isinstance(relation, (str, type(None))):
+        raise Bad("the subject's relation is no text")
+    return (*_object(get(given, "object"), "subject"), None if relation in ("", "...") else relation)
+
+
+def relationship_of(given: object) -> Relationship:
+    """The tuple of a relationship in JSON; raises Bad."""
+    relation = get(given, "relation")
+    if not isinstance(relation, str) or not relation:
+        raise Bad("a relationship has no relation")
+    return Relationship(*_object(get(given, "resource"), "resource"), relation, *_subject(get(given, "subject")))
+
+
+class Log:
+    """Reads base relationships, the watch stream and checks under one schema."""
+
+    def __init__(self, schema: Schema, refusals: Refusals):
+        self.schema, self.refusals = schema, refusals
+
+    def base(self, path: str, revision: int, shown: str) -> Iterator[Event]:
+        try:
+            lines = located.read_text(path).split("\n")
+        except located.Malformed as fault:
+            self.refusals.refuse(path, fault.line, str(fault))
+            return
+        for line, text in enumerate(map(str.strip, lines), 1):
+            if text and not text.startswith("//"):
+                event = Event("write", path, line, revision, read_revision(shown).shown, base=True)
+                if self._base_line(event, text):
+                    yield event
+
+    def _base_line(self, event: Event, text: str) -> bool:
+        found = RELATIONSHIP.fullmatch(text)
+        if not found:
+            self.refusals.refuse(event.file, event.line, "no relationship `type:id#relation@type:id`: %r" % text[:200])
+            return False
+        parts = [found[name] for name in Relationship._fields]
+        parts[5] = None if parts[5] == "..." else parts[5]
+        traits = found["traits"]
+        reason = None if not traits else "expiration" if traits.startswith("[expiration:") else "caveat"
+        return self._put(event, Relationship(*parts), True, reason)
+
+    def _put(self, event: Event, given: Relationship, live: bool, reason: Optional[str]) -> bool:
+        takes = self.schema.takes.get((given.type, given.relation))
+        if reason is None and given.user_id == "*":
+            reason = "wildcard"
+        if reason is None and (takes is None or (given.user_type, given.user_relation) not in takes):
+            reason = "relationship that the schema does not take"
+        if reason:
+            self.refusals.unmapped(event.file, event.line, reason, str(given))
+            self.refusals.doubt(*given[:3])
+            return False
+        (event.add if live else event.remove).append(given)
+        return True
+
+    def events(self, path: str) -> Iterator[Event]:
+        for line, value in located.values(path, self.refusals):
+            stamp = stamp_of(value, path, line, self.refusals) if isinstance(value, dict) else None
+            try:
+                if get(value, "request") is not None:
+                    event = put_stamp(self._check(value, path, line), stamp)
+                    reason = self._not_checked(value, event.goal)
+                    if reason:
+                        self.refusals.unmapped_check(event, reason, str(event.goal))
+                    else:
+                        yield event
+                elif get(value, "result") is not None or get(value, "changesThrough") is not None:
+                    yield from self._watched(value, stamp, path, line)
+                else:
+                    raise Bad("neither a response of Watch nor a check with its `request`")
+            except Bad as fault:
+                self.refusals.refuse(path, line, str(fault))
+
+    def _watched(self, value: dict, stamp: Stamp, path: str, line: int) -> Iterator[Event]:
+        response = get(value, "result") or value
+        if get(response, "schemaUpdated"):
+            raise Bad("the schema changes here; the rules of one schema are imported")
+        updates = get(response, "updates") or []
+        if not isinstance(updates, list):
+            raise Bad("`updates` is no list")
+        revision = _revision(get(response, "changesThrough"), "`changesThrough`")
+        event = put_stamp(Event("write", path, line, revision.number, revision.shown), stamp)
+        for update in updates:
+            live = OPERATIONS.get(get(update, "operation"))
+            given = get(update, "relationship")
+            if live is None:
+                raise Bad("unknown operation %r" % (get(update, "operation"),))
+            reason = "caveat" if get(given, "optionalCaveat") else "expiration" if get(given, "optionalExpiresAt") else None
+            event.line = line_of(update, line)
+            self._put(event, relationship_of(given), live, reason)
+        event.line = line
+        if updates:
+            yield event
+
+    def _check(self, value: dict, path: str, line: int) -> Event:
+        request, response, content = (get(value, key) for key in ("request", "response", "content"))
+        if content is not None and not isinstance(content, dict):
+            raise Bad("`content` is no object")
+        permission = get(request, "permission")
+        if not isinstance(permission, str) or not permission:
+            raise Bad("the request has no permission")
+        event = Event("check" if content is None else "content", path, line)
+        event.goal = Relationship(*_object(get(request, "resource"), "resource"), permission,
+                                  *_subject(get(request, "subject")))
+        checked = _revision(get(response, "checkedAt"), "`checkedAt` of the response")
+        event.snapshot, event.shown = checked
+        event.reply = REPLIES.get(get(response, "permissionship"), False)
+        if get(response, "permissionship") not in (*REPLIES, "PERMISSIONSHIP_CONDITIONAL_PERMISSION"):
+            raise Bad("the response has no permissionship")
+        self._tokens(event, value, request, content)
+        return event
+
+    @staticmethod
+    def _tokens(event: Event, value: dict, request: object, content: object) -> None:
+        """The token that a check demanded, or the one that was stored with a content version."""
+        if content is None:
+            consistency = get(request, "consistency")
+            demanded = get(consistency, "atLeastAsFresh") or get(consistency, "atExactSnapshot")
+            event.token = _revision(demanded, "the request's consistency").number if demanded else None
+            event.version = get(value, "version")
+        else:
+            event.token = _revision(content, "`content`").number if get(content, "token") is not None else None
+            event.version = get(content, "version")
+        if not isinstance(event.version, (str, type(None))):
+            raise Bad("`version` is no text")
+
+    @staticmethod
+    def _not_checked(value: dict, goal: Relationship) -> Optional[str]:
+        """Why a check is not mapped."""
+        if get(get(value, "response"), "permissionship") not in REPLIES:
+            return "conditional permission"
+        if get(get(value, "request"), "context"):
+            return "context of caveats"
+        if goal.user_relation is not None:
+            return "check of a userset as the user"
+        if goal.user_id == "*":
+            return "check of a wildcard as the user"
+        return None
