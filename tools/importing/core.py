@@ -34,8 +34,7 @@ class Made(NamedTuple):
     cannot_show: list[str]
 
 
-def encode(value: object) -> str:
-    return json.dumps(value, ensure_ascii=False, separators=(",", ":"))
+encode = json.JSONEncoder(ensure_ascii=False, separators=(",", ":")).encode
 
 
 class Core:

@@ -1,4 +1,5 @@
 """OpenFGA: an authorization model, tuple changes as ReadChanges gives them, and checks of a recorder's log."""
+import re
 from functools import cache
 from typing import Iterator, NamedTuple, Optional
 
@@ -11,6 +12,7 @@ from lib import limits
 
 SCHEMAS = ("1.1", "1.2")
 OPERATIONS = {"TUPLE_OPERATION_WRITE": True, "TUPLE_OPERATION_DELETE": False}
+OBJECT = re.compile(r"([^:#\s]+):([^#\s]+)")
 REWRITES = ("this", "computedUserset", "tupleToUserset", "union", "intersection", "difference")
 
 
@@ -46,8 +48,9 @@ def key_of(value: dict, name: str) -> Optional[str]:
 
 
 def get(value: object, name: str) -> object:
-    key = key_of(value, name) if isinstance(value, dict) else None
-    return value[key] if key else None
+    if not isinstance(value, dict):
+        return None
+    return value[name] if name in value else value.get(spelled(name))
 
 
 class ModelReader:
@@ -184,11 +187,10 @@ def _is_direct(rewrite: object) -> bool:
 
 
 def split_object(text: object) -> tuple[str, str]:
-    if not isinstance(text, str) or not text.partition(":")[2] or not text.partition(":")[0] \
-            or "#" in text or any(letter.isspace() for letter in text):
+    found = OBJECT.fullmatch(text) if isinstance(text, str) else None
+    if not found:
         raise Bad("%r is no object `type:id`" % (text,))
-    of, _, id_text = text.partition(":")
-    return of, id_text
+    return found[1], found[2]
 
 
 def split_user(text: object) -> tuple[str, str, Optional[str]]:
