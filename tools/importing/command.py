@@ -20,9 +20,15 @@ from importing.times import nanoseconds
 from lib.ids import Ids, TableFault
 
 
+class Parser(argparse.ArgumentParser):
+    def error(self, message):
+        self.print_usage(sys.stderr)
+        self.exit(3, "import_trace: %s\n" % message)
+
+
 def words(arguments):
     """The words of the command line, and the parser that tells faults of usage."""
-    parser = argparse.ArgumentParser(prog="import_trace", description="Makes a trace of the logs of a service.")
+    parser = Parser(prog="import_trace", description="Makes a trace of the logs of a service.")
     services = parser.add_subparsers(dest="service", required=True)
     for name in ("openfga", "spicedb", "events"):
         service = services.add_parser(name)
@@ -87,13 +93,19 @@ def gathered(given, revision, refusals, progress):
     return events
 
 
-def write(path, lines):
-    """The whole trace or nothing."""
+def write(path, lines, ids):
+    """The trace and the new rows of the table, or neither."""
     beside = path + ".part"
-    with open(beside, "w", encoding="utf-8", newline="\n") as file:
-        for line in lines:
-            file.write(line + "\n")
-    os.replace(beside, path)
+    try:
+        with open(beside, "w", encoding="utf-8", newline="\n") as file:
+            for line in lines:
+                file.write(line + "\n")
+        ids.append()
+        os.replace(beside, path)
+    except OSError:
+        if os.path.exists(beside):
+            os.remove(beside)
+        raise
 
 
 def say(text):
@@ -120,8 +132,7 @@ def main(arguments):
                 say(line)
             say("refused %d" % len(refusals.lines()))
             return 2
-        ids.append()
-        write(given.trace, made.lines)
+        write(given.trace, made.lines, ids)
     except TableFault as fault:
         say(str(fault))
         return 2

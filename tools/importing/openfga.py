@@ -38,8 +38,10 @@ class Model(NamedTuple):
 
 @cache
 def spelled(name: str) -> str:
-    """A key with underscores in place of capitals, which services write too."""
-    return "".join("_" + letter.lower() if letter.isupper() else letter for letter in name)
+    """The other spelling of a key: services write `tupleKey` and `tuple_key`."""
+    if "_" in name:
+        return re.sub("_([a-z])", lambda found: found[1].upper(), name)
+    return re.sub("[A-Z]", lambda found: "_" + found[0].lower(), name)
 
 
 def key_of(value: dict, name: str) -> Optional[str]:
