@@ -7,7 +7,6 @@
 It writes the trace and adds to the table of ids; where anything is refused it writes neither, lists all refusals on
 standard error, and ends with status 2.
 """
-import argparse
 import os
 import sys
 
@@ -17,13 +16,8 @@ from importing.events import read_events
 from importing.progress import Progress
 from importing.refusals import Refusals
 from importing.times import nanoseconds
+from lib.files import Parser
 from lib.ids import Ids, TableFault
-
-
-class Parser(argparse.ArgumentParser):
-    def error(self, message):
-        self.print_usage(sys.stderr)
-        self.exit(3, "import_trace: %s\n" % message)
 
 
 def words(arguments):

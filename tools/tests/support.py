@@ -1,5 +1,8 @@
 """What the tests share: the tools on files in a folder of their own, and audits by the program."""
 import contextlib
+import functools
+import importlib.machinery
+import importlib.util
 import io
 import json
 import os
@@ -7,6 +10,8 @@ import subprocess
 import sys
 import tempfile
 import unittest
+from typing import NamedTuple
+from unittest import mock
 
 from importing.command import main as import_main
 from lib.maker import record
@@ -15,6 +20,23 @@ from lib.trace import read_trace
 TOOLS = os.path.dirname(os.path.dirname(os.path.abspath(__file__)))
 TOP = os.path.dirname(TOOLS)
 EXAMPLES = os.path.join(TOP, "examples")
+
+
+class Run(NamedTuple):
+    returncode: int
+    stdout: str
+    stderr: str
+
+
+@functools.cache
+def loaded_file(path):
+    """A program of Python as a module."""
+    name = os.path.basename(path)
+    loader = importlib.machinery.SourceFileLoader(name, path)
+    module = importlib.util.module_from_spec(importlib.util.spec_from_loader(name, loader))
+    with mock.patch.object(sys, "dont_write_bytecode", True):
+        loader.exec_module(module)
+    return module
 
 
 class Case(unittest.TestCase):
@@ -42,9 +64,21 @@ class Case(unittest.TestCase):
     def rows(self, name):
         return [json.loads(line) for line in self.get(name).splitlines()]
 
-    def run_tool(self, tool, *words, stdin=""):
+    def run_process(self, tool, *words, stdin=""):
         return subprocess.run([sys.executable, os.path.join(TOOLS, tool), *words], cwd=self.room, input=stdin,
                               capture_output=True, text=True, timeout=60)
+
+    def run_tool(self, tool, *words, stdin=""):
+        """A run of a tool in this process, which is quicker: its status and what it wrote."""
+        out, err = io.StringIO(), io.StringIO()
+        given = io.TextIOWrapper(io.BytesIO(stdin.encode()))
+        with contextlib.chdir(self.room), contextlib.redirect_stdout(out), contextlib.redirect_stderr(err), \
+                mock.patch.object(sys, "argv", [tool, *words]), mock.patch.object(sys, "stdin", given):
+            try:
+                status = loaded_file(os.path.join(TOOLS, tool)).main()
+            except SystemExit as end:
+                status = end.code
+        return Run(status, out.getvalue(), err.getvalue())
 
     def run_import(self, *words):
         """The status and the standard error of an import in the folder."""

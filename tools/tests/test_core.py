@@ -313,7 +313,7 @@ class Told(CoreCase):
     def test_usage(self):
         for words in (["openfga"], ["openfga", "--model", "m", "log"], ["openfga", "--model", "m", "--base", "b", "log"],
                       ["spicedb", "--schema", "s", "--base", "b", "--base-at", "?", "log"], ["events", "--skew", "-1", "log"], []):
-            run = self.run_tool("import_trace", *words)
+            run = self.run_process("import_trace", *words)
             self.assertEqual((run.returncode, run.stdout), (3, ""), words)
             self.assertIn("usage: import_trace", run.stderr)
 
