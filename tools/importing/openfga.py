@@ -1,14 +1,13 @@
 """OpenFGA: an authorization model, tuple changes as ReadChanges gives them, and checks of a recorder's log."""
 import re
-from functools import cache
 from typing import Iterator, NamedTuple, Optional
 
 from importing import located
 from importing.events import Event, RelationRule, Relationship, Stamp, put_stamp, stamp_of
 from importing.located import line_at, line_of
 from importing.refusals import Refusals
+from importing.service import Bad, get, nested, one_of, spelled, text_or_none
 from importing.times import nanoseconds
-from lib import limits
 
 SCHEMAS = ("1.1", "1.2")
 OPERATIONS = {"TUPLE_OPERATION_WRITE": True, "TUPLE_OPERATION_DELETE": False}
@@ -24,35 +23,12 @@ class Unmapped(Exception):
         self.line, self.reason, self.detail = line, reason, detail
 
 
-class Bad(Exception):
-    """A line that is not what the service writes."""
-
-
 class Model(NamedTuple):
     """The rules, and which users a relation takes: (type, relation or None)."""
 
     id: Optional[str]
     rules: Event
     takes: dict[tuple[str, str], set[tuple[str, Optional[str]]]]
-
-
-@cache
-def spelled(name: str) -> str:
-    """The other spelling of a key: services write `tupleKey` and `tuple_key`."""
-    if "_" in name:
-        return re.sub("_([a-z])", lambda found: found[1].upper(), name)
-    return re.sub("[A-Z]", lambda found: "_" + found[0].lower(), name)
-
-
-def key_of(value: dict, name: str) -> Optional[str]:
-    """The spelling under which a key stands."""
-    return name if name in value else spelled(name) if spelled(name) in value else None
-
-
-def get(value: object, name: str) -> object:
-    if not isinstance(value, dict):
-        return None
-    return value[name] if name in value else value.get(spelled(name))
 
 
 class ModelReader:
@@ -72,9 +48,9 @@ class ModelReader:
         if get(model, "schema_version") not in SCHEMAS:
             self.refusals.refuse(self.path, line_at(model, "schema_version", 1), "schema version %r: only %s are mapped"
                                  % (get(model, "schema_version"), " and ".join(SCHEMAS)))
-        for name in get(model, "conditions") or ():
-            self.refusals.unmapped(self.path, line_at(model["conditions"], name, line_at(model, "conditions", 1)),
-                                   "condition", name)
+        conditions = get(model, "conditions")
+        for name in conditions if isinstance(conditions, dict) else ():
+            self.refusals.unmapped(self.path, line_at(conditions, name, 1), "condition", name)
         event = Event("rules", self.path, 1)
         takes: dict[tuple[str, str], set[tuple[str, Optional[str]]]] = {}
         for given in get(model, "type_definitions"):
@@ -94,7 +70,7 @@ class ModelReader:
             self.refusals.refuse(self.path, line, "type %s stands twice" % name)
             return
         event.namespaces[name] = []
-        listed = get(get(given, "metadata"), "relations") or {}
+        listed = get(get(given, "metadata"), "relations")
         for relation, rewrite in relations.items():
             where = "%s#%s" % (name, relation)
             line = line_at(relations, relation, line)
@@ -105,16 +81,20 @@ class ModelReader:
                 self.refusals.doubt(name, None, relation)
                 mapped = {"this": {}}
             event.namespaces[name].append(RelationRule(relation, mapped, line))
-            takes[name, relation] = self._users(listed.get(relation), where, line)
-            if _is_direct(rewrite) and not get(listed.get(relation), "directly_related_user_types"):
+            given_users = listed.get(relation) if isinstance(listed, dict) else None
+            takes[name, relation] = self._users(given_users, where, line) if _is_direct(rewrite) else set()
+            if _is_direct(rewrite) and not get(given_users, "directly_related_user_types"):
                 self.refusals.refuse(self.path, line, "%s has `this` and no `directly_related_user_types`" % where)
 
     def _users(self, given: object, where: str, line: int) -> set[tuple[str, Optional[str]]]:
         users = set()
-        for user in get(given, "directly_related_user_types") or ():
+        listed = get(given, "directly_related_user_types")
+        for user in listed if isinstance(listed, list) else ():
             here = line_of(user, line)
             told = "%s of %s" % (get(user, "type"), where)
-            if get(user, "wildcard") is not None:
+            if not isinstance(get(user, "type"), str) or not isinstance(get(user, "relation"), (str, type(None))):
+                self.refusals.refuse(self.path, here, "%s takes a user without a type" % where)
+            elif get(user, "wildcard") is not None:
                 self.refusals.unmapped(self.path, here, "typed wildcard", told)
             elif get(user, "condition"):
                 self.refusals.unmapped(self.path, here, "condition", "%s on %s" % (get(user, "condition"), told))
@@ -133,7 +113,7 @@ class ModelReader:
 
     def _rewrite(self, given: object, relations: dict, where: str, line: int) -> dict:
         line = line_of(given, line)
-        forms = [form for form in REWRITES if key_of(given, form)] if isinstance(given, dict) else []
+        forms = [form for form in REWRITES if form in given or spelled(form) in given] if isinstance(given, dict) else []
         if len(forms) != 1 or len(given) != 1:
             raise Unmapped(line, "rewrite without a form", "%s has %s" % (where, _keys(given)))
         form, inner = forms[0], get(given, forms[0])
@@ -164,13 +144,6 @@ class ModelReader:
             raise Unmapped(line_of(given, line), "rewrite without a form",
                            "%s reads %r, which its type does not define" % (where, name))
         return name
-
-
-def nested(form: str, children: list[dict]) -> dict:
-    """A union or intersection, in groups where it has more children than a trace takes."""
-    while len(children) > limits.CHILDREN:
-        children = [{form: children[at:at + limits.CHILDREN]} for at in range(0, len(children), limits.CHILDREN)]
-    return {form: children}
 
 
 def _keys(value: object) -> str:
@@ -254,7 +227,7 @@ class Log:
             here = line_of(change, line)
             shown = get(change, "timestamp")
             revision = nanoseconds(shown)
-            live = OPERATIONS.get(get(change, "operation"))
+            live = one_of(OPERATIONS, get(change, "operation"))
             if revision is None or live is None:
                 self.refusals.refuse(path, here, "a change has no `timestamp` of RFC 3339" if revision is None
                                      else "unknown operation %r" % (get(change, "operation"),))
@@ -307,12 +280,10 @@ class Log:
         if content is not None and not isinstance(content, dict):
             raise Bad("`content` is no object")
         holder = value if content is None else content
-        token, event.version = get(holder, "token"), get(holder, "version")
+        token, event.version = get(holder, "token"), text_or_none(get(holder, "version"), "version")
         event.token = nanoseconds(token)
         if token is not None and event.token is None:
             raise Bad("`token` is no timestamp of a change")
-        if not isinstance(event.version, (str, type(None))):
-            raise Bad("`version` is no text")
 
     def _not_checked(self, request: object, goal: Relationship) -> Optional[tuple[str, str]]:
         """Why a check is not mapped, with what it is about."""

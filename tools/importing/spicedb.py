@@ -7,8 +7,8 @@ from typing import Iterator, NamedTuple, Optional
 from importing import located
 from importing.events import Event, Relationship, Stamp, put_stamp, stamp_of
 from importing.located import line_of
-from importing.openfga import Bad, get
 from importing.refusals import Refusals
+from importing.service import Bad, get, one_of, text_or_none
 from importing.spicedb_schema import Schema
 
 RELATIONSHIP = re.compile(r"(?P<type>[a-z0-9_/]+):(?P<id>[A-Za-z0-9/_|\-=+]+)#(?P<relation>[a-z0-9_]+)"
@@ -17,6 +17,7 @@ RELATIONSHIP = re.compile(r"(?P<type>[a-z0-9_/]+):(?P<id>[A-Za-z0-9/_|\-=+]+)#(?
 NUMBER = re.compile(r"([0-9]{1,30})(?:\.([0-9]{10}))?")
 OPERATIONS = {"OPERATION_CREATE": True, "OPERATION_TOUCH": True, "OPERATION_DELETE": False}
 REPLIES = {"PERMISSIONSHIP_HAS_PERMISSION": True, "PERMISSIONSHIP_NO_PERMISSION": False}
+CONDITIONAL = "PERMISSIONSHIP_CONDITIONAL_PERMISSION"
 
 
 class Revision(NamedTuple):
@@ -92,10 +93,8 @@ def _object(given: object, what: str) -> tuple[str, str]:
 
 
 def _subject(given: object) -> tuple[str, str, Optional[str]]:
-    relation = get(given, "optionalRelation")
-    if not isinstance(relation, (str, type(None))):
-        raise Bad("the subject's relation is no text")
-    return (*_object(get(given, "object"), "subject"), None if relation in ("", "...") else relation)
+    relation = text_or_none(get(given, "optionalRelation"), "optionalRelation") or None
+    return (*_object(get(given, "object"), "subject"), None if relation == "..." else relation)
 
 
 def relationship_of(given: object) -> Relationship:
@@ -176,7 +175,7 @@ class Log:
         revision = _revision(get(response, "changesThrough"), "`changesThrough`")
         event = put_stamp(Event("write", path, line, revision.number, revision.shown), stamp)
         for update in updates:
-            live = OPERATIONS.get(get(update, "operation"))
+            live = one_of(OPERATIONS, get(update, "operation"))
             given = get(update, "relationship")
             if live is None:
                 raise Bad("unknown operation %r" % (get(update, "operation"),))
@@ -199,8 +198,8 @@ class Log:
                                   *_subject(get(request, "subject")))
         checked = _revision(get(response, "checkedAt"), "`checkedAt` of the response")
         event.snapshot, event.shown = checked
-        event.reply = REPLIES.get(get(response, "permissionship"), False)
-        if get(response, "permissionship") not in (*REPLIES, "PERMISSIONSHIP_CONDITIONAL_PERMISSION"):
+        event.reply = one_of(REPLIES, get(response, "permissionship")) or False
+        if get(response, "permissionship") not in (*REPLIES, CONDITIONAL):
             raise Bad("the response has no permissionship")
         self._tokens(event, value, request, content)
         return event
@@ -212,17 +211,15 @@ class Log:
             consistency = get(request, "consistency")
             demanded = get(consistency, "atLeastAsFresh") or get(consistency, "atExactSnapshot")
             event.token = _revision(demanded, "the request's consistency").number if demanded else None
-            event.version = get(value, "version")
+            event.version = text_or_none(get(value, "version"), "version")
         else:
             event.token = _revision(content, "`content`").number if get(content, "token") is not None else None
-            event.version = get(content, "version")
-        if not isinstance(event.version, (str, type(None))):
-            raise Bad("`version` is no text")
+            event.version = text_or_none(get(content, "version"), "version")
 
     @staticmethod
     def _not_checked(value: dict, goal: Relationship) -> Optional[str]:
         """Why a check is not mapped."""
-        if get(get(value, "response"), "permissionship") not in REPLIES:
+        if get(get(value, "response"), "permissionship") == CONDITIONAL:
             return "conditional permission"
         if get(get(value, "request"), "context"):
             return "context of caveats"

@@ -4,8 +4,8 @@ from typing import NamedTuple, Optional
 
 from importing import located
 from importing.events import Event, RelationRule
-from importing.openfga import nested
 from importing.refusals import Refusals
+from importing.service import nested
 
 TOKEN = re.compile(r"(?P<space>[ \t\r\n]+|//[^\n]*|/\*.*?\*/)|(?P<word>[A-Za-z_][A-Za-z0-9_]*(?:/[A-Za-z_][A-Za-z0-9_]*)*)"
                    r"|(?P<sign>->|\.\.\.|[{}()=|#:+&\-*;,.])|(?P<other>\"(?:[^\"\\\n]|\\.)*\"|'(?:[^'\\\n]|\\.)*'|.)", re.S)

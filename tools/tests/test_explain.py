@@ -123,7 +123,7 @@ class Findings(Case):
         path = os.path.join(EXAMPLES, "each_finding")
         wanted = {5: "F1 stale", 6: "F2 old token, see line 3", 7: "F3 not latest, see line 4",
                   8: "F4 open snapshot, see line 9", 10: "F5 wrong token", 11: "F6 unknown version",
-                  **dict.fromkeys((13, 15), "F10 wrong reply, where the evidence settles the goal")}
+                  **dict.fromkeys((13, 14, 15), "F10 wrong reply, where the evidence settles the goal")}
         for line in range(3, 16):
             if line not in (4, 9):
                 heads = [said for said in self.run_tool("explain", path, str(line)).stdout.splitlines() if said[:1] == "F"]
@@ -156,7 +156,7 @@ class WorkedCases(Case):
             self.assertEqual(findings, wanted, case["name"])
             refused, found = refused + bool(said), found + len(wanted)
         self.assertGreater(refused, 300)
-        self.assertGreater(found, 40)
+        self.assertGreater(found, 30)
 
 
 class Refused(Case):

@@ -204,5 +204,4 @@ class Examples(Case):
         self.imported_example("stale_log.jsonl")
         self.assertEqual(self.audited().splitlines(), [
             "line 9: F2 old token, see line 8", "line 10: F1 stale", "line 12: F3 not latest, see line 11",
-            "line 12: F5 wrong token", "line 12: F10 wrong reply", "line 13: F10 wrong reply", "entries 7", "findings 6",
-            "verdict dirty"])
+            "line 12: F5 wrong token", "line 13: F10 wrong reply", "entries 7", "findings 5", "verdict dirty"])
