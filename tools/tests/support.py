@@ -51,10 +51,11 @@ class Case(unittest.TestCase):
         return os.path.join(self.room, name)
 
     def put(self, name, content):
-        """A file of a text, or of JSON lines."""
-        text = content if isinstance(content, str) else "".join(json.dumps(one) + "\n" for one in content)
-        with open(self.path(name), "w", encoding="utf-8") as file:
-            file.write(text)
+        """A file of bytes, of a text, or of JSON lines."""
+        if not isinstance(content, (bytes, str)):
+            content = "".join(json.dumps(one) + "\n" for one in content)
+        with open(self.path(name), "wb") as file:
+            file.write(content if isinstance(content, bytes) else content.encode())
         return self.path(name)
 
     def get(self, name):

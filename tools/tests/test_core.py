@@ -5,8 +5,10 @@ import os
 import pty
 import subprocess
 import sys
+from unittest import mock
 
 from importing.progress import Progress
+from lib import limits
 from lib.ids import Ids
 from lib.texts import Tuple, Userset, parse_tuple
 from tests.support import TOOLS, Case
@@ -160,7 +162,7 @@ class Order(CoreCase):
         second = [content(1, "v", time="2024-01-01T00:00:02Z", clock="b")]
         first = [write(1, rel(), time="2024-01-01T00:00:01Z", clock="a"),
                  check(1, version="v", time="2024-01-01T00:00:02Z", clock="a"),
-                 check(1, time="2024-01-01T00:00:02Z", clock="a")]
+                 check(1, time="2024-01-01T00:00:02Z", clock="a"), check(1, time="2024-01-01T00:00:02Z", clock="c")]
         self.assertEqual(self.refused(*self.two("--skew", "0", first=first, second=second)), [
             "two:1: which came first, this content or the check at one:3, is not known: they are 0 ms apart, and the skew is 0 ms"])
 
@@ -238,6 +240,14 @@ class Refusals(CoreCase):
             "log:3: the new rules leave out doc#parent, which a trace has no form for",
             "log:4: the new rules leave out namespace doc, which a trace has no form for"])
 
+    def test_more_than_a_trace_takes(self):
+        changes = [{"event": "rules", "revision": at, "namespaces": [
+            RULES["namespaces"][0], {"name": "other%d" % at, "relations": []}]} for at in (1, 2)]
+        changes[1]["namespaces"].append(changes[0]["namespaces"][1])
+        with mock.patch.object(limits, "CHANGES", 1), mock.patch.object(limits, "INPUT_BYTES", 100):
+            self.assertEqual(self.refusals(RULES, *changes), ["log:3: more than 1 changes of rules"])
+            self.assertEqual(self.refusals(RULES), ["log:1: the trace has 245 bytes, and one has at most 100"])
+
     def test_more_strata_than_a_trace_has(self):
         relations = [{"name": "r0"}] + [{"name": "r%d" % n, "rewrite": {"exclusion": {
             "base": {"this": {}}, "subtract": {"computed": "r%d" % (n - 1)}}}} for n in range(1, 200)]
@@ -273,6 +283,19 @@ class LeftOut(CoreCase):
         self.assertEqual(self.said.splitlines()[:2], [
             "left out 2: check that hangs on a tuple or rule that was left out",
             "left out 1: tuple of a relation that the rules do not have"])
+
+    def test_checks_that_hang_on_a_rule(self):
+        self.put("schema", "definition user {}\ndefinition doc {\n relation up: doc\n relation own: user | doc#open\n"
+                 " permission lost = own - nil\n permission open = lost + own\n permission far = up->open\n}\n")
+        self.put("log", [{"request": {"resource": {"objectType": "doc", "objectId": "1"}, "permission": name,
+                                      "subject": {"object": {"objectType": "user", "objectId": "a"}}},
+                          "response": {"checkedAt": {"token": "5"}, "permissionship": "PERMISSIONSHIP_NO_PERMISSION"}}
+                         for name in ("lost", "open", "far", "own", "up")])
+        self.put("base", "doc:1#up@doc:2\n")
+        words = ["spicedb", "--schema", "schema", "--base", "base", "--base-at", "5", "--skip-unmapped", "log"]
+        self.assertIn("left out 3: check that hangs on a tuple or rule that was left out\nleft out 1: nil\n", self.imported(*words))
+        self.assertEqual([row["goal"] for row in self.rows("trace.jsonl") if row["kind"] == "check"],
+                         ["doc:1#own@2", "doc:1#up@2"])
 
     def test_versions_go_with_their_content_check(self):
         rows = self.lines(RULES, write(1, rel()), content(1, "v", goal=rel(relation="gone")), check(1, version="v"),

@@ -38,7 +38,7 @@ def check(user="user:a", relation="viewer", thing="doc:1", allowed=True, at="202
 class Refusals(Case):
     def refusals(self, log=(), model=MODEL % THIS, *more):
         return self.refused("openfga", "--model", self.name("model.json", model), "--from-empty", *more,
-                            self.name("log", list(log) if not isinstance(log, str) else log))
+                            self.name("log", log if isinstance(log, (bytes, str)) else list(log)))
 
     def name(self, name, content):
         self.put(name, content)
@@ -55,7 +55,7 @@ class Refusals(Case):
             "log:6: tuple that the model does not take: paper:1#viewer@user:a"])
 
     def test_changes_by_line(self):
-        log = [change("user:a", operation="MOVE"), change("user:a", at="yesterday"), change("anne"), change("user:a#"),
+        log = [change("user:a", operation="MOVE"), change("user:a", at="2024-02-30T00:00:00Z"), change("anne"), change("user:a#"),
                change(7), change("user:a", thing="doc"), change("user:a", relation=None), {"hello": 1}, [1]]
         self.assertEqual(self.refusals(log), [
             "log:1: unknown operation 'TUPLE_OPERATION_MOVE'",
@@ -131,6 +131,13 @@ class Refusals(Case):
         self.assertEqual(self.refusals([], "{\n\"a\" 1}"), ["model.json:2: not JSON: ':' should stand here"])
         self.assertEqual(self.refusals([], "{\n\"a\n\": 1}"),
                          ["model.json:2: not JSON: a text without an end, or with a letter that has to be escaped"])
+        for text, told in (("{\n1: 2}", "2: not JSON: a key should stand here"), ("{\"a\":\n?}", "2: not JSON"),
+                           ("{}\n{}", "2: not JSON: more text behind the value"), ("\n" + "[" * 300, "2: nested too deep"),
+                           (b"{\n\xff}", "2: the bytes are no UTF-8")):
+            self.assertEqual(self.refusals([], text), ["model.json:" + told])
+            self.assertIn("log:", self.refusals(b"{\n\xff")[0])
+        self.assertEqual(self.refusals("{\"changes\": [\n\n}"), ["log:3: not JSON"])
+        self.assertEqual(self.refusals("{}\n" + "[" * 100_000)[1], "log:2: nested too deep")
         log = json.dumps(change("user:a")) + "\n{\"a\":\n" + '{"a":1,"a":2}\n{"a":NaN}\n'
         self.assertEqual(self.refusals(log), ["log:2: not JSON", "log:3: the key 'a' stands twice", "log:4: NaN is no JSON"])
 

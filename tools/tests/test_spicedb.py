@@ -92,6 +92,10 @@ class Refusals(Case):
             "schema.zed:16: import other",
             "schema.zed:17: a definition should stand here, and not 'hello'",
             "schema.zed:18: partial: p"])
+        self.assertEqual(self.refusals([], schema="definition user {};\ndefinition doc {\n  relation owner: user#\n}\n"),
+                         ["schema.zed:4: a relation should stand here, and not '}'"])
+        self.assertEqual(self.refusals([], schema="definition doc {\n  relation owner: user#{\ndefinition user {}"), [
+            "schema.zed:2: a relation should stand here, and not '{'"])
         self.assertEqual(self.refusals([], schema="definition user {}\ndefinition doc {\n  relation owner: cat | user#x\n}\n"), [
             "schema.zed:3: doc#owner takes cat, which the schema does not define",
             "schema.zed:3: doc#owner takes user#x, which the schema does not define"])
@@ -101,7 +105,8 @@ class Refusals(Case):
                watch(4, update("user:a", optionalExpiresAt="2024-01-01T00:00:00Z")), watch(5, update("doc:1")),
                watch(6, update("user:a", "view")), watch(7, update("user:a", operation="MOVE")),
                watch(8, schemaUpdated=True), {"result": {"updates": []}}, watch("x1", update("user:b")),
-               watch(9, {"operation": "OPERATION_TOUCH"}), {"error": {"code": 5}}, watch(10, isCheckpoint=True)]
+               watch(9, {"operation": "OPERATION_TOUCH"}), {"error": {"code": 5}}, watch(10, isCheckpoint=True),
+               {"result": {"updates": 7, "changesThrough": {"token": token_text(11)}}}]
         self.assertEqual(self.refusals(log), [
             "log:2: wildcard: doc:1#viewer@user:*", "log:3: caveat: doc:1#viewer@user:a",
             "log:4: expiration: doc:1#viewer@user:a",
@@ -112,7 +117,7 @@ class Refusals(Case):
             "log:9: `changesThrough` has no token whose revision is a number",
             "log:10: `changesThrough` has no token whose revision is a number",
             "log:11: a relationship has no relation",
-            "log:12: neither a response of Watch nor a check with its `request`"])
+            "log:12: neither a response of Watch nor a check with its `request`", "log:14: `updates` is no list"])
 
     def test_checks_by_line(self):
         log = [watch(5, update("user:a")), check(subject="group:g#member"), check(subject="user:*"), check(permission="edit"),
@@ -145,6 +150,13 @@ class Refusals(Case):
             "base.txt:9: doc:1#viewer@user:a is touched twice in one commit, at base.txt:2 too",
             "log:1: check before the base state: its snapshot is 4",
             "log:2: its revision 5 is not later than that of the base state"])
+
+    def test_bytes_that_are_no_text(self):
+        self.assertEqual(self.refusals([], schema=b"definition user {}\n\xff"), ["schema.zed:2: the bytes are no UTF-8"])
+        self.put("schema.zed", SCHEMA % VIEW)
+        self.put("base.txt", b"\n\n\xff")
+        self.assertEqual(self.refused("spicedb", "--schema", "schema.zed", "--base", "base.txt", "--base-at", "5", "log"),
+                         ["base.txt:3: the bytes are no UTF-8"])
 
     def test_recursion_through_an_exclusion(self):
         body = "  permission view = viewer - banned"
