@@ -12,7 +12,8 @@ from importing.service import Bad, get, one_of, text_or_none
 from importing.spicedb_schema import Schema
 
 RELATIONSHIP = re.compile(r"(?P<type>[a-z0-9_/]+):(?P<id>[A-Za-z0-9/_|\-=+]+)#(?P<relation>[a-z0-9_]+)"
-                          r"@(?P<user_type>[a-z0-9_/]+):(?P<user_id>[A-Za-z0-9/_|\-=+]+|\*)(?:#(?P<user_relation>[a-z0-9_]+|\.\.\.))?"
+                          r"@(?P<user_type>[a-z0-9_/]+):(?P<user_id>[A-Za-z0-9/_|\-=+]+|\*)"
+                          r"(?:#(?P<user_relation>[a-z0-9_]+|\.\.\.))?"
                           r"(?P<traits>(?:\[.*\])*)")
 NUMBER = re.compile(r"([0-9]{1,30})(?:\.([0-9]{10}))?")
 OPERATIONS = {"OPERATION_CREATE": True, "OPERATION_TOUCH": True, "OPERATION_DELETE": False}

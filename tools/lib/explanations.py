@@ -61,7 +61,8 @@ class Explainer:
             yield from self._f10()
         elif not found:
             yield "By the rules the reply is right, and its token and snapshot are in order."
-            yield "What is left are findings on evidence: none, a step that is not accepted, or steps that do not settle the goal."
+            yield ("What is left are findings on evidence: none, a step that is not accepted, "
+                   "or steps that do not settle the goal.")
 
     def _named(self, given: Tuple) -> str:
         return self.ids.tuple_of(given) if self.ids else str(given)
@@ -121,10 +122,10 @@ class Explainer:
         yield "By the rules the goal %s at snapshot %d." % ("does not hold" if entry.reply else "holds", entry.snapshot)
         touching = [one for one in self.trace.commits if self._touches(one)]
         before = [one for one in touching if one.at <= entry.snapshot]
-        for number in range(len(before) - 1, -1, -1):
-            if before[number].at and holds(self.trace, entry.goal, before[number].at - 1) == entry.reply:
-                yield "The latest snapshot at which the reply was right is %d; the commit after it:" % (before[number].at - 1)
-                yield "  " + self._told(before[number])
+        for one in reversed(before):
+            if one.at and holds(self.trace, entry.goal, one.at - 1) == entry.reply:
+                yield "The latest snapshot at which the reply was right is %d; the commit after it:" % (one.at - 1)
+                yield "  " + self._told(one)
                 return
         for one in touching[len(before):]:
             if holds(self.trace, entry.goal, one.at) == entry.reply:

@@ -52,7 +52,7 @@ def junit(told: list[Told], trace: Trace, ids: Optional[Ids], path: str, report:
     yield '<?xml version="1.0" encoding="UTF-8"?>'
     yield '<testsuites><testsuite name="new_enemy" tests="%d" failures="%d" errors="0">' % (count, len(told))
     for line, entry in trace.entries.items():
-        name = _xml("line %d: %s" % (line, ids.tuple_of(entry.goal) if ids else entry.goal.__str__()))
+        name = _xml("line %d: %s" % (line, ids.tuple_of(entry.goal) if ids else str(entry.goal)))
         head = "<testcase classname=%s name=%s" % (quoteattr(_xml(path)), quoteattr(name))
         if line not in by_line:
             yield head + "/>"

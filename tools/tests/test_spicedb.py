@@ -1,5 +1,4 @@
 """The front end for SpiceDB: what it maps, and what it refuses by file and line."""
-import json
 import os
 
 from tests.support import EXAMPLES, Case
