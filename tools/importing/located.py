@@ -5,6 +5,11 @@ from json.decoder import scanstring
 from json.scanner import NUMBER_RE
 from typing import Iterator
 
+from lib import limits
+from lib.strictjson import has_half_pair, is_nested_too_deep
+
+HALF = "half of a pair of code units stands alone"
+
 
 class Malformed(Exception):
     def __init__(self, line: int, why: str):
@@ -77,7 +82,7 @@ class _Reader:
 
     def value(self, depth: int = 0) -> object:
         letter = self.skip()
-        if depth > 200:
+        if depth > limits.NESTING:
             self.fail("nested too deep")
         if letter == "{":
             return self.object(depth)
@@ -100,6 +105,8 @@ class _Reader:
             text, self.at = scanstring(self.text, self.at + 1, True)
         except json.JSONDecodeError:
             self.fail("not JSON: a text without an end, or with a letter that has to be escaped")
+        if has_half_pair(text):
+            self.fail(HALF)
         return text
 
     def object(self, depth: int) -> Object:
@@ -156,30 +163,35 @@ def _whole_values(text: str) -> Iterator[tuple[int, object]]:
         yield reader.line(), reader.value()
 
 
-def _is_lines(text: str) -> bool:
-    first = next((line for line in text.split("\n") if line.strip()), "")
-    try:
-        json.loads(first)
-    except ValueError:
-        return False
-    return True
+def _is_lines(lines: list[str]) -> bool:
+    """Whether most lines look like an object each, so that a faulty one among them is refused alone."""
+    filled = [line for line in map(str.strip, lines) if line]
+    return 2 * sum(line[0] == "{" and line[-1] == "}" for line in filled) >= len(filled)
+
+
+def _line_value(line: str) -> object:
+    if is_nested_too_deep(line.encode()):
+        raise ValueError("nested too deep")
+    value = DECODER.decode(line)
+    if "\\u" in line and has_half_pair(value):
+        raise ValueError(HALF)
+    return value
 
 
 def values(path: str, refusals) -> Iterator[tuple[int, object]]:
     """The JSON values of a file with their lines; what is no JSON is refused."""
     try:
         text = read_text(path)
-        if not _is_lines(text):
+        lines = text.split("\n")
+        if not _is_lines(lines):
             yield from _whole_values(text)
             return
     except Malformed as fault:
         refusals.refuse(path, fault.line, str(fault))
         return
-    for number, line in enumerate(text.split("\n"), 1):
+    for number, line in enumerate(lines, 1):
         if line.strip():
             try:
-                yield number, DECODER.decode(line)
-            except RecursionError:
-                refusals.refuse(path, number, "nested too deep")
+                yield number, _line_value(line)
             except ValueError as fault:
                 refusals.refuse(path, number, "not JSON" if isinstance(fault, json.JSONDecodeError) else str(fault))

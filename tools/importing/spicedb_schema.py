@@ -6,6 +6,7 @@ from importing import located
 from importing.events import Event, RelationRule
 from importing.refusals import Refusals
 from importing.service import nested
+from lib import limits
 
 TOKEN = re.compile(r"(?P<space>[ \t\r\n]+|//[^\n]*|/\*.*?\*/)|(?P<word>[A-Za-z_][A-Za-z0-9_]*(?:/[A-Za-z_][A-Za-z0-9_]*)*)"
                    r"|(?P<sign>->|\.\.\.|[{}()=|#:+&\-*;,.])|(?P<other>\"(?:[^\"\\\n]|\\.)*\"|'(?:[^'\\\n]|\\.)*'|.)", re.S)
@@ -51,6 +52,7 @@ class Parser:
     def __init__(self, text: str, path: str, refusals: Refusals):
         self.tokens, self.at = tokens(text), 0
         self.path, self.refusals = path, refusals
+        self.open = 0
         self.rules = Event("rules", path, 1)
         self.takes: dict[tuple[str, str], set[tuple[str, Optional[str]]]] = {}
         self.arrows: list[tuple[str, str, str, int]] = []
@@ -182,13 +184,12 @@ class Parser:
             while self.here().text not in ("=", "}", ""):
                 self.next()
         self.take("=")
-        start = self.at
+        self.open = 0
         try:
             rewrite = self.expression(of, name.text)
         except Unmapped as fault:
             self.refusals.unmapped(self.path, fault.line, str(fault), "%s#%s" % (of, name.text))
             self.refusals.doubt(of, None, name.text)
-            self.at = max(start, self.at)
             self.skip_to_start()
             rewrite = {"this": {}}
         return RelationRule(name.text, rewrite, name.line)
@@ -205,16 +206,18 @@ class Parser:
             return parts[0]
         if sign != "-":
             return nested(OPERATORS[sign], parts)
-        made = parts[0]
-        for part in parts[1:]:
-            made = {"exclusion": {"base": made, "subtract": part}}
-        return made
+        subtracted = parts[1] if len(parts) == 2 else nested("union", parts[1:])
+        return {"exclusion": {"base": parts[0], "subtract": subtracted}}
 
     def term(self, of: str, name: str) -> dict:
         if self.here().text == "(":
             self.next()
+            self.open += 1
+            if self.open > limits.DEPTH:
+                raise Unmapped(self.here().line, "parentheses deeper than %d" % limits.DEPTH)
             made = self.expression(of, name)
             self.take(")")
+            self.open -= 1
             return made
         word = self.word("a relation, a permission or a parenthesis")
         if word.text in ("nil", "self"):

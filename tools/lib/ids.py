@@ -37,7 +37,7 @@ class Ids:
             self._read(path)
 
     def _read(self, path: str) -> None:
-        with open(path, encoding="utf-8") as file:
+        with open(path, "rb") as file:
             for number, line in enumerate(file, 1):
                 try:
                     row = _row(json.loads(line), number)
@@ -45,7 +45,7 @@ class Ids:
                     raise TableFault("%s:%d: no row of the table, or not number %d" % (path, number, number)) from None
                 if row in self.numbers:
                     raise TableFault("%s:%d: this row stands on line %d too" % (path, number, self.numbers[row]))
-                if not line.endswith("\n"):
+                if not line.endswith(b"\n"):
                     raise TableFault("%s:%d: the line has no end" % (path, number))
                 self.rows.append(row)
                 self.numbers[row] = number

@@ -39,7 +39,9 @@ def _constant(text: str) -> None:
 DECODER = json.JSONDecoder(parse_float=_float, parse_int=_int, parse_constant=_constant)
 
 
-def _depth(raw: bytes) -> int:
+def is_nested_too_deep(raw: bytes) -> bool:
+    if raw.count(b"[") + raw.count(b"{") <= limits.NESTING:
+        return False
     deepest = level = 0
     for byte in STRING.sub(b"", raw):
         if byte in b"[{":
@@ -47,22 +49,29 @@ def _depth(raw: bytes) -> int:
             deepest = max(deepest, level)
         elif byte in b"]}":
             level -= 1
-    return deepest
+    return deepest > limits.NESTING
+
+
+def has_half_pair(value: object) -> bool:
+    """Whether half of a pair of code units stands alone in some text of a value."""
+    try:
+        json.dumps(value, ensure_ascii=False).encode("utf-8")
+    except UnicodeEncodeError:
+        return True
+    return False
 
 
 def value_of(raw: bytes) -> object:
     """The JSON value of a line; raises NotJson."""
-    if raw.count(b"[") + raw.count(b"{") > limits.NESTING and _depth(raw) > limits.NESTING:
+    if is_nested_too_deep(raw):
         raise NotJson("nested more than %d deep" % limits.NESTING)
     try:
         text = raw.decode("utf-8").strip(" \t\r\n")
         value, end = DECODER.raw_decode(text)
         if end != len(text):
             raise NotJson("more text behind the value, at character %d" % end)
-        if "\\u" in text:
-            json.dumps(value, ensure_ascii=False).encode("utf-8")
-    except UnicodeEncodeError:
-        raise NotJson("half of a pair of code units stands alone") from None
+        if "\\u" in text and has_half_pair(value):
+            raise NotJson("half of a pair of code units stands alone")
     except UnicodeDecodeError as fault:
         raise NotJson("the bytes are no UTF-8 at byte %d" % fault.start) from None
     except json.JSONDecodeError as fault:

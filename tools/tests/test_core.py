@@ -86,11 +86,13 @@ class Numbers(CoreCase):
         row = '{"kind":"user","type":"user","id":"a","number":%d}\n'
         for text, told in ((row % 2, "ids.jsonl:1: no row of the table, or not number 1"),
                            (row % 1 + row % 2, "ids.jsonl:2: this row stands on line 1 too"),
-                           ((row % 1).strip(), "ids.jsonl:1: the line has no end"), ("[]\n", "ids.jsonl:1: no row of the table, or not number 1")):
+                           ((row % 1).strip(), "ids.jsonl:1: the line has no end"), ("[]\n", "ids.jsonl:1: no row of the table, or not number 1"),
+                           (b"\xff\n", "ids.jsonl:1: no row of the table, or not number 1")):
             self.put("ids.jsonl", text)
             status, said = self.run_import("events", "--from-empty", self.given(RULES))
             self.assertEqual((status, said), (2, told + "\n"))
-            self.assertEqual(self.get("ids.jsonl"), text)
+            with open(self.path("ids.jsonl"), "rb") as file:
+                self.assertEqual(file.read(), text if isinstance(text, bytes) else text.encode())
             self.assertFalse(os.path.exists(self.path("trace.jsonl")))
 
 

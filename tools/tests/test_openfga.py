@@ -138,6 +138,10 @@ class Refusals(Case):
             self.assertIn("log:", self.refusals(b"{\n\xff")[0])
         self.assertEqual(self.refusals("{\"changes\": [\n\n}"), ["log:3: not JSON"])
         self.assertEqual(self.refusals("{}\n" + "[" * 100_000)[1], "log:2: nested too deep")
+        self.assertEqual(self.refusals('{"a":\n"\\ud800"}'), ["log:2: half of a pair of code units stands alone"])
+        good = json.dumps(change("user:a"))
+        self.assertEqual(self.refusals("{\"changes\":\n%s\n{\"a\":\"\\ud800\"}\n%s\n{" % (good, good.replace(":a", ":b"))), [
+            "log:1: not JSON", "log:3: half of a pair of code units stands alone", "log:5: not JSON"])
         log = json.dumps(change("user:a")) + "\n{\"a\":\n" + '{"a":1,"a":2}\n{"a":NaN}\n'
         self.assertEqual(self.refusals(log), ["log:2: not JSON", "log:3: the key 'a' stands twice", "log:4: NaN is no JSON"])
 

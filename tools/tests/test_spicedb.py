@@ -59,6 +59,7 @@ class Refusals(Case):
             "editor": "doc#view reads editor, which doc does not define",
             "other->view": "doc#view reads other, which doc does not define",
             "view->view": "doc#view has an arrow from view, which is no relation",
+            "(" * 40 + "viewer" + ")" * 40: "parentheses deeper than 32: doc#view",
             "(viewer": "')' should stand here, and not 'permission'",
             "viewer +": "a relation, a permission or a parenthesis should stand here, and not '}'"}
         for expression, text in cases.items():
@@ -180,7 +181,7 @@ class Mapped(Case):
         up = {"tuple_to": {"tupleset": "parent", "computed": "view"}}
         self.assertEqual(self.rule_of("viewer + banned + parent->view"), {"union": [viewer, banned, up]})
         self.assertEqual(self.rule_of("parent.any(view) & (viewer - banned - banned)"), {"intersection": [
-            up, {"exclusion": {"base": {"exclusion": {"base": viewer, "subtract": banned}}, "subtract": banned}}]})
+            up, {"exclusion": {"base": viewer, "subtract": {"union": [banned, banned]}}}]})
         self.assertEqual(self.rule_of("((viewer)) /* or\n */ + // and\n banned"), {"union": [viewer, banned]})
 
     def test_tokens(self):
