@@ -94,22 +94,22 @@ class Settled:
             self.steps.append(Step(False, left))
 
     def _is_established(self, node: Userset) -> bool:
-        return self._body(node, self.rules.rewrite_at(node.namespace, node.relation, self.at), False) is True
+        return self._body(node, self.rules.rewrite_at(node.namespace, node.relation, self.at)) is True
 
-    def _body(self, node: Userset, rewrite: dict, strict: bool) -> Optional[bool]:
+    def _body(self, node: Userset, rewrite: dict) -> Optional[bool]:
         """Whether a rule holds; None where that hangs on what is not known yet."""
         form = form_of(rewrite)
         inner = rewrite[form]
         if form == "exclusion":
-            base = self._body(node, inner["base"], strict)
-            subtracted = self._body(node, inner["subtract"], True)
+            base = self._body(node, inner["base"])
+            subtracted = self._body(node, inner["subtract"])
             return _all([base, None if subtracted is None else not subtracted])
         if form in ("union", "intersection"):
-            children = [self._body(node, child, strict) for child in inner]
+            children = [self._body(node, child) for child in inner]
             return _any(children) if form == "union" else _all(children)
         if form == "this" and self.store.has(Tuple(node, self.goal.user), self.at):
             return True
-        place = next(places(rewrite, strict))
+        place = next(places(rewrite))
         return _any([self._state(to) for to in read_by(self.store, node, place, self.at)])
 
     def _state(self, to: Userset) -> Optional[bool]:
