@@ -37,7 +37,7 @@ class Service:
                 and not self.evaluate(sides["subtract"], user, relation, thing, path))
 
     def direct(self, user, relation, thing, path):
-        if (user, relation, thing) in self.tuples:
+        if (user, relation, thing) in self.tuples or (user.split(":")[0] + ":*", relation, thing) in self.tuples:
             return True
         groups = [found[0].split("#") for found in self.tuples if found[1:] == (relation, thing) and "#" in found[0]]
         return any(self.check(user, group_relation, group, path) for group, group_relation in groups)
@@ -87,6 +87,14 @@ def model_of(random):
     return {"schema_version": "1.1", "type_definitions": definitions}
 
 
+def allow_wildcards(model):
+    """Lets every relation that takes users take all users at once."""
+    for one in model["type_definitions"]:
+        for users in one.get("metadata", {}).get("relations", {}).values():
+            if {"type": "user"} in users["directly_related_user_types"]:
+                users["directly_related_user_types"].append({"type": "user", "wildcard": {}})
+
+
 OBJECTS = {"group": ["g1", "G/2"], "Folder-Type": ["f@1", "x" * 140], "doc": ["d1", "~7"]}
 USERS = ["user:anne", "user:Bob@x", "robot:anne", "doc:d1"]
 
@@ -97,7 +105,9 @@ def tuple_of(random, model):
               for name, users in one.get("metadata", {}).get("relations", {}).items()]
     of, relation, users = random.choice(takers)
     taken = random.choice(users)
-    if taken["type"] in USER_TYPES:
+    if "wildcard" in taken:
+        user = taken["type"] + ":*"
+    elif taken["type"] in USER_TYPES:
         user = random.choice([one for one in USERS if one.startswith(taken["type"] + ":")])
     else:
         user = "%s:%s" % (taken["type"], random.choice(OBJECTS[taken["type"]]))

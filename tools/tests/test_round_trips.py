@@ -59,6 +59,17 @@ class OpenFga:
                                       "snapshot": time_text(at)}
 
 
+class OpenFgaWithWildcards(OpenFga):
+    """A store that also has what a trace can't say."""
+
+    words = OpenFga.words[:-1] + ("--skip-unmapped", "log")
+
+    def __init__(self, random):
+        super().__init__(random)
+        openfga_service.allow_wildcards(self.model)
+        self.rules = json.dumps(self.model)
+
+
 class SpiceDb:
     """A random store of SpiceDB, with what its log says."""
 
@@ -145,6 +156,28 @@ class RoundTrips(Case):
         report = self.audited().splitlines()
         self.assertEqual(report, wanted + ["entries %d" % len(answers), "findings %d" % len(wanted), "verdict dirty"],
                          "model %d" % number)
+
+    def test_what_is_left_out_takes_its_checks_with_it(self):
+        """A service that is right audits clean, whatever was left out."""
+        kept = 0
+        for number in range(MODELS):
+            random = Random("left out %d" % number)
+            service = OpenFgaWithWildcards(random)
+            log, states = [], []
+            for at in range(1, 4):
+                log.append(service.write(at))
+                states.append((at, service.state()))
+            for _ in range(CHECKS):
+                answer, line_for = service.check(*random.choice(states))
+                log.append(line_for(answer))
+            self.put("rules", service.rules)
+            self.put("log", log)
+            self.assertIn("left out", self.imported(*service.words))
+            entries, *rest = self.audited().splitlines()
+            self.assertEqual(rest, ["findings 0", "verdict clean"])
+            kept += int(entries.split()[1])
+        self.assertGreater(kept, MODELS * CHECKS // 4)
+        self.assertLess(kept, MODELS * CHECKS)
 
     def test_openfga(self):
         self.rounds(OpenFga)
