@@ -64,13 +64,12 @@ def front_end(given, revision, refusals):
             yield from read_events(path, refusals)
         return
     if given.service == "openfga":
-        model = openfga.ModelReader(given.rules, refusals).read()
-        log = openfga.Log(model, refusals) if model else None
+        rules, log_of = openfga.ModelReader(given.rules, refusals).read(), openfga.OpenFgaLog
     else:
-        model = spicedb_schema.read_schema(given.rules, refusals)
-        log = spicedb.Log(model, refusals) if model else None
-    if log:
-        yield model.rules
+        rules, log_of = spicedb_schema.read_schema(given.rules, refusals), spicedb.SpiceDbLog
+    if rules:
+        log = log_of(rules, refusals)
+        yield rules.event
         for path in given.base:
             yield from log.base(path, revision, given.base_at)
         for path in given.logs:

@@ -1,12 +1,12 @@
 """OpenFGA: an authorization model, tuple changes as ReadChanges gives them, and checks of a recorder's log."""
 import re
-from typing import Iterator, NamedTuple, Optional
+from typing import Iterator, Optional
 
 from importing import located
-from importing.events import Event, RelationRule, Relationship, Stamp, put_stamp, stamp_of
+from importing.events import Event, RelationRule, Relationship, Stamp, put_stamp
 from importing.located import line_at, line_of
 from importing.refusals import Refusals
-from importing.service import Bad, get, nested, one_of, spelled, text_or_none
+from importing.service import Bad, Log, ServiceRules, get, nested, one_of, spelled, text_or_none
 from importing.times import nanoseconds
 
 SCHEMAS = ("1.1", "1.2")
@@ -23,19 +23,11 @@ class Unmapped(Exception):
         self.line, self.reason, self.detail = line, reason, detail
 
 
-class Model(NamedTuple):
-    """The rules, and which users a relation takes: (type, relation or None)."""
-
-    id: Optional[str]
-    rules: Event
-    takes: dict[tuple[str, str], set[tuple[str, Optional[str]]]]
-
-
 class ModelReader:
     def __init__(self, path: str, refusals: Refusals):
         self.path, self.refusals = path, refusals
 
-    def read(self) -> Optional[Model]:
+    def read(self) -> Optional[ServiceRules]:
         try:
             model = located.parse(located.read_text(self.path))
         except located.Malformed as fault:
@@ -56,7 +48,7 @@ class ModelReader:
         for given in get(model, "type_definitions"):
             self._type(given, event, takes)
         self._refuse_unknown_users(takes, event)
-        return Model(get(model, "id"), event, takes)
+        return ServiceRules(event, get(model, "id"), takes)
 
     def _type(self, given: object, event: Event, takes: dict) -> None:
         line = line_of(given, 1)
@@ -187,41 +179,24 @@ def relationship_of(key: object) -> Relationship:
     return Relationship(*split_object(get(key, "object")), relation, *split_user(get(key, "user")))
 
 
-class Log:
-    """Reads base tuples, changes and checks of a store with one model."""
-
-    def __init__(self, model: Model, refusals: Refusals):
-        self.model, self.refusals = model, refusals
+class OpenFgaLog(Log):
+    WILDCARD = "typed wildcard in a tuple"
+    NOT_TAKEN = "tuple that the model does not take"
+    NO_LINE = "neither changes of ReadChanges nor a check with its `request`"
 
     def base(self, path: str, revision: int, shown: str) -> Iterator[Event]:
         """Tuples as Read gives them: pages with `tuples`, or one tuple a line."""
         for line, value in located.values(path, self.refusals):
             page = get(value, "tuples")
             for one in page if isinstance(page, list) else [value]:
-                here = line_of(one, line)
-                event = Event("write", path, here, revision, shown, base=True)
-                if self._put(event, get(one, "key"), True, path, here):
+                event = Event("write", path, line_of(one, line), revision, shown, base=True)
+                if self._put_key(event, get(one, "key"), True):
                     yield event
 
-    def events(self, path: str) -> Iterator[Event]:
-        for line, value in located.values(path, self.refusals):
-            stamp = stamp_of(value, path, line, self.refusals) if isinstance(value, dict) else None
-            try:
-                if get(value, "request") is not None:
-                    event = put_stamp(self._check(value, path, line), stamp)
-                    reason = self._not_checked(get(value, "request"), event.goal)
-                    if reason:
-                        self.refusals.unmapped_check(event, *reason)
-                    else:
-                        yield event
-                elif isinstance(get(value, "changes"), list) or get(value, "operation") is not None:
-                    yield from self._changes(value, stamp, path, line)
-                else:
-                    raise Bad("neither changes of ReadChanges nor a check with its `request`")
-            except Bad as fault:
-                self.refusals.refuse(path, line, str(fault))
+    def is_write(self, value: object) -> bool:
+        return isinstance(get(value, "changes"), list) or get(value, "operation") is not None
 
-    def _changes(self, value: dict, stamp: Stamp, path: str, line: int) -> Iterator[Event]:
+    def writes(self, value: dict, stamp: Stamp, path: str, line: int) -> Iterator[Event]:
         page = get(value, "changes")
         for place, change in enumerate(page if isinstance(page, list) else [value]):
             here = line_of(change, line)
@@ -234,34 +209,18 @@ class Log:
                 continue
             event = put_stamp(Event("write", path, here, revision, shown), stamp, place)
             event.time = revision if event.time is None else event.time
-            self._put(event, get(change, "tuple_key"), live, path, here)
+            self._put_key(event, get(change, "tuple_key"), live)
             yield event
 
-    def _put(self, event: Event, key: object, live: bool, path: str, line: int) -> bool:
+    def _put_key(self, event: Event, key: object, live: bool) -> bool:
         try:
             given = relationship_of(key)
         except Bad as fault:
-            self.refusals.refuse(path, line, str(fault))
+            self.refusals.refuse(event.file, event.line, str(fault))
             return False
-        reason = self._unmapped(given, key)
-        if reason:
-            self.refusals.unmapped(path, line, reason, str(given))
-            self.refusals.doubt(*given[:3])
-            return False
-        (event.add if live else event.remove).append(given)
-        return True
+        return self.put(event, given, live, "condition on a tuple" if get(key, "condition") else None)
 
-    def _unmapped(self, given: Relationship, key: object) -> Optional[str]:
-        takes = self.model.takes.get((given.type, given.relation))
-        if get(key, "condition"):
-            return "condition on a tuple"
-        if given.user_id == "*":
-            return "typed wildcard in a tuple"
-        if takes is None or (given.user_type, given.user_relation) not in takes:
-            return "tuple that the model does not take"
-        return None
-
-    def _check(self, value: dict, path: str, line: int) -> Event:
+    def check(self, value: dict, path: str, line: int) -> Event:
         request, content = get(value, "request"), get(value, "content")
         allowed = get(get(value, "response"), "allowed")
         if not isinstance(allowed, bool):
@@ -271,12 +230,6 @@ class Log:
         event.snapshot = nanoseconds(event.shown)
         if event.snapshot is None:
             raise Bad("the check has no `snapshot`, the timestamp of the newest change that it saw")
-        self._tokens(event, value, content)
-        event.goal = relationship_of(get(request, "tuple_key"))
-        return event
-
-    @staticmethod
-    def _tokens(event: Event, value: dict, content: object) -> None:
         if content is not None and not isinstance(content, dict):
             raise Bad("`content` is no object")
         holder = value if content is None else content
@@ -284,9 +237,11 @@ class Log:
         event.token = nanoseconds(token)
         if token is not None and event.token is None:
             raise Bad("`token` is no timestamp of a change")
+        event.goal = relationship_of(get(request, "tuple_key"))
+        return event
 
-    def _not_checked(self, request: object, goal: Relationship) -> Optional[tuple[str, str]]:
-        """Why a check is not mapped, with what it is about."""
+    def not_checked(self, value: dict, goal: Relationship) -> Optional[tuple[str, str]]:
+        request = get(value, "request")
         model_id = get(request, "authorization_model_id")
         if get(get(request, "contextual_tuples"), "tuple_keys"):
             return "contextual tuples", str(goal)
@@ -296,6 +251,6 @@ class Log:
             return "check of a userset as the user", str(goal)
         if goal.user_id == "*":
             return "check of a typed wildcard as the user", str(goal)
-        if model_id and self.model.id and model_id != self.model.id:
-            return "check with another model", "%s, and the model is %s" % (model_id, self.model.id)
+        if model_id and self.rules.id and model_id != self.rules.id:
+            return "check with another model", "%s, and the model is %s" % (model_id, self.rules.id)
         return None

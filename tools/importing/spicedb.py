@@ -5,11 +5,9 @@ import re
 from typing import Iterator, NamedTuple, Optional
 
 from importing import located
-from importing.events import Event, Relationship, Stamp, put_stamp, stamp_of
+from importing.events import Event, Relationship, Stamp, put_stamp
 from importing.located import line_of
-from importing.refusals import Refusals
-from importing.service import Bad, get, one_of, text_or_none
-from importing.spicedb_schema import Schema
+from importing.service import Bad, Log, get, one_of, text_or_none
 
 RELATIONSHIP = re.compile(r"(?P<type>[a-z0-9_/]+):(?P<id>[A-Za-z0-9/_|\-=+]+)#(?P<relation>[a-z0-9_]+)"
                           r"@(?P<user_type>[a-z0-9_/]+):(?P<user_id>[A-Za-z0-9/_|\-=+]+|\*)"
@@ -106,13 +104,13 @@ def relationship_of(given: object) -> Relationship:
     return Relationship(*_object(get(given, "resource"), "resource"), relation, *_subject(get(given, "subject")))
 
 
-class Log:
-    """Reads base relationships, the watch stream and checks under one schema."""
-
-    def __init__(self, schema: Schema, refusals: Refusals):
-        self.schema, self.refusals = schema, refusals
+class SpiceDbLog(Log):
+    WILDCARD = "wildcard"
+    NOT_TAKEN = "relationship that the schema does not take"
+    NO_LINE = "neither a response of Watch nor a check with its `request`"
 
     def base(self, path: str, revision: int, shown: str) -> Iterator[Event]:
+        """One relationship a line, as a text."""
         try:
             lines = located.read_text(path).split("\n")
         except located.Malformed as fault:
@@ -121,10 +119,10 @@ class Log:
         for line, text in enumerate(map(str.strip, lines), 1):
             if text and not text.startswith("//"):
                 event = Event("write", path, line, revision, read_revision(shown).shown, base=True)
-                if self._base_line(event, text):
+                if self._put_text(event, text):
                     yield event
 
-    def _base_line(self, event: Event, text: str) -> bool:
+    def _put_text(self, event: Event, text: str) -> bool:
         found = RELATIONSHIP.fullmatch(text)
         if not found:
             self.refusals.refuse(event.file, event.line, "no relationship `type:id#relation@type:id`: %r" % text[:200])
@@ -133,40 +131,12 @@ class Log:
         parts[5] = None if parts[5] == "..." else parts[5]
         traits = found["traits"]
         reason = None if not traits else "expiration" if traits.startswith("[expiration:") else "caveat"
-        return self._put(event, Relationship(*parts), True, reason)
+        return self.put(event, Relationship(*parts), True, reason)
 
-    def _put(self, event: Event, given: Relationship, live: bool, reason: Optional[str]) -> bool:
-        takes = self.schema.takes.get((given.type, given.relation))
-        if reason is None and given.user_id == "*":
-            reason = "wildcard"
-        if reason is None and (takes is None or (given.user_type, given.user_relation) not in takes):
-            reason = "relationship that the schema does not take"
-        if reason:
-            self.refusals.unmapped(event.file, event.line, reason, str(given))
-            self.refusals.doubt(*given[:3])
-            return False
-        (event.add if live else event.remove).append(given)
-        return True
+    def is_write(self, value: object) -> bool:
+        return get(value, "result") is not None or get(value, "changesThrough") is not None
 
-    def events(self, path: str) -> Iterator[Event]:
-        for line, value in located.values(path, self.refusals):
-            stamp = stamp_of(value, path, line, self.refusals) if isinstance(value, dict) else None
-            try:
-                if get(value, "request") is not None:
-                    event = put_stamp(self._check(value, path, line), stamp)
-                    reason = self._not_checked(value, event.goal)
-                    if reason:
-                        self.refusals.unmapped_check(event, reason, str(event.goal))
-                    else:
-                        yield event
-                elif get(value, "result") is not None or get(value, "changesThrough") is not None:
-                    yield from self._watched(value, stamp, path, line)
-                else:
-                    raise Bad("neither a response of Watch nor a check with its `request`")
-            except Bad as fault:
-                self.refusals.refuse(path, line, str(fault))
-
-    def _watched(self, value: dict, stamp: Stamp, path: str, line: int) -> Iterator[Event]:
+    def writes(self, value: dict, stamp: Stamp, path: str, line: int) -> Iterator[Event]:
         response = get(value, "result") or value
         if get(response, "schemaUpdated"):
             raise Bad("the schema changes here; the rules of one schema are imported")
@@ -182,12 +152,12 @@ class Log:
                 raise Bad("unknown operation %r" % (get(update, "operation"),))
             reason = "caveat" if get(given, "optionalCaveat") else "expiration" if get(given, "optionalExpiresAt") else None
             event.line = line_of(update, line)
-            self._put(event, relationship_of(given), live, reason)
+            self.put(event, relationship_of(given), live, reason)
         event.line = line
         if updates:
             yield event
 
-    def _check(self, value: dict, path: str, line: int) -> Event:
+    def check(self, value: dict, path: str, line: int) -> Event:
         request, response, content = (get(value, key) for key in ("request", "response", "content"))
         if content is not None and not isinstance(content, dict):
             raise Bad("`content` is no object")
@@ -197,8 +167,7 @@ class Log:
         event = Event("check" if content is None else "content", path, line)
         event.goal = Relationship(*_object(get(request, "resource"), "resource"), permission,
                                   *_subject(get(request, "subject")))
-        checked = _revision(get(response, "checkedAt"), "`checkedAt` of the response")
-        event.snapshot, event.shown = checked
+        event.snapshot, event.shown = _revision(get(response, "checkedAt"), "`checkedAt` of the response")
         event.reply = one_of(REPLIES, get(response, "permissionship")) or False
         if get(response, "permissionship") not in (*REPLIES, CONDITIONAL):
             raise Bad("the response has no permissionship")
@@ -217,15 +186,13 @@ class Log:
             event.token = _revision(content, "`content`").number if get(content, "token") is not None else None
             event.version = text_or_none(get(content, "version"), "version")
 
-    @staticmethod
-    def _not_checked(value: dict, goal: Relationship) -> Optional[str]:
-        """Why a check is not mapped."""
+    def not_checked(self, value: dict, goal: Relationship) -> Optional[tuple[str, str]]:
         if get(get(value, "response"), "permissionship") == CONDITIONAL:
-            return "conditional permission"
+            return "conditional permission", str(goal)
         if get(get(value, "request"), "context"):
-            return "context of caveats"
+            return "context of caveats", str(goal)
         if goal.user_relation is not None:
-            return "check of a userset as the user"
+            return "check of a userset as the user", str(goal)
         if goal.user_id == "*":
-            return "check of a wildcard as the user"
+            return "check of a wildcard as the user", str(goal)
         return None

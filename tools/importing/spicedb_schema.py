@@ -5,7 +5,7 @@ from typing import NamedTuple, Optional
 from importing import located
 from importing.events import Event, RelationRule
 from importing.refusals import Refusals
-from importing.service import nested
+from importing.service import ServiceRules, nested
 from lib import limits
 
 TOKEN = re.compile(r"(?P<space>[ \t\r\n]+|//[^\n]*|/\*.*?\*/)|(?P<word>[A-Za-z_][A-Za-z0-9_]*(?:/[A-Za-z_][A-Za-z0-9_]*)*)"
@@ -18,13 +18,6 @@ class Token(NamedTuple):
     text: str
     line: int
     is_word: bool
-
-
-class Schema(NamedTuple):
-    """The rules, and which users a relation takes: (type, relation or None)."""
-
-    rules: Event
-    takes: dict[tuple[str, str], set[tuple[str, Optional[str]]]]
 
 
 class Syntax(Exception):
@@ -93,7 +86,7 @@ class Parser:
 
     # The schema
 
-    def schema(self) -> Schema:
+    def schema(self) -> ServiceRules:
         while self.here().text:
             token = self.here()
             try:
@@ -114,7 +107,7 @@ class Parser:
                 self.next()
                 self.skip_to_start()
         self._refuse_unknown()
-        return Schema(self.rules, self.takes)
+        return ServiceRules(self.rules, None, self.takes)
 
     def definition(self) -> None:
         self.take("definition")
@@ -260,7 +253,7 @@ class Parser:
                                          % (of, name, "%s#%s" % (user, relation) if relation else user))
 
 
-def read_schema(path: str, refusals: Refusals) -> Optional[Schema]:
+def read_schema(path: str, refusals: Refusals) -> Optional[ServiceRules]:
     try:
         text = located.read_text(path)
     except located.Malformed as fault:
