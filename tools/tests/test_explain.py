@@ -118,6 +118,7 @@ class Findings(Case):
             self.assertEqual((run.returncode, run.stderr), (2, "line 1 of the trace is no check and no content line\n"))
             self.assertEqual(self.run_tool(tool, "none", "1").returncode, 5)
             self.assertEqual(self.run_tool(tool).returncode, 3)
+        self.assertEqual(self.run_tool("explain", "trace", "1", "--evidence", "trace").returncode, 3)
 
     def test_each_finding_of_the_example(self):
         path = os.path.join(EXAMPLES, "each_finding")
