@@ -1,0 +1,138 @@
+"""Makes a trace of the logs of a service: import_trace SERVICE .. LOG .. (docs/IMPORTING.md).
+
+    import_trace openfga --model MODEL (--base FILE .. --base-at TIME | --from-empty) LOG ..
+    import_trace spicedb --schema SCHEMA (--base FILE .. --base-at TOKEN | --from-empty) LOG ..
+    import_trace events (--from-empty | base writes in the log) LOG ..
+
+It writes the trace and adds to the table of ids; where anything is refused it writes neither, lists all refusals on
+standard error, and ends with status 2.
+"""
+import os
+import sys
+
+from importing import openfga, spicedb, spicedb_schema
+from importing.core import Core, Options
+from importing.events import read_events
+from importing.progress import Progress
+from importing.refusals import Refusals
+from importing.times import nanoseconds
+from lib.files import Parser
+from lib.ids import Ids, TableFault
+
+
+def words(arguments):
+    """The words of the command line, and the parser that tells faults of usage."""
+    parser = Parser(prog="import_trace", description="Makes a trace of the logs of a service.")
+    services = parser.add_subparsers(dest="service", required=True)
+    for name in ("openfga", "spicedb", "events"):
+        service = services.add_parser(name)
+        if name != "events":
+            service.add_argument("--model" if name == "openfga" else "--schema", required=True, dest="rules", metavar="FILE")
+            service.add_argument("--base", action="append", default=[], metavar="FILE", help="the tuples stored at --base-at")
+            service.add_argument("--base-at", metavar="REVISION", help="the revision of the base state")
+        service.add_argument("--from-empty", action="store_true", help="the store was empty before the first write")
+        service.add_argument("--skew", type=int, metavar="MS", help="order by time, and refuse what is as near as this")
+        service.add_argument("--skip-unmapped", action="store_true", help="count and leave out what a trace cannot say")
+        service.add_argument("--trace", default="trace.jsonl", metavar="FILE", help="the trace to write (trace.jsonl)")
+        service.add_argument("--ids", default="ids.jsonl", metavar="FILE", help="the table of ids to add to (ids.jsonl)")
+        service.add_argument("logs", nargs="+", metavar="LOG")
+    given = parser.parse_args(arguments)
+    if given.skew is not None and given.skew < 0:
+        parser.error("--skew is below 0")
+    if given.service != "events" and bool(given.base) != (given.base_at is not None):
+        parser.error("--base and --base-at go together")
+    if given.service != "events" and given.from_empty == bool(given.base):
+        parser.error("give either --base with --base-at, or --from-empty")
+    return parser, given
+
+
+def base_revision(parser, given):
+    """The revision of the base state, where a front end takes one."""
+    if given.service == "events" or given.base_at is None:
+        return None
+    read = nanoseconds if given.service == "openfga" else spicedb.revision_of
+    revision = read(given.base_at)
+    if revision is None:
+        parser.error("--base-at is no %s" % ("time of RFC 3339" if given.service == "openfga" else "token or revision"))
+    return revision
+
+
+def front_end(given, revision, refusals):
+    """All events of the service's files, base state first."""
+    if given.service == "events":
+        for path in given.logs:
+            yield from read_events(path, refusals)
+        return
+    if given.service == "openfga":
+        rules, log_of = openfga.ModelReader(given.rules, refusals).read(), openfga.OpenFgaLog
+    else:
+        rules, log_of = spicedb_schema.read_schema(given.rules, refusals), spicedb.SpiceDbLog
+    if rules:
+        log = log_of(rules, refusals)
+        yield rules.event
+        for path in given.base:
+            yield from log.base(path, revision, given.base_at)
+        for path in given.logs:
+            yield from log.events(path)
+
+
+def gathered(given, revision, refusals, progress):
+    events = []
+    for event in front_end(given, revision, refusals):
+        events.append(event)
+        progress.step("read", len(events))
+    if given.service == "events" and events and given.from_empty == any(event.base for event in events):
+        refusals.refuse(events[0].file, events[0].line, "give either base writes (\"base\":true) or --from-empty")
+    return events
+
+
+def write(path, lines, ids):
+    """The trace and the new rows of the table, or neither."""
+    beside = path + ".part"
+    try:
+        with open(beside, "w", encoding="utf-8", newline="\n") as file:
+            for line in lines:
+                file.write(line + "\n")
+        ids.append()
+        os.replace(beside, path)
+    except OSError:
+        if os.path.exists(beside):
+            os.remove(beside)
+        raise
+
+
+def say(text):
+    sys.stderr.write(text + "\n")
+
+
+def told_left_out(refusals):
+    for reason, count in sorted(refusals.left_out.items()):
+        say("left out %d: %s" % (count, reason))
+
+
+def main(arguments):
+    parser, given = words(arguments)
+    revision = base_revision(parser, given)
+    refusals, progress = Refusals(given.skip_unmapped), Progress()
+    try:
+        ids = Ids(given.ids)
+        made = Core(ids, Options(revision, given.skew), refusals, progress).trace(
+            gathered(given, revision, refusals, progress))
+        progress.end()
+        told_left_out(refusals)
+        if made is None:
+            for line in refusals.lines():
+                say(line)
+            say("refused %d" % len(refusals.lines()))
+            return 2
+        write(given.trace, made.lines, ids)
+    except TableFault as fault:
+        say(str(fault))
+        return 2
+    except OSError as fault:
+        say("cannot use %s: %s" % (fault.filename, fault.strerror))
+        return 5
+    say("commits %d, checks %d, content checks %d" % (made.commits, made.checks, made.contents))
+    for line in made.cannot_show:
+        say("cannot show " + line)
+    return 0

@@ -1,0 +1,96 @@
+"""Commits: the writes of one revision, as the texts of a trace, in parts that fit on a line."""
+from typing import Iterator, Optional
+
+from importing.declared import Declared
+from importing.events import Event, Relationship
+from importing.refusals import Refusals
+from importing.strata import Edges, Reason
+from lib import limits, texts
+from lib.edges import TupleEdges
+from lib.ids import Ids
+from lib.texts import Tuple, Userset
+
+ROOM = limits.LINE_BYTES - 64_000
+
+
+class Commit:
+    """Writes of one revision; `lines` are the texts to add and remove on each line."""
+
+    def __init__(self, event: Event):
+        self.event = event
+        self.touched: dict[Tuple, tuple[str, int]] = {}
+        self.add: list[str] = []
+        self.remove: list[str] = []
+        self._lines: Optional[list[tuple[list[str], list[str]]]] = None
+
+    def lines(self) -> list[tuple[list[str], list[str]]]:
+        if self._lines is None:
+            self._lines = list(self._split())
+        return self._lines
+
+    def _split(self) -> Iterator[tuple[list[str], list[str]]]:
+        part: tuple[list[str], list[str]] = ([], [])
+        used = 0
+        for side, listed in enumerate((self.add, self.remove)):
+            for text in listed:
+                size = len(text.encode()) + text.count('"') + text.count("\\") + 3
+                if used + size > ROOM:
+                    yield part
+                    part, used = ([], []), 0
+                part[side].append(text)
+                used += size
+        yield part
+
+
+class Writer:
+    """Turns relationships into tuples and their texts, and gathers the edges that they give."""
+
+    def __init__(self, declared: Declared, ids: Ids, edges: Edges, refusals: Refusals):
+        self.declared, self.ids, self.edges, self.refusals = declared, ids, edges, refusals
+        self.tuple_edges = TupleEdges(declared.rules)
+        self.stored: dict[Tuple, None] = {}
+
+    def write(self, commit: Commit, event: Event) -> None:
+        for texts_of, given in ((commit.add, event.add), (commit.remove, event.remove)):
+            for relationship in given:
+                for one in self._tuples(event, relationship):
+                    self._touch(commit, event, one, relationship)
+                    if texts_of is commit.add:
+                        self._store(event, one, relationship)
+                    texts_of.append(self.text(one))
+
+    def _tuples(self, event: Event, given: Relationship) -> list[Tuple]:
+        """A user that stands for itself in a tupleset also gives the userset that `tuple_to` reads."""
+        of = Userset(*given[:3])
+        if not self.declared.rules.is_declared(of.namespace, of.relation):
+            self.refusals.unmapped(event.file, event.line, "tuple of a relation that the rules do not have", str(given))
+            self.refusals.doubt(*of)
+            return []
+        if given.user_relation is not None:
+            return [Tuple(of, Userset(*given[3:]))]
+        found = [Tuple(of, self.ids.number("user", given.user_type, given.user_id))]
+        if (of.namespace, of.relation) in self.declared.tuplesets:
+            found.append(Tuple(of, Userset(given.user_type, given.user_id, texts.NO_RELATION)))
+        return found
+
+    def _touch(self, commit: Commit, event: Event, given: Tuple, told: Relationship) -> None:
+        before = commit.touched.get(given)
+        if before is None:
+            commit.touched[given] = (event.file, event.line)
+        elif not (isinstance(given.user, Userset) and given.user.relation == texts.NO_RELATION):
+            self.refusals.refuse(event.file, event.line, "%s is touched twice in one commit, at %s:%d too"
+                                 % (told, *before))
+
+    def _store(self, event: Event, given: Tuple, told: Relationship) -> None:
+        if isinstance(given.user, Userset) and given not in self.stored:
+            self.stored[given] = None
+            for edge in self.tuple_edges.of(given):
+                self.edges.add(edge, Reason(event.file, event.line, "tuple %s" % (told,), True))
+
+    def text(self, given: Tuple) -> str:
+        user = given.user
+        return "%s@%s" % (self._set_text(given.set), self._set_text(user) if isinstance(user, Userset) else user)
+
+    def _set_text(self, of: Userset) -> str:
+        relation = of.relation if of.relation == texts.NO_RELATION else self.ids.name("relation", of.relation)
+        return "%s:%s#%s" % (self.ids.name("namespace", of.namespace), self.ids.object(of.namespace, of.id), relation)

@@ -1,0 +1,258 @@
+"""From neutral events to a trace: order, commits, dense timestamps, strata, and the lines."""
+import json
+from typing import Iterator, NamedTuple, Optional, Union
+
+from importing.commits import Commit, Writer
+from importing.declared import Declared
+from importing.doubts import Doubts
+from importing.events import Event
+from importing.order import ordered
+from importing.progress import Progress
+from importing.refusals import Refusals
+from importing.strata import Edges, choose
+from lib import limits, texts
+from lib.edges import Name
+from lib.ids import Ids
+from lib.rules import Declaration, form_of
+from lib.texts import Userset
+
+Item = Union[Commit, Event]
+
+
+class Options(NamedTuple):
+    base_revision: Optional[int]
+    skew: Optional[int]
+
+
+class Made(NamedTuple):
+    """A trace, and what it has of what the findings look at."""
+
+    lines: list[str]
+    commits: int
+    checks: int
+    contents: int
+    cannot_show: list[str]
+
+
+encode = json.JSONEncoder(ensure_ascii=False, separators=(",", ":")).encode
+
+
+class Core:
+    def __init__(self, ids: Ids, options: Options, refusals: Refusals, progress: Progress):
+        self.ids, self.options, self.refusals, self.progress = ids, options, refusals, progress
+        self.edges = Edges()
+        self.issued: dict[tuple[str, str, str], Event] = {}
+
+    def trace(self, events: list[Event]) -> Optional[Made]:
+        """The trace, or None where something was refused."""
+        self.declared = Declared(events, self.edges, self.refusals)
+        self.writer = Writer(self.declared, self.ids, self.edges, self.refusals)
+        items = self._commits(self._base(events), ordered(self._stream(events), self.options.skew, self.refusals))
+        doubts = Doubts(self.refusals.doubts, self.declared.rules, self.edges)
+        doubts.spread(self.writer.stored)
+        items = [item for item in items if isinstance(item, Commit) or item.kind == "rules" or self._is_kept(item, doubts)]
+        strata = self._strata()
+        if self.refusals.refused:
+            return None
+        lines = list(self._lines(items, self._timestamps(items), strata))
+        size = sum(len(line.encode()) + 1 for line in lines)
+        if size > limits.INPUT_BYTES:
+            self.refusals.refuse(events[0].file, events[0].line, "the trace has %d bytes, and one has at most %d"
+                                 % (size, limits.INPUT_BYTES))
+            return None
+        entries = [item for item in items if isinstance(item, Event) and item.kind != "rules"]
+        contents = sum(entry.kind == "content" for entry in entries)
+        return Made(lines, sum('"kind":"commit"' in line[:20] for line in lines), len(entries) - contents, contents,
+                    cannot_show(items))
+
+    # Order and commits
+
+    def _base(self, events: list[Event]) -> Optional[Commit]:
+        base = None
+        for event in events:
+            if event.base:
+                if self.options.base_revision is not None:
+                    event.revision = self.options.base_revision
+                base = base or Commit(event)
+                if event.revision != base.event.revision:
+                    self._refuse(event, "a base state has one revision, and %s:%d has %s"
+                                 % (base.event.file, base.event.line, base.event.shown))
+                self.writer.write(base, event)
+        return base
+
+    def _stream(self, events: list[Event]) -> list[Event]:
+        """Everything behind the base state."""
+        last = max((place for place, event in enumerate(events) if event.base), default=-1)
+        stream = []
+        for place, event in enumerate(events):
+            if event.goal is not None and place < last:
+                self.refusals.unmapped_check(event, "check before the base state", "%s:%d gives base state behind it"
+                                             % (events[last].file, events[last].line))
+            elif not event.base and not (event.kind == "rules" and event.revision is None):
+                stream.append(event)
+        return stream
+
+    def _commits(self, base: Optional[Commit], stream: list[Event]) -> list[Item]:
+        """Writes of one revision that stand together become one commit."""
+        items: list[Item] = [base] if base else []
+        self.base_revision = base.event.revision if base else self.options.base_revision
+        last, shown = self.base_revision, "the base state"
+        for count, event in enumerate(stream, 1):
+            self.progress.step("ordered", count)
+            if event.goal is not None:
+                items.append(event)
+                continue
+            before = items[-1] if items else None
+            if event.kind == "write" and isinstance(before, Commit) and before is not base \
+                    and before.event.revision == event.revision:
+                self.writer.write(before, event)
+                continue
+            if last is not None and event.revision <= last:
+                self._refuse(event, "its revision %s is not later than that of %s" % (event.shown, shown))
+                continue
+            last, shown = event.revision, "%s:%d, %s" % (event.file, event.line, event.shown)
+            items.append(event if event.kind == "rules" else Commit(event))
+            if event.kind == "write":
+                self.writer.write(items[-1], event)
+        return items
+
+    # Entries
+
+    def _refuse(self, event: Event, text: str) -> None:
+        self.refusals.refuse(event.file, event.line, text)
+
+    def _is_kept(self, event: Event, doubts: Doubts) -> bool:
+        goal = Userset(*event.goal[:3])
+        key = (goal.namespace, goal.id, event.version)
+        if not self.declared.rules.is_declared(goal.namespace, goal.relation):
+            self.refusals.unmapped_check(event, "check of a relation that the rules do not have", str(event.goal))
+        elif self.base_revision is not None and event.snapshot < self.base_revision:
+            self.refusals.unmapped_check(event, "check before the base state", "its snapshot is %s" % event.shown)
+        elif doubts.has(goal):
+            self.refusals.unmapped_check(event, "check that hangs on a tuple or rule that was left out", str(event.goal))
+        elif event.kind == "check" and key in self.refusals.versions and key not in self.issued:
+            self.refusals.unmapped_check(event, "check of a content version whose content check was left out", str(event.goal))
+        else:
+            return self._has_good_version(event, key)
+        return False
+
+    def _has_good_version(self, event: Event, key: tuple[str, str, str]) -> bool:
+        if event.version == "":
+            self._refuse(event, "the label of a version is empty")
+        if event.kind == "content":
+            if event.reply != (event.version is not None):
+                self._refuse(event, "a content check has a version exactly where its reply is true")
+            elif event.version is not None and key in self.issued:
+                before = self.issued[key]
+                self._refuse(event, "version %s of %s:%s was issued at %s:%d already"
+                             % (event.version, *key[:2], before.file, before.line))
+            elif event.version is not None:
+                self.issued[key] = event
+        return True
+
+    # Strata and timestamps
+
+    def _strata(self) -> dict[Name, int]:
+        rules = self.declared.rules
+        names = [(name, relation) for name in rules.current for relation in rules.relations(name)]
+        return choose(names, self.edges, self.refusals)
+
+    def _timestamps(self, items: list[Item]) -> dict[int, int]:
+        """The last timestamp of each revision: dense, and as many for a commit as it has lines."""
+        wanted: dict[int, int] = {}
+        if self.base_revision is not None:
+            wanted[self.base_revision] = 1
+        for item in items:
+            if isinstance(item, Commit):
+                wanted[item.event.revision] = len(item.lines())
+            elif item.kind == "rules":
+                wanted[item.revision] = len(self.declared.changes.get(item.revision, ()))
+            else:
+                for revision in (item.snapshot, item.token):
+                    if revision is not None:
+                        wanted.setdefault(revision, 1)
+        times, at = {}, 0
+        for revision in sorted(wanted):
+            at += max(1, wanted[revision])
+            times[revision] = at
+        return times
+
+    # Lines
+
+    def _lines(self, items: list[Item], times: dict[int, int], strata: dict[Name, int]) -> Iterator[str]:
+        first = {one.name: one for one in self.declared.rules.declarations if one.at is None}
+        for name in self.declared.head:
+            yield self._namespace(first[name], strata, {})
+        for count, item in enumerate(items, 1):
+            self.progress.step("written", count)
+            event = item.event if isinstance(item, Commit) else item
+            told = {"revision": event.shown, "from": "%s:%d" % (event.file, event.line)}
+            if isinstance(item, Commit):
+                parts = item.lines()
+                for number, (add, remove) in enumerate(parts, times[event.revision] - len(parts) + 1):
+                    sides = {key: side for key, side in (("add", add), ("remove", remove)) if side}
+                    yield encode({"kind": "commit", "at": number, **sides, **told})
+            elif event.kind == "rules":
+                changes = self.declared.changes.get(event.revision, ())
+                for number, change in enumerate(changes, times[event.revision] - len(changes) + 1):
+                    yield self._namespace(change, strata, {"at": number, **told})
+            else:
+                yield encode({**self._entry(event, times), **told})
+
+    def _namespace(self, declaration: Declaration, strata: dict[Name, int], more: dict) -> str:
+        relations = []
+        for relation in declaration.relations:
+            stratum = strata[declaration.name, relation.name]
+            relations.append({"name": self.ids.name("relation", relation.name), **({"stratum": stratum} if stratum else {}),
+                              "rewrite": self._rewrite(relation.rewrite)})
+        return encode({"kind": "namespace", "name": self.ids.name("namespace", declaration.name),
+                       "relations": relations, **more})
+
+    def _rewrite(self, rewrite: dict) -> dict:
+        """The same rule with the names of the trace."""
+        form = form_of(rewrite)
+        inner = rewrite[form]
+        if form == "this":
+            return {form: {}}
+        if form == "computed":
+            return {form: self.ids.name("relation", inner)}
+        if form == "tuple_to":
+            return {form: {key: self.ids.name("relation", inner[key]) for key in ("tupleset", "computed")}}
+        if form == "exclusion":
+            return {form: {key: self._rewrite(inner[key]) for key in ("base", "subtract")}}
+        return {form: [self._rewrite(child) for child in inner]}
+
+    def _entry(self, event: Event, times: dict[int, int]) -> dict:
+        goal = event.goal
+        user = self.ids.number("user", goal.user_type, goal.user_id)
+        line = {"kind": event.kind, "goal": self.writer.text(texts.Tuple(Userset(*goal[:3]), user)),
+                "snapshot": times[event.snapshot], "reply": event.reply}
+        if event.token is not None:
+            line["zookie"] = texts.zookie_text(times[event.token])
+        if event.version is not None:
+            line["version"] = self.ids.version(event.version)
+        return line
+
+
+def cannot_show(items: list[Item]) -> list[str]:
+    """The findings that no audit of these items can have, each with the reason."""
+    entries = [(place, item) for place, item in enumerate(items) if isinstance(item, Event) and item.goal is not None]
+    commits = [place for place, item in enumerate(items) if not isinstance(item, Event) or item.goal is None]
+    checks = [item for _, item in entries if item.kind == "check"]
+    contents = [item for _, item in entries if item.kind == "content"]
+    named = any(check.version is not None for check in checks)
+    reasons = {
+        "F1 stale": None if any(check.token is not None for check in checks) else "no check carries a token",
+        "F2 old token": None if named and contents else "no check names a content version" if contents
+        else "there is no content check",
+        "F3 not latest": None if contents else "there is no content check",
+        "F4 open snapshot": None if entries and commits and commits[-1] > entries[0][0]
+        else "no commit stands behind a check",
+        "F5 wrong token": None if any(content.reply for content in contents)
+        else "there is no content check with the reply true",
+        "F6 unknown version": None if named else "no check names a content version",
+    }
+    if not entries:
+        reasons.update(dict.fromkeys(("F7 no evidence", "F8 bad evidence", "F9 silent evidence", "F10 wrong reply"),
+                                     "there is no check"))
+    return ["%s: %s" % (finding, reason) for finding, reason in reasons.items() if reason]

@@ -1,0 +1,198 @@
+"""Neutral events: what the front ends hand to the core, and their form as JSON lines."""
+from dataclasses import dataclass, field
+from typing import Iterator, NamedTuple, Optional
+
+from importing import located
+from importing.refusals import Refusals
+from importing.times import nanoseconds
+from lib.rules import RulesFault, places, shape_of_expression
+
+
+class Relationship(NamedTuple):
+    """A tuple of a service; `user_relation` is None where the user stands for itself."""
+
+    type: str
+    id: str
+    relation: str
+    user_type: str
+    user_id: str
+    user_relation: Optional[str] = None
+
+    def __str__(self) -> str:
+        user = "%s:%s" % (self.user_type, self.user_id)
+        return "%s:%s#%s@%s" % (*self[:3], user if self.user_relation is None else "%s#%s" % (user, self.user_relation))
+
+
+class RelationRule(NamedTuple):
+    name: str
+    rewrite: dict
+    line: int
+
+
+@dataclass(slots=True)
+class Event:
+    """`revision` is that of a write, `snapshot` that of a check; both are numbers that rise with the service's time."""
+
+    kind: str
+    file: str
+    line: int
+    revision: Optional[int] = None
+    shown: Optional[str] = None
+    base: bool = False
+    sequence: Optional[tuple[int, int]] = None
+    time: Optional[int] = None
+    clock: str = ""
+    add: list[Relationship] = field(default_factory=list)
+    remove: list[Relationship] = field(default_factory=list)
+    goal: Optional[Relationship] = None
+    snapshot: Optional[int] = None
+    reply: bool = False
+    token: Optional[int] = None
+    version: Optional[str] = None
+    namespaces: dict[str, list[RelationRule]] = field(default_factory=dict)
+
+
+class Stamp(NamedTuple):
+    """Where an event stands in time."""
+
+    sequence: Optional[int]
+    time: Optional[int]
+    clock: str
+
+
+def is_whole(value: object) -> bool:
+    return isinstance(value, int) and not isinstance(value, bool) and value >= 0
+
+
+def stamp_of(value: dict, file: str, line: int, refusals: Refusals) -> Stamp:
+    """The keys that a recorder may add to any line: `sequence`, `time` and `clock`."""
+    sequence, time, clock = value.get("sequence"), value.get("time"), value.get("clock")
+    if sequence is not None and not is_whole(sequence):
+        refusals.refuse(file, line, "`sequence` is no whole number")
+        sequence = None
+    nanos = nanoseconds(time)
+    if time is not None and nanos is None:
+        refusals.refuse(file, line, "`time` is no time of RFC 3339")
+    if clock is not None and not isinstance(clock, str):
+        refusals.refuse(file, line, "`clock` is no text")
+        clock = None
+    return Stamp(sequence, nanos, clock or file)
+
+
+def put_stamp(event: Event, stamp: Stamp, place: int = 0) -> Event:
+    event.sequence = None if stamp.sequence is None else (stamp.sequence, place)
+    event.time, event.clock = stamp.time, stamp.clock
+    return event
+
+
+class _Fault(Exception):
+    pass
+
+
+def _relationship(value: object, where: str, is_goal: bool = False) -> Relationship:
+    sizes = (5,) if is_goal else (5, 6)
+    if not isinstance(value, list) or len(value) not in sizes \
+            or not all(isinstance(part, str) and part for part in value):
+        raise _Fault("%s is no list of %s texts" % (where, " or ".join(map(str, sizes))))
+    return Relationship(*value)
+
+
+def _namespaces(value: dict, line: int) -> dict[str, list[RelationRule]]:
+    found: dict[str, list[RelationRule]] = {}
+    listed = value.get("namespaces")
+    if not isinstance(listed, list):
+        raise _Fault("`namespaces` is no list")
+    for number, namespace in enumerate(listed):
+        where = "namespaces[%d]" % number
+        if not isinstance(namespace, dict) or not isinstance(namespace.get("name"), str) \
+                or not isinstance(namespace.get("relations"), list):
+            raise _Fault("%s has no name or no relations" % where)
+        if namespace["name"] in found:
+            raise _Fault("namespace %s stands twice" % namespace["name"])
+        found[namespace["name"]] = [_rule(given, where, line) for given in namespace["relations"]]
+        _refuse_names(namespace["name"], found[namespace["name"]])
+    return found
+
+
+def _rule(given: object, where: str, line: int) -> RelationRule:
+    if not isinstance(given, dict) or not isinstance(given.get("name"), str):
+        raise _Fault("a relation of %s has no name" % where)
+    rewrite = given.get("rewrite", {"this": {}})
+    try:
+        shape_of_expression(rewrite, "the rewrite of %s" % given["name"])
+    except RulesFault as fault:
+        raise _Fault(fault.where) from None
+    return RelationRule(given["name"], rewrite, line)
+
+
+def _refuse_names(namespace: str, relations: list[RelationRule]) -> None:
+    names = [relation.name for relation in relations]
+    for relation in relations:
+        if names.count(relation.name) > 1:
+            raise _Fault("relation %s#%s stands twice" % (namespace, relation.name))
+        for place in places(relation.rewrite):
+            if place.names and place.names[0] not in names:
+                raise _Fault("%s#%s reads %s, which %s does not declare"
+                             % (namespace, relation.name, place.names[0], namespace))
+
+
+def _whole(value: dict, key: str, optional: bool = False) -> Optional[int]:
+    if value.get(key) is None and optional:
+        return None
+    if not is_whole(value.get(key)):
+        raise _Fault("`%s` is no whole number" % key)
+    return value[key]
+
+
+def _write(event: Event, value: dict) -> None:
+    event.revision = _whole(value, "revision")
+    event.shown = str(event.revision)
+    event.base = value.get("base", False) is True
+    for key in ("add", "remove"):
+        listed = value.get(key) or []
+        if not isinstance(listed, list):
+            raise _Fault("`%s` is no list" % key)
+        getattr(event, key).extend(_relationship(given, "%s[%d]" % (key, place)) for place, given in enumerate(listed))
+    if event.base and event.remove:
+        raise _Fault("a base state removes nothing")
+
+
+def _entry(event: Event, value: dict) -> None:
+    event.goal = _relationship(value.get("goal"), "`goal`", True)
+    event.snapshot = _whole(value, "snapshot")
+    event.shown = str(event.snapshot)
+    event.token = _whole(value, "token", True)
+    if not isinstance(value.get("reply"), bool):
+        raise _Fault("`reply` is neither true nor false")
+    event.reply = value["reply"]
+    event.version = value.get("version")
+    if not isinstance(event.version, (str, type(None))):
+        raise _Fault("`version` is no text")
+
+
+def _event(value: object, file: str, line: int, refusals: Refusals) -> Event:
+    if not isinstance(value, dict) or value.get("event") not in ("rules", "write", "check", "content"):
+        raise _Fault("`event` is none of rules, write, check, content")
+    stamp = stamp_of(value, file, line, refusals)
+    source, source_line = value.get("file", file), value.get("line", line)
+    if not isinstance(source, str) or not is_whole(source_line):
+        raise _Fault("`file` is no text or `line` no whole number")
+    event = put_stamp(Event(value["event"], source, source_line), stamp)
+    if event.kind == "rules":
+        event.revision = _whole(value, "revision", True)
+        event.shown = None if event.revision is None else str(event.revision)
+        event.namespaces = _namespaces(value, source_line)
+    elif event.kind == "write":
+        _write(event, value)
+    else:
+        _entry(event, value)
+    return event
+
+
+def read_events(path: str, refusals: Refusals) -> Iterator[Event]:
+    """Neutral events from JSON lines."""
+    for line, value in located.values(path, refusals):
+        try:
+            yield _event(value, path, line, refusals)
+        except _Fault as fault:
+            refusals.refuse(path, line, str(fault))

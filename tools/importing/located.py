@@ -1,0 +1,197 @@
+"""JSON of a service, with the line of each object and value, from JSON lines or from a text over many lines."""
+import json
+from bisect import bisect_left
+from json.decoder import scanstring
+from json.scanner import NUMBER_RE
+from typing import Iterator
+
+from lib import limits
+from lib.strictjson import has_half_pair, is_nested_too_deep
+
+HALF = "half of a pair of code units stands alone"
+
+
+class Malformed(Exception):
+    def __init__(self, line: int, why: str):
+        super().__init__(why)
+        self.line = line
+
+
+class Object(dict):
+    """An object that knows its line and those of its values."""
+
+    line = 0
+
+    def __init__(self, line: int):
+        super().__init__()
+        self.line = line
+        self.lines: dict[str, int] = {}
+
+
+class List(list):
+    line = 0
+
+
+def line_of(value: object, default: int) -> int:
+    return getattr(value, "line", default)
+
+
+def line_at(value: object, key: str, default: int) -> int:
+    """The line of a value of an object."""
+    return value.lines.get(key, value.line) if isinstance(value, Object) else default
+
+
+def _no_constant(text: str) -> None:
+    raise ValueError("%s is no JSON" % text)
+
+
+def _once(pairs: list[tuple[str, object]]) -> dict:
+    made = dict(pairs)
+    if len(made) != len(pairs):
+        keys = [key for key, _ in pairs]
+        raise ValueError("the key %r stands twice" % next(key for key in keys if keys.count(key) > 1))
+    return made
+
+
+DECODER = json.JSONDecoder(object_pairs_hook=_once, parse_constant=_no_constant)
+WORDS = {"true": True, "false": False, "null": None}
+
+
+class _Reader:
+    def __init__(self, text: str):
+        self.text = text
+        self.at = 0
+        self.ends = [place for place, letter in enumerate(text) if letter == "\n"]
+
+    def line(self) -> int:
+        return bisect_left(self.ends, self.at) + 1
+
+    def fail(self, why: str):
+        raise Malformed(self.line(), why)
+
+    def skip(self) -> str:
+        """Goes to the next letter that is no space, and answers it."""
+        while self.at < len(self.text) and self.text[self.at] in " \t\r\n":
+            self.at += 1
+        return self.text[self.at:self.at + 1]
+
+    def take(self, letter: str) -> None:
+        if self.skip() != letter:
+            self.fail("not JSON: %r should stand here" % letter)
+        self.at += 1
+
+    def value(self, depth: int = 0) -> object:
+        letter = self.skip()
+        if depth > limits.NESTING:
+            self.fail("nested too deep")
+        if letter == "{":
+            return self.object(depth)
+        if letter == "[":
+            return self.list(depth)
+        if letter == '"':
+            return self.string()
+        for word, value in WORDS.items():
+            if self.text.startswith(word, self.at):
+                self.at += len(word)
+                return value
+        found = NUMBER_RE.match(self.text, self.at)
+        if not found:
+            self.fail("not JSON")
+        self.at = found.end()
+        return json.loads(found[0])
+
+    def string(self) -> str:
+        try:
+            text, self.at = scanstring(self.text, self.at + 1, True)
+        except json.JSONDecodeError:
+            self.fail("not JSON: a text without an end, or with a letter that has to be escaped")
+        if has_half_pair(text):
+            self.fail(HALF)
+        return text
+
+    def object(self, depth: int) -> Object:
+        made = Object(self.line())
+        self.at += 1
+        while self.skip() != "}":
+            if made:
+                self.take(",")
+            if self.skip() != '"':
+                self.fail("not JSON: a key should stand here")
+            line, key = self.line(), self.string()
+            if key in made:
+                raise Malformed(line, "the key %r stands twice" % key)
+            self.take(":")
+            made[key] = self.value(depth + 1)
+            made.lines[key] = line
+        self.at += 1
+        return made
+
+    def list(self, depth: int) -> List:
+        made = List()
+        made.line = self.line()
+        self.at += 1
+        while self.skip() != "]":
+            if made:
+                self.take(",")
+            made.append(self.value(depth + 1))
+        self.at += 1
+        return made
+
+
+def parse(text: str) -> object:
+    """One value over many lines; raises Malformed."""
+    reader = _Reader(text)
+    value = reader.value()
+    if reader.skip():
+        reader.fail("not JSON: more text behind the value")
+    return value
+
+
+def read_text(path: str) -> str:
+    """The text of a file; raises Malformed where it is no UTF-8."""
+    with open(path, "rb") as file:
+        data = file.read()
+    try:
+        return data.decode("utf-8")
+    except UnicodeDecodeError as fault:
+        raise Malformed(data.count(b"\n", 0, fault.start) + 1, "the bytes are no UTF-8") from None
+
+
+def _whole_values(text: str) -> Iterator[tuple[int, object]]:
+    reader = _Reader(text)
+    while reader.skip():
+        yield reader.line(), reader.value()
+
+
+def _is_lines(lines: list[str]) -> bool:
+    """Whether most lines look like an object each, so that a faulty one among them is refused alone."""
+    filled = [line for line in map(str.strip, lines) if line]
+    return 2 * sum(line[0] == "{" and line[-1] == "}" for line in filled) >= len(filled)
+
+
+def _line_value(line: str) -> object:
+    if is_nested_too_deep(line.encode()):
+        raise ValueError("nested too deep")
+    value = DECODER.decode(line)
+    if "\\u" in line and has_half_pair(value):
+        raise ValueError(HALF)
+    return value
+
+
+def values(path: str, refusals) -> Iterator[tuple[int, object]]:
+    """The JSON values of a file with their lines; what is no JSON is refused."""
+    try:
+        text = read_text(path)
+        lines = text.split("\n")
+        if not _is_lines(lines):
+            yield from _whole_values(text)
+            return
+    except Malformed as fault:
+        refusals.refuse(path, fault.line, str(fault))
+        return
+    for number, line in enumerate(lines, 1):
+        if line.strip():
+            try:
+                yield number, _line_value(line)
+            except ValueError as fault:
+                refusals.refuse(path, number, "not JSON" if isinstance(fault, json.JSONDecodeError) else str(fault))

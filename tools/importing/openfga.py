@@ -1,0 +1,256 @@
+"""OpenFGA: an authorization model, tuple changes as ReadChanges gives them, and checks of a recorder's log."""
+import re
+from typing import Iterator, Optional
+
+from importing import located
+from importing.events import Event, RelationRule, Relationship, Stamp, put_stamp
+from importing.located import line_at, line_of
+from importing.refusals import Refusals
+from importing.service import Bad, Log, ServiceRules, get, nested, one_of, spelled, text_or_none
+from importing.times import nanoseconds
+
+SCHEMAS = ("1.1", "1.2")
+OPERATIONS = {"TUPLE_OPERATION_WRITE": True, "TUPLE_OPERATION_DELETE": False}
+OBJECT = re.compile(r"([^:#\s]+):([^#\s]+)")
+REWRITES = ("this", "computedUserset", "tupleToUserset", "union", "intersection", "difference")
+
+
+class Unmapped(Exception):
+    """A part of a model or a tuple that a trace has no form for."""
+
+    def __init__(self, line: int, reason: str, detail: str):
+        super().__init__(detail)
+        self.line, self.reason, self.detail = line, reason, detail
+
+
+class ModelReader:
+    def __init__(self, path: str, refusals: Refusals):
+        self.path, self.refusals = path, refusals
+
+    def read(self) -> Optional[ServiceRules]:
+        try:
+            model = located.parse(located.read_text(self.path))
+        except located.Malformed as fault:
+            self.refusals.refuse(self.path, fault.line, str(fault))
+            return None
+        model = get(model, "authorization_model") or model
+        if not isinstance(model, dict) or not isinstance(get(model, "type_definitions"), list):
+            self.refusals.refuse(self.path, 1, "no authorization model: it has no `type_definitions`")
+            return None
+        if get(model, "schema_version") not in SCHEMAS:
+            self.refusals.refuse(self.path, line_at(model, "schema_version", 1), "schema version %r: only %s are mapped"
+                                 % (get(model, "schema_version"), " and ".join(SCHEMAS)))
+        conditions = get(model, "conditions")
+        for name in conditions if isinstance(conditions, dict) else ():
+            self.refusals.unmapped(self.path, line_at(conditions, name, 1), "condition", name)
+        event = Event("rules", self.path, 1)
+        takes: dict[tuple[str, str], set[tuple[str, Optional[str]]]] = {}
+        for given in get(model, "type_definitions"):
+            self._type(given, event, takes)
+        self._refuse_unknown_users(takes, event)
+        return ServiceRules(event, get(model, "id"), takes)
+
+    def _type(self, given: object, event: Event, takes: dict) -> None:
+        line = line_of(given, 1)
+        name = get(given, "type")
+        relations = get(given, "relations")
+        relations = {} if relations is None else relations
+        if not isinstance(name, str) or not name or not isinstance(relations, dict):
+            self.refusals.refuse(self.path, line, "a type definition has no `type`, or no object as its `relations`")
+            return
+        if name in event.namespaces:
+            self.refusals.refuse(self.path, line, "type %s stands twice" % name)
+            return
+        event.namespaces[name] = []
+        listed = get(get(given, "metadata"), "relations")
+        for relation, rewrite in relations.items():
+            where = "%s#%s" % (name, relation)
+            line = line_at(relations, relation, line)
+            try:
+                mapped = self._rewrite(rewrite, relations, where, line)
+            except Unmapped as fault:
+                self.refusals.unmapped(self.path, fault.line, fault.reason, fault.detail)
+                self.refusals.doubt(name, None, relation)
+                mapped = {"this": {}}
+            event.namespaces[name].append(RelationRule(relation, mapped, line))
+            given_users = listed.get(relation) if isinstance(listed, dict) else None
+            takes[name, relation] = self._users(given_users, where, line) if _is_direct(rewrite) else set()
+            if _is_direct(rewrite) and not get(given_users, "directly_related_user_types"):
+                self.refusals.refuse(self.path, line, "%s has `this` and no `directly_related_user_types`" % where)
+
+    def _users(self, given: object, where: str, line: int) -> set[tuple[str, Optional[str]]]:
+        users = set()
+        listed = get(given, "directly_related_user_types")
+        for user in listed if isinstance(listed, list) else ():
+            here = line_of(user, line)
+            told = "%s of %s" % (get(user, "type"), where)
+            if not isinstance(get(user, "type"), str) or not isinstance(get(user, "relation"), (str, type(None))):
+                self.refusals.refuse(self.path, here, "%s takes a user without a type" % where)
+            elif get(user, "wildcard") is not None:
+                self.refusals.unmapped(self.path, here, "typed wildcard", told)
+            elif get(user, "condition"):
+                self.refusals.unmapped(self.path, here, "condition", "%s on %s" % (get(user, "condition"), told))
+            else:
+                users.add((get(user, "type"), get(user, "relation") or None))
+        return users
+
+    def _refuse_unknown_users(self, takes: dict, event: Event) -> None:
+        known = {(name, relation.name) for name, listed in event.namespaces.items() for relation in listed}
+        for (name, relation), users in takes.items():
+            line = next(one.line for one in event.namespaces[name] if one.name == relation)
+            for of, of_relation in sorted(users, key=str):
+                if of not in event.namespaces or (of_relation and (of, of_relation) not in known):
+                    self.refusals.refuse(self.path, line, "%s#%s takes %s, which the model does not define"
+                                         % (name, relation, "%s#%s" % (of, of_relation) if of_relation else of))
+
+    def _rewrite(self, given: object, relations: dict, where: str, line: int) -> dict:
+        line = line_of(given, line)
+        forms = [form for form in REWRITES if form in given or spelled(form) in given] if isinstance(given, dict) else []
+        if len(forms) != 1 or len(given) != 1:
+            raise Unmapped(line, "rewrite without a form", "%s has %s" % (where, _keys(given)))
+        form, inner = forms[0], get(given, forms[0])
+        if form == "this":
+            return {"this": {}}
+        if form == "computedUserset":
+            return {"computed": self._relation(inner, relations, where, line)}
+        if form == "tupleToUserset":
+            tupleset = self._relation(get(inner, "tupleset"), relations, where, line)
+            if not _is_plain(relations[tupleset]):
+                raise Unmapped(line, "tupleset that is not direct", "%s reads %s" % (where, tupleset))
+            computed = get(get(inner, "computedUserset"), "relation")
+            if not isinstance(computed, str) or not computed:
+                raise Unmapped(line, "rewrite without a form", "%s has no relation behind its tupleset" % where)
+            return {"tuple_to": {"tupleset": tupleset, "computed": computed}}
+        if form == "difference":
+            return {"exclusion": {side: self._rewrite(get(inner, side), relations, where, line)
+                                  for side in ("base", "subtract")}}
+        children = get(inner, "child")
+        if not isinstance(children, list) or not children:
+            raise Unmapped(line, "rewrite without a form", "the %s of %s has no children" % (form, where))
+        return nested(form, [self._rewrite(child, relations, where, line) for child in children])
+
+    @staticmethod
+    def _relation(given: object, relations: dict, where: str, line: int) -> str:
+        name = get(given, "relation")
+        if not isinstance(name, str) or name not in relations or get(given, "object"):
+            raise Unmapped(line_of(given, line), "rewrite without a form",
+                           "%s reads %r, which its type does not define" % (where, name))
+        return name
+
+
+def _keys(value: object) -> str:
+    return ", ".join(value) if isinstance(value, dict) and value else "none of the six forms"
+
+
+def _is_plain(rewrite: object) -> bool:
+    return isinstance(rewrite, dict) and list(rewrite) == ["this"]
+
+
+def _is_direct(rewrite: object) -> bool:
+    """Whether `this` stands anywhere in a rewrite."""
+    if isinstance(rewrite, dict):
+        return "this" in rewrite or any(_is_direct(inner) for inner in rewrite.values())
+    return isinstance(rewrite, list) and any(_is_direct(inner) for inner in rewrite)
+
+
+def split_object(text: object) -> tuple[str, str]:
+    found = OBJECT.fullmatch(text) if isinstance(text, str) else None
+    if not found:
+        raise Bad("%r is no object `type:id`" % (text,))
+    return found[1], found[2]
+
+
+def split_user(text: object) -> tuple[str, str, Optional[str]]:
+    if not isinstance(text, str):
+        raise Bad("%r is no user" % (text,))
+    whole, hash_sign, relation = text.rpartition("#")
+    if not hash_sign:
+        return (*split_object(text), None)
+    if not relation:
+        raise Bad("%r is no user" % text)
+    return (*split_object(whole), relation)
+
+
+def relationship_of(key: object) -> Relationship:
+    """The tuple of a tuple key; raises Bad."""
+    relation = get(key, "relation")
+    if not isinstance(relation, str) or not relation:
+        raise Bad("a tuple key has no `relation`")
+    return Relationship(*split_object(get(key, "object")), relation, *split_user(get(key, "user")))
+
+
+class OpenFgaLog(Log):
+    WILDCARD = "typed wildcard in a tuple"
+    NOT_TAKEN = "tuple that the model does not take"
+    NO_LINE = "neither changes of ReadChanges nor a check with its `request`"
+
+    def base(self, path: str, revision: int, shown: str) -> Iterator[Event]:
+        """Tuples as Read gives them: pages with `tuples`, or one tuple a line."""
+        for line, value in located.values(path, self.refusals):
+            page = get(value, "tuples")
+            for one in page if isinstance(page, list) else [value]:
+                event = Event("write", path, line_of(one, line), revision, shown, base=True)
+                if self._put_key(event, get(one, "key"), True):
+                    yield event
+
+    def is_write(self, value: object) -> bool:
+        return isinstance(get(value, "changes"), list) or get(value, "operation") is not None
+
+    def writes(self, value: dict, stamp: Stamp, path: str, line: int) -> Iterator[Event]:
+        page = get(value, "changes")
+        for place, change in enumerate(page if isinstance(page, list) else [value]):
+            here = line_of(change, line)
+            shown = get(change, "timestamp")
+            revision = nanoseconds(shown)
+            live = one_of(OPERATIONS, get(change, "operation"))
+            if revision is None or live is None:
+                self.refusals.refuse(path, here, "a change has no `timestamp` of RFC 3339" if revision is None
+                                     else "unknown operation %r" % (get(change, "operation"),))
+                continue
+            event = put_stamp(Event("write", path, here, revision, shown), stamp, place)
+            event.time = revision if event.time is None else event.time
+            self._put_key(event, get(change, "tuple_key"), live)
+            yield event
+
+    def _put_key(self, event: Event, key: object, live: bool) -> bool:
+        try:
+            given = relationship_of(key)
+        except Bad as fault:
+            self.refusals.refuse(event.file, event.line, str(fault))
+            return False
+        return self.put(event, given, live, "condition on a tuple" if get(key, "condition") else None)
+
+    def check(self, value: dict, path: str, line: int) -> Event:
+        request, content = get(value, "request"), get(value, "content")
+        allowed = get(get(value, "response"), "allowed")
+        if not isinstance(allowed, bool):
+            raise Bad("the response has no `allowed`")
+        event = Event("check" if content is None else "content", path, line, reply=allowed)
+        event.shown = get(value, "snapshot")
+        event.snapshot = nanoseconds(event.shown)
+        if event.snapshot is None:
+            raise Bad("the check has no `snapshot`, the timestamp of the newest change that it saw")
+        if content is not None and not isinstance(content, dict):
+            raise Bad("`content` is no object")
+        holder = value if content is None else content
+        token, event.version = get(holder, "token"), text_or_none(get(holder, "version"), "version")
+        event.token = nanoseconds(token)
+        if token is not None and event.token is None:
+            raise Bad("`token` is no timestamp of a change")
+        event.goal = relationship_of(get(request, "tuple_key"))
+        return event
+
+    def not_checked(self, value: dict, goal: Relationship) -> Optional[tuple[str, str]]:
+        request = get(value, "request")
+        model_id = get(request, "authorization_model_id")
+        if get(get(request, "contextual_tuples"), "tuple_keys"):
+            return "contextual tuples", str(goal)
+        if get(request, "context"):
+            return "context of conditions", str(goal)
+        if goal.user_relation is not None:
+            return "check of a userset as the user", str(goal)
+        if goal.user_id == "*":
+            return "check of a typed wildcard as the user", str(goal)
+        if model_id and self.rules.id and model_id != self.rules.id:
+            return "check with another model", "%s, and the model is %s" % (model_id, self.rules.id)
+        return None

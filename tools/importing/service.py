@@ -1,0 +1,110 @@
+"""What the front ends of the services share."""
+import re
+from functools import cache
+from typing import Iterator, NamedTuple, Optional
+
+from importing import located
+from importing.events import Event, Relationship, Stamp, put_stamp, stamp_of
+from importing.refusals import Refusals
+from lib import limits
+
+
+class Bad(Exception):
+    """A line that is not what the service writes."""
+
+
+@cache
+def spelled(name: str) -> str:
+    """The other spelling of a key: services write `tupleKey` and `tuple_key`."""
+    if "_" in name:
+        return re.sub("_([a-z])", lambda found: found[1].upper(), name)
+    return re.sub("[A-Z]", lambda found: "_" + found[0].lower(), name)
+
+
+def get(value: object, name: str) -> object:
+    """The value of a key in either spelling; None where there is none."""
+    if not isinstance(value, dict):
+        return None
+    return value[name] if name in value else value.get(spelled(name))
+
+
+def one_of(table: dict[str, bool], value: object) -> Optional[bool]:
+    return table.get(value) if isinstance(value, str) else None
+
+
+def text_or_none(value: object, what: str) -> Optional[str]:
+    if not isinstance(value, (str, type(None))):
+        raise Bad("`%s` is no text" % what)
+    return value
+
+
+def nested(form: str, children: list[dict]) -> dict:
+    """A union or intersection, in groups where it has more children than a trace takes."""
+    while len(children) > limits.CHILDREN:
+        children = [{form: children[at:at + limits.CHILDREN]} for at in range(0, len(children), limits.CHILDREN)]
+    return {form: children}
+
+
+class ServiceRules(NamedTuple):
+    """The rules of a model or schema, its id, and which users a relation takes: (type, relation or None)."""
+
+    event: Event
+    id: Optional[str]
+    takes: dict[tuple[str, str], set[tuple[str, Optional[str]]]]
+
+
+class Log:
+    """Reads the log of a service with one set of rules; each service says how its lines are read."""
+
+    WILDCARD = NOT_TAKEN = NO_LINE = ""
+
+    def __init__(self, rules: ServiceRules, refusals: Refusals):
+        self.rules, self.refusals = rules, refusals
+
+    def base(self, path: str, revision: int, shown: str) -> Iterator[Event]:
+        raise NotImplementedError
+
+    def is_write(self, value: object) -> bool:
+        raise NotImplementedError
+
+    def writes(self, value: dict, stamp: Stamp, path: str, line: int) -> Iterator[Event]:
+        raise NotImplementedError
+
+    def check(self, value: dict, path: str, line: int) -> Event:
+        raise NotImplementedError
+
+    def not_checked(self, value: dict, goal: Relationship) -> Optional[tuple[str, str]]:
+        """Why a check is not mapped, with what it is about."""
+        raise NotImplementedError
+
+    def events(self, path: str) -> Iterator[Event]:
+        for line, value in located.values(path, self.refusals):
+            stamp = stamp_of(value if isinstance(value, dict) else {}, path, line, self.refusals)
+            try:
+                if get(value, "request") is not None:
+                    event = put_stamp(self.check(value, path, line), stamp)
+                    reason = self.not_checked(value, event.goal)
+                    if reason:
+                        self.refusals.unmapped_check(event, *reason)
+                    else:
+                        yield event
+                elif self.is_write(value):
+                    yield from self.writes(value, stamp, path, line)
+                else:
+                    raise Bad(self.NO_LINE)
+            except Bad as fault:
+                self.refusals.refuse(path, line, str(fault))
+
+    def put(self, event: Event, given: Relationship, live: bool, reason: Optional[str]) -> bool:
+        """Adds a tuple to a write; one that is not mapped, for this reason or another, is left out or refused."""
+        takes = self.rules.takes.get((given.type, given.relation), ())
+        if reason is None and given.user_id == "*":
+            reason = self.WILDCARD
+        if reason is None and (given.user_type, given.user_relation) not in takes:
+            reason = self.NOT_TAKEN
+        if reason:
+            self.refusals.unmapped(event.file, event.line, reason, str(given))
+            self.refusals.doubt(*given[:3])
+            return False
+        (event.add if live else event.remove).append(given)
+        return True

@@ -1,0 +1,262 @@
+"""The text of a SpiceDB schema: definitions with relations and permissions."""
+import re
+from typing import NamedTuple, Optional
+
+from importing import located
+from importing.events import Event, RelationRule
+from importing.refusals import Refusals
+from importing.service import ServiceRules, nested
+from lib import limits
+
+TOKEN = re.compile(r"(?P<space>[ \t\r\n]+|//[^\n]*|/\*.*?\*/)|(?P<word>[A-Za-z_][A-Za-z0-9_]*(?:/[A-Za-z_][A-Za-z0-9_]*)*)"
+                   r"|(?P<sign>->|\.\.\.|[{}()=|#:+&\-*;,.])|(?P<other>\"(?:[^\"\\\n]|\\.)*\"|'(?:[^'\\\n]|\\.)*'|.)", re.S)
+STARTS = ("relation", "permission", "definition", "caveat", "use", "partial", "import", "}")
+OPERATORS = {"+": "union", "&": "intersection", "-": "exclusion"}
+
+
+class Token(NamedTuple):
+    text: str
+    line: int
+    is_word: bool
+
+
+class Syntax(Exception):
+    def __init__(self, token: Token, wanted: str):
+        super().__init__("%s should stand here, and not %r" % (wanted, token.text))
+        self.line = token.line
+
+
+class Unmapped(Exception):
+    def __init__(self, line: int, reason: str):
+        super().__init__(reason)
+        self.line = line
+
+
+def tokens(text: str) -> list[Token]:
+    found, line = [], 1
+    for match in TOKEN.finditer(text):
+        if match.lastgroup != "space":
+            found.append(Token(match[0], line, match.lastgroup == "word"))
+        line += match[0].count("\n")
+    return found + [Token("", line, False)]
+
+
+class Parser:
+    def __init__(self, text: str, path: str, refusals: Refusals):
+        self.tokens, self.at = tokens(text), 0
+        self.path, self.refusals = path, refusals
+        self.open = 0
+        self.rules = Event("rules", path, 1)
+        self.takes: dict[tuple[str, str], set[tuple[str, Optional[str]]]] = {}
+        self.arrows: list[tuple[str, str, str, int]] = []
+        self.reads: list[tuple[str, str, str, int]] = []
+
+    # Tokens
+
+    def here(self) -> Token:
+        return self.tokens[self.at]
+
+    def next(self) -> Token:
+        token = self.tokens[self.at]
+        self.at += token.text != ""
+        return token
+
+    def take(self, text: str) -> Token:
+        if self.here().text != text:
+            raise Syntax(self.here(), repr(text))
+        return self.next()
+
+    def word(self, what: str) -> Token:
+        if not self.here().is_word:
+            raise Syntax(self.here(), what)
+        return self.next()
+
+    def skip_to_start(self) -> None:
+        while self.here().text and self.here().text not in STARTS:
+            self.next()
+
+    def skip_block(self) -> None:
+        """Over a caveat, up to the end of its body."""
+        depth = 0
+        while self.here().text:
+            sign = self.next().text
+            depth += (sign == "{") - (sign == "}")
+            if sign == "}" and depth <= 0:
+                return
+
+    # The schema
+
+    def schema(self) -> ServiceRules:
+        while self.here().text:
+            token = self.here()
+            try:
+                if token.text == "definition":
+                    self.definition()
+                elif token.text in ("caveat", "partial"):
+                    self.refusals.unmapped(self.path, token.line, token.text, self.tokens[self.at + 1].text)
+                    self.skip_block()
+                elif token.text in ("use", "import"):
+                    self.next()
+                    self.refusals.unmapped(self.path, token.line, "%s %s" % (token.text, self.next().text))
+                elif token.text == ";":
+                    self.next()
+                else:
+                    raise Syntax(token, "a definition")
+            except Syntax as fault:
+                self.refusals.refuse(self.path, fault.line, str(fault))
+                self.next()
+                self.skip_to_start()
+        self._refuse_unknown()
+        return ServiceRules(self.rules, None, self.takes)
+
+    def definition(self) -> None:
+        self.take("definition")
+        name = self.word("the name of a definition")
+        if name.text in self.rules.namespaces:
+            self.refusals.refuse(self.path, name.line, "definition %s stands twice" % name.text)
+        self.rules.namespaces[name.text] = rules = []
+        self.take("{")
+        while self.here().text != "}":
+            token = self.next()
+            try:
+                if token.text == "relation":
+                    rules.append(self.relation(name.text))
+                elif token.text == "permission":
+                    rules.append(self.permission(name.text))
+                elif token.text != ";":
+                    raise Syntax(token, "a relation or a permission")
+            except Syntax as fault:
+                self.refusals.refuse(self.path, fault.line, str(fault))
+                self.skip_to_start()
+                if self.here().text not in ("relation", "permission", "}"):
+                    return
+        self.take("}")
+        names = [rule.name for rule in rules]
+        for place, rule in enumerate(rules):
+            if rule.name in names[:place]:
+                self.refusals.refuse(self.path, rule.line, "%s#%s stands twice" % (name.text, rule.name))
+
+    def relation(self, of: str) -> RelationRule:
+        name = self.word("the name of a relation")
+        self.take(":")
+        users = self.takes[of, name.text] = set()
+        while True:
+            user = self.user("%s#%s" % (of, name.text))
+            if user:
+                users.add(user)
+            if self.here().text != "|":
+                return RelationRule(name.text, {"this": {}}, name.line)
+            self.next()
+
+    def user(self, where: str) -> Optional[tuple[str, Optional[str]]]:
+        """A type that a relation takes; None where it is not mapped."""
+        name, relation, unmapped = self.word("a type"), None, []
+        if self.here().text == "#":
+            self.next()
+            token = self.next()
+            if not token.is_word and token.text != "...":
+                raise Syntax(token, "a relation")
+            relation = None if token.text == "..." else token.text
+        elif self.here().text == ":":
+            self.next()
+            self.take("*")
+            unmapped.append("wildcard")
+        if self.here().text == "with":
+            while self.here().text in ("with", "and"):
+                self.next()
+                trait = self.word("a caveat or expiration").text
+                unmapped.append("expiration" if trait == "expiration" else "caveat")
+        for reason in unmapped:
+            self.refusals.unmapped(self.path, name.line, reason, "%s of %s" % (name.text, where))
+        return None if unmapped else (name.text, relation)
+
+    def permission(self, of: str) -> RelationRule:
+        name = self.word("the name of a permission")
+        if self.here().text == ":":
+            self.refusals.unmapped(self.path, name.line, "type of a permission", "%s#%s" % (of, name.text))
+            while self.here().text not in ("=", "}", ""):
+                self.next()
+        self.take("=")
+        self.open = 0
+        try:
+            rewrite = self.expression(of, name.text)
+        except Unmapped as fault:
+            self.refusals.unmapped(self.path, fault.line, str(fault), "%s#%s" % (of, name.text))
+            self.refusals.doubt(of, None, name.text)
+            self.skip_to_start()
+            rewrite = {"this": {}}
+        return RelationRule(name.text, rewrite, name.line)
+
+    def expression(self, of: str, name: str) -> dict:
+        parts, sign = [self.term(of, name)], None
+        while self.here().text in OPERATORS:
+            token = self.next()
+            if sign is not None and token.text != sign:
+                raise Unmapped(token.line, "%s beside %s without parentheses" % (token.text, sign))
+            sign = token.text
+            parts.append(self.term(of, name))
+        if sign is None:
+            return parts[0]
+        if sign != "-":
+            return nested(OPERATORS[sign], parts)
+        subtracted = parts[1] if len(parts) == 2 else nested("union", parts[1:])
+        return {"exclusion": {"base": parts[0], "subtract": subtracted}}
+
+    def term(self, of: str, name: str) -> dict:
+        if self.here().text == "(":
+            self.next()
+            self.open += 1
+            if self.open > limits.DEPTH:
+                raise Unmapped(self.here().line, "parentheses deeper than %d" % limits.DEPTH)
+            made = self.expression(of, name)
+            self.take(")")
+            self.open -= 1
+            return made
+        word = self.word("a relation, a permission or a parenthesis")
+        if word.text in ("nil", "self"):
+            raise Unmapped(word.line, word.text)
+        if self.here().text == "->":
+            self.next()
+            return self.arrow(of, name, word, self.word("a relation or permission"))
+        if self.here().text == ".":
+            self.next()
+            call = self.word("any or all")
+            if call.text != "any":
+                raise Unmapped(call.line, ".%s()" % call.text)
+            self.take("(")
+            target = self.word("a relation or permission")
+            self.take(")")
+            return self.arrow(of, name, word, target)
+        self.reads.append((of, name, word.text, word.line))
+        return {"computed": word.text}
+
+    def arrow(self, of: str, name: str, tupleset: Token, target: Token) -> dict:
+        if self.here().text in ("->", "."):
+            raise Unmapped(self.here().line, "arrow behind an arrow")
+        self.reads.append((of, name, tupleset.text, tupleset.line))
+        self.arrows.append((of, name, tupleset.text, tupleset.line))
+        return {"tuple_to": {"tupleset": tupleset.text, "computed": target.text}}
+
+    def _refuse_unknown(self) -> None:
+        """Names that the schema does not define, and arrows that start at a permission."""
+        known = {(of, rule.name): rule for of, rules in self.rules.namespaces.items() for rule in rules}
+        for of, name, read, line in self.reads:
+            if (of, read) not in known:
+                self.refusals.refuse(self.path, line, "%s#%s reads %s, which %s does not define" % (of, name, read, of))
+        for of, name, read, line in self.arrows:
+            if (of, read) in known and (of, read) not in self.takes:
+                self.refusals.refuse(self.path, line, "%s#%s has an arrow from %s, which is no relation" % (of, name, read))
+        for (of, name), users in self.takes.items():
+            for user, relation in sorted(users, key=str):
+                if user not in self.rules.namespaces or (relation and (user, relation) not in known):
+                    self.refusals.refuse(self.path, known[of, name].line, "%s#%s takes %s, which the schema does not define"
+                                         % (of, name, "%s#%s" % (user, relation) if relation else user))
+
+
+def read_schema(path: str, refusals: Refusals) -> Optional[ServiceRules]:
+    try:
+        text = located.read_text(path)
+    except located.Malformed as fault:
+        refusals.refuse(path, fault.line, str(fault))
+        return None
+    return Parser(text, path, refusals).schema()

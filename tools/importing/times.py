@@ -1,0 +1,28 @@
+"""Times as services write them: RFC 3339, to nanoseconds."""
+import re
+from datetime import datetime, timedelta, timezone
+from functools import lru_cache
+from typing import Optional
+
+FORM = re.compile(r"(\d{4}-\d\d-\d\d)[Tt](\d\d:\d\d:\d\d)(?:\.(\d{1,9}))?([Zz]|[+-]\d\d:\d\d)")
+EPOCH = datetime(1970, 1, 1, tzinfo=timezone.utc)
+SECOND = timedelta(seconds=1)
+
+
+@lru_cache(1 << 16)
+def _of_text(text: str) -> Optional[int]:
+    found = FORM.fullmatch(text)
+    if not found:
+        return None
+    day, clock, fraction, zone = found.groups()
+    zone = "+00:00" if zone in "Zz" else zone
+    try:
+        whole = datetime.fromisoformat("%sT%s%s" % (day, clock, zone))
+    except ValueError:
+        return None
+    return (whole - EPOCH) // SECOND * 1_000_000_000 + int((fraction or "0").ljust(9, "0"))
+
+
+def nanoseconds(text: object) -> Optional[int]:
+    """Nanoseconds since 1970, or None where the text is no time."""
+    return _of_text(text) if isinstance(text, str) else None

@@ -1,0 +1,19 @@
+"""A plain maker of evidence, which settles every userset that a goal leads to.
+
+The program's own `make` is to take its place.
+"""
+import json
+
+from lib.meaning import Settled, Step
+from lib.texts import Tuple
+from lib.trace import Entry, Trace
+
+
+def record(trace: Trace, entry: Entry) -> str:
+    """The line of evidence for an entry."""
+    settled = Settled(trace.rules, trace.store, entry.goal, entry.snapshot)
+    listed = []
+    for step in settled.steps or [Step(False, [entry.goal.set])]:
+        facts = [str(Tuple(of, entry.goal.user)) for of in step.sets]
+        listed.append({"yes": facts[0]} if step.yes else {"no": facts})
+    return json.dumps({"line": entry.line, "steps": listed}, ensure_ascii=False, separators=(",", ":"))

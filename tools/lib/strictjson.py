@@ -1,0 +1,94 @@
+"""JSON as the program reads it, line by line."""
+import json
+import re
+from typing import Iterator
+
+from lib import limits
+
+BLANK = b" \t\r"
+STRING = re.compile(rb'"(?:[^"\\]|\\.)*"')
+
+
+class NotJson(Exception):
+    pass
+
+
+class TooLong(Exception):
+    def __init__(self, line: int):
+        super().__init__("too long")
+        self.line = line
+
+
+def _float(text: str) -> float:
+    value = float(text)
+    if value in (float("inf"), float("-inf")):
+        raise NotJson("the number %s is out of range" % text[:40])
+    return value
+
+
+def _int(text: str) -> int | float:
+    if text == "-0" or len(text) > 300:
+        return _float(text)
+    return int(text)
+
+
+def _constant(text: str) -> None:
+    raise NotJson("%s is no JSON" % text)
+
+
+DECODER = json.JSONDecoder(parse_float=_float, parse_int=_int, parse_constant=_constant)
+
+
+def is_nested_too_deep(raw: bytes) -> bool:
+    if raw.count(b"[") + raw.count(b"{") <= limits.NESTING:
+        return False
+    deepest = level = 0
+    for byte in STRING.sub(b"", raw):
+        if byte in b"[{":
+            level += 1
+            deepest = max(deepest, level)
+        elif byte in b"]}":
+            level -= 1
+    return deepest > limits.NESTING
+
+
+def has_half_pair(value: object) -> bool:
+    """Whether half of a pair of code units stands alone in some text of a value."""
+    try:
+        json.dumps(value, ensure_ascii=False).encode("utf-8")
+    except UnicodeEncodeError:
+        return True
+    return False
+
+
+def value_of(raw: bytes) -> object:
+    """The JSON value of a line; raises NotJson."""
+    if is_nested_too_deep(raw):
+        raise NotJson("nested more than %d deep" % limits.NESTING)
+    try:
+        text = raw.decode("utf-8").strip(" \t\r\n")
+        value, end = DECODER.raw_decode(text)
+        if end != len(text):
+            raise NotJson("more text behind the value, at character %d" % end)
+        if "\\u" in text and has_half_pair(value):
+            raise NotJson("half of a pair of code units stands alone")
+    except UnicodeDecodeError as fault:
+        raise NotJson("the bytes are no UTF-8 at byte %d" % fault.start) from None
+    except json.JSONDecodeError as fault:
+        raise NotJson("%s at character %d" % (fault.msg, fault.pos)) from None
+    return value
+
+
+def lines_of(data: bytes) -> Iterator[tuple[int, bytes]]:
+    """The lines that are not blank, with their numbers; raises TooLong."""
+    start = number = 0
+    while start < len(data):
+        number += 1
+        end = data.find(b"\n", start)
+        end = len(data) if end < 0 else end
+        if end - start > limits.LINE_BYTES or end > limits.INPUT_BYTES:
+            raise TooLong(number)
+        line = data[start:end]
+        if line.strip(BLANK):
+            yield number, line
+        start = end + 1

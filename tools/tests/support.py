@@ -1,0 +1,114 @@
+"""What the tests share: the tools on files in a folder of their own, and audits by the program."""
+import contextlib
+import functools
+import importlib.machinery
+import importlib.util
+import io
+import json
+import os
+import subprocess
+import sys
+import tempfile
+import unittest
+from typing import NamedTuple
+from unittest import mock
+
+from importing.command import main as import_main
+from lib.maker import record
+from lib.trace import read_trace
+
+TOOLS = os.path.dirname(os.path.dirname(os.path.abspath(__file__)))
+TOP = os.path.dirname(TOOLS)
+EXAMPLES = os.path.join(TOP, "examples")
+
+
+class Run(NamedTuple):
+    returncode: int
+    stdout: str
+    stderr: str
+
+
+@functools.cache
+def loaded_file(path):
+    """A program of Python as a module."""
+    name = os.path.basename(path)
+    loader = importlib.machinery.SourceFileLoader(name, path)
+    module = importlib.util.module_from_spec(importlib.util.spec_from_loader(name, loader))
+    with mock.patch.object(sys, "dont_write_bytecode", True):
+        loader.exec_module(module)
+    return module
+
+
+class Case(unittest.TestCase):
+    """A test with a folder of its own."""
+
+    def setUp(self):
+        room = tempfile.TemporaryDirectory()
+        self.addCleanup(room.cleanup)
+        self.room = room.name
+
+    def path(self, name):
+        return os.path.join(self.room, name)
+
+    def put(self, name, content):
+        """A file of bytes, of a text, or of JSON lines."""
+        if not isinstance(content, (bytes, str)):
+            content = "".join(json.dumps(one) + "\n" for one in content)
+        with open(self.path(name), "wb") as file:
+            file.write(content if isinstance(content, bytes) else content.encode())
+        return self.path(name)
+
+    def get(self, name):
+        with open(self.path(name), encoding="utf-8") as file:
+            return file.read()
+
+    def rows(self, name):
+        return [json.loads(line) for line in self.get(name).splitlines()]
+
+    def run_process(self, tool, *words, stdin=""):
+        return subprocess.run([sys.executable, os.path.join(TOOLS, tool), *words], cwd=self.room, input=stdin,
+                              capture_output=True, text=True, timeout=60)
+
+    def run_tool(self, tool, *words, stdin=""):
+        """A run of a tool in this process, which is quicker: its status and what it wrote."""
+        out, err = io.StringIO(), io.StringIO()
+        given = io.TextIOWrapper(io.BytesIO(stdin.encode()))
+        with contextlib.chdir(self.room), contextlib.redirect_stdout(out), contextlib.redirect_stderr(err), \
+                mock.patch.object(sys, "argv", [tool, *words]), mock.patch.object(sys, "stdin", given):
+            try:
+                status = loaded_file(os.path.join(TOOLS, tool)).main()
+            except SystemExit as end:
+                status = end.code
+        return Run(status, out.getvalue(), err.getvalue())
+
+    def run_import(self, *words):
+        """The status and the standard error of an import in the folder."""
+        said = io.StringIO()
+        with contextlib.chdir(self.room), contextlib.redirect_stderr(said):
+            status = import_main(list(words))
+        return status, said.getvalue()
+
+    def imported(self, *words):
+        """What an import says that has to work."""
+        status, said = self.run_import(*words)
+        self.assertEqual(status, 0, said)
+        return said
+
+    def refused(self, *words):
+        """The refusals of an import, which writes nothing."""
+        status, said = self.run_import(*words)
+        self.assertEqual(status, 2, said)
+        self.assertFalse(os.path.exists(self.path("trace.jsonl")))
+        self.assertFalse(os.path.exists(self.path("ids.jsonl")))
+        lines = said.splitlines()
+        self.assertEqual(lines[-1], "refused %d" % (len(lines) - 1))
+        return lines[:-1]
+
+    def audited(self, trace="trace.jsonl"):
+        """The report of the program on a trace with made evidence."""
+        read = read_trace(self.get(trace).encode())
+        records = [record(read, entry) for entry in read.entries.values()]
+        joined = self.get(trace) + "---\n" + "\n".join(records)
+        run = subprocess.run([os.environ["NEW_ENEMY"]], input=joined.encode(), capture_output=True, timeout=60)
+        self.assertIn(run.returncode, (0, 1), run.stderr)
+        return run.stdout.decode()

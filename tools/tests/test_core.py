@@ -1,0 +1,369 @@
+"""The core of the importer, by neutral events: order, numbers, timestamps, strata, what is left out and what is told."""
+import io
+import json
+import os
+import pty
+import subprocess
+import sys
+from unittest import mock
+
+from importing.progress import Progress
+from lib import limits
+from lib.ids import Ids
+from lib.texts import Tuple, Userset, parse_tuple
+from tests.support import TOOLS, Case
+
+RULES = {"event": "rules", "namespaces": [
+    {"name": "doc", "relations": [{"name": "viewer"}, {"name": "parent"}, {"name": "reader", "rewrite": {"union": [
+        {"computed": "viewer"}, {"tuple_to": {"tupleset": "parent", "computed": "reader"}}]}}]}]}
+
+
+def rel(thing="1", relation="viewer", user="a", user_type="user", user_relation=None, of="doc"):
+    return [of, thing, relation, user_type, user] + ([user_relation] if user_relation else [])
+
+
+def write(revision, *add, remove=(), **more):
+    return {"event": "write", "revision": revision, "add": list(add), "remove": list(remove), **more}
+
+
+def check(snapshot, reply=True, goal=None, **more):
+    return {"event": "check", "goal": goal or rel(), "snapshot": snapshot, "reply": reply, **more}
+
+
+def content(snapshot, version, **more):
+    return check(snapshot, version is not None, **more) | {"event": "content", "version": version}
+
+
+class CoreCase(Case):
+    def given(self, *events, name="log"):
+        return self.put(name, list(events)) and name
+
+    def lines(self, *events, words=("--from-empty",)):
+        """The lines of the trace behind the namespaces."""
+        self.said = self.imported("events", *words, self.given(*events))
+        return [row for row in self.rows("trace.jsonl") if row["kind"] != "namespace"]
+
+    def refusals(self, *events, words=("--from-empty",)):
+        return self.refused("events", *words, self.given(*events))
+
+
+class Numbers(CoreCase):
+    NAMES = ["A", "a/b", "a@b", "x" * 200, "é", "a b", "#", "~1", "n_1", "", "\n", "10", "010", "…" * 50]
+
+    def test_what_the_table_gives_back(self):
+        names = [name for name in self.NAMES if name]
+        rules = {"event": "rules", "namespaces": [{"name": of, "relations": [{"name": relation} for relation in names]}
+                                                  for of in names]}
+        given = [rel(thing, relation, user, of, None, of) for of in names for relation in names[:4]
+                 for thing in names for user in names[:3]]
+        self.lines(rules, write(1, *given))
+        ids = Ids(self.path("ids.jsonl"))
+        commit = next(row for row in self.rows("trace.jsonl") if row["kind"] == "commit")
+        told = [ids.tuple_of(parse_tuple(text)) for text in commit["add"]]
+        self.assertEqual(told, ["%s:%s#%s@%s:%s" % tuple(one) for one in given])
+        self.assertEqual(len(set(commit["add"])), len(given))
+
+    def test_usersets_as_users_and_labels_come_back(self):
+        rules = {"event": "rules", "namespaces": [{"name": "Team", "relations": [{"name": "Member"}]}]}
+        label = "v" * 300
+        rows = self.lines(rules, write(1, rel("T 1", "Member", "T@2", "Team", "Member", "Team")),
+                          content(1, label, goal=rel("T 1", "Member", "a", of="Team")))
+        ids = Ids(self.path("ids.jsonl"))
+        self.assertEqual(ids.tuple_of(parse_tuple(rows[0]["add"][0])), "Team:T 1#Member@Team:T@2#Member")
+        self.assertEqual(ids.id_of("version", rows[1]["version"]), label)
+        self.assertEqual(ids.tuple_of(Tuple(Userset("n_1", "~9", "..."), 77)), "n_1:~9#...@77")
+
+    def test_first_seen_first_numbered_and_only_added_to(self):
+        self.lines(RULES, write(1, rel(user="b"), rel(user="a")), check(1, goal=rel(user="c")))
+        before = self.get("ids.jsonl")
+        self.assertEqual([json.loads(line)["id"] for line in before.splitlines()], ["b", "a", "c"])
+        self.lines(RULES, write(1, rel(user="d"), rel(user="a")))
+        after = self.get("ids.jsonl")
+        self.assertTrue(after.startswith(before))
+        self.assertEqual(json.loads(after.splitlines()[3]), {"kind": "user", "type": "user", "id": "d", "number": 4})
+
+    def test_faults_of_the_table(self):
+        row = '{"kind":"user","type":"user","id":"a","number":%d}\n'
+        for text, told in ((row % 2, "ids.jsonl:1: no row of the table, or not number 1"),
+                           (row % 1 + row % 2, "ids.jsonl:2: this row stands on line 1 too"),
+                           ((row % 1).strip(), "ids.jsonl:1: the line has no end"), ("[]\n", "ids.jsonl:1: no row of the table, or not number 1"),
+                           (b"\xff\n", "ids.jsonl:1: no row of the table, or not number 1")):
+            self.put("ids.jsonl", text)
+            status, said = self.run_import("events", "--from-empty", self.given(RULES))
+            self.assertEqual((status, said), (2, told + "\n"))
+            with open(self.path("ids.jsonl"), "rb") as file:
+                self.assertEqual(file.read(), text if isinstance(text, bytes) else text.encode())
+            self.assertFalse(os.path.exists(self.path("trace.jsonl")))
+
+
+class Timestamps(CoreCase):
+    def test_dense_and_in_order(self):
+        rows = self.lines(RULES, write(10 ** 30, rel()), check(10 ** 30), check(10 ** 40, token=3), write(10 ** 50))
+        self.assertEqual([row.get("at", row.get("snapshot")) for row in rows], [2, 2, 3, 4])
+        self.assertEqual(rows[2]["zookie"], "z1-0000000000000001")
+
+    def test_writes_of_one_revision_are_one_commit(self):
+        rows = self.lines(RULES, write(1, rel(user="a")), write(1, rel(user="b"), remove=[rel(user="c")]), write(2))
+        self.assertEqual([(row["at"], row.get("add"), row.get("remove")) for row in rows],
+                         [(1, ["doc:1#viewer@1", "doc:1#viewer@2"], ["doc:1#viewer@3"]), (2, None, None)])
+
+    def test_a_base_state_is_split_below_the_limit_of_a_line(self):
+        base = [write(5, *[rel("%d-%s\\\"" % (number, "é" * 55)) for number in range(at, at + 1000)], base=True)
+                for at in range(0, 20_000, 1000)]
+        rows = self.lines(RULES, *base, check(5, goal=rel("19999-%s\\\"" % ("é" * 55))), check(6, token=5), words=())
+        commits = [row for row in rows if row["kind"] == "commit"]
+        self.assertGreater(len(commits), 2)
+        self.assertEqual([row["at"] for row in commits], list(range(1, len(commits) + 1)))
+        self.assertEqual(sum(len(row["add"]) for row in commits), 20_000)
+        self.assertTrue(all(len(line.encode()) < 1 << 20 for line in self.get("trace.jsonl").split("\n")))
+        self.assertEqual([row["snapshot"] for row in rows[-2:]], [len(commits), len(commits) + 1])
+        self.assertEqual(rows[-1]["zookie"], "z1-%016x" % len(commits))
+
+    def test_changes_of_rules(self):
+        second = {"event": "rules", "revision": 7, "namespaces": [
+            {"name": "doc", "relations": [{"name": "new"}, *RULES["namespaces"][0]["relations"]]},
+            {"name": "group", "relations": [{"name": "member"}]}]}
+        self.imported("events", "--from-empty", self.given(RULES, write(6, rel()), second, write(8, rel("1", "new")), check(8)))
+        rows = self.rows("trace.jsonl")
+        self.assertEqual([(row["kind"], row.get("at", row.get("snapshot"))) for row in rows],
+                         [("namespace", None), ("commit", 1), ("namespace", 2), ("namespace", 3), ("commit", 4), ("check", 4)])
+        self.assertEqual([one["name"] for one in rows[2]["relations"]], ["viewer", "parent", "reader", "new"])
+        self.assertEqual(self.audited(), "entries 1\nfindings 0\nverdict clean\n")
+
+
+class Order(CoreCase):
+    def two(self, *words, first, second):
+        return ("events", "--from-empty", *words, self.given(RULES, *first, name="one"), self.given(*second, name="two"))
+
+    def test_one_sequencer(self):
+        self.imported(*self.two(first=[write(1, rel(), sequence=2), write(2, sequence=9)], second=[check(1, sequence=5)]))
+        self.assertEqual([row["kind"] for row in self.rows("trace.jsonl")], ["namespace", "commit", "check", "commit"])
+
+    def test_files_without_an_order(self):
+        self.assertEqual(self.refused(*self.two(first=[write(1, rel())], second=[check(1)])), [
+            "two:1: events of several files (one, two) have no order: give each line the `sequence` of one sequencer, or a "
+            "`time` and --skew MS"])
+        self.assertEqual(self.refused(*self.two(first=[write(1, rel(), sequence=4)], second=[check(1, sequence=4)])),
+                         ["two:1: sequence 4 stands at one:2 too"])
+
+    def test_skew(self):
+        first = [write(1, rel(), time="2024-01-01T00:00:01Z"), write(2, time="2024-01-01T00:00:05Z"),
+                 write(3, time="2024-01-01T00:00:09Z")]
+        second = [check(1, time="2024-01-01T00:00:01.500Z"), check(1, time="2024-01-01T00:00:05.1Z"),
+                  content(2, "v", time="2024-01-01T00:00:09.020Z")]
+        self.imported(*self.two("--skew", "10", first=first, second=second))
+        self.assertEqual([row["kind"] for row in self.rows("trace.jsonl")][1:],
+                         ["commit", "check", "commit", "check", "commit", "content"])
+        os.remove(self.path("trace.jsonl"))
+        os.remove(self.path("ids.jsonl"))
+        self.assertEqual(self.refused(*self.two("--skew", "500", first=first, second=second)), [
+            "two:1: which came first, this check or the write at one:2, is not known: they are 500 ms apart, and the skew is 500 ms",
+            "two:3: which came first, this content or the write at one:4, is not known: they are 20 ms apart, and the skew is 500 ms"])
+
+    def test_skew_of_a_version_and_of_rules(self):
+        second = [content(1, "v", time="2024-01-01T00:00:02Z", clock="b")]
+        first = [write(1, rel(), time="2024-01-01T00:00:01Z", clock="a"),
+                 check(1, version="v", time="2024-01-01T00:00:02Z", clock="a"),
+                 check(1, time="2024-01-01T00:00:02Z", clock="a"), check(1, time="2024-01-01T00:00:02Z", clock="c")]
+        self.assertEqual(self.refused(*self.two("--skew", "0", first=first, second=second)), [
+            "two:1: which came first, this content or the check at one:3, is not known: they are 0 ms apart, and the skew is 0 ms"])
+
+    def test_times(self):
+        self.assertEqual(self.refusals(RULES, write(1), check(1, time="noon"), write(2, time="2024-01-01T00:00:02+01:00"),
+                                       check(2, time="2024-01-01T00:00:01+01:00"), check(1, sequence=-1), check(1, clock=4),
+                                       words=("--from-empty", "--skew", "0")), [
+            "log:2: the line has no `time`, which --skew orders by", "log:3: `time` is no time of RFC 3339",
+            "log:3: the line has no `time`, which --skew orders by",
+            "log:5: its time is before that of log:4, of the same clock",
+            "log:6: `sequence` is no whole number", "log:6: the line has no `time`, which --skew orders by",
+            "log:7: `clock` is no text", "log:7: the line has no `time`, which --skew orders by"])
+
+    def test_revisions_rise(self):
+        self.assertEqual(self.refusals(RULES, write(2, rel()), check(2), write(2), write(1), write(3)), [
+            "log:4: its revision 2 is not later than that of log:2, 2", "log:5: its revision 1 is not later than that of log:2, 2"])
+
+    def test_a_base_state_comes_first(self):
+        events = [RULES, check(5), write(5, rel(), base=True), check(4), content(6, "v"), write(6, rel(), base=True)]
+        self.assertEqual(self.refusals(*events, words=()), [
+            "log:2: check before the base state: log:6 gives base state behind it",
+            "log:4: check before the base state: log:6 gives base state behind it",
+            "log:5: check before the base state: log:6 gives base state behind it",
+            "log:6: a base state has one revision, and log:3 has 5",
+            "log:6: doc:1#viewer@user:a is touched twice in one commit, at log:3 too"])
+        for words in ((), ("--from-empty",)):
+            base = write(1, **({"base": True} if words else {}))
+            self.assertEqual(self.refusals(RULES, base, words=words),
+                             ['log:1: give either base writes ("base":true) or --from-empty'])
+
+
+class Refusals(CoreCase):
+    def test_tuples_and_versions(self):
+        self.assertEqual(self.refusals(
+            RULES, write(1, rel(), rel()), write(2, rel(), remove=[rel()]), write(3, rel(relation="x")), content(3, "v"),
+            content(3, "v"), content(3, None) | {"version": "w"}), [
+            "log:2: doc:1#viewer@user:a is touched twice in one commit, at log:2 too",
+            "log:3: doc:1#viewer@user:a is touched twice in one commit, at log:3 too",
+            "log:4: tuple of a relation that the rules do not have: doc:1#x@user:a",
+            "log:6: version v of doc:1 was issued at log:5 already",
+            "log:7: a content check has a version exactly where its reply is true"])
+
+    def test_shapes_of_events(self):
+        bad = [{"event": "no"}, [], write("1"), write(1, ["doc"]), write(1, base=True, remove=[rel()]), write(1) | {"add": 7},
+               check(-1), check(1, "yes"), check(1, goal=rel(user_relation="x")), check(1, version=1), check(1, token="x"),
+               check(1) | {"file": 7}, {"event": "rules"}, {"event": "rules", "namespaces": [{"name": "a"}]},
+               {"event": "rules", "namespaces": [{"name": "a", "relations": [1]}]},
+               {"event": "rules", "namespaces": [{"name": "a", "relations": []}] * 2},
+               {"event": "rules", "namespaces": [{"name": "a", "relations": [{"name": "b"}] * 2}]},
+               {"event": "rules", "namespaces": [{"name": "a", "relations": [{"name": "b", "rewrite": {}}]}]},
+               {"event": "rules", "namespaces": [{"name": "a", "relations": [{"name": "b", "rewrite": {"computed": "c"}}]}]}]
+        wanted = ["`event` is none of rules, write, check, content"] * 2 + [
+            "`revision` is no whole number", "add[0] is no list of 5 or 6 texts", "a base state removes nothing",
+            "`add` is no list", "`snapshot` is no whole number", "`reply` is neither true nor false",
+            "`goal` is no list of 5 texts", "`version` is no text", "`token` is no whole number",
+            "`file` is no text or `line` no whole number", "`namespaces` is no list", "namespaces[0] has no name or no relations",
+            "a relation of namespaces[0] has no name", "namespace a stands twice", "relation a#b stands twice",
+            "the rewrite of b has none of the six forms", "a#b reads c, which a does not declare"]
+        self.assertEqual(self.refusals(*bad), ["log:%d: %s" % one for one in enumerate(wanted, 1)])
+
+    def test_rules(self):
+        deep = {"this": {}}
+        for _ in range(32):
+            deep = {"union": [deep]}
+        many = {"event": "rules", "namespaces": [{"name": "n%d" % number, "relations": []} for number in range(257)]}
+        wide = {"event": "rules", "namespaces": [{"name": "wide", "relations": [{"name": "r%d" % n} for n in range(257)]},
+                                                 {"name": "deep", "relations": [{"name": "r", "rewrite": deep}]}]}
+        self.assertEqual(self.refusals(many)[0], "log:1: namespace n256 is one more than the 256 of a trace")
+        self.assertEqual(self.refusals(wide), ["log:1: wide has 257 relations, and a trace 256 at most",
+                                               "log:1: the rule of deep#r is deeper than 32"])
+        change = {"event": "rules", "revision": 1, "namespaces": [{"name": "doc", "relations": [{"name": "viewer"}]}]}
+        other = {"event": "rules", "revision": 2, "namespaces": []}
+        self.assertEqual(self.refusals(RULES, RULES, change, other), [
+            "log:2: namespace doc stands twice in the first rules",
+            "log:3: the new rules leave out doc#parent, which a trace has no form for",
+            "log:4: the new rules leave out namespace doc, which a trace has no form for"])
+
+    def test_more_than_a_trace_takes(self):
+        changes = [{"event": "rules", "revision": at, "namespaces": [
+            RULES["namespaces"][0], {"name": "other%d" % at, "relations": []}]} for at in (1, 2)]
+        changes[1]["namespaces"].append(changes[0]["namespaces"][1])
+        with mock.patch.object(limits, "CHANGES", 1), mock.patch.object(limits, "INPUT_BYTES", 100):
+            self.assertEqual(self.refusals(RULES, *changes), ["log:3: more than 1 changes of rules"])
+            self.assertEqual(self.refusals(RULES), ["log:1: the trace has 245 bytes, and one has at most 100"])
+
+    def test_more_strata_than_a_trace_has(self):
+        relations = [{"name": "r0"}] + [{"name": "r%d" % n, "rewrite": {"exclusion": {
+            "base": {"this": {}}, "subtract": {"computed": "r%d" % (n - 1)}}}} for n in range(1, 200)]
+        more = [{"name": "s0"}] + [{"name": "s%d" % n, "rewrite": {"exclusion": {
+            "base": {"this": {}}, "subtract": {"computed": "s%d" % (n - 1)}}}} for n in range(1, 200)]
+        rules = {"event": "rules", "namespaces": [{"name": "a", "relations": relations}, {"name": "b", "relations": more}]}
+        refusals = self.refusals(rules, write(1, ["b", "1", "s0", "a", "1", "r199"]))
+        self.assertIn("log:1: b#s57 would have stratum 256, and the highest is 255", refusals)
+
+    def test_a_device_that_fails(self):
+        status, said = self.run_import("events", "--from-empty", "--trace", "none/trace.jsonl", self.given(RULES))
+        self.assertEqual((status, said), (5, "cannot use none/trace.jsonl.part: No such file or directory\n"))
+        status, said = self.run_import("events", "--from-empty", "nothing")
+        self.assertEqual((status, said), (5, "cannot use nothing: No such file or directory\n"))
+
+
+class LeftOut(CoreCase):
+    """What --skip-unmapped leaves out: also each check that hangs on it."""
+
+    WORDS = ("--from-empty", "--skip-unmapped")
+
+    def test_checks_that_hang_on_a_tuple(self):
+        lost = write(1, rel("1", "gone"))
+        rules = {"event": "rules", "namespaces": [{"name": "doc", "relations": [
+            {"name": "viewer"}, {"name": "parent"}, {"name": "reader", "rewrite": {"tuple_to": {
+                "tupleset": "parent", "computed": "gone"}}}]}]}
+        rows = self.lines(rules, lost, write(2, rel("2", "parent", "1", "doc"), rel("3", "parent", "2", "doc"),
+                                             rel("4", "viewer", "1", "doc", "gone")),
+                          *[check(2, goal=rel(thing, relation)) for thing in "1234" for relation in ("viewer", "reader")],
+                          words=self.WORDS)
+        self.assertEqual([row["goal"] for row in rows if row["kind"] == "check"],
+                         ["doc:1#viewer@3", "doc:1#reader@3", "doc:2#viewer@3", "doc:3#viewer@3", "doc:3#reader@3", "doc:4#reader@3"])
+        self.assertEqual(self.said.splitlines()[:2], [
+            "left out 2: check that hangs on a tuple or rule that was left out",
+            "left out 1: tuple of a relation that the rules do not have"])
+
+    def test_checks_that_hang_on_a_rule(self):
+        self.put("schema", "definition user {}\ndefinition doc {\n relation up: doc\n relation own: user | doc#open\n"
+                 " permission lost = own - nil\n permission open = lost + own\n permission far = up->open\n}\n")
+        self.put("log", [{"request": {"resource": {"objectType": "doc", "objectId": "1"}, "permission": name,
+                                      "subject": {"object": {"objectType": "user", "objectId": "a"}}},
+                          "response": {"checkedAt": {"token": "5"}, "permissionship": "PERMISSIONSHIP_NO_PERMISSION"}}
+                         for name in ("lost", "open", "far", "own", "up")])
+        self.put("base", "doc:1#up@doc:2\n")
+        words = ["spicedb", "--schema", "schema", "--base", "base", "--base-at", "5", "--skip-unmapped", "log"]
+        self.assertIn("left out 3: check that hangs on a tuple or rule that was left out\nleft out 1: nil\n", self.imported(*words))
+        self.assertEqual([row["goal"] for row in self.rows("trace.jsonl") if row["kind"] == "check"],
+                         ["doc:1#own@2", "doc:1#up@2"])
+
+    def test_versions_go_with_their_content_check(self):
+        rows = self.lines(RULES, write(1, rel()), content(1, "v", goal=rel(relation="gone")), check(1, version="v"),
+                          check(1, version="w"), words=self.WORDS)
+        self.assertEqual([row.get("version") for row in rows[1:]], ["w"])
+        self.assertIn("left out 1: check of a content version whose content check was left out\n", self.said)
+
+    def test_faults_are_refused_all_the_same(self):
+        status, said = self.run_import("events", *self.WORDS, self.given(
+            RULES, write(1, rel(relation="gone")), write(1, rel(), rel())))
+        self.assertEqual((status, said.splitlines()), (2, [
+            "left out 1: tuple of a relation that the rules do not have",
+            "log:3: doc:1#viewer@user:a is touched twice in one commit, at log:3 too", "refused 1"]))
+
+
+class Told(CoreCase):
+    def test_what_a_trace_cannot_show(self):
+        self.lines(RULES, write(1, rel()), check(1))
+        self.assertEqual(self.said.splitlines(), [
+            "commits 1, checks 1, content checks 0", "cannot show F1 stale: no check carries a token",
+            "cannot show F2 old token: there is no content check", "cannot show F3 not latest: there is no content check",
+            "cannot show F4 open snapshot: no commit stands behind a check",
+            "cannot show F5 wrong token: there is no content check with the reply true",
+            "cannot show F6 unknown version: no check names a content version"])
+        self.lines(RULES, write(1, rel()), content(1, "v", token=1), check(1, token=1, version="v"), write(2))
+        self.assertEqual(self.said, "commits 2, checks 1, content checks 1\n")
+        self.lines(RULES, write(1, rel()))
+        self.assertIn("cannot show F10 wrong reply: there is no check\n", self.said)
+
+    def test_a_line_of_progress_on_a_terminal_alone(self):
+        class Terminal(io.StringIO):
+            def isatty(self):
+                return True
+        for stream, wanted in ((Terminal(), "\rread 4,000 events\x1b[K"), (io.StringIO(), "")):
+            Progress(stream).step("read", 4000)
+            self.assertEqual(stream.getvalue(), wanted)
+
+    def test_usage(self):
+        for words in (["openfga"], ["openfga", "--model", "m", "log"], ["openfga", "--model", "m", "--base", "b", "log"],
+                      ["spicedb", "--schema", "s", "--base", "b", "--base-at", "?", "log"], ["events", "--skew", "-1", "log"], []):
+            run = self.run_process("import_trace", *words)
+            self.assertEqual((run.returncode, run.stdout), (3, ""), words)
+            self.assertIn("usage: import_trace", run.stderr)
+
+    def test_a_hundred_thousand_events(self):
+        self.given(RULES)
+        with open(self.path("log"), "a", encoding="utf-8") as file:
+            for number in range(1, 50_001):
+                file.write('{"event":"write","revision":%d,"add":[["doc","d%d","viewer","user","u%d"]]}\n'
+                           % (number, number % 999, number))
+                file.write('{"event":"check","goal":["doc","d1","reader","user","u1"],"snapshot":%d,"reply":true}\n' % number)
+        parent, child = pty.openpty()
+        began = os.times()
+        run = subprocess.Popen([sys.executable, os.path.join(TOOLS, "import_trace"), "events", "--from-empty", "log"],
+                               cwd=self.room, stderr=child)
+        os.close(child)
+        shown = b""
+        try:
+            while piece := os.read(parent, 1 << 16):
+                shown += piece
+        except OSError:
+            pass
+        os.close(parent)
+        self.assertEqual(run.wait(), 0, shown)
+        ended = os.times()
+        self.assertLess(ended.children_user + ended.children_system - began.children_user - began.children_system, 20)
+        self.assertIn(b"\rread 100,000 events", shown)
+        self.assertIn(b"commits 50000, checks 50000", shown)
+        self.assertEqual(self.get("trace.jsonl").count("\n"), 100_001)

@@ -1,0 +1,226 @@
+"""The front end for OpenFGA: what it maps, and what it refuses by file and line."""
+import json
+import os
+
+from tests.support import EXAMPLES, Case
+
+MODEL = """{
+  "schema_version": "1.1", "id": "M",
+  "type_definitions": [
+    {"type": "user"},
+    {"type": "group", "relations": {"member": {"this": {}}},
+     "metadata": {"relations": {"member": {"directly_related_user_types": [{"type": "user"}, {"type": "group", "relation": "member"}]}}}},
+    {"type": "doc",
+     "relations": {
+       "parent": {"this": {}},
+       "viewer": %s
+     },
+     "metadata": {"relations": {
+       "parent": {"directly_related_user_types": [{"type": "doc"}]},
+       "viewer": {"directly_related_user_types": [{"type": "user"}, {"type": "group", "relation": "member"}]}
+     }}}
+  ]
+}
+"""
+THIS = '{"this": {}}'
+
+
+def change(user, relation="viewer", thing="doc:1", at="2024-01-01T00:00:01Z", operation="WRITE", **more):
+    return {"tuple_key": {"user": user, "relation": relation, "object": thing, **more}, "timestamp": at,
+            "operation": "TUPLE_OPERATION_" + operation}
+
+
+def check(user="user:a", relation="viewer", thing="doc:1", allowed=True, at="2024-01-01T00:00:01Z", request=None, **more):
+    return {"request": {"tuple_key": {"user": user, "relation": relation, "object": thing}, **(request or {})},
+            "response": {"allowed": allowed}, "snapshot": at, **more}
+
+
+class Refusals(Case):
+    def refusals(self, log=(), model=MODEL % THIS, *more):
+        return self.refused("openfga", "--model", self.name("model.json", model), "--from-empty", *more,
+                            self.name("log", log if isinstance(log, (bytes, str)) else list(log)))
+
+    def name(self, name, content):
+        self.put(name, content)
+        return name
+
+    def test_tuples_by_line(self):
+        log = [change("user:a"), change("user:*"), change("user:a", condition={"name": "weekday"}), change("robot:a"),
+               change("user:a", "writer"), change("user:a", thing="paper:1")]
+        self.assertEqual(self.refusals(log), [
+            "log:2: typed wildcard in a tuple: doc:1#viewer@user:*",
+            "log:3: condition on a tuple: doc:1#viewer@user:a",
+            "log:4: tuple that the model does not take: doc:1#viewer@robot:a",
+            "log:5: tuple that the model does not take: doc:1#writer@user:a",
+            "log:6: tuple that the model does not take: paper:1#viewer@user:a"])
+
+    def test_changes_by_line(self):
+        log = [change("user:a", operation="MOVE"), change("user:a", at="2024-02-30T00:00:00Z"), change("anne"), change("user:a#"),
+               change(7), change("user:a", thing="doc"), change("user:a", relation=None), {"hello": 1}, [1]]
+        self.assertEqual(self.refusals(log), [
+            "log:1: unknown operation 'TUPLE_OPERATION_MOVE'",
+            "log:2: a change has no `timestamp` of RFC 3339",
+            "log:3: 'anne' is no object `type:id`",
+            "log:4: 'user:a#' is no user",
+            "log:5: 7 is no user",
+            "log:6: 'doc' is no object `type:id`",
+            "log:7: a tuple key has no `relation`",
+            "log:8: neither changes of ReadChanges nor a check with its `request`",
+            "log:9: neither changes of ReadChanges nor a check with its `request`"])
+
+    def test_checks_by_line(self):
+        log = [change("user:a"), check("group:g#member"), check("user:*"), check(relation="writer"),
+               check(request={"contextual_tuples": {"tuple_keys": [{"user": "user:a"}]}}),
+               check(request={"context": {"hour": 7}}), check(request={"authorization_model_id": "N"}),
+               check(allowed="yes"), check(at=None), check(token="soon"), check(version=7), check(content=1),
+               check(content={"version": "v"}, allowed=False), check(content={}), check(version="")]
+        self.assertEqual(self.refusals(log), [
+            "log:2: check of a userset as the user: doc:1#viewer@group:g#member",
+            "log:3: check of a typed wildcard as the user: doc:1#viewer@user:*",
+            "log:4: check of a relation that the rules do not have: doc:1#writer@user:a",
+            "log:5: contextual tuples: doc:1#viewer@user:a",
+            "log:6: context of conditions: doc:1#viewer@user:a",
+            "log:7: check with another model: N, and the model is M",
+            "log:8: the response has no `allowed`",
+            "log:9: the check has no `snapshot`, the timestamp of the newest change that it saw",
+            "log:10: `token` is no timestamp of a change",
+            "log:11: `version` is no text",
+            "log:12: `content` is no object",
+            "log:13: a content check has a version exactly where its reply is true",
+            "log:14: a content check has a version exactly where its reply is true",
+            "log:15: the label of a version is empty"])
+
+    def test_rewrites_by_line(self):
+        cases = {
+            '{"hidden": {}}': "rewrite without a form: doc#viewer has hidden",
+            '{"this": {}, "union": {}}': "rewrite without a form: doc#viewer has this, union",
+            '{"union": {"child": []}}': "rewrite without a form: the union of doc#viewer has no children",
+            '{"computedUserset": {"relation": "editor"}}':
+                "rewrite without a form: doc#viewer reads 'editor', which its type does not define",
+            '{"computedUserset": {"object": "doc:2", "relation": "parent"}}':
+                "rewrite without a form: doc#viewer reads 'parent', which its type does not define",
+            '{"tupleToUserset": {"tupleset": {"relation": "viewer"}, "computedUserset": {"relation": "parent"}}}':
+                "tupleset that is not direct: doc#viewer reads viewer",
+            '{"tupleToUserset": {"tupleset": {"relation": "parent"}}}':
+                "rewrite without a form: doc#viewer has no relation behind its tupleset"}
+        for rewrite, text in cases.items():
+            self.assertIn("model.json:10: " + text, self.refusals([change("user:a")], MODEL % rewrite))
+
+    def test_models_by_line(self):
+        model = MODEL % THIS
+        wild = model.replace('"viewer": {"directly_related_user_types": [', '"viewer": {"directly_related_user_types": [\n'
+                             '{"type": "user", "wildcard": {}},\n{"type": "user", "condition": "weekday"},\n')
+        wild = wild.replace('"id": "M",', '"id": "M", "conditions": {\n"weekday": {"expression": "true"}},')
+        self.assertEqual(self.refusals([], wild), [
+            "model.json:3: condition: weekday", "model.json:16: typed wildcard: user of doc#viewer",
+            "model.json:17: condition: weekday on user of doc#viewer"])
+        self.assertEqual(self.refusals([], model.replace('"1.1"', '"1.0"')),
+                         ["model.json:2: schema version '1.0': only 1.1 and 1.2 are mapped"])
+        self.assertEqual(self.refusals([], model.replace('{"type": "doc"}', '{"type": "paper"}')),
+                         ["model.json:9: doc#parent takes paper, which the model does not define"])
+        self.assertEqual(self.refusals([], model.replace('{"type": "doc"}', "")),
+                         ["model.json:9: doc#parent has `this` and no `directly_related_user_types`"])
+        self.assertEqual(self.refusals([], model.replace('"type": "group", "relations"', '"type": "user", "relations"'))[0],
+                         "model.json:5: type user stands twice")
+        self.assertEqual(self.refusals([], model.replace('{"type": "user"},\n', "{},\n", 1))[0],
+                         "model.json:4: a type definition has no `type`, or no object as its `relations`")
+        self.assertEqual(self.refusals([], "[]"), ["model.json:1: no authorization model: it has no `type_definitions`"])
+
+    def test_what_is_no_json(self):
+        self.assertEqual(self.refusals([], "{\n\"a\": 1,\n\"a\": 2}"), ["model.json:3: the key 'a' stands twice"])
+        self.assertEqual(self.refusals([], "{\n\"a\" 1}"), ["model.json:2: not JSON: ':' should stand here"])
+        self.assertEqual(self.refusals([], "{\n\"a\n\": 1}"),
+                         ["model.json:2: not JSON: a text without an end, or with a letter that has to be escaped"])
+        for text, told in (("{\n1: 2}", "2: not JSON: a key should stand here"), ("{\"a\":\n?}", "2: not JSON"),
+                           ("{}\n{}", "2: not JSON: more text behind the value"), ("\n" + "[" * 300, "2: nested too deep"),
+                           (b"{\n\xff}", "2: the bytes are no UTF-8")):
+            self.assertEqual(self.refusals([], text), ["model.json:" + told])
+            self.assertIn("log:", self.refusals(b"{\n\xff")[0])
+        self.assertEqual(self.refusals("{\"changes\": [\n\n}"), ["log:3: not JSON"])
+        self.assertEqual(self.refusals("{}\n" + "[" * 100_000)[1], "log:2: nested too deep")
+        self.assertEqual(self.refusals('{"a":\n"\\ud800"}'), ["log:2: half of a pair of code units stands alone"])
+        good = json.dumps(change("user:a"))
+        self.assertEqual(self.refusals("{\"changes\":\n%s\n{\"a\":\"\\ud800\"}\n%s\n{" % (good, good.replace(":a", ":b"))), [
+            "log:1: not JSON", "log:3: half of a pair of code units stands alone", "log:5: not JSON"])
+        log = json.dumps(change("user:a")) + "\n{\"a\":\n" + '{"a":1,"a":2}\n{"a":NaN}\n'
+        self.assertEqual(self.refusals(log), ["log:2: not JSON", "log:3: the key 'a' stands twice", "log:4: NaN is no JSON"])
+
+    def test_recursion_through_a_difference(self):
+        rewrite = '{"difference": {"base": {"this": {}}, "subtract": {"computedUserset": {"relation": "banned"}}}}'
+        model = (MODEL % rewrite).replace('"parent": {"this": {}}', '"parent": {"this": {}}, "banned": {"this": {}}')
+        users = '"banned": {"directly_related_user_types": [{"type": "user"}, {"type": "doc", "relation": "viewer"}]},\n"parent":'
+        model = model.replace('"parent": {"dir', users + ' {"dir')
+        log = [change("user:a"), change("doc:2#viewer", "banned", at="2024-01-01T00:00:02Z"),
+               change("doc:3#viewer", "banned", at="2024-01-01T00:00:03Z")]
+        self.assertEqual(self.refusals(log, model), [
+            "log:2: recursion through exclusion, by tuple doc:1#banned@doc:2#viewer: doc#viewer reads doc#banned strictly "
+            "by the rule of doc#viewer at model.json:10; doc#banned reads doc#viewer by tuple doc:1#banned@doc:2#viewer at "
+            "log:2, and 1 more like it"])
+
+    def test_base_state(self):
+        self.put("base.json", '{"tuples": [\n{"key": {"user": "user:a", "relation": "viewer", "object": "doc:1"}},\n'
+                 '{"key": {"user": "user:*", "relation": "viewer", "object": "doc:1"}},\n{"key": 1}]}')
+        self.put("model.json", MODEL % THIS)
+        self.put("log", [check(at="2023-01-01T00:00:00Z"), change("user:b", at="2023-01-01T00:00:00Z")])
+        words = ("openfga", "--model", "model.json", "--base", "base.json", "--base-at", "2024-01-01T00:00:00Z", "log")
+        self.assertEqual(self.refused(*words), [
+            "base.json:3: typed wildcard in a tuple: doc:1#viewer@user:*", "base.json:4: a tuple key has no `relation`",
+            "log:1: check before the base state: its snapshot is 2023-01-01T00:00:00Z",
+            "log:2: its revision 2023-01-01T00:00:00Z is not later than that of the base state"])
+
+
+class Mapped(Case):
+    def test_all_forms_one_to_one(self):
+        parts = ('{"union": {"child": [{"this": {}}, {"computedUserset": {"relation": "parent"}}, {"intersection": {"child": ['
+                 '{"this": {}}, {"tupleToUserset": {"tupleset": {"relation": "parent"}, "computedUserset": {"relation": '
+                 '"viewer"}}}]}}, {"difference": {"base": {"this": {}}, "subtract": {"computedUserset": {"relation": "parent"}}}}]}}')
+        self.put("model.json", MODEL % parts)
+        self.put("log", [change("doc:2", "parent")])
+        self.imported("openfga", "--model", "model.json", "--from-empty", "log")
+        viewer = self.rows("trace.jsonl")[1]["relations"][1]
+        self.assertEqual(viewer, {"name": "viewer", "stratum": 1, "rewrite": {"union": [
+            {"this": {}}, {"computed": "parent"},
+            {"intersection": [{"this": {}}, {"tuple_to": {"tupleset": "parent", "computed": "viewer"}}]},
+            {"exclusion": {"base": {"this": {}}, "subtract": {"computed": "parent"}}}]}})
+
+    def test_a_direct_subject_of_a_tupleset_gives_the_userset_too(self):
+        ttu = '{"tupleToUserset": {"tupleset": {"relation": "parent"}, "computedUserset": {"relation": "viewer"}}}'
+        self.put("model.json", MODEL % ('{"union": {"child": [{"this": {}}, %s]}}' % ttu))
+        self.put("log", [change("doc:2", "parent"), change("doc:2", "parent", operation="DELETE", at="2024-01-01T00:00:02Z")])
+        self.imported("openfga", "--model", "model.json", "--from-empty", "log")
+        commits = self.rows("trace.jsonl")[2:]
+        self.assertEqual(commits[0]["add"], ["doc:1#parent@1", "doc:1#parent@doc:2#..."])
+        self.assertEqual(commits[1]["remove"], commits[0]["add"])
+
+    def test_a_page_over_many_lines_and_both_spellings(self):
+        page = json.dumps({"changes": [change("user:a"), change("user:b")]}, indent=2).replace("tuple_key", "tupleKey")
+        self.put("model.json", (MODEL % THIS).replace("type_definitions", "typeDefinitions"))
+        self.put("log", page)
+        self.imported("openfga", "--model", "model.json", "--from-empty", "log")
+        commit = self.rows("trace.jsonl")[2]
+        self.assertEqual((commit["add"], commit["from"]), (["doc:1#viewer@1", "doc:1#viewer@2"], "log:3"))
+
+    def test_a_union_of_more_children_than_a_trace_takes(self):
+        self.put("model.json", MODEL % ('{"union": {"child": [%s]}}' % ", ".join([THIS] * 130)))
+        self.put("log", [change("user:a"), check()])
+        self.imported("openfga", "--model", "model.json", "--from-empty", "log")
+        union = self.rows("trace.jsonl")[1]["relations"][1]["rewrite"]["union"]
+        self.assertEqual([len(child["union"]) for child in union], [64, 64, 2])
+        self.assertIn("verdict clean", self.audited())
+
+
+class Examples(Case):
+    def imported_example(self, log):
+        folder = os.path.join(EXAMPLES, "openfga")
+        return self.imported("openfga", "--model", os.path.join(folder, "model.json"), "--from-empty",
+                             os.path.join(folder, log))
+
+    def test_clean(self):
+        self.imported_example("log.jsonl")
+        self.assertEqual(self.audited(), "entries 6\nfindings 0\nverdict clean\n")
+
+    def test_stale(self):
+        self.imported_example("stale_log.jsonl")
+        self.assertEqual(self.audited().splitlines(), [
+            "line 9: F3 not latest, see line 8", "line 11: F2 old token, see line 10", "line 13: F1 stale",
+            "line 14: F10 wrong reply", "entries 7", "findings 4", "verdict dirty"])

@@ -1,0 +1,219 @@
+"""The front end for SpiceDB: what it maps, and what it refuses by file and line."""
+import os
+
+from tests.support import EXAMPLES, Case
+from tests.test_round_trips import token_text
+
+SCHEMA = """definition user {}
+definition group {
+  relation member: user | group#member
+}
+definition doc {
+  relation parent: doc
+  relation viewer: user | group#member
+  relation banned: user | doc#view
+%s
+}
+"""
+VIEW = "  permission view = viewer"
+
+
+def thing(text):
+    of, _, id_text = text.partition(":")
+    return {"objectType": of, "objectId": id_text}
+
+
+def update(subject, relation="viewer", resource="doc:1", operation="TOUCH", **more):
+    subject, _, subject_relation = subject.partition("#")
+    return {"operation": "OPERATION_" + operation, "relationship": {
+        "resource": thing(resource), "relation": relation,
+        "subject": {"object": thing(subject), "optionalRelation": subject_relation}, **more}}
+
+
+def watch(at, *updates, **more):
+    return {"result": {"updates": list(updates), "changesThrough": {"token": token_text(at)}, **more}}
+
+
+def check(at=5, subject="user:a", permission="view", reply="HAS", request=None, **more):
+    subject, _, subject_relation = subject.partition("#")
+    return {"request": {"resource": thing("doc:1"), "permission": permission,
+                        "subject": {"object": thing(subject), "optionalRelation": subject_relation}, **(request or {})},
+            "response": {"checkedAt": {"token": token_text(at)}, "permissionship": "PERMISSIONSHIP_%s_PERMISSION" % reply},
+            **more}
+
+
+class Refusals(Case):
+    def refusals(self, log=(), body=VIEW, schema=None):
+        self.put("schema.zed", schema or SCHEMA % body)
+        self.put("log", list(log))
+        return self.refused("spicedb", "--schema", "schema.zed", "--from-empty", "log")
+
+    def test_permissions_by_line(self):
+        cases = {
+            "viewer + banned - parent": "- beside + without parentheses: doc#view",
+            "viewer\n & banned + viewer": "+ beside & without parentheses: doc#view",
+            "parent.all(view)": ".all(): doc#view",
+            "parent->parent->view": "arrow behind an arrow: doc#view",
+            "viewer - nil": "nil: doc#view",
+            "self": "self: doc#view",
+            "editor": "doc#view reads editor, which doc does not define",
+            "other->view": "doc#view reads other, which doc does not define",
+            "view->view": "doc#view has an arrow from view, which is no relation",
+            "(" * 40 + "viewer" + ")" * 40: "parentheses deeper than 32: doc#view",
+            "(viewer": "')' should stand here, and not 'permission'",
+            "viewer +": "a relation, a permission or a parenthesis should stand here, and not '}'"}
+        for expression, text in cases.items():
+            body = "  permission view = %s" % expression
+            if text.startswith("')'"):
+                body += "\n  permission other = viewer"
+            refusals = self.refusals([], body)
+            line = 9 + (expression.count("\n") or text.startswith("')'") or text.endswith("'}'"))
+            self.assertIn("schema.zed:%d: %s" % (line, text), refusals)
+
+    def test_permission_with_types(self):
+        self.assertEqual(self.refusals([], "  permission view: user = viewer"), ["schema.zed:9: type of a permission: doc#view"])
+
+    def test_schema_by_line(self):
+        schema = ("use expiration\ncaveat tuesday(day string) {\n  day == \"tuesday}\"\n}\ndefinition user {}\ndefinition doc {\n"
+                  "  relation viewer: user:* | user with tuesday |\n    user with expiration | user with tuesday and expiration\n"
+                  "  relation owner user\n  relation owner: cat | user#x\n  relation owner: user\n  nonsense\n}\n"
+                  "definition doc {}\n/* of\ntwo lines */ import other\nhello\npartial p { relation x: user }\n")
+        self.assertEqual(self.refusals([], schema=schema), [
+            "schema.zed:1: use expiration",
+            "schema.zed:2: caveat: tuesday",
+            "schema.zed:7: wildcard: user of doc#viewer",
+            "schema.zed:7: caveat: user of doc#viewer",
+            "schema.zed:8: expiration: user of doc#viewer",
+            "schema.zed:8: caveat: user of doc#viewer",
+            "schema.zed:9: ':' should stand here, and not 'user'",
+            "schema.zed:11: doc#owner stands twice",
+            "schema.zed:12: a relation or a permission should stand here, and not 'nonsense'",
+            "schema.zed:14: definition doc stands twice",
+            "schema.zed:16: import other",
+            "schema.zed:17: a definition should stand here, and not 'hello'",
+            "schema.zed:18: partial: p"])
+        self.assertEqual(self.refusals([], schema="definition user {};\ndefinition doc {\n  relation owner: user#\n}\n"),
+                         ["schema.zed:4: a relation should stand here, and not '}'"])
+        self.assertEqual(self.refusals([], schema="definition doc {\n  relation owner: user#{\ndefinition user {}"), [
+            "schema.zed:2: a relation should stand here, and not '{'"])
+        self.assertEqual(self.refusals([], schema="definition user {}\ndefinition doc {\n  relation owner: cat | user#x\n}\n"), [
+            "schema.zed:3: doc#owner takes cat, which the schema does not define",
+            "schema.zed:3: doc#owner takes user#x, which the schema does not define"])
+
+    def test_watch_by_line(self):
+        log = [watch(1, update("user:a")), watch(2, update("user:*")), watch(3, update("user:a", optionalCaveat={"caveatName": "c"})),
+               watch(4, update("user:a", optionalExpiresAt="2024-01-01T00:00:00Z")), watch(5, update("doc:1")),
+               watch(6, update("user:a", "view")), watch(7, update("user:a", operation="MOVE")),
+               watch(8, schemaUpdated=True), {"result": {"updates": []}}, watch("x1", update("user:b")),
+               watch(9, {"operation": "OPERATION_TOUCH"}), {"error": {"code": 5}}, watch(10, isCheckpoint=True),
+               {"result": {"updates": 7, "changesThrough": {"token": token_text(11)}}}]
+        self.assertEqual(self.refusals(log), [
+            "log:2: wildcard: doc:1#viewer@user:*", "log:3: caveat: doc:1#viewer@user:a",
+            "log:4: expiration: doc:1#viewer@user:a",
+            "log:5: relationship that the schema does not take: doc:1#viewer@doc:1",
+            "log:6: relationship that the schema does not take: doc:1#view@user:a",
+            "log:7: unknown operation 'OPERATION_MOVE'",
+            "log:8: the schema changes here; the rules of one schema are imported",
+            "log:9: `changesThrough` has no token whose revision is a number",
+            "log:10: `changesThrough` has no token whose revision is a number",
+            "log:11: a relationship has no relation",
+            "log:12: neither a response of Watch nor a check with its `request`", "log:14: `updates` is no list"])
+
+    def test_checks_by_line(self):
+        log = [watch(5, update("user:a")), check(subject="group:g#member"), check(subject="user:*"), check(permission="edit"),
+               check(reply="CONDITIONAL"), check(request={"context": {"day": "tuesday"}}), check(reply="MAYBE"),
+               check(at="abc"), check(permission=""), check(request={"consistency": {"atLeastAsFresh": {"token": "?"}}}),
+               check(request={"subject": {}}), check(content=True), check(content={"version": "v", "token": "?"}), check(version=1)]
+        self.assertEqual(self.refusals(log), [
+            "log:2: check of a userset as the user: doc:1#view@group:g#member",
+            "log:3: check of a wildcard as the user: doc:1#view@user:*",
+            "log:4: check of a relation that the rules do not have: doc:1#edit@user:a",
+            "log:5: conditional permission: doc:1#view@user:a", "log:6: context of caveats: doc:1#view@user:a",
+            "log:7: the response has no permissionship",
+            "log:8: `checkedAt` of the response has no token whose revision is a number",
+            "log:9: the request has no permission",
+            "log:10: the request's consistency has no token whose revision is a number",
+            "log:11: the subject has no type and id", "log:12: `content` is no object",
+            "log:13: `content` has no token whose revision is a number", "log:14: `version` is no text"])
+
+    def test_base_by_line(self):
+        self.put("schema.zed", SCHEMA % VIEW)
+        self.put("base.txt", "// now\ndoc:1#viewer@user:a\n\ndoc:1#viewer@user:*\ndoc:1#viewer@user:b[tuesday:{\"day\":1}]\n"
+                 "doc:1#viewer@user:b[expiration:2030-01-01T00:00:00Z]\ndoc:1#viewer\ndoc:1#view@user:b\ndoc:1#viewer@user:a\n")
+        self.put("log", [check(at=4), watch(5, update("user:c"))])
+        words = ("spicedb", "--schema", "schema.zed", "--base", "base.txt", "--base-at", token_text(5), "log")
+        self.assertEqual(self.refused(*words), [
+            "base.txt:4: wildcard: doc:1#viewer@user:*", "base.txt:5: caveat: doc:1#viewer@user:b",
+            "base.txt:6: expiration: doc:1#viewer@user:b",
+            "base.txt:7: no relationship `type:id#relation@type:id`: 'doc:1#viewer'",
+            "base.txt:8: relationship that the schema does not take: doc:1#view@user:b",
+            "base.txt:9: doc:1#viewer@user:a is touched twice in one commit, at base.txt:2 too",
+            "log:1: check before the base state: its snapshot is 4",
+            "log:2: its revision 5 is not later than that of the base state"])
+
+    def test_bytes_that_are_no_text(self):
+        self.assertEqual(self.refusals([], schema=b"definition user {}\n\xff"), ["schema.zed:2: the bytes are no UTF-8"])
+        self.put("schema.zed", SCHEMA % VIEW)
+        self.put("base.txt", b"\n\n\xff")
+        self.assertEqual(self.refused("spicedb", "--schema", "schema.zed", "--base", "base.txt", "--base-at", "5", "log"),
+                         ["base.txt:3: the bytes are no UTF-8"])
+
+    def test_recursion_through_an_exclusion(self):
+        body = "  permission view = viewer - banned"
+        log = [watch(1, update("user:a")), watch(2, update("doc:2#view", "banned"))]
+        self.assertEqual(self.refusals(log, body), [
+            "log:2: recursion through exclusion, by tuple doc:1#banned@doc:2#view: doc#view reads doc#banned strictly by the "
+            "rule of doc#view at schema.zed:9; doc#banned reads doc#view by tuple doc:1#banned@doc:2#view at log:2"])
+        self.assertEqual(self.refusals([], "  permission view = viewer - b\n  permission b = view"), [
+            "schema.zed:10: recursion through exclusion, by the rule of doc#b: doc#view reads doc#b strictly by the rule of "
+            "doc#view at schema.zed:9; doc#b reads doc#view by the rule of doc#b at schema.zed:10"])
+
+
+class Mapped(Case):
+    def rule_of(self, expression):
+        self.put("schema.zed", SCHEMA % ("  permission view = %s" % expression))
+        self.put("log", [check()])
+        self.imported("spicedb", "--schema", "schema.zed", "--from-empty", "log")
+        return self.rows("trace.jsonl")[1]["relations"][3]["rewrite"]
+
+    def test_forms(self):
+        viewer, banned = {"computed": "viewer"}, {"computed": "banned"}
+        up = {"tuple_to": {"tupleset": "parent", "computed": "view"}}
+        self.assertEqual(self.rule_of("viewer + banned + parent->view"), {"union": [viewer, banned, up]})
+        self.assertEqual(self.rule_of("parent.any(view) & (viewer - banned - banned)"), {"intersection": [
+            up, {"exclusion": {"base": viewer, "subtract": {"union": [banned, banned]}}}]})
+        self.assertEqual(self.rule_of("((viewer)) /* or\n */ + // and\n banned"), {"union": [viewer, banned]})
+
+    def test_tokens(self):
+        self.put("schema.zed", SCHEMA % VIEW)
+        hybrid = "1700000000000000000.0000000002"
+        self.put("log", [watch("1700000000000000000.0000000001", update("user:a#...")), watch(hybrid, update("user:b")),
+                         check(hybrid, request={"consistency": {"atExactSnapshot": {"token": hybrid}}})])
+        self.imported("spicedb", "--schema", "schema.zed", "--from-empty", "log")
+        rows = self.rows("trace.jsonl")[2:]
+        self.assertEqual([row.get("at", row.get("snapshot")) for row in rows], [1, 2, 2])
+        self.assertEqual((rows[2]["zookie"], rows[2]["revision"]), ("z1-0000000000000002", hybrid))
+
+    def test_the_old_form_of_a_token(self):
+        from importing.spicedb import revision_of
+        self.assertEqual(revision_of("EgIIKg=="), 42 * 10 ** 10)
+        for text in ("", "????", "GhUK", "Gg==", "GgQKAngx", None):
+            self.assertIsNone(revision_of(text))
+
+
+class Examples(Case):
+    def imported_example(self, log):
+        folder = os.path.join(EXAMPLES, "spicedb")
+        return self.imported("spicedb", "--schema", os.path.join(folder, "schema.zed"),
+                             "--base", os.path.join(folder, "relationships.txt"),
+                             "--base-at", "GhUKEzE3MTQ5ODYwMDAwMDAwMDAwMDA=", os.path.join(folder, log))
+
+    def test_clean(self):
+        self.imported_example("log.jsonl")
+        self.assertEqual(self.audited(), "entries 6\nfindings 0\nverdict clean\n")
+
+    def test_stale(self):
+        self.imported_example("stale_log.jsonl")
+        self.assertEqual(self.audited().splitlines(), [
+            "line 9: F2 old token, see line 8", "line 10: F1 stale", "line 12: F3 not latest, see line 11",
+            "line 12: F5 wrong token", "line 13: F10 wrong reply", "entries 7", "findings 5", "verdict dirty"])

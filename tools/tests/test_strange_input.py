@@ -1,0 +1,86 @@
+"""Files that are not what a service writes: refused, and never a fault of the importer itself."""
+import json
+import os
+from random import Random
+
+from tests.support import EXAMPLES, Case
+
+STRANGE = [None, True, 0, -1, 1.5, "", "x", "a:b", "a:b#c", "*", [], [[]], {}, {"a": 1}, [None], {"token": []}]
+ROUNDS = 120
+
+
+def mutated_log(random, log):
+    """The log with one of its lines changed."""
+    place = random.randrange(len(log))
+    return log[:place] + [mutated(random, log[place])] + log[place + 1:]
+
+
+def mutated(random, value):
+    """The value with one place of it changed, taken away or doubled."""
+    if isinstance(value, dict) and value and random.random() < 0.85:
+        key = random.choice(list(value))
+        if random.random() < 0.1:
+            return {one: inner for one, inner in value.items() if one != key}
+        return {**value, key: mutated(random, value[key])}
+    if isinstance(value, list) and value and random.random() < 0.85:
+        place = random.randrange(len(value))
+        if random.random() < 0.1:
+            return value + [value[place]]
+        return value[:place] + [mutated(random, value[place])] + value[place + 1:]
+    return random.choice(STRANGE)
+
+
+class StrangeInput(Case):
+    def taken(self, *words):
+        status, said = self.run_import(*words)
+        self.assertIn(status, (0, 2), said)
+        for name in ("trace.jsonl", "ids.jsonl"):
+            if os.path.exists(self.path(name)):
+                self.assertEqual(status, 0)
+                os.remove(self.path(name))
+        if status == 2:
+            self.assertRegex(said, r"(?m)^\S+:[0-9]+: ")
+
+    def read(self, *names):
+        with open(os.path.join(EXAMPLES, *names), encoding="utf-8") as file:
+            return file.read()
+
+    def test_openfga(self):
+        random = Random(1)
+        model = json.loads(self.read("openfga", "model.json"))
+        log = [json.loads(line) for line in self.read("openfga", "log.jsonl").splitlines()]
+        for number in range(ROUNDS):
+            self.put("model", json.dumps(mutated(random, model) if number % 4 else model))
+            self.put("log", mutated_log(random, log))
+            self.taken("openfga", "--model", "model", "--from-empty", *(["--skip-unmapped"] * (number % 3 == 0)), "log")
+
+    def test_spicedb(self):
+        random = Random(2)
+        schema = self.read("spicedb", "schema.zed")
+        base = self.read("spicedb", "relationships.txt")
+        log = [json.loads(line) for line in self.read("spicedb", "log.jsonl").splitlines()]
+        for number in range(ROUNDS):
+            at = random.randrange(len(schema))
+            cut = random.choice(["", "{", "}", "(", ")", "->", "+", "-", "with", "\"", "/*", "relation", "#", "*", ".all"])
+            self.put("schema", schema[:at] + cut + schema[at + random.randrange(3):] if number % 2 else schema)
+            at = random.randrange(len(base))
+            self.put("base", base[:at] + random.choice("#@:[]*\t x") + base[at + 1:] if number % 5 == 0 else base)
+            self.put("log", mutated_log(random, log))
+            self.taken("spicedb", "--schema", "schema", "--base", "base", "--base-at", "1714986000000000000",
+                       *(["--skip-unmapped"] * (number % 3 == 0)), "log")
+
+    def test_events(self):
+        random = Random(3)
+        events = [
+            {"event": "rules", "namespaces": [{"name": "doc", "relations": [{"name": "v"}, {"name": "w", "rewrite": {"union": [
+                {"computed": "v"}, {"exclusion": {"base": {"this": {}}, "subtract": {"tuple_to": {
+                    "tupleset": "v", "computed": "v"}}}}]}}]}]},
+            {"event": "write", "revision": 1, "add": [["doc", "1", "v", "user", "a"]], "remove": [["doc", "1", "v", "doc", "2", "v"]]},
+            {"event": "content", "goal": ["doc", "1", "v", "user", "a"], "snapshot": 1, "reply": True, "token": 1, "version": "x"},
+            {"event": "rules", "revision": 2, "namespaces": [{"name": "doc", "relations": [{"name": "v"}, {"name": "w"}]}]},
+            {"event": "check", "goal": ["doc", "1", "w", "user", "a"], "snapshot": 2, "reply": False, "version": "x",
+             "time": "2024-01-01T00:00:00Z", "sequence": 4, "clock": "a", "file": "f", "line": 3}]
+        for number in range(ROUNDS):
+            self.put("log", mutated_log(random, mutated_log(random, events)))
+            self.taken("events", "--from-empty", *(["--skew", "5"] * (number % 3 == 0)),
+                       *(["--skip-unmapped"] * (number % 4 == 0)), "log")
