@@ -15,13 +15,13 @@ use Rattle.audit_slices.proofs.run.staff.Goals as goal
 pub member-next-requires-clause-thieves : goal.member-next-requires-clause-thieves
 member-next-requires-clause-thieves g c =
     let taken = c.loop-lane.invariant.thieves in
-    let next : into_iter_items c.loop-lane.others ≡ c.in-Some-next.ends ∷ into_iter_items c.next-in-loop-lane.new.self = first_of (search rules, grind (arith, common_steps)) in
+    let next : into_iter_items c.loop-lane.others ≡ c.in-Some-next.ends ∷ into_iter_items c.next-in-loop-lane.new.self = c.in-Some-next.ensures.items in
     All_mid (λ (v : Vec Thief Global). All (λ t. (thief_hand_of t).handed ≡ []) v.items) c.args.thieves.items taken.0 (into_iter_items c.next-in-loop-lane.new.self) c.in-Some-next.ends (taken.1 ∙ ap (λ l. taken.0 ++ l) next) c.requires.thieves
 
 pub loop-lane-preserved : goal.loop-lane-preserved
 loop-lane-preserved g c =
     let taken = c.loop-lane.invariant.thieves in
-    let next : into_iter_items c.loop-lane.others ≡ c.in-Some-next.ends ∷ into_iter_items c.next-in-loop-lane.new.self = first_of (search rules, grind (arith, common_steps)) in
+    let next : into_iter_items c.loop-lane.others ≡ c.in-Some-next.ends ∷ into_iter_items c.next-in-loop-lane.new.self = c.in-Some-next.ensures.items in
     record {
       lanes = staffed_more c.loop-lane.members.items c.push.new.self.items c.member-next.result c.in_ok-push.ensures.items (λ m. (member_places m).0) (map lane_place c.loop-lane.yielded) (lane_place c.in-Some.lane) c.loop-lane.invariant.lanes (ap (λ (p : Places). p.0) c.member-next.ensures.places)
           ∙ sym (map-append lane_place c.loop-lane.yielded (c.in-Some.lane ∷ []));
@@ -32,13 +32,13 @@ loop-lane-preserved g c =
             ∙ sym (map-append (λ (v : Vec Thief Global). map thief_place v.items) taken.0 (c.in-Some-next.ends ∷ [])),
       );
       settled = settled_more c.loop-lane.members.items c.push.new.self.items c.member-next.result c.in_ok-push.ensures.items c.loop-lane.invariant.settled c.member-next.ensures.settled;
-      all = first_of (search rules, grind (arith, common_steps));
+      all = c.loop-lane.invariant.all ∙ ap (λ l. c.loop-lane.yielded ++ l) c.in-Some.ensures.steps.0 ∙ sym (append_assoc c.loop-lane.yielded (c.in-Some.lane ∷ []) (into_iter_items c.next.new.self));
     }
 
 pub returns-clause-thieves : goal.returns-clause-thieves
 returns-clause-thieves g c =
     let taken = c.loop-lane.invariant.thieves in
-    let none : into_iter_items c.loop-lane.lane-iterator ≡ [] = first_of (search rules, grind (arith, common_steps)) in
+    let none : into_iter_items c.loop-lane.lane-iterator ≡ [] = grind (arith, common_steps, c.in-None.ensures.steps) in
     let all : c.loop-lane.yielded ≡ c.args.lanes.items = sym (append-nil c.loop-lane.yielded) ∙ ap (λ l. c.loop-lane.yielded ++ l) (sym none) ∙ sym c.loop-lane.invariant.all in
     all_taken c.loop-lane.members.items c.args.thieves.items taken.0 (into_iter_items c.loop-lane.others) taken.1 taken.2
     (sym (length-map c.loop-lane.members.items (λ (m : Member g.row.X.Denot). (member_places m).0)) ∙ ap length c.loop-lane.invariant.lanes ∙ length-map c.loop-lane.yielded lane_place ∙ ap length all ∙ sym c.requires.count)
