@@ -3,8 +3,7 @@
 ghost use Rattle.std.specs.Prelude.{◌≡◌, length};
 ghost use Rattle.slice_core.specs.Machine.{state_of};
 
-use audit_slices::{Core, Event};
-use audit_slices::OpenCause;
+use audit_slices::{Core, Event, OpenCause};
 use std::test::*;
 
 // Whether the core does the event.

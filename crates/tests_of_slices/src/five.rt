@@ -2,8 +2,7 @@
 
 ghost use Rattle.std.specs.Prelude.{◌≡◌, ◌==◌, if◌then◌else◌};
 
-use audit_slices::{Board, Names};
-use audit_slices::Check;
+use audit_slices::{Board, Check, Names};
 use std::alloc::AllocError;
 
 /// Five checks: of the first there is no evidence, finding 7, and that of the last is silent, finding 9. Entries after

@@ -1,10 +1,7 @@
 //! Runs of the pool: its reports stand in order, two workers are at work at once, and an alert is shown once.
 
 use crate::five::{FiveBoard, FiveChecks, FiveNamed, finding};
-use audit_slices::{Alert, Blind, Watch};
-use audit_slices::{Free, Gate, SliceReport};
-use audit_slices::run_pool;
-use audit_slices::cut;
+use audit_slices::{Alert, Blind, Free, Gate, SliceReport, Watch, cut, run_pool};
 use std::sync::atomic::{AtomicUsize, Ordering};
 use std::test::*;
 

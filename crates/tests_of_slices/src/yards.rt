@@ -5,10 +5,7 @@ ghost use Rattle.slice_yard.specs.Cut.{IsNumbered};
 ghost use Rattle.slice_yard.specs.Lane.{lane_place, thief_place};
 
 use crate::five::FiveChecks;
-use audit_slices::check_slice;
-use audit_slices::{Lane, Thief};
-use audit_slices::{Slice, cut};
-use audit_slices::{OpenCause, Yard, close};
+use audit_slices::{Lane, OpenCause, Slice, Thief, Yard, check_slice, close, cut};
 use std::alloc::Global;
 use std::process::Abort;
 use std::test::*;

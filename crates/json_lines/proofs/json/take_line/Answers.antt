@@ -27,7 +27,7 @@ returns-clause-refused g c =
       | else-is_memory-2 w ↦
           let told = rw (sym c.is_memory-in-Err-take_value.ensures ∙ w.if-is_memory-2.false) at c.in-Err-take_value.ensures.answer in
           rw w.result-is (
-              of_no_blank g.T.Cause.LineCause.not_json g.T.TakeJson.taken c.args.number c.args.taker.now c.args.line.now (sym c.is_blank.ensures ∙ c.if-is_blank.false)
-              ∙ of_a_value g.T.Cause.LineCause.not_json (g.T.TakeJson.taken c.args.number c.args.taker.now) c.args.line.now (view c.in-Ok.value) c.in-Ok.ensures.ok.0 c.in-Ok.ensures.ok.1 ∙ told
-              )
+          of_no_blank g.T.Cause.LineCause.not_json g.T.TakeJson.taken c.args.number c.args.taker.now c.args.line.now (sym c.is_blank.ensures ∙ c.if-is_blank.false)
+          ∙ of_a_value g.T.Cause.LineCause.not_json (g.T.TakeJson.taken c.args.number c.args.taker.now) c.args.line.now (view c.in-Ok.value) c.in-Ok.ensures.ok.0 c.in-Ok.ensures.ok.1 ∙ told
+          )
     ]
