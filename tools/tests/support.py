@@ -1,8 +1,5 @@
 """What the tests share: the tools on files in a folder of their own, and audits by the program."""
 import contextlib
-import functools
-import importlib.machinery
-import importlib.util
 import io
 import json
 import os
@@ -15,6 +12,7 @@ from unittest import mock
 
 from importing.command import main as import_main
 from lib.maker import record
+from lib.programs import loaded_file
 from lib.trace import read_trace
 
 TOOLS = os.path.dirname(os.path.dirname(os.path.abspath(__file__)))
@@ -26,17 +24,6 @@ class Run(NamedTuple):
     returncode: int
     stdout: str
     stderr: str
-
-
-@functools.cache
-def loaded_file(path):
-    """A program of Python as a module."""
-    name = os.path.basename(path)
-    loader = importlib.machinery.SourceFileLoader(name, path)
-    module = importlib.util.module_from_spec(importlib.util.spec_from_loader(name, loader))
-    with mock.patch.object(sys, "dont_write_bytecode", True):
-        loader.exec_module(module)
-    return module
 
 
 class Case(unittest.TestCase):

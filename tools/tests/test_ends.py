@@ -1,0 +1,34 @@
+"""How tools end where standard output fails."""
+import os
+import subprocess
+import sys
+
+from tests.support import EXAMPLES, TOOLS, Case
+
+TRACE = os.path.join(EXAMPLES, "each_finding")
+RUNS = (("draw", TRACE, "3"), ("explain", TRACE, "5"), ("explain", TRACE), ("make_evidence", TRACE))
+
+
+class Ends(Case):
+    def ended(self, words, out):
+        run = subprocess.run([sys.executable, os.path.join(TOOLS, words[0]), *words[1:]], stdout=out, stderr=subprocess.PIPE, timeout=60)
+        return run.returncode, run.stderr.decode()
+
+    def test_nobody_reads(self):
+        reader, writer = os.pipe()
+        os.close(reader)
+        for words in RUNS:
+            self.assertEqual(self.ended(words, writer), (5, ""), words)
+        os.close(writer)
+
+    def test_no_room(self):
+        with open("/dev/full", "wb") as full:
+            for words in RUNS:
+                self.assertEqual(self.ended(words, full), (5, "cannot write: No space left on device\n"), words)
+
+    def test_closed(self):
+        """An importer needs no standard output."""
+        self.put("log", '{"event":"rules","namespaces":[]}\n')
+        run = subprocess.run(["sh", "-c", 'exec "$@" >&-', "sh", sys.executable, os.path.join(TOOLS, "import_trace"), "events", "--from-empty",
+                              "log"], cwd=self.room, capture_output=True, text=True, timeout=60)
+        self.assertEqual((run.returncode, run.stderr.splitlines()[0]), (0, "commits 0, checks 0, content checks 0"))
