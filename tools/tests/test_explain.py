@@ -3,11 +3,12 @@ import json
 import os
 import re
 
+from hostile.inputs import worked_cases
 from lib.evidence import check_evidence
 from lib.files import split_joined
 from lib.order import order_findings
 from lib.trace import Fault, read_trace
-from tests.support import EXAMPLES, TOP, Case, loaded_file
+from tests.support import EXAMPLES, Case
 
 NAMESPACES = [
     {"kind": "namespace", "name": "group", "relations": [{"name": "member"}]},
@@ -135,13 +136,10 @@ class WorkedCases(Case):
     """What the program says of each worked case, the tools find too."""
 
     def test_refusals_and_findings_on_tokens(self):
-        rows = loaded_file(os.path.join(TOP, "rows", "run"))
-        with open(os.path.join(TOP, "rows", "cases.json"), encoding="utf-8") as file:
-            cases = json.load(file)
         refused = found = 0
-        for case in cases:
-            part, evidence = split_joined(rows.given(case["stdin"]))
-            if evidence is None or "100000_facts" in case["name"]:
+        for case in worked_cases():
+            part, evidence = split_joined(case.data)
+            if evidence is None or "100000_facts" in case.name:
                 continue
             said, details, findings = "", None, []
             try:
@@ -151,10 +149,10 @@ class WorkedCases(Case):
                             for one in trace.entries.values() for finding, related in order_findings(trace, one)]
             except Fault as fault:
                 said, details = "%s\n" % fault, fault.details
-            self.assertEqual(said, case["stderr"], case["name"])
-            self.assertNotEqual(details, [], case["name"])
-            wanted = [line for line in case["stdout"].splitlines() if re.match("line [0-9]+: F[1-6] ", line)]
-            self.assertEqual(findings, wanted, case["name"])
+            self.assertEqual(said, case.wanted.err.decode(), case.name)
+            self.assertNotEqual(details, [], case.name)
+            wanted = [line for line in case.wanted.out.decode().splitlines() if re.match("line [0-9]+: F[1-6] ", line)]
+            self.assertEqual(findings, wanted, case.name)
             refused, found = refused + bool(said), found + len(wanted)
         self.assertGreater(refused, 300)
         self.assertGreater(found, 30)

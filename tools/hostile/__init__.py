@@ -1,0 +1,1 @@
+"""Hostile use of the built program: strange input, growths that are refused, devices that fail."""
