@@ -37,6 +37,12 @@ def order_findings(trace: Trace, entry: Entry) -> Iterator[tuple[str, Optional[i
         yield "F6 unknown version", None
 
 
+def order_lines(trace: Trace) -> list[str]:
+    """The report's lines on tokens."""
+    return ["line %d: %s%s" % (one.line, finding, ", see line %d" % related if related else "")
+            for one in trace.entries.values() for finding, related in order_findings(trace, one)]
+
+
 def _is_right_token(entry: Entry) -> bool:
     if entry.zookie is None:
         return False

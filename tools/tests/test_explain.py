@@ -6,7 +6,7 @@ import re
 from hostile.inputs import worked_cases
 from lib.evidence import check_evidence
 from lib.files import split_joined
-from lib.order import order_findings
+from lib.order import order_lines
 from lib.trace import Fault, read_trace
 from tests.support import EXAMPLES, Case
 
@@ -145,8 +145,7 @@ class WorkedCases(Case):
             try:
                 trace = read_trace(part)
                 check_evidence(evidence, trace)
-                findings = ["line %d: %s%s" % (one.line, finding, ", see line %d" % related if related else "")
-                            for one in trace.entries.values() for finding, related in order_findings(trace, one)]
+                findings = order_lines(trace)
             except Fault as fault:
                 said, details = "%s\n" % fault, fault.details
             self.assertEqual(said, case.wanted.err.decode(), case.name)

@@ -1,0 +1,112 @@
+"""The fuzz and the refusals of growth find programs that are wrong, and repeat what they found."""
+import os
+import subprocess
+
+from hostile.answers import Answer, wrong_with
+from hostile.inputs import worked_cases, worked_inputs
+from hostile.mutations import SIZE, mutant
+from hostile.reading import denied
+from lib.files import split_joined
+from tests.support import Case
+
+CLEAN = b"entries 1\nfindings 0\nverdict clean\n"
+DIRTY = b"line 3: F10 wrong reply\nentries 1\nfindings 1\nverdict dirty\n"
+# A program that asks for memory twice, and answers %s where it gets none.
+ASKS = """
+#include <stdio.h>
+#include <stdlib.h>
+#include <unistd.h>
+int main(void) {
+    void *volatile one = malloc(10), *volatile two = one ? realloc(one, 100) : 0;
+    if (!one || !two) { write(2, "out of memory\\n", 14); return %d; }
+    write(1, "entries 0\\nfindings 0\\nverdict clean\\n", 35);
+    return 0;
+}
+"""
+
+
+class Answers(Case):
+    def test_right_answers(self):
+        for case in worked_cases():
+            self.assertIsNone(wrong_with(case.wanted), case.name)
+        for answer in (Answer(3, b"", b"usage: new_enemy\n"), Answer(4, b"", b"out of memory\n"), Answer(5, b"", b"write fault after 7 bytes\n"),
+                       Answer(5, b"", b"read fault\n"), Answer(5, b"", b"trace line 2: read fault\n")):
+            self.assertIsNone(wrong_with(answer))
+
+    def test_wrong_answers(self):
+        for answer in (Answer(-11, b"", b""), Answer(6, b"", b"out of memory\n"), Answer(101, b"", b""), Answer(0, b"", b""),
+                       Answer(0, CLEAN[:-1], b""), Answer(0, DIRTY, b""), Answer(1, CLEAN, b""), Answer(0, CLEAN, b"x\n"),
+                       Answer(1, DIRTY[24:], b""), Answer(2, b"", b""), Answer(2, b"", b"out of memory\n"), Answer(2, CLEAN, b"joined input refused\n"),
+                       Answer(2, b"", b"joined input refused"), Answer(2, b"", b"trace line 1: not JSON\n" * 2), Answer(4, b"", b"read fault\n"),
+                       Answer(2, b"", b"evidence line 1: unknown kind\n"), Answer(2, b"", b"trace line 01: too long\n")):
+            self.assertIsNotNone(wrong_with(answer), answer)
+
+
+class Fuzz(Case):
+    def fuzz(self, script, *words):
+        """A fuzz of a program of the shell, of which faulty inputs stay in the folder of the test."""
+        path = self.path("program")
+        with open(path, "w", encoding="utf-8") as file:
+            file.write("#!/bin/sh\n" + script)
+        os.chmod(path, 0o755)
+        return self.run_tool("fuzz", *words, "--folder", self.room, "program")
+
+    def test_faults_are_kept_and_come_again(self):
+        run = self.fuzz("cat > /dev/null; kill -SEGV $$\n", "--runs", "3", "--seed", "7")
+        lines = run.stdout.splitlines()
+        self.assertEqual((run.returncode, lines[-1], len(lines)), (1, "0 passed, 1 failed", 5))
+        self.assertRegex(lines[1], r"\Aseed 8: ended by signal 11 \(.*fuzz_8\)\Z")
+        self.assertTrue(lines[3].startswith("runs 3, faults 3;"))
+        with open(self.path("fuzz_8"), "rb") as file:
+            self.assertEqual(file.read(), mutant(8, worked_inputs(SIZE - 1)))
+
+    def test_right_and_wrong_answers(self):
+        """An input without its parting line is refused; any other is not refused for that."""
+        inputs = worked_inputs(SIZE - 1)
+        parted = [split_joined(mutant(seed, inputs))[1] is not None for seed in range(100)]
+        for seed, faults in ((parted.index(False), 0), (parted.index(True), 1)):
+            run = self.fuzz("echo joined input refused >&2; exit 2\n", "--runs", "1", "--seed", str(seed))
+            self.assertEqual((run.returncode, run.stdout.splitlines()[-2]), (faults, "runs 1, faults %d; status 2: 1" % faults))
+
+    def test_a_verdict_that_is_no_right_one(self):
+        """Each way in which the tools deny an answer."""
+        cases = {case.name: case for case in worked_cases()}
+        for name, report, told in (
+                ("banned_viewer_answered_yes", CLEAN, "line 4: no finding, and by the tools the reply is wrong"),
+                ("one_proved_check", DIRTY, "line 3: line 3: F10 wrong reply, and by the tools the reply is right"),
+                ("check_older_than_its_zookie", CLEAN, "[] of tokens, and the tools say ['line 5: F1 stale']"),
+                ("empty_trace_is_clean", CLEAN, "entries 1, and the tools say 0"),
+                ("check_line_cut", CLEAN, "'' on standard error, and the tools say 'trace line 3: not JSON'")):
+            self.assertEqual(denied(Answer(0, report, b""), cases[name].data), told)
+            self.assertIsNone(denied(cases[name].wanted, cases[name].data))
+
+    def test_mutants_are_small_and_of_all_kinds(self):
+        inputs = worked_inputs(SIZE - 1)
+        made = [mutant(seed, inputs) for seed in range(500)]
+        self.assertGreater(len(set(made) - set(inputs)), 400)
+        self.assertLess(max(map(len, made)), SIZE)
+
+
+class RefuseGrowth(Case):
+    def table(self, status, *words):
+        self.put("program.c", ASKS % status)
+        subprocess.run(["cc", "-o", self.path("program"), self.path("program.c"), *words], check=True, capture_output=True)
+        return self.run_tool("refuse_growth", "program", "empty_trace_is_clean")
+
+    def test_each_growth_fails_alone_and_with_all_behind_it(self):
+        run = self.table(4)
+        self.assertEqual(run.stdout.splitlines()[1].split(), ["empty_trace_is_clean", "2", "6", "0"])
+        self.assertEqual((run.returncode, run.stdout.splitlines()[-1]), (0, "1 passed, 0 failed"))
+
+    def test_another_answer_is_wrong(self):
+        run = self.table(2)
+        lines = run.stdout.splitlines()
+        self.assertEqual(lines[1], "empty_trace_is_clean, growth 1: status 2, b'', b'out of memory\\n'")
+        self.assertEqual(lines[-2].split(), ["empty_trace_is_clean", "2", "6", "4"])
+        self.assertEqual((run.returncode, lines[-1]), (1, "0 passed, 1 failed"))
+
+    def test_a_program_that_cannot_be_reached(self):
+        """One that is linked whole takes no notice, and that is no pass."""
+        run = self.table(4, "-static")
+        self.assertEqual((run.returncode, run.stdout.splitlines()[-1]), (1, "0 passed, 1 failed"))
+        self.assertIn("this run shows nothing", run.stdout)
