@@ -8,7 +8,7 @@ from typing import Callable, NoReturn
 
 
 def run(main: Callable[[], int]) -> NoReturn:
-    """Ends with the status of a tool's main, or with status 5 where standard output fails: in silence where its reader has gone."""
+    """Ends with the status of a tool's main, or with status 5 where a file fails: in silence where nobody reads standard output."""
     try:
         try:
             sys.exit(main())
@@ -19,7 +19,7 @@ def run(main: Callable[[], int]) -> NoReturn:
         # Python flushes once more at its end, and that has to work.
         os.dup2(os.open(os.devnull, os.O_WRONLY), sys.stdout.fileno())
         if not isinstance(fault, BrokenPipeError):
-            sys.stderr.write("cannot write: %s\n" % fault.strerror)
+            sys.stderr.write("cannot %s: %s\n" % ("use %s" % fault.filename if fault.filename else "write", fault.strerror))
         sys.exit(5)
 
 

@@ -26,6 +26,10 @@ class Ends(Case):
             for words in RUNS:
                 self.assertEqual(self.ended(words, full), (5, "cannot write: No space left on device\n"), words)
 
+    def test_no_program(self):
+        run = subprocess.run([sys.executable, os.path.join(TOOLS, "fuzz"), "/absent"], capture_output=True, text=True, timeout=60)
+        self.assertEqual((run.returncode, run.stdout, run.stderr), (5, "", "cannot use /absent: No such file or directory\n"))
+
     def test_closed(self):
         """An importer needs no standard output."""
         self.put("log", '{"event":"rules","namespaces":[]}\n')
