@@ -45,13 +45,14 @@ class Cut:
             for block in blocks:
                 digest.update(block)
                 number = place(spread, number, form.findall(block))
-                spread.flush()
+                spread.flush(number)
             if blocks.too_long:
                 number += 1
                 digest.update(blocks.too_long)
                 spread.put(number, EVERYWHERE, blocks.too_long)
+                spread.flush(number)
             self.name.update(digest.digest())
-            return spread.close(number)
+            return spread.close()
 
     def _entries(self, spread: Spread, number: int, lines: list[tuple[bytes, bytes, bytes]]) -> int:
         """Puts lines of the trace behind line `number`; the number of the last."""
@@ -61,7 +62,8 @@ class Cut:
             if other:
                 found = object_of(other)
                 part = EVERYWHERE if found is None else objects[found]
-                spread.put(number, part, other)
+                if other != b"\n":
+                    spread.put(number, part, other)
             else:
                 part = known.get(thing) or objects[thing]
                 if ends[part] != number - 1:
@@ -79,7 +81,8 @@ class Cut:
             line = line_of(other) if other else int(text)
             part = table[line] if line is not None and line < count else EVERYWHERE
             if part == EVERYWHERE:
-                spread.put(number, part, record or other)
+                if other != b"\n":
+                    spread.put(number, part, record or other)
                 continue
             if ends[part] != number - 1:
                 pieces[part].append(b"\n" * (number - 1 - ends[part]))

@@ -28,16 +28,16 @@ class Spread:
             self.pieces[one].append(line)
             self.lines[one] = number
 
-    def flush(self) -> None:
-        for file, pieces in zip(self.files, self.pieces[1:]):
-            file.write(b"".join(pieces))
-            pieces.clear()
-
-    def close(self, lines: int) -> list[int]:
-        """Ends each file with so many lines; how many bytes each has."""
-        for part in range(1, len(self.pieces)):
+    def flush(self, lines: int) -> None:
+        """Writes what was put, and brings each part to so many lines."""
+        for part, file in enumerate(self.files, 1):
             self.pieces[part].append(b"\n" * (lines - self.lines[part]))
-        self.flush()
+            self.lines[part] = lines
+            file.write(b"".join(self.pieces[part]))
+            self.pieces[part].clear()
+
+    def close(self) -> list[int]:
+        """How many bytes each file has."""
         sizes = []
         for file in self.files:
             sizes.append(file.tell())
