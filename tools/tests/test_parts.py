@@ -7,10 +7,14 @@ import os
 import re
 import shutil
 import subprocess
+import tempfile
 from random import Random
 
-from parting.command import main
+from lib.files import read_bytes
+from parting.command import cut_command, main
 from parting.manifest import read_manifest, report_path
+from parting.merging import answer_of
+from parting.reports import read_part_report
 from parting.running import run_part
 from tests.random_traces import RandomInput
 from tests.support import EXAMPLES, TOP, Case, Run, loaded_file
@@ -51,10 +55,16 @@ def parts(*given):
 
 
 class PartsCase(Case):
+    def setUp(self):
+        """In memory where there is such a place: a cut is many small files."""
+        room = tempfile.TemporaryDirectory(dir="/dev/shm" if os.path.isdir("/dev/shm") else None)
+        self.addCleanup(room.cleanup)
+        self.room = room.name
+
     def cut(self, count, joined, name="cut"):
         """Cuts joined input; its folder."""
         folder = self.path(name)
-        self.assertEqual(parts("cut", count, self.put(name + ".joined", joined), folder), (0, "", ""))
+        self.assertEqual(cut_command(count, self.put(name + ".joined", joined), None, folder), 0)
         return folder
 
     def audited_parts(self, folder):
@@ -69,8 +79,8 @@ class PartsCase(Case):
         status, output, error = answer(joined)
         for count in counts:
             folder = self.cut(count, joined)
-            run = parts("merge", *self.audited_parts(folder))
-            self.assertEqual(run, (status, output.decode(), error.decode()), "%s in %d parts" % (what, count))
+            merged = answer_of([read_part_report(path, read_bytes(path)) for path in self.audited_parts(folder)])
+            self.assertEqual(merged, (status, output.decode(), error.decode()), "%s in %d parts" % (what, count))
             shutil.rmtree(folder)
         return status, output.decode(), error.decode()
 
