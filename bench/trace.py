@@ -11,6 +11,7 @@ KIND is one of
   wide        one group of 100,000 users, and checks that a stranger is not in it
   exclusions  viewers who are not banned, and those who are
   commits     commits of four tuples each, and one check
+  service     documents of which each gets one viewer, and a hundred checks for each commit
 """
 import json
 import sys
@@ -136,7 +137,17 @@ def commits(size):
     return given
 
 
-KINDS = {f.__name__: f for f in (checks, folders, circles, toggled, wide, exclusions, commits)}
+def service(size):
+    given = Input(size, [{"name": "doc", "relations": [relation("viewer")]}])
+    while not given.is_full():
+        given.commit([f"doc:{given.at}#viewer@10"])
+        for k in range(100):
+            goal = f"doc:{(k * 7919 + given.at) % given.at}#viewer@10"
+            given.check(goal, True, [{"yes": goal}])
+    return given
+
+
+KINDS = {f.__name__: f for f in (checks, folders, circles, toggled, wide, exclusions, commits, service)}
 
 
 def main():

@@ -1,0 +1,81 @@
+"""Which part a line stands in: by its object an entry, by its entry a record, and everywhere what is neither.
+
+The namespace, `:` and the object id of an entry's goal, as UTF-8 and without the escapes of JSON, are hashed by BLAKE2b to 8
+bytes with no key. These are a number, the most significant byte first, and the part is its remainder by the number of parts,
+plus 1.
+
+A line that has the quick form is JSON for certain, and says what it is without being read: the keys that matter stand there
+once, and no text has an escape. Any other is read as JSON, where of a repeated key the last counts.
+"""
+import re
+from hashlib import blake2b
+from typing import Optional
+
+from lib import strictjson, texts
+from lib.trace import is_u64
+
+EVERYWHERE = 0
+KNOWN = 1 << 16
+
+_TEXT = rb'"[ !#-\[\]-~]*+"'
+_NUMBER = rb"(?:0|[1-9][0-9]{0,18}+)"
+_OBJECT = rb'[a-z][a-z0-9_]{0,63}+:[!$-?A-\[\]-~]{1,128}+'
+_FACT = rb'"(' + _OBJECT + rb")#[a-z][a-z0-9_]{0,63}+@" + _NUMBER + rb'"'
+_MEMBER = rb', ?(?!"kind"|"goal")' + _TEXT + rb": ?(?:" + _TEXT + rb"|" + _NUMBER + rb"|true|false|null)"
+_STEP = rb'\{(?:"yes": ?' + _TEXT + rb'|"no": ?\[(?:' + _TEXT + rb"(?:, ?" + _TEXT + rb")*+)?+\])\}"
+_END = rb"\}[ \t\r]*+\n"
+
+# Each line is the first group, with the object or the line in the second, or else the third. That one is never empty, so it
+# alone is looked at where it is there.
+ENTRIES = re.compile(rb'(\{"kind": ?"(?:check|content)", ?"goal": ?' + _FACT + rb"(?:" + _MEMBER + rb")*+" + _END
+                     + rb")|([^\n]*+\n)")
+RECORDS = re.compile(rb'(\{"line": ?(' + _NUMBER + rb'), ?"steps": ?\[(?:' + _STEP + rb"(?:, ?" + _STEP + rb")*+)?+\]" + _END
+                     + rb")|([^\n]*+\n)")
+
+
+def part_of(thing: bytes, parts: int) -> int:
+    """The part of an object, from 1."""
+    return int.from_bytes(blake2b(thing, digest_size=8).digest(), "big") % parts + 1
+
+
+def object_of(line: bytes) -> Optional[bytes]:
+    """The object of an entry whose goal can be read; None for any other line."""
+    if b"\\" not in line and b'"check"' not in line and b'"content"' not in line:
+        return None
+    value = _value_of(line)
+    if value.get("kind") not in ("check", "content") or not isinstance(value.get("goal"), str):
+        return None
+    try:
+        of = texts.parse_fact(value["goal"]).set
+    except texts.TextFault:
+        return None
+    return ("%s:%s" % (of.namespace, of.id)).encode()
+
+
+def line_of(record: bytes) -> Optional[int]:
+    """The line that a record names, where that can be read."""
+    line = _value_of(record).get("line")
+    return line if is_u64(line) else None
+
+
+def _value_of(line: bytes) -> dict:
+    """The object of JSON that a line is; an empty one where it is none."""
+    try:
+        value = strictjson.value_of(line)
+    except strictjson.NotJson:
+        return {}
+    return value if isinstance(value, dict) else {}
+
+
+class Objects:
+    """The parts of objects; those last asked for are kept."""
+
+    def __init__(self, parts: int):
+        self.parts = parts
+        self.known: dict[bytes, int] = {}
+
+    def __getitem__(self, thing: bytes) -> int:
+        if len(self.known) >= KNOWN:
+            self.known.clear()
+        part = self.known[thing] = part_of(thing, self.parts)
+        return part

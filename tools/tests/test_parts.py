@@ -1,0 +1,121 @@
+"""Audits in parts answer what an audit of the whole answers, byte for byte."""
+import contextlib
+import functools
+import io
+import json
+import os
+import re
+import shutil
+import subprocess
+import tempfile
+from random import Random
+
+from lib.files import read_bytes
+from parting.command import cut_command, main
+from parting.manifest import read_manifest, report_path
+from parting.merging import answer_of
+from parting.reports import read_part_report
+from parting.running import run_part
+from tests.random_traces import RandomInput
+from tests.support import EXAMPLES, TOP, Case, Run, loaded_file
+
+PARTS = (1, 2, 7, 16)
+RANDOM_TRACES = int(os.environ.get("RANDOM_TRACES", "60"))
+MOST_BYTES = 1_000_000
+
+
+@functools.lru_cache(maxsize=4096)
+def answer(joined):
+    """The program's status, output and error; many parts are alike."""
+    run = subprocess.run([os.environ["NEW_ENEMY"]], input=joined, capture_output=True, timeout=120)
+    return run.returncode, run.stdout, run.stderr
+
+
+def remembered(_program, trace, evidence, output, error):
+    """Audits a part, as `running.audit`."""
+    joined = b""
+    for path, behind in ((trace, b"---\n"), (evidence, b"")):
+        with open(path, "rb") as file:
+            joined += file.read() + behind
+    status, written, said = answer(joined)
+    output.write(written)
+    error.write(said)
+    return status
+
+
+def parts(*given):
+    """A run of the tool in this process."""
+    out, err = io.StringIO(), io.StringIO()
+    with contextlib.redirect_stdout(out), contextlib.redirect_stderr(err):
+        try:
+            status = main(list(map(str, given)))
+        except SystemExit as end:
+            status = end.code
+    return Run(status, out.getvalue(), err.getvalue())
+
+
+class PartsCase(Case):
+    def setUp(self):
+        """In memory where there is such a place: a cut is many small files."""
+        room = tempfile.TemporaryDirectory(dir="/dev/shm" if os.path.isdir("/dev/shm") else None)
+        self.addCleanup(room.cleanup)
+        self.room = room.name
+
+    def cut(self, count, joined, name="cut"):
+        """Cuts joined input; its folder."""
+        folder = self.path(name)
+        self.assertEqual(cut_command(count, self.put(name + ".joined", joined), None, folder), 0)
+        return folder
+
+    def audited_parts(self, folder):
+        """Audits each part; the paths of the reports."""
+        manifest = read_manifest(folder)
+        for part in range(1, manifest.parts + 1):
+            run_part("", manifest, folder, part, by=remembered)
+        return [report_path(folder, part) for part in range(1, manifest.parts + 1)]
+
+    def compare(self, joined, what, counts=PARTS):
+        """The whole's answer, which each cut has to give."""
+        status, output, error = answer(joined)
+        for count in counts:
+            folder = self.cut(count, joined)
+            merged = answer_of([read_part_report(path, read_bytes(path)) for path in self.audited_parts(folder)])
+            self.assertEqual(merged, (status, output.decode(), error.decode()), "%s in %d parts" % (what, count))
+            shutil.rmtree(folder)
+        return status, output.decode(), error.decode()
+
+
+class Wholes(PartsCase):
+    def test_the_examples(self):
+        for name in ("one_proved_check", "each_finding"):
+            with open(os.path.join(EXAMPLES, name), "rb") as file:
+                self.compare(file.read(), name)
+
+    def test_the_worked_cases(self):
+        given = loaded_file(os.path.join(TOP, "rows", "run")).given
+        with open(os.path.join(TOP, "rows", "cases.json"), encoding="utf-8") as file:
+            cases = [case for case in json.load(file) if not {"room", "unreadable"} & set(case)
+                     and case["stderr"] != "joined input refused\n"]
+        count = 0
+        for case in cases:
+            joined = given(case["stdin"])
+            if len(joined) < MOST_BYTES:
+                count += 1
+                told = self.compare(joined, case["name"])
+                self.assertEqual(told, (case["status"], case["stdout"], case["stderr"]), case["name"])
+        self.assertGreater(count, 500)
+
+    def test_random_traces(self):
+        found = set()
+        for number in range(RANDOM_TRACES):
+            status, output, error = self.compare(RandomInput(Random("parts %d" % number)).joined(), "random %d" % number)
+            self.assertIn(status, (0, 1), error)
+            found.update(re.findall(r"F[0-9]+", output))
+        self.assertEqual(len(found), 10, found)
+
+    def test_random_faults(self):
+        faults = set()
+        for number in range(RANDOM_TRACES):
+            _, _, error = self.compare(RandomInput(Random("faults %d" % number)).refused(), "faults %d" % number)
+            faults.add(re.sub("[0-9]+", "N", error))
+        self.assertGreater(len(faults), 12, faults)
