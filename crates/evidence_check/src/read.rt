@@ -1,8 +1,9 @@
 //! Reading the evidence for a trace.
 
-ghost use Rattle.std.specs.Prelude.{◌≡◌, ◌≢◌, ℕ, List, true, false, Err, IfSome, IfErr, OnOk};
-ghost use Rattle.std.specs.Io.KnownBytes.{Consumes};
-ghost use Rattle.json_lines.specs.Counts.{one_more};
+ghost use Rattle.std.specs.Prelude.{◌≡◌, ◌≢◌, ◌+◌, ◌≤◌, length, true, false, Err, IfErr, OnOk};
+ghost use Rattle.json_lines.specs.Given.{OfBytes, OfInput, AreNext};
+ghost use Rattle.json_lines.specs.declared.lines.TheConstants.{CHUNK};
+ghost use Rattle.json_lines.specs.declared.reading.TheConstants.{MAX_INPUT};
 ghost use Rattle.evidence_check.specs.Evidences.{evidence_value};
 ghost use Rattle.evidence_check.specs.Reading.{evidence_of, GivesEvidence};
 ghost use Rattle.evidence_check.specs.declared.cause.EvidenceCause.TheVariants.{Read};
@@ -21,13 +22,16 @@ pub fn read_evidence<R: Source>(
     reader: &mut R,
     trace: &Trace,
 ) -> Result<Evidence, EvidenceFault>
-    ensures exact { IfSome (R.remaining reader.old) (λ input. GivesEvidence evidence_value result (evidence_of trace.now.entries true input)) }
-    // Of a reader that failed, by the bytes that it gave before.
-    ensures failed { IfErr result (λ e. e.cause ≡ Read → IfSome (R.remaining reader.old) (λ input.
-        (given : List ℕ) × Consumes (R.remaining reader.old) (R.remaining reader.new) given
-        × (evidence_of trace.now.entries false given ≡ Err e))) }
+    // Of every input that the reader may have: it begins with the bytes that came, and is these where the reader was at its end.
+    ensures exact { OfInput R.given R.ends reader.old reader.new (λ input. GivesEvidence evidence_value result (evidence_of trace.now.entries true input)) }
+    // Of a reader that failed, by the bytes that came before.
+    ensures failed { IfErr result (λ e. e.cause ≡ Read → OfBytes R.given reader.old reader.new (λ came. evidence_of trace.now.entries false came ≡ Err e)) }
+    ensures ended { OnOk result (R.ends reader.new ≡ R.ends reader.old + 1) }
+    // Also of a reader that never ends.
+    ensures most { OfBytes R.given reader.old reader.new (λ came. length came ≤ MAX_INPUT + CHUNK) }
+    ensures known { AreNext R.given R.ends R.remaining reader.old reader.new }
     // A reader's failure is told, and nothing else is called one.
-    ensures counted { IfErr result (λ e. e.cause ≡ Read → R.failures reader.new ≡ one_more (R.failures reader.old)) }
+    ensures counted { IfErr result (λ e. e.cause ≡ Read → R.failures reader.new ≡ R.failures reader.old + 1) }
     ensures kept { OnOk result (R.failures reader.new ≡ R.failures reader.old) }
     ensures unfailed { IfErr result (λ e. e.cause ≢ Read → R.failures reader.new ≡ R.failures reader.old) }
 {

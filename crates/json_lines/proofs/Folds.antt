@@ -1,20 +1,20 @@
 -- A value that grows line by line: what is left, read from here, says what the whole input says.
-use Rattle.std.proofs.Common.{◌≡◌, ℕ, ◌+◌, ◌-◌, ◌^◌, ◌<◌, ◌≤◌, min, Bool, true, false, ltb, eqb, cond, not, ◌&&◌, List, [], ◌∷◌, length, Option, Some, None, Result, Ok, Err, arith, refl, sym, ap, subst, ◌∙◌, inl, inr}
-use Rattle.std.specs.Prelude.{All, IfSome, ⊤}
+use Rattle.std.proofs.Common.{◌≡◌, ℕ, ◌+◌, ◌-◌, ◌^◌, ◌<◌, ◌≤◌, min, Bool, true, false, ltb, eqb, cond, not, ◌&&◌, List, [], ◌∷◌, ◌++◌, length, Result, Ok, Err, arith, refl, sym, ap, subst, ◌∙◌, append_assoc, append-nil, length-append}
+use Rattle.std.specs.Prelude.{All, ⊤}
 use Rattle.std.specs.List.{AllByRecursion}
 use Rattle.std.proofs.lemmas.List.Elements.{All-from_recursion}
-use Rattle.std.proofs.lemmas.Bool.{ltb-true, ltb-false, lt-ltb, le-ltb, eq-eqb, eqb-true, ne_eqb, cases_Bool, not_from_false, or_right, or_from, and_parts}
-use Rattle.std.proofs.lemmas.List.{length-take-le, take_all}
-use Rattle.std.proofs.lemmas.List.Splits.{slice_split_first, slice_split_none, length-slice_split}
+use Rattle.std.proofs.lemmas.Bool.{lt-ltb, le-ltb, eqb-false, ne_eqb, or_left, or_right, or_from, and_parts}
+use Rattle.std.proofs.lemmas.List.Splits.{slice_split_at, slice_split_none, length-slice_split}
 use Rattle.refusals.specs.Refusals.{◌>>=◌}
-use Rattle.json_lines.specs.Lines.{lacks, line_len, first_line, after_line, has_newline, IsLine}
+use Rattle.json_lines.specs.Given.{OfBytes, OfInput}
+use Rattle.json_lines.specs.Lines.{lacks, line_len, first_line, after_line, has_newline, line_ending, BeginsTooLong, ComeAtMost}
 use Rattle.json_lines.specs.Reading.{at_line, passes_limit, parts, read_from, read_all, Fails, Refuses}
 use Rattle.json_lines.specs.declared.lines.InputFault.{InputFault}
 use Rattle.json_lines.specs.declared.lines.InputFault.TheVariants.{TooLong, Read, OutOfMemory}
 use Rattle.json_lines.specs.declared.reading.Stop.{Stop}
 use Rattle.json_lines.specs.declared.reading.Stop.TheVariants.{Input, Line}
 use Rattle.json_lines.specs.declared.reading.LineFault.{LineFault}
-use Rattle.json_lines.proofs.Cuts.{line_len_le, lacks_all}
+use Rattle.json_lines.proofs.Steps.{lacks_line, split_line, nothing_after}
 
 not_true : (b : Bool) → not b ≡ true → b ≡ false
 not_true true e = absurd cc
@@ -27,26 +27,6 @@ none_passes xs h = All-from_recursion (λ b. eqb b 10 ≡ false) xs (along xs h)
     along [] e = tt
     along (y ∷ ys) e = let a = and_parts (not (eqb y 10)) (lacks ys) e in (not_true (eqb y 10) a.0, along ys a.1)
 
-parts_more : (xs : List ℕ) → true ≡ has_newline xs → parts xs ≡ first_line xs ∷ parts (after_line xs)
-parts_more xs h = slice_split_first (λ b. eqb b 10) xs 0 (ltb-true _ _ (sym h))
-
-parts_last : (xs : List ℕ) → false ≡ has_newline xs → parts xs ≡ first_line xs ∷ []
-parts_last xs h =
-    let le : length xs ≤ line_len xs = ltb-false _ _ (sym h) in
-    slice_split_none (λ b. eqb b 10) xs (none_passes xs (lacks_all xs le)) ∙ ap (λ (l : List ℕ). l ∷ []) (sym (take_all (line_len xs) xs le))
-
-some_part : (xs : List ℕ) → not (eqb (length (parts xs)) 0) ≡ true
-some_part xs = not_from_false _ (ne_eqb _ _ (λ e. let n = length-slice_split (λ b. eqb b 10) xs in omega (arith, n, e)))
-
-pub all_some : (a : Option (List ℕ)) → IfSome a (λ input. ⊤)
-all_some None = tt
-all_some (Some x) = tt
-
--- a clause that asks more first
-pub under : (a : Option (List ℕ)) (P Q : List ℕ → Type 0) → IfSome a P → ((xs : List ℕ) → P xs → Q xs) → IfSome a Q
-under None P Q h f = tt
-under (Some xs) P Q h f = f xs h
-
 -- a line within its limits
 abbrev pub Within : ℕ → List ℕ → Bool → Type 0
 Within room line more = passes_limit room line more ≡ false
@@ -54,80 +34,151 @@ Within room line more = passes_limit room line more ≡ false
 pub within_from : (room : ℕ) (line : List ℕ) (more : Bool) → length line ≤ min room (2 ^ 20) → (more && (eqb (length line) room)) ≡ false → Within room line more
 within_from room line more le h = or_from (ltb (min room (2 ^ 20)) (length line)) (more && eqb (length line) room) (le-ltb _ _ le) h
 
--- the flag of a line, as a fact
-pub as_last : (b c : Option (List ℕ)) (line : List ℕ) (more flag : Bool) → more ≡ flag → IfSome b (λ xs. IsLine line more c xs) → IfSome b (λ xs. IsLine line flag c xs)
-as_last b c line more flag e h = subst (λ (m : Bool). IfSome b (λ xs. IsLine line m c xs)) e h
+-- a line that is not over leaves room for its newline
+pub room_left : (room : ℕ) (line : List ℕ) → length line ≤ min room (2 ^ 20) → eqb (length line) room ≡ false → length line + 1 ≤ room
+room_left room line le h = let short : length line ≤ room = omega (arith, le) in let other = eqb-false (length line) room h in omega (arith, short, other)
 
 -- what was over the limit had a newline, and filled the room
-pub over_parts : (more : Bool) (len room : ℕ) → (more && eqb len room) ≡ true → (more ≡ true) × (len ≡ room)
-over_parts more len room e = let a = and_parts more (eqb len room) e in (a.0, eqb-true _ _ a.1)
+over : (room : ℕ) (line : List ℕ) (more : Bool) → (more && eqb (length line) room) ≡ true → passes_limit room line more ≡ true
+over room line more e = or_right (ltb (min room (2 ^ 20)) (length line)) (more && eqb (length line) room) e
+
+-- the lines behind one that ends so
+abbrev later : Bool → List ℕ → List (List ℕ)
+later true ys = parts ys
+later false ys = []
+
+parts_of_line : (line : List ℕ) (more : Bool) (ys : List ℕ) → lacks line ≡ true → (more ≡ false → ys ≡ []) → parts ((line ++ line_ending more) ++ ys) ≡ line ∷ later more ys
+parts_of_line line true ys h e = ap parts (append_assoc line (10 ∷ []) ys) ∙ slice_split_at (λ b. eqb b 10) line 10 ys (none_passes line h) refl
+parts_of_line line false ys h e = rw (e refl) (ap parts (append-nil (line ++ []) ∙ append-nil line) ∙ slice_split_none (λ b. eqb b 10) line (none_passes line h))
+
+none_later : (more : Bool) (ys : List ℕ) → eqb (length (later more ys)) 0 ≡ not more
+none_later true ys = ne_eqb _ _ (λ e. let n = length-slice_split (λ b. eqb b 10) ys in omega (arith, n, e))
+none_later false ys = refl
+
+not_not : (b : Bool) → not (not b) ≡ b
+not_not true = refl
+not_not false = refl
+
+-- bytes that were read, and others that may come
+regrouped : (used line ending left rest : List ℕ) → (used ++ ((line ++ ending) ++ left)) ++ rest ≡ used ++ ((line ++ ending) ++ (left ++ rest))
+regrouped used line ending left rest = append_assoc used ((line ++ ending) ++ left) rest ∙ ap (λ (l : List ℕ). used ++ l) (append_assoc (line ++ ending) left rest)
+
+-- what came is counted from the start of the reading
+pub came_in_all : {R : Type 0} (given : R → List ℕ) (old new : R) (used room max few : ℕ) (before : List ℕ) → length before + room ≤ used → max ≤ room
+    → ((bytes : List ℕ) × (given new ≡ (given old ++ before) ++ bytes) × (length bytes ≤ max + few)) → OfBytes given old new (λ came. length came ≤ used + few)
+came_in_all given old new used room max few before within le h =
+    (before ++ h.0, h.1 ∙ append_assoc (given old) before h.0, omega (arith, length-append before h.0, h.2, within, le))
 
 module _ {S C : Type 0} (taken : ℕ → S → List ℕ → Result S C) (start : S) where
-  -- what is left, from here on, says what the whole input says
-  abbrev pub Tracks : Option (List ℕ) → Option (List ℕ) → ℕ → ℕ → S → Type 0
-  Tracks None now n room s = ⊤
-  Tracks (Some input) None n room s = ⊥
-  Tracks (Some input) (Some rest) n room s = read_from taken true n room s (parts rest) ≡ read_all taken true start input
+  -- the bytes so far say nothing more than the state does
+  pub record GoesFrom (n room : ℕ) (s : S) (used : List ℕ) : Type 0 where
+    pub same : (whole : Bool) (ys : List ℕ) → read_from taken whole 1 (2 ^ 30) start (parts (used ++ ys)) ≡ read_from taken whole n room s (parts ys)
+
+  pub goes_first : GoesFrom 1 (2 ^ 30) start []
+  goes_first = record { same = λ whole ys. refl }
 
   abbrev stopped : ℕ → Stop C → Result S (LineFault C)
   stopped n stop = Err (record { line = n; stop = stop })
 
-  -- what comes after the step over a line
-  abbrev after_step : ℕ → ℕ → List ℕ → List (List ℕ) → Result S C → Result S (LineFault C)
-  after_step n room line lines step = at_line n step >>= λ t. read_from taken true (n + 1) (room - (length line + 1)) t lines
+  -- what a line says, and those behind it
+  abbrev told : Bool → ℕ → ℕ → S → List ℕ → Bool → List ℕ → Result S (LineFault C)
+  told whole n room s line more ys =
+      cond (passes_limit room line more) (stopped n (Input TooLong)) (cond (not whole && not more) (stopped n (Input Read))
+      (at_line n (taken n s line) >>= λ t. read_from taken whole (n + 1) (room - (length line + 1)) t (later more ys)))
 
-  reads_more : (n room : ℕ) (s : S) (line : List ℕ) (c : Option (List ℕ)) (xs : List ℕ) → IsLine line true c xs
-      → read_from taken true n room s (parts xs) ≡ cond (passes_limit room line true) (stopped n (Input TooLong)) (after_step n room line (parts (after_line xs)) (taken n s line))
-  reads_more n room s line c xs is = rw (parts_more xs is.more_is, ← is.line_is, some_part (after_line xs)) refl
+  reads_line : (whole : Bool) (n room : ℕ) (s : S) (line : List ℕ) (more : Bool) (ys : List ℕ) → lacks line ≡ true → (more ≡ false → ys ≡ [])
+      → read_from taken whole n room s (parts ((line ++ line_ending more) ++ ys)) ≡ told whole n room s line more ys
+  reads_line whole n room s line more ys h e = rw (parts_of_line line more ys h e, none_later more ys, not_not more) refl
 
-  reads_last : (n room : ℕ) (s : S) (line : List ℕ) (c : Option (List ℕ)) (xs : List ℕ) → IsLine line false c xs
-      → read_from taken true n room s (parts xs) ≡ cond (passes_limit room line false) (stopped n (Input TooLong)) (after_step n room line [] (taken n s line))
-  reads_last n room s line c xs is = rw (parts_last xs is.more_is, ← is.line_is) refl
+  says : (whole : Bool) (n room : ℕ) (s : S) (used line : List ℕ) (more : Bool) (ys : List ℕ) → GoesFrom n room s used → lacks line ≡ true → (more ≡ false → ys ≡ [])
+      → read_all taken whole start (used ++ ((line ++ line_ending more) ++ ys)) ≡ told whole n room s line more ys
+  unfolding read_all
+  says whole n room s used line more ys from h e = from.same whole ((line ++ line_ending more) ++ ys) ∙ reads_line whole n room s line more ys h e
 
-  -- a fact of the input from a fact of what is left
-  carried : (a b : Option (List ℕ)) (n room : ℕ) (s : S) (r : Result S (LineFault C)) → Tracks a b n room s → IfSome b (λ xs. read_from taken true n room s (parts xs) ≡ r) → IfSome a (λ input. read_all taken true start input ≡ r)
-  carried None b n room s r t h = tt
-  carried (Some input) None n room s r t h = absurd t
-  carried (Some input) (Some xs) n room s r t h = sym t ∙ h
+  and_false : (b : Bool) → (b && false) ≡ false
+  and_false true = refl
+  and_false false = refl
 
-  long_line : (n room : ℕ) (s : S) (xs : List ℕ) → min room (2 ^ 20) < line_len xs → read_from taken true n room s (parts xs) ≡ stopped n (Input TooLong)
-  long_line n room s xs lt =
-      let len : length (first_line xs) ≡ line_len xs = length-take-le (line_len xs) xs (line_len_le xs) in
-      let over : ltb (min room (2 ^ 20)) (length (first_line xs)) ≡ true = lt-ltb _ _ (omega (arith, len)) in
-      elim (cases_Bool (has_newline xs)) [
-        | inl t ↦ rw (parts_more xs (sym t), over) refl
-        | inr f ↦ rw (parts_last xs (sym f), over) refl
-      ]
+  -- one line more was read
+  pub goes_on : (n room : ℕ) (s : S) (used line : List ℕ) (now : S) → GoesFrom n room s used → lacks line ≡ true → Within room line true → taken n s line ≡ Ok now
+      → GoesFrom (n + 1) (room - (length line + 1)) now (used ++ (line ++ line_ending true))
+  goes_on n room s used line now from h w e = record {
+    same = λ whole ys.
+        ap (λ (l : List ℕ). read_from taken whole 1 (2 ^ 30) start (parts l)) (append_assoc used (line ++ line_ending true) ys)
+        ∙ from.same whole ((line ++ line_ending true) ++ ys)
+        ∙ reads_line whole n room s line true ys h (λ no. cc)
+        ∙ rw (w, and_false (not whole), e) refl;
+  }
 
-  -- no line came
-  pub cut_ends : (a b : Option (List ℕ)) (n room : ℕ) (s : S) (e : InputFault) → Tracks a b n room s → (e ≡ TooLong → IfSome b (λ xs. min room (2 ^ 20) < line_len xs))
-      → IfSome a (λ input. Fails (Input e) (record { line = n; stop = Input e }) (read_all taken true start input))
-  cut_ends a b n room s Read t long = all_some a
-  cut_ends a b n room s OutOfMemory t long = all_some a
-  cut_ends a b n room s TooLong t long =
-      carried a b n room s (stopped n (Input TooLong)) t (under b (λ xs. min room (2 ^ 20) < line_len xs) (λ xs. read_from taken true n room s (parts xs) ≡ stopped n (Input TooLong)) (long refl) (λ xs lt. long_line n room s xs lt))
+  module _ {R : Type 0} (given : R → List ℕ) (ends : R → ℕ) (old new : R) where
+    -- what every input says that the reader may have: it goes on with this line
+    along : (P : Result S (LineFault C) → Type 0) (n room : ℕ) (s : S) (used line : List ℕ) (more : Bool) (left : List ℕ) → GoesFrom n room s used
+        → given new ≡ (given old ++ used) ++ ((line ++ line_ending more) ++ left) → lacks line ≡ true → (more ≡ false → (left ≡ []) × (ends old < ends new))
+        → ((ys : List ℕ) → P (told true n room s line more ys)) → OfInput given ends old new (λ input. P (read_all taken true start input))
+    along P n room s used line more left from is h last holds = (
+      used ++ ((line ++ line_ending more) ++ left),
+      is ∙ append_assoc (given old) used ((line ++ line_ending more) ++ left),
+      λ rest ended. subst P
+          (sym (says true n room s used line more (left ++ rest) from h (λ no. rw ((last no).0, ended (last no).1) refl)) ∙ ap (read_all taken true start) (sym (regrouped used line (line_ending more) left rest)))
+          (holds (left ++ rest)),
+    )
 
-  -- the newline is past the end of what may come
-  pub over_ends : (a b c : Option (List ℕ)) (n room : ℕ) (s : S) (line : List ℕ) → Tracks a b n room s → IfSome b (λ xs. IsLine line true c xs) → length line ≡ room
-      → IfSome a (λ input. read_all taken true start input ≡ stopped n (Input TooLong))
-  over_ends a b c n room s line t h e =
-      let passes : passes_limit room line true ≡ true = or_right (ltb (min room (2 ^ 20)) (length line)) (eqb (length line) room) (eq-eqb _ _ e) in
-      carried a b n room s (stopped n (Input TooLong)) t (under b (λ xs. IsLine line true c xs) (λ xs. read_from taken true n room s (parts xs) ≡ stopped n (Input TooLong)) h (λ xs is. reads_more n room s line c xs is ∙ rw passes refl))
+    -- the newline is past the end of what may come
+    pub over_ends : (n room : ℕ) (s : S) (used line : List ℕ) (more : Bool) (left : List ℕ) → GoesFrom n room s used
+        → given new ≡ (given old ++ used) ++ ((line ++ line_ending more) ++ left) → lacks line ≡ true → (more ≡ false → (left ≡ []) × (ends old < ends new))
+        → (more && eqb (length line) room) ≡ true → OfInput given ends old new (λ input. read_all taken true start input ≡ stopped n (Input TooLong))
+    over_ends n room s used line more left from is h last e =
+        along (λ r. r ≡ stopped n (Input TooLong)) n room s used line more left from is h last (λ ys. rw (over room line more e) refl)
 
-  -- the step over the line failed
-  step_ends : (a b c : Option (List ℕ)) (n room : ℕ) (s : S) (line : List ℕ) (more : Bool) (cause : C) → Tracks a b n room s → IfSome b (λ xs. IsLine line more c xs) → Within room line more → taken n s line ≡ Err cause
-      → IfSome a (λ input. read_all taken true start input ≡ stopped n (Line cause))
-  step_ends a b c n room s line true cause t h w e = carried a b n room s (stopped n (Line cause)) t (under b (λ xs. IsLine line true c xs) (λ xs. read_from taken true n room s (parts xs) ≡ stopped n (Line cause)) h (λ xs is. reads_more n room s line c xs is ∙ rw (w, e) refl))
-  step_ends a b c n room s line false cause t h w e = carried a b n room s (stopped n (Line cause)) t (under b (λ xs. IsLine line false c xs) (λ xs. read_from taken true n room s (parts xs) ≡ stopped n (Line cause)) h (λ xs is. reads_last n room s line c xs is ∙ rw (w, e) refl))
+    -- the step over the line failed
+    pub step_cut : (n room : ℕ) (s : S) (used line : List ℕ) (more : Bool) (left : List ℕ) (stop : Stop C) → GoesFrom n room s used
+        → given new ≡ (given old ++ used) ++ ((line ++ line_ending more) ++ left) → lacks line ≡ true → (more ≡ false → (left ≡ []) × (ends old < ends new))
+        → Within room line more → Refuses (taken n s line) stop → OfInput given ends old new (λ input. Fails stop (record { line = n; stop = stop }) (read_all taken true start input))
+    step_cut n room s used line more left (Line cause) from is h last w e =
+        along (λ r. r ≡ stopped n (Line cause)) n room s used line more left from is h last (λ ys. rw (w, e) refl)
+    step_cut n room s used line more left (Input OutOfMemory) from is h last w e = along (λ r. ⊤) n room s used line more left from is h last (λ ys. tt)
+    step_cut n room s used line more left (Input Read) from is h last w e = absurd e
+    step_cut n room s used line more left (Input TooLong) from is h last w e = absurd e
 
-  pub step_cut : (a b c : Option (List ℕ)) (n room : ℕ) (s : S) (line : List ℕ) (more : Bool) (stop : Stop C) → Tracks a b n room s → IfSome b (λ xs. IsLine line more c xs) → Within room line more
-      → Refuses (taken n s line) stop → IfSome a (λ input. Fails stop (record { line = n; stop = stop }) (read_all taken true start input))
-  step_cut a b c n room s line more (Line cause) t h w r = step_ends a b c n room s line more cause t h w r
-  step_cut a b c n room s line more (Input OutOfMemory) t h w r = all_some a
-  step_cut a b c n room s line more (Input Read) t h w r = absurd r
-  step_cut a b c n room s line more (Input TooLong) t h w r = absurd r
+    -- it was the last line
+    pub last_ends : (n room : ℕ) (s : S) (used line left : List ℕ) (now : S) → GoesFrom n room s used
+        → given new ≡ (given old ++ used) ++ ((line ++ line_ending false) ++ left) → lacks line ≡ true → left ≡ [] → ends old < ends new
+        → Within room line false → taken n s line ≡ Ok now → OfInput given ends old new (λ input. read_all taken true start input ≡ Ok now)
+    last_ends n room s used line left now from is h none end w e =
+        along (λ r. r ≡ Ok now) n room s used line false left from is h (λ no. (none, end)) (λ ys. rw (w, e) refl)
 
-  -- it was the last line
-  pub last_ends : (a b c : Option (List ℕ)) (n room : ℕ) (s : S) (line : List ℕ) (now : S) → Tracks a b n room s → IfSome b (λ xs. IsLine line false c xs) → Within room line false → taken n s line ≡ Ok now
-      → IfSome a (λ input. read_all taken true start input ≡ Ok now)
-  last_ends a b c n room s line now t h w e = carried a b n room s (Ok now) t (under b (λ xs. IsLine line false c xs) (λ xs. read_from taken true n room s (parts xs) ≡ Ok now) h (λ xs is. reads_last n room s line c xs is ∙ rw (w, e) refl))
+    -- any fault that says nothing of the bytes
+    open_ends : (used bytes : List ℕ) → given new ≡ (given old ++ used) ++ bytes → OfInput given ends old new (λ input. ⊤)
+    open_ends used bytes is = (used ++ bytes, is ∙ append_assoc (given old) used bytes, λ rest ended. tt)
+
+    long_line : (n room : ℕ) (s : S) (used line rest : List ℕ) → GoesFrom n room s used → lacks line ≡ true → min room (2 ^ 20) < length line
+        → read_all taken true start (used ++ (line ++ rest)) ≡ stopped n (Input TooLong)
+    long_line n room s used line rest from h lt =
+        let whole = line ++ first_line rest in
+        let size = length-append line (first_line rest) in
+        let long : passes_limit room whole (has_newline rest) ≡ true = or_left (ltb (min room (2 ^ 20)) (length whole)) _ (lt-ltb _ _ (omega (arith, size, lt))) in
+        ap (λ (l : List ℕ). read_all taken true start (used ++ l)) (ap (λ (l : List ℕ). line ++ l) (split_line rest (has_newline rest) refl) ∙ sym (append_assoc line (first_line rest ++ line_ending (has_newline rest)) (after_line rest)) ∙ ap (λ (l : List ℕ). l ++ after_line rest) (sym (append_assoc line (first_line rest) (line_ending (has_newline rest)))))
+        ∙ says true n room s used whole (has_newline rest) (after_line rest) from (lacks_line line rest h) (λ no. nothing_after rest (sym no))
+        ∙ rw long refl
+
+    -- no line came
+    pub cut_ends : (n room : ℕ) (s : S) (used bytes : List ℕ) (e : InputFault) → GoesFrom n room s used → given new ≡ (given old ++ used) ++ bytes
+        → (e ≡ TooLong → (line : List ℕ) × (rest : List ℕ) × (given new ≡ (given old ++ used) ++ (line ++ rest)) × (lacks line ≡ true) × (min room (2 ^ 20) < length line))
+        → OfInput given ends old new (λ input. Fails (Input e) (record { line = n; stop = Input e }) (read_all taken true start input))
+    cut_ends n room s used bytes Read from is long = open_ends used bytes is
+    cut_ends n room s used bytes OutOfMemory from is long = open_ends used bytes is
+    cut_ends n room s used bytes TooLong from is long =
+        let l = long refl in (
+          used ++ (l.0 ++ l.1),
+          l.2 ∙ append_assoc (given old) used (l.0 ++ l.1),
+          λ rest ended. ap (read_all taken true start) (append_assoc used (l.0 ++ l.1) rest ∙ ap (λ (ys : List ℕ). used ++ ys) (append_assoc l.0 l.1 rest)) ∙ long_line n room s used l.0 (l.1 ++ rest) from l.3 l.4,
+        )
+
+    -- the reader failed within a line
+    pub read_fails : (n room : ℕ) (s : S) (used line : List ℕ) → GoesFrom n room s used → given new ≡ (given old ++ used) ++ (line ++ []) → lacks line ≡ true → length line ≤ min room (2 ^ 20)
+        → OfBytes given old new (λ came. read_all taken false start came ≡ stopped n (Input Read))
+    read_fails n room s used line from is h le = (
+      used ++ (line ++ []),
+      is ∙ append_assoc (given old) used (line ++ []),
+      ap (λ (l : List ℕ). read_all taken false start (used ++ l)) (ap (λ (l : List ℕ). l ++ []) (sym (append-nil line))) ∙ says false n room s used line false [] from h (λ no. refl) ∙ rw (within_from room line false le refl) refl,
+    )

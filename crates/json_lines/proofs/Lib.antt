@@ -1,6 +1,6 @@
 pub mod Cuts
-pub mod Failures
 pub mod Folds
+pub mod Given
 pub mod JsonLines
 pub mod ReadFaults
 pub mod Sent

@@ -1,14 +1,15 @@
 -- An input is refused as a failure of the reader only where the reader failed.
-use Rattle.std.proofs.Common.{◌≡◌, ◌≢◌, ℕ, false, List, Option, Result, Err, refl, ap, subst, ◌∙◌, sym}
-use Rattle.std.specs.Prelude.{IfSome}
-use Rattle.std.specs.Io.KnownBytes.{Consumes}
+use Rattle.std.proofs.Common.{◌≡◌, ◌≢◌, ℕ, Bool, true, false, List, Result, Err, refl, ap, subst, ◌∙◌, sym}
+use Rattle.refusals.specs.Refusals.{Unless, Fails}
+use Rattle.json_lines.specs.Given.{OfBytes, OfInput}
+use Rattle.json_lines.specs.Reading as reading
 use Rattle.json_lines.specs.Reading.{cause_of, read_all, IsOfSomeLine}
 use Rattle.json_lines.specs.declared.lines.InputFault.{InputFault}
 use Rattle.json_lines.specs.declared.lines.InputFault.TheVariants.{Read, TooLong, OutOfMemory}
 use Rattle.json_lines.specs.declared.reading.Stop.{Stop}
 use Rattle.json_lines.specs.declared.reading.Stop.TheVariants.{Input, Line}
 use Rattle.json_lines.specs.declared.reading.LineFault.{LineFault}
-use Rattle.json_lines.proofs.Folds.{under}
+use Rattle.json_lines.proofs.Given.{of_input-map}
 
 -- no line gives the cause of a reader's failure, and no other fault of the input is told by it
 pub record IsReadersOwn {S C : Type 0} (taken : ℕ → S → List ℕ → Result S C) (of_input : InputFault → C) : Type 0 where
@@ -27,11 +28,30 @@ pub reader_failed : {S C : Type 0} (taken : ℕ → S → List ℕ → Result S 
     → IsReadersOwn taken of_input → IsOfSomeLine taken fault → cause_of of_input fault.stop ≡ of_input Read → fault.stop ≡ Input Read
 reader_failed taken of_input fault own told h = by_stop taken of_input fault fault.stop own refl told h
 
--- what a reading gives of some bytes, told in other words
-pub failed_so_far : {S C V F : Type 0} (taken : ℕ → S → List ℕ → Result S C) (told : Result S (LineFault C) → Result V F) (a b : Option (List ℕ)) (start began : S) (fault : LineFault C) (e : F)
-    → start ≡ began → told (Err fault) ≡ Err e
-    → IfSome a (λ input. (given : List ℕ) × Consumes a b given × (read_all taken false start given ≡ Err fault))
-    → IfSome a (λ input. (given : List ℕ) × Consumes a b given × (told (read_all taken false began given) ≡ Err e))
-failed_so_far taken told a b start began fault e s t h =
-    under a (λ input. (given : List ℕ) × Consumes a b given × (read_all taken false start given ≡ Err fault)) (λ input. (given : List ℕ) × Consumes a b given × (told (read_all taken false began given) ≡ Err e)) h
-    (λ input p. (p.0, p.1, rw (← s) (ap told p.2 ∙ t)))
+-- what a reading gives of the bytes that came, told in other words
+pub failed_so_far : {R S C V F : Type 0} (given : R → List ℕ) (old new : R) (taken : ℕ → S → List ℕ → Result S C) (told : Result S (LineFault C) → Result V F) (start began : S) (fault : LineFault C) (e : F)
+    → start ≡ began → told (Err fault) ≡ Err e → OfBytes given old new (λ came. read_all taken false start came ≡ Err fault)
+    → OfBytes given old new (λ came. told (read_all taken false began came) ≡ Err e)
+failed_so_far given old new taken told start began fault e s t h = (h.0, h.1, rw (← s) (ap told h.2 ∙ t))
+
+kept_unless : (test : Bool) (P : Type 0) → P → Unless test P
+kept_unless true P h = tt
+kept_unless false P h = h
+
+opened : (test : Bool) (P : Type 0) → test ≡ true → Unless test P
+opened true P h = tt
+opened false P h = absurd cc
+
+-- the same of every input that the reader may have, for a fault that is open where the reader failed or memory ran out
+pub refused_so_far : {R S C V F : Type 0} (given : R → List ℕ) (ends : R → ℕ) (old new : R) (taken : ℕ → S → List ℕ → Result S C) (told : Result S (LineFault C) → Result V F) (is_open : F → Bool) (start began : S) (fault : LineFault C) (e : F)
+    → start ≡ began → told (Err fault) ≡ Err e → (fault.stop ≡ Input Read → is_open e ≡ true) → (fault.stop ≡ Input OutOfMemory → is_open e ≡ true)
+    → OfInput given ends old new (λ input. reading.Fails fault.stop fault (read_all taken true start input)) → OfInput given ends old new (λ input. Fails is_open e (told (read_all taken true began input)))
+refused_so_far {R} {S} {C} {V} {F} given ends old new taken told is_open start began fault e s t failed ran_out h =
+    of_input-map given ends old new (λ input. reading.Fails fault.stop fault (read_all taken true start input)) (λ input. Fails is_open e (told (read_all taken true began input)))
+    (λ input k. rw (← s) (at_stop fault.stop refl (read_all taken true start input) k)) h
+  where
+    at_stop : (stop : Stop C) → fault.stop ≡ stop → (read : Result S (LineFault C)) → reading.Fails stop fault read → Fails is_open e (told read)
+    at_stop (Line c) is read k = kept_unless (is_open e) (told read ≡ Err e) (ap told k ∙ t)
+    at_stop (Input TooLong) is read k = kept_unless (is_open e) (told read ≡ Err e) (ap told k ∙ t)
+    at_stop (Input Read) is read k = opened (is_open e) (told read ≡ Err e) (failed is)
+    at_stop (Input OutOfMemory) is read k = opened (is_open e) (told read ≡ Err e) (ran_out is)

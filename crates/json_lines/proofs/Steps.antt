@@ -1,104 +1,86 @@
 -- One line, in however many reads it comes.
-use Rattle.std.proofs.Common.{◌≡◌, ℕ, ◌+◌, ◌<◌, ◌≤◌, true, false, eqb, not, List, [], ◌++◌, length, take, drop, Option, Some, None, arith, refl, sym, ap, subst, ◌∙◌, inl, inr, append_assoc}
-use Rattle.std.specs.Prelude.{IfSome}
-use Rattle.std.specs.Io.KnownBytes.{Keeps, Consumes, IsAtEnd, prepend_known}
-use Rattle.std.proofs.Math.Seq.{drop-append-add, take-append-add}
+use Rattle.std.proofs.Common.{◌≡◌, ℕ, ◌+◌, ◌<◌, ◌≤◌, Bool, true, false, eqb, not, List, [], ◌∷◌, ◌++◌, length, take, drop, get_or, arith, refl, sym, ap, ◌∙◌, inl, inr, append_assoc, append-nil, length-append}
 use Rattle.std.proofs.Math.ListN.{drop_of_length-le}
-use Rattle.std.proofs.lemmas.Bool.{cases_lt, and_from, ltb-true, ltb-false, lt-ltb, le-ltb}
-use Rattle.std.proofs.lemmas.List.{length-append, append-nil, take_at, take-append-le, drop-append-le}
+use Rattle.std.proofs.lemmas.Bool.{cases_lt, and_from, ltb-true, ltb-false, eqb-true}
+use Rattle.std.proofs.lemmas.List.{take_at, length-take-le, take-append-drop}
 use Rattle.std.proofs.lemmas.List.Folds.{list_all-append}
-use Rattle.json_lines.specs.Lines.{lacks, line_len, first_line, after_line, has_newline, IsLine}
-use Rattle.json_lines.proofs.Cuts.{line_len-append, line_len_within, line_len_le, lacks_all}
+use Rattle.std.proofs.lemmas.List.Sums.{split_at_first, passes_at_first}
+use Rattle.json_lines.specs.Lines.{lacks, line_len, first_line, after_line, has_newline, line_ending, Takes, BeginsTooLong, ComeAtMost}
+use Rattle.json_lines.proofs.Cuts.{line_len_within, line_len_le, lacks_all}
 
--- nothing came after a line with no newline
-last_line : (line : List ℕ) → lacks line ≡ true → IsLine line false (Some []) line
-last_line line h =
-    let e : line_len line ≡ length line = ap line_len (sym (append-nil line)) ∙ line_len-append line [] h ∙ omega arith in
-    record {
-      line_is = sym (rw e (ap (λ (l : List ℕ). take (length line) l) (sym (append-nil line)) ∙ take_at line [] (length line) refl));
-      more_is = sym (le-ltb _ _ (omega (arith, e)));
-      left_is = ap (λ (l : List ℕ). Some l) (sym (drop_of_length-le line (omega (arith, e))));
-    }
-
-pub ended : (a b c : Option (List ℕ)) (line : List ℕ) → Consumes a b line → Keeps b c → IsAtEnd c → lacks line ≡ true → IfSome a (λ xs. IsLine line false c xs)
-ended None b c line p q e h = tt
-ended (Some xs) None c line p q e h = absurd p
-ended (Some xs) (Some ys) None line p q e h = absurd q
-ended (Some xs) (Some ys) (Some zs) line p q e h =
-    let none : ys ≡ [] = sym q ∙ e in
-    let whole : xs ≡ line = p ∙ ap (λ (l : List ℕ). line ++ l) none ∙ append-nil line in
-    subst (λ (l : List ℕ). IsLine line false (Some zs) l) (sym whole) (subst (λ (l : List ℕ). IsLine line false (Some l) line) (sym e) (last_line line h))
-
--- the line begins so, and goes on with what is at hand
-joined : (line piece rest : List ℕ) → lacks line ≡ true → line_len (line ++ (piece ++ rest)) ≡ length line + line_len (piece ++ rest)
-joined line piece rest h = line_len-append line (piece ++ rest) h
-
-len_grows : (piece rest : List ℕ) → line_len piece ≤ line_len (piece ++ rest)
-len_grows piece rest = elim (cases_lt (line_len piece) (length piece)) [
-  | inl lt ↦ let e = line_len_within piece rest lt in omega (arith, e)
-  | inr le ↦ let e = line_len-append piece rest (lacks_all piece le) in let s = line_len_le piece in omega (arith, e, s)
-]
-
-pub too_long : (a b rem : Option (List ℕ)) (line piece : List ℕ) (max : ℕ) → Consumes a b line → Keeps b (prepend_known piece rem) → lacks line ≡ true → max < length line + line_len piece → IfSome a (λ xs. max < line_len xs)
-too_long None b rem line piece max p q h lt = tt
-too_long (Some xs) None rem line piece max p q h lt = absurd p
-too_long (Some xs) (Some ys) None line piece max p q h lt = absurd q
-too_long (Some xs) (Some ys) (Some zs) line piece max p q h lt =
-    let whole : xs ≡ line ++ (piece ++ zs) = p ∙ ap (λ (l : List ℕ). line ++ l) (sym q) in
-    let e = joined line piece zs h in
-    let g = len_grows piece zs in
-    subst (λ (l : List ℕ). max < line_len l) (sym whole) (omega (arith, e, g))
-
--- the newline is at hand
-found_line : (line piece rest : List ℕ) → lacks line ≡ true → true ≡ has_newline piece → IsLine (line ++ first_line piece) true (Some (after_line piece ++ rest)) (line ++ (piece ++ rest))
-found_line line piece rest h t =
-    let lt : line_len piece < length piece = ltb-true _ _ (sym t) in
-    let e : line_len (line ++ (piece ++ rest)) ≡ length line + line_len piece = joined line piece rest h ∙ ap (λ (n : ℕ). length line + n) (line_len_within piece rest lt) in
-    record {
-      line_is = sym (rw e (take-append-add line (piece ++ rest) (line_len piece) ∙ ap (λ (l : List ℕ). line ++ l) (take-append-le (line_len piece) piece rest (omega arith))));
-      more_is = sym (lt-ltb _ _ (omega (arith, e, length-append line (piece ++ rest), length-append piece rest)));
-      left_is = ap (λ (l : List ℕ). Some l) (sym (rw e (ap (λ (n : ℕ). drop n (line ++ (piece ++ rest))) regroup ∙ drop-append-add line (piece ++ rest) (line_len piece + 1) ∙ drop-append-le (line_len piece + 1) piece rest (omega arith))));
-    }
-  where
-    regroup : (length line + line_len piece) + 1 ≡ length line + (line_len piece + 1)
-    regroup = omega arith
-
-pub found : (a b rem : Option (List ℕ)) (line piece line' piece' : List ℕ) → Consumes a b line → Keeps b (prepend_known piece rem) → lacks line ≡ true → line' ≡ line ++ first_line piece → true ≡ has_newline piece → piece' ≡ after_line piece → IfSome a (λ xs. IsLine line' true (prepend_known piece' rem) xs)
-found None b rem line piece line' piece' p q h e t f = tt
-found (Some xs) None rem line piece line' piece' p q h e t f = absurd p
-found (Some xs) (Some ys) None line piece line' piece' p q h e t f = absurd q
-found (Some xs) (Some ys) (Some zs) line piece line' piece' p q h e t f =
-    let whole : xs ≡ line ++ (piece ++ zs) = p ∙ ap (λ (l : List ℕ). line ++ l) (sym q) in
-    rw (whole, e, f) (found_line line piece zs h t)
-
--- no newline is at hand
-pub record GoesOn (a rem : Option (List ℕ)) (line piece : List ℕ) : Type 0 where
-  pub taken : Consumes a (prepend_known piece rem) line
-  pub no_newline : lacks line ≡ true
+pub lacks_first : (xs : List ℕ) → lacks (first_line xs) ≡ true
+lacks_first xs =
+    let len : length (first_line xs) ≡ line_len xs = length-take-le (line_len xs) xs (line_len_le xs) in
+    let whole : first_line xs ++ drop (line_len xs) xs ≡ xs = take-append-drop (line_len xs) xs in
+    elim (cases_lt (line_len (first_line xs)) (length (first_line xs))) [
+      | inl lt ↦ let e : line_len (first_line xs ++ drop (line_len xs) xs) ≡ line_len (first_line xs) = line_len_within (first_line xs) (drop (line_len xs) xs) lt in
+          let same : line_len (first_line xs ++ drop (line_len xs) xs) ≡ line_len xs = ap line_len whole in absurd (omega (arith, e, same, len))
+      | inr le ↦ lacks_all (first_line xs) le
+    ]
 
 take_past_all : (piece : List ℕ) → length piece ≤ line_len piece → first_line piece ≡ piece
 take_past_all piece le = let e : line_len piece ≡ length piece = omega (arith, line_len_le piece) in rw e (ap (λ (l : List ℕ). take (length piece) l) (sym (append-nil piece)) ∙ take_at piece [] (length piece) refl)
 
-record NoMore (line piece : List ℕ) : Type 0 where
-  whole : first_line piece ≡ piece
-  nothing : after_line piece ≡ []
-  no_newline : lacks (line ++ first_line piece) ≡ true
+pub nothing_after : (xs : List ℕ) → false ≡ has_newline xs → after_line xs ≡ []
+nothing_after xs h = let le : length xs ≤ line_len xs = ltb-false _ _ (sym h) in drop_of_length-le xs (omega (arith, le))
 
-no_more : (line piece : List ℕ) → lacks line ≡ true → false ≡ has_newline piece → NoMore line piece
-no_more line piece h t =
-    let le : length piece ≤ line_len piece = ltb-false _ _ (sym t) in
-    let all : first_line piece ≡ piece = take_past_all piece le in
-    record {
-      whole = all;
-      nothing = drop_of_length-le piece (omega arith);
-      no_newline = rw all (list_all-append (λ b. not (eqb b 10)) line piece ∙ and_from (lacks line) (lacks piece) h (lacks_all piece le));
-    }
+-- a line, its newline where it has one, and what comes after it
+pub split_line : (xs : List ℕ) (more : Bool) → more ≡ has_newline xs → xs ≡ (first_line xs ++ line_ending more) ++ after_line xs
+split_line xs true h =
+    let lt : line_len xs < length xs = ltb-true _ _ (sym h) in
+    let at : get_or xs (line_len xs) 0 ≡ 10 = eqb-true _ _ (passes_at_first (λ b. eqb b 10) xs 0 lt) in
+    split_at_first (λ b. eqb b 10) xs 0 lt ∙ ap (λ (b : ℕ). first_line xs ++ (b ∷ after_line xs)) at ∙ sym (append_assoc (first_line xs) (10 ∷ []) (after_line xs))
+split_line xs false h =
+    let le : length xs ≤ line_len xs = ltb-false _ _ (sym h) in
+    rw (take_past_all xs le, nothing_after xs h) (sym (append-nil (xs ++ []) ∙ append-nil xs))
 
-pub goes_on : (a b rem : Option (List ℕ)) (line piece line' piece' : List ℕ) → Consumes a b line → Keeps b (prepend_known piece rem) → lacks line ≡ true → line' ≡ line ++ first_line piece → false ≡ has_newline piece → piece' ≡ after_line piece → GoesOn a rem line' piece'
-goes_on None b rem line piece line' piece' p q h e t f = record { taken = tt; no_newline = rw e (no_more line piece h t).no_newline }
-goes_on (Some xs) None rem line piece line' piece' p q h e t f = absurd p
-goes_on (Some xs) (Some ys) None line piece line' piece' p q h e t f = absurd q
-goes_on (Some xs) (Some ys) (Some zs) line piece line' piece' p q h e t f =
-    let whole : xs ≡ line ++ (piece ++ zs) = p ∙ ap (λ (l : List ℕ). line ++ l) (sym q) in
-    let n = no_more line piece h t in
-    record { taken = rw (whole, e, f, n.whole, n.nothing) (sym (append_assoc line piece zs)); no_newline = rw e n.no_newline }
+-- ---- bytes that are taken piece by piece
+
+pub takes_nothing : (given at_hand : List ℕ) → Takes given given at_hand at_hand []
+takes_nothing given at_hand before is = is
+
+pub takes_then : (a b c at_hand mid left line : List ℕ) → Takes a b at_hand mid line → Takes b c mid left [] → Takes a c at_hand left line
+takes_then a b c at_hand mid left line one two before is = two (before ++ line) (one before is ∙ sym (append_assoc before line mid)) ∙ append_assoc before line left
+
+pub takes_on : (a b c at_hand mid left line piece : List ℕ) → Takes a b at_hand mid line → Takes b c mid (piece ++ left) [] → Takes a c at_hand left (line ++ piece)
+takes_on a b c at_hand mid left line piece one two before is =
+    takes_then a b c at_hand mid (piece ++ left) line one two before is ∙ ap (λ (l : List ℕ). before ++ l) (sym (append_assoc line piece left))
+
+pub lacks_more : (line piece : List ℕ) → lacks line ≡ true → lacks piece ≡ true → lacks (line ++ piece) ≡ true
+lacks_more line piece h k = list_all-append (λ b. not (eqb b 10)) line piece ∙ and_from (lacks line) (lacks piece) h k
+
+pub lacks_line : (line piece : List ℕ) → lacks line ≡ true → lacks (line ++ first_line piece) ≡ true
+lacks_line line piece h = lacks_more line (first_line piece) h (lacks_first piece)
+
+-- what is at hand goes on with the first line there, and its newline
+pub takes_line : (a b c at_hand mid piece : List ℕ) (line : List ℕ) (more : Bool) → Takes a b at_hand mid line → Takes b c mid piece [] → more ≡ has_newline piece
+    → Takes a c at_hand (after_line piece) ((line ++ first_line piece) ++ line_ending more)
+takes_line a b c at_hand mid piece line more one two h before is =
+    takes_on a b c at_hand mid (after_line piece) line (first_line piece ++ line_ending more) one (λ start eq. two start eq ∙ ap (λ (l : List ℕ). start ++ l) (split_line piece more h)) before is
+    ∙ ap (λ (l : List ℕ). before ++ (l ++ after_line piece)) (sym (append_assoc line (first_line piece) (line_ending more)))
+
+-- no newline is at hand
+pub goes_on : (a b c at_hand mid piece : List ℕ) (line : List ℕ) → Takes a b at_hand mid line → Takes b c mid piece [] → false ≡ has_newline piece
+    → Takes a c at_hand (after_line piece) (line ++ first_line piece)
+goes_on a b c at_hand mid piece line one two h before is =
+    takes_line a b c at_hand mid piece line false one two h before is ∙ ap (λ (l : List ℕ). before ++ (l ++ after_line piece)) (append-nil (line ++ first_line piece))
+
+pub too_long : (max : ℕ) (a b c at_hand mid piece line : List ℕ) → Takes a b at_hand mid line → Takes b c mid piece [] → lacks line ≡ true → max < length line + line_len piece
+    → BeginsTooLong max a c at_hand
+too_long max a b c at_hand mid piece line one two h lt before is =
+    let whole : first_line piece ++ drop (line_len piece) piece ≡ piece = take-append-drop (line_len piece) piece in
+    let len : length (first_line piece) ≡ line_len piece = length-take-le (line_len piece) piece (line_len_le piece) in (
+      line ++ first_line piece,
+      drop (line_len piece) piece,
+      takes_on a b c at_hand mid (drop (line_len piece) piece) line (first_line piece) one (λ start eq. two start eq ∙ ap (λ (l : List ℕ). start ++ l) (sym whole)) before is,
+      lacks_line line piece h,
+      omega (arith, length-append line (first_line piece), len, lt),
+    )
+
+pub come_at_most : (max few : ℕ) (a b c at_hand mid piece line : List ℕ) → Takes a b at_hand mid line → Takes b c mid piece [] → length line ≤ max → length piece ≤ few
+    → ComeAtMost (max + few) a c at_hand
+come_at_most max few a b c at_hand mid piece line one two short small before is = (
+  line ++ piece,
+  takes_then a b c at_hand mid piece line one two before is,
+  omega (arith, length-append line piece, short, small),
+)

@@ -1,10 +1,32 @@
--- What stands behind the devices of this crate.
+-- What a clause reads of the devices of this crate.
+use Rattle.std.specs.Prelude.{ℕ, List}
+use Rattle.json_lines.specs.History.{moved_so_far, failures_so_far, stops_so_far, flushes_so_far}
 use Rattle.json_lines.specs.declared.devices.Counted.{Counted}
 use Rattle.json_lines.specs.declared.devices.Failing.{Failing}
+use Rattle.json_lines.specs.declared.held.Held.{Held}
 
--- the reader or writer that is counted
+-- the reader or writer whose history is kept
 abbrev pub counted_inner : {X : Type 0} → Counted X → X
 counted_inner c = c.inner
+
+-- all bytes that went through
+abbrev pub moved_by : {X : Type 0} → Counted X → List ℕ
+moved_by c = moved_so_far c.history
+
+abbrev pub failures_of : {X : Type 0} → Counted X → ℕ
+failures_of c = failures_so_far c.history
+
+-- how often a reader was at its end, or a writer took none of some bytes
+abbrev pub stops_of : {X : Type 0} → Counted X → ℕ
+stops_of c = stops_so_far c.history
+
+-- how often a flush was asked for
+abbrev pub flushes_of : {X : Type 0} → Counted X → ℕ
+flushes_of c = flushes_so_far c.history
+
+-- the bytes that are left
+abbrev pub held_bytes : Held → List ℕ
+held_bytes h = h.left.now
 
 -- the reader or writer that is made to fail
 abbrev pub failing_inner : {X : Type 0} → Failing X → X

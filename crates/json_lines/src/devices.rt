@@ -1,33 +1,36 @@
-//! Readers and writers round others: one that counts, and one that fails, for tests.
+//! Readers and writers round others: one with its history, and one that fails, for tests.
 
-ghost use Rattle.std.specs.Prelude.{◌≡◌, ◌≤◌, ◌<◌, false};
-ghost use Rattle.json_lines.specs.Devices.{counted_inner, failing_inner};
+ghost use Rattle.std.specs.Prelude.{◌≡◌, ◌≤◌, ◌<◌, [], false};
+ghost use Rattle.json_lines.specs.Devices.{counted_inner, moved_by, failures_of, stops_of, flushes_of, failing_inner};
 
+use crate::history::History;
 use crate::source::{Sink, Source};
 use std::io;
 use std::io::{Error, ErrorKind, Read, Write};
 
-/// A reader or a writer with its counts.
+/// A reader or a writer with its history. At run time it is just the reader or writer.
 #[derive(Drop)]
 pub struct Counted<X> {
     inner: X,
-    failures: u64,
-    idle: u64,
+    history: History,
 }
 
 impl<X> Counted<X> {
-    /// The reader or writer, with no failure counted.
+    /// The reader or writer, before its first call.
     pub fn new(inner: X) -> Counted<X>
-        ensures { counted_inner result ≡ inner }
+        ensures inner { counted_inner result ≡ inner }
+        ensures moved { moved_by result ≡ [] }
+        ensures failures { failures_of result ≡ 0 }
+        ensures stops { stops_of result ≡ 0 }
+        ensures flushes { flushes_of result ≡ 0 }
     {
         Counted {
             inner,
-            failures: 0,
-            idle: 0,
+            history: History::new(),
         }
     }
 
-    /// The reader or writer, without its counts.
+    /// The reader or writer, without its history.
     pub fn into_inner(self) -> X
         ensures { result ≡ counted_inner self }
     {
@@ -36,7 +39,7 @@ impl<X> Counted<X> {
 }
 
 impl<R: Read> Read for Counted<R> {
-    ghost remaining = { λ s. R.remaining s.inner };
+    ghost remaining = { λ s. R.remaining (counted_inner s) };
 
     fn read(&mut self, buf: &mut [u8]) -> io::Result<usize> {
         self.give(buf)
@@ -44,19 +47,21 @@ impl<R: Read> Read for Counted<R> {
 }
 
 impl<R: Read> Source for Counted<R> {
-    ghost failures = { λ s. s.failures };
+    ghost given = { moved_by };
+
+    ghost failures = { failures_of };
+
+    ghost ends = { stops_of };
 
     fn give(&mut self, buf: &mut [u8]) -> io::Result<usize> {
-        let given = self.inner.read(buf);
-        if given.is_err() {
-            self.failures = self.failures.saturating_add(1);
-        }
-        given
+        let read = self.inner.read(buf);
+        self.history.add(&read, buf);
+        read
     }
 }
 
 impl<W: Write> Write for Counted<W> {
-    ghost contents = { λ s. W.contents s.inner };
+    ghost contents = { λ s. W.contents (counted_inner s) };
 
     fn write(&mut self, buf: &[u8]) -> io::Result<usize> {
         self.take_some(buf)
@@ -68,25 +73,23 @@ impl<W: Write> Write for Counted<W> {
 }
 
 impl<W: Write> Sink for Counted<W> {
-    ghost failures = { λ s. s.failures };
+    ghost taken = { moved_by };
 
-    ghost idle = { λ s. s.idle };
+    ghost failures = { failures_of };
+
+    ghost idle = { stops_of };
+
+    ghost flushes = { flushes_of };
 
     fn take_some(&mut self, buf: &[u8]) -> io::Result<usize> {
-        let taken = self.inner.write(buf);
-        match taken {
-            Err(_) => self.failures = self.failures.saturating_add(1),
-            Ok(0) if !buf.is_empty() => self.idle = self.idle.saturating_add(1),
-            Ok(_) => {}
-        }
-        taken
+        let written = self.inner.write(buf);
+        self.history.add(&written, buf);
+        written
     }
 
     fn finish(&mut self) -> io::Result<()> {
         let done = self.inner.flush();
-        if done.is_err() {
-            self.failures = self.failures.saturating_add(1);
-        }
+        self.history.add_flush(&done);
         done
     }
 }

@@ -1,10 +1,11 @@
 //! The lines of a reader, out of a buffer before it.
 
-ghost use Rattle.std.specs.Prelude.{◌≡◌, ◌≢◌, ◌+◌, ◌-◌, ◌<◌, ◌≤◌, ◌++◌, ℕ, List, [], length, take, drop, vec_len, Some, Ok, Err, true, false, IfOk, IfSome, OnOk, OnErr, IfErr, ◌⊎◌};
-ghost use Rattle.json_lines.specs.Counts.{one_more};
-ghost use Rattle.json_lines.specs.Lines.{line_len, first_line, after_line, has_newline, lacks, IsLine};
+ghost use Rattle.std.specs.Prelude.{◌≡◌, ◌≢◌, ◌+◌, ◌-◌, ◌<◌, ◌≤◌, ◌++◌, ℕ, List, [], length, take, drop, vec_len, Ok, Err, true, false, IfOk, OnOk, IfErr, ◌⊎◌};
+ghost use Rattle.json_lines.specs.Given.{AreNext};
+ghost use Rattle.json_lines.specs.Lines.{line_len, first_line, after_line, has_newline, lacks, line_ending, Takes, BeginsTooLong, ComeAtMost};
+ghost use Rattle.json_lines.specs.Moves.{failure_count, end_count};
+ghost use Rattle.json_lines.specs.declared.lines.TheConstants.{CHUNK};
 ghost use Rattle.json_lines.specs.declared.lines.InputFault.TheVariants.{Read, TooLong, OutOfMemory};
-ghost use Rattle.std.specs.Io.KnownBytes.{Keeps, Consumes, IsAtEnd, prepend_known};
 
 use crate::source::Source;
 use memchr::memchr;
@@ -43,7 +44,7 @@ impl Model for Lines {
 
     ghost view = { λ s. take (s.end - s.at) (drop s.at s.chunk.items) };
 
-    ghost invariant = { λ s. (s.at ≤ s.end) × (s.end ≤ vec_len s.chunk) × (0 < vec_len s.chunk) };
+    ghost invariant = { λ s. (s.at ≤ s.end) × (s.end ≤ vec_len s.chunk) × (vec_len s.chunk ≡ CHUNK) };
 }
 
 /// How many bytes come before the first newline, or all.
@@ -68,7 +69,8 @@ impl Lines {
     }
 
     fn pending(&self) -> &[u8]
-        ensures { result.now ≡ self.now }
+        ensures bytes { result.now ≡ self.now }
+        ensures few { length self.now ≤ CHUNK }
     {
         &self.chunk[self.at..self.end]
     }
@@ -84,12 +86,13 @@ impl Lines {
     /// Reads more, and says whether anything came.
     fn refill<R: Source>(&mut self, reader: &mut R) -> io::Result<bool>
         requires { self.old ≡ [] }
-        ensures ok { OnOk result (Consumes (R.remaining reader.old) (R.remaining reader.new) self.new) }
-        ensures end { result ≡ Ok false → (self.new ≡ []) × IsAtEnd (R.remaining reader.new) }
+        ensures came { R.given reader.new ≡ R.given reader.old ++ self.new }
+        ensures few { length self.new ≤ CHUNK }
+        ensures known { AreNext R.given R.ends R.remaining reader.old reader.new }
         ensures some { result ≡ Ok true → 0 < length self.new }
-        ensures kept { OnOk result (R.failures reader.new ≡ R.failures reader.old) }
-        ensures err { OnErr result ((self.new ≡ []) × Keeps (R.remaining reader.old) (R.remaining reader.new)) }
-        ensures counted { OnErr result (R.failures reader.new ≡ one_more (R.failures reader.old)) }
+        ensures none { result ≢ Ok true → self.new ≡ [] }
+        ensures ends { R.ends reader.new ≡ R.ends reader.old + end_count result }
+        ensures failures { R.failures reader.new ≡ R.failures reader.old + failure_count result }
     {
         self.at = 0;
         self.end = 0;
@@ -100,12 +103,13 @@ impl Lines {
 
     /// Reads more where nothing is left, and says whether anything is there.
     fn ready<R: Source>(&mut self, reader: &mut R) -> io::Result<bool>
-        ensures keeps { OnOk result (Keeps (prepend_known self.old (R.remaining reader.old)) (prepend_known self.new (R.remaining reader.new))) }
-        ensures end { result ≡ Ok false → IsAtEnd (prepend_known self.new (R.remaining reader.new)) }
-        ensures err { OnErr result (Keeps (prepend_known self.old (R.remaining reader.old)) (R.remaining reader.new)) }
+        ensures came { Takes (R.given reader.old) (R.given reader.new) self.old self.new [] }
+        ensures few { length self.new ≤ CHUNK }
+        ensures known { AreNext R.given R.ends R.remaining reader.old reader.new }
         ensures some { result ≡ Ok true → 0 < length self.new }
-        ensures kept { OnOk result (R.failures reader.new ≡ R.failures reader.old) }
-        ensures counted { OnErr result (R.failures reader.new ≡ one_more (R.failures reader.old)) }
+        ensures none { result ≢ Ok true → self.new ≡ [] }
+        ensures ends { R.ends reader.new ≡ R.ends reader.old + end_count result }
+        ensures failures { R.failures reader.new ≡ R.failures reader.old + failure_count result }
     {
         if self.pending().is_empty() {
             self.refill(reader)
@@ -142,16 +146,20 @@ impl Lines {
         max: usize,
         line: &mut Vec<u8>,
     ) -> Result<bool, InputFault>
-        // The line is the first of the bytes that are left.
-        ensures line { IfSome (prepend_known self.old (R.remaining reader.old)) (λ xs. IfOk result (λ more.
-            IsLine line.new.items more (prepend_known self.new (R.remaining reader.new)) xs)) }
+        // It is the first of the bytes that were at hand and came, with its newline.
+        ensures line { IfOk result (λ more. (lacks line.new.items ≡ true)
+            × Takes (R.given reader.old) (R.given reader.new) self.old self.new (line.new.items ++ line_ending more)) }
+        ensures last { result ≡ Ok false → self.new ≡ [] }
         ensures bound { OnOk result (vec_len line.new ≤ max) }
-        ensures long { result ≡ Err TooLong → IfSome (prepend_known self.old (R.remaining reader.old)) (λ xs. max < line_len xs) }
+        ensures long { result ≡ Err TooLong → BeginsTooLong max (R.given reader.old) (R.given reader.new) self.old }
         // Where the reader fails, the line is what came of it before.
-        ensures cut { result ≡ Err Read → Consumes (prepend_known self.old (R.remaining reader.old)) (R.remaining reader.new) line.new.items
+        ensures cut { result ≡ Err Read → Takes (R.given reader.old) (R.given reader.new) self.old [] line.new.items
             × (lacks line.new.items ≡ true) × (vec_len line.new ≤ max) }
+        ensures most { ComeAtMost (max + CHUNK) (R.given reader.old) (R.given reader.new) self.old }
+        ensures known { AreNext R.given R.ends R.remaining reader.old reader.new }
+        ensures ends { R.ends reader.new ≡ R.ends reader.old + end_count result }
         // A reader's failure alone gives this error.
-        ensures failed { result ≡ Err Read → R.failures reader.new ≡ one_more (R.failures reader.old) }
+        ensures failed { result ≡ Err Read → R.failures reader.new ≡ R.failures reader.old + 1 }
         ensures kept { result ≢ Err Read → R.failures reader.new ≡ R.failures reader.old }
     {
         line.clear();

@@ -1,15 +1,14 @@
 //! The lines of a reader, handed to a value that takes them.
 
-ghost use Rattle.std.specs.Prelude.{◌≡◌, ◌≢◌, ◌≤◌, ℕ, List, IfSome, IfErr, OnOk, ◌&&◌, ◌==◌, true, false};
-ghost use Rattle.std.specs.Io.KnownBytes.{Consumes};
-ghost use Rattle.json_lines.specs.Counts.{one_more};
+ghost use Rattle.std.specs.Prelude.{◌≡◌, ◌≢◌, ◌+◌, ◌≤◌, ℕ, length, IfErr, Err, OnOk, ◌&&◌, ◌==◌, true, false};
+ghost use Rattle.json_lines.specs.Given.{OfBytes, OfInput, AreNext};
 ghost use Rattle.json_lines.specs.Json.{taken_line};
 ghost use Rattle.json_lines.specs.Reading.{cause_of, read_all, Reads, IsReadFault, IsOfSomeLine};
 ghost use Rattle.json_lines.specs.declared.lines.InputFault.TheVariants.{Read};
 ghost use Rattle.json_lines.specs.declared.reading.Stop.TheVariants.{Input};
 
 use crate::json::{LineCause, TakeJson, take_line};
-use crate::lines::{InputFault, Lines};
+use crate::lines::{CHUNK, InputFault, Lines};
 use crate::source::Source;
 use std::alloc::Global;
 
@@ -54,23 +53,27 @@ fn is_over(more: bool, len: usize, room: usize) -> bool
 
 /// Hands the lines of a reader to `value`, up to the first that is refused.
 ///
-/// A line has at most 2^20 bytes without its newline, and the input 2^30 bytes; nothing behind the byte that is
-/// too many is read. Any failure of the reader ends the reading.
+/// A line has at most 2^20 bytes without its newline, and the input 2^30 bytes, so that input that never ends is
+/// refused: at most 2^30 + 65,536 bytes are taken from the reader. Any failure of the reader ends the reading.
+/// A refusal holds of every input that begins with the bytes that the reader gave.
 pub fn read_lines<R: Source, T: TakeJson>(
     alloc: Global,
     reader: &mut R,
     value: &mut T,
 ) -> Result<(), LineFault<T::Cause>>
     requires { T.next value.old ≤ 1 }
-    ensures exact { IfSome (R.remaining reader.old) (λ input. Reads result value.new (read_all (taken_line T.Cause.not_json T.taken) true value.old input)) }
-    // Of a reader that failed, by the bytes that it gave before.
-    ensures failed { IfErr result (λ e. IsReadFault e → IfSome (R.remaining reader.old) (λ input.
-        (given : List ℕ) × Consumes (R.remaining reader.old) (R.remaining reader.new) given
-        × (read_all (taken_line T.Cause.not_json T.taken) false value.old given ≡ Err e))) }
+    // Of every input that the reader may have: it begins with the bytes that came, and is these where the reader was at its end.
+    ensures exact { OfInput R.given R.ends reader.old reader.new (λ input. Reads result value.new (read_all (taken_line T.Cause.not_json T.taken) true value.old input)) }
+    // Of a reader that failed, by the bytes that came before.
+    ensures failed { IfErr result (λ e. IsReadFault e → OfBytes R.given reader.old reader.new (λ came. read_all (taken_line T.Cause.not_json T.taken) false value.old came ≡ Err e)) }
+    ensures ended { OnOk result (R.ends reader.new ≡ R.ends reader.old + 1) }
+    // Also of a reader that never ends.
+    ensures most { OfBytes R.given reader.old reader.new (λ came. length came ≤ MAX_INPUT + CHUNK) }
+    ensures known { AreNext R.given R.ends R.remaining reader.old reader.new }
     // A cause is what some line gave.
     ensures told { IfErr result (IsOfSomeLine (taken_line T.Cause.not_json T.taken)) }
     // A reader's failure is told, and nothing else is called one.
-    ensures counted { IfErr result (λ e. IsReadFault e → R.failures reader.new ≡ one_more (R.failures reader.old)) }
+    ensures counted { IfErr result (λ e. IsReadFault e → R.failures reader.new ≡ R.failures reader.old + 1) }
     ensures kept { OnOk result (R.failures reader.new ≡ R.failures reader.old) }
     ensures unfailed { IfErr result (λ e. e.stop ≢ Input Read → R.failures reader.new ≡ R.failures reader.old) }
 {

@@ -1,8 +1,6 @@
 //! Writing a whole text.
 
-ghost use Rattle.std.specs.Prelude.{◌≡◌, ◌≤◌, ◌<◌, ◌⊎◌, length, take, OnOk, IfErr};
-ghost use Rattle.std.specs.Io.KnownBytes.{Appends};
-ghost use Rattle.json_lines.specs.Counts.{one_more};
+ghost use Rattle.std.specs.Prelude.{◌≡◌, ◌≤◌, ◌<◌, ◌+◌, ◌++◌, ◌⊎◌, length, take, OnOk, IfErr};
 
 use crate::source::Sink;
 
@@ -17,13 +15,13 @@ pub struct Unsent {
 /// Where the writer fails, or takes none of the bytes that are left, it says how many bytes went out. After a
 /// failed flush these are all.
 pub fn send<W: Sink>(out: &mut W, bytes: &[u8]) -> Result<(), Unsent>
-    ensures all { OnOk result (Appends (W.contents out.old) (W.contents out.new) bytes.now) }
-    ensures part { IfErr result (λ e. (e.written ≤ length bytes.now)
-        × Appends (W.contents out.old) (W.contents out.new) (take e.written bytes.now)) }
-    ensures kept { OnOk result (W.failures out.new ≡ W.failures out.old) }
+    ensures all { OnOk result (W.taken out.new ≡ W.taken out.old ++ bytes.now) }
+    ensures part { IfErr result (λ e. (e.written ≤ length bytes.now) × (W.taken out.new ≡ W.taken out.old ++ take e.written bytes.now)) }
+    ensures flushed { OnOk result (W.flushes out.new ≡ W.flushes out.old + 1) }
+    ensures kept { OnOk result ((W.failures out.new ≡ W.failures out.old) × (W.idle out.new ≡ W.idle out.old)) }
     // The writer failed, or took none of some bytes.
-    ensures refused { IfErr result (λ e. (W.failures out.new ≡ one_more (W.failures out.old))
-        ⊎ ((W.idle out.new ≡ one_more (W.idle out.old)) × (e.written < length bytes.now))) }
+    ensures refused { IfErr result (λ e. (W.failures out.new ≡ W.failures out.old + 1)
+        ⊎ ((W.idle out.new ≡ W.idle out.old + 1) × (e.written < length bytes.now))) }
 {
     let mut written = 0;
     for _turn in 0..bytes.len() {

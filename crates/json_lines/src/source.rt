@@ -1,53 +1,58 @@
-//! Readers and writers that count their failures.
+//! Readers and writers of which contracts name what they gave and took, and count what went wrong.
 
-ghost use Rattle.std.specs.Prelude.{◌≡◌, ◌+◌, ◌*◌, ◌<◌, ◌≤◌, ℕ, length, Ok, OnOk, OnErr};
+ghost use Rattle.std.specs.Prelude.{◌≡◌, ◌+◌, ◌++◌, ℕ, List, length};
 ghost use Rattle.std.specs.Io.{ReadsAtMost, WritesAtMost};
 ghost use Rattle.std.specs.Io.KnownBytes.{ReadConsumes, WriteAppends, Keeps};
-ghost use Rattle.json_lines.specs.Counts.{one_more, idle_after};
+ghost use Rattle.json_lines.specs.Moves.{moved, failure_count, stops_after};
 
 use std::io;
 use std::io::{Read, Write};
 
-/// A reader whose failures contracts can name: each adds one to a count, which stays at 2^64 - 1, and
-/// moves no byte.
+/// A reader of which contracts name all bytes that it gave so far, and how often it failed or was at its end.
 pub trait Source: Read {
+    ghost given: { Self → List ℕ };
+
     ghost failures: { Self → ℕ };
 
-    /// Reads some bytes, and counts a failure.
+    ghost ends: { Self → ℕ };
+
+    /// Reads some bytes. Each call adds to one of the three: it gives bytes, fails, or is at its end, which is
+    /// to give no byte where there is room for some.
     fn give(&mut self, buf: &mut [u8]) -> io::Result<usize>
         ensures bound { ReadsAtMost result buf.new }
-        ensures bytes { ReadConsumes (Self.remaining self.old) (Self.remaining self.new) result buf.new }
-        ensures kept { OnOk result (failures self.new ≡ failures self.old) }
-        ensures counted { OnErr result (failures self.new ≡ one_more (failures self.old)) };
+        ensures gives { given self.new ≡ given self.old ++ moved result buf.new }
+        ensures fails { failures self.new ≡ failures self.old + failure_count result }
+        ensures stops { ends self.new ≡ stops_after result (length buf.new) (ends self.old) }
+        // Where it is known what is left, these are its next bytes.
+        ensures bytes { ReadConsumes (Self.remaining self.old) (Self.remaining self.new) result buf.new };
 }
 
-/// A writer whose failures contracts can name, as those of a [`Source`]. A second count is that of the writes
-/// that took no byte of some.
+/// A writer of which contracts name all bytes that it took so far, and how often it failed, took none of some
+/// bytes, or was asked to flush.
 pub trait Sink: Write {
+    ghost taken: { Self → List ℕ };
+
     ghost failures: { Self → ℕ };
 
     ghost idle: { Self → ℕ };
 
-    /// Writes some of the bytes, and counts a failure or a write of none.
+    ghost flushes: { Self → ℕ };
+
+    /// Writes some of the bytes. Each call adds to one of the first three.
     fn take_some(&mut self, buf: &[u8]) -> io::Result<usize>
         ensures bound { WritesAtMost result buf.now }
-        ensures bytes { WriteAppends (Self.contents self.old) (Self.contents self.new) result buf.now }
-        ensures kept { OnOk result (failures self.new ≡ failures self.old) }
-        ensures counted { OnErr result (failures self.new ≡ one_more (failures self.old)) }
-        ensures idle { idle self.new ≡ idle_after result (length buf.now) (idle self.old) };
+        ensures takes { taken self.new ≡ taken self.old ++ moved result buf.now }
+        ensures fails { failures self.new ≡ failures self.old + failure_count result }
+        ensures stops { idle self.new ≡ stops_after result (length buf.now) (idle self.old) }
+        ensures flushes { flushes self.new ≡ flushes self.old }
+        // Where it is known what is held, the bytes stand behind it.
+        ensures bytes { WriteAppends (Self.contents self.old) (Self.contents self.new) result buf.now };
 
-    /// Flushes, and counts a failure.
+    /// Flushes.
     fn finish(&mut self) -> io::Result<()>
-        ensures bytes { Keeps (Self.contents self.old) (Self.contents self.new) }
-        ensures kept { OnOk result (failures self.new ≡ failures self.old) }
-        ensures counted { OnErr result (failures self.new ≡ one_more (failures self.old)) }
-        ensures idle { idle self.new ≡ idle self.old };
-}
-
-impl Source for &[u8] {
-    ghost failures = { λ _. 0 };
-
-    fn give(&mut self, buf: &mut [u8]) -> io::Result<usize> {
-        self.read(buf)
-    }
+        ensures takes { taken self.new ≡ taken self.old }
+        ensures fails { failures self.new ≡ failures self.old + failure_count result }
+        ensures stops { idle self.new ≡ idle self.old }
+        ensures flushes { flushes self.new ≡ flushes self.old + 1 }
+        ensures bytes { Keeps (Self.contents self.old) (Self.contents self.new) };
 }

@@ -1,8 +1,9 @@
 //! Reading a whole trace.
 
-ghost use Rattle.std.specs.Prelude.{◌≡◌, ◌≢◌, List, ℕ, true, false, Err, IfSome, IfErr, OnOk};
-ghost use Rattle.std.specs.Io.KnownBytes.{Consumes};
-ghost use Rattle.json_lines.specs.Counts.{one_more};
+ghost use Rattle.std.specs.Prelude.{◌≡◌, ◌≢◌, ◌+◌, ◌≤◌, length, true, false, Err, IfErr, OnOk};
+ghost use Rattle.json_lines.specs.Given.{OfBytes, OfInput, AreNext};
+ghost use Rattle.json_lines.specs.declared.lines.TheConstants.{CHUNK};
+ghost use Rattle.json_lines.specs.declared.reading.TheConstants.{MAX_INPUT};
 ghost use Rattle.trace_lines.specs.Results.{GivesTrace};
 ghost use Rattle.trace_lines.specs.Traces.{trace_of};
 ghost use Rattle.trace_lines.specs.declared.cause.Cause.TheVariants.{Read};
@@ -15,16 +16,20 @@ use std::alloc::Global;
 /// Reads a trace, or says which line is the first that is refused, and why.
 ///
 /// Lines end in a newline, which the last may lack, and are numbered from 1. One of spaces, tabs and carriage
-/// returns alone is skipped and counted. A line has at most 2^20 bytes and the input 2^30; nothing behind the
-/// byte that is too many is read. Any failure of the reader is `Read`. How much was read is open after a refusal.
+/// returns alone is skipped and counted. A line has at most 2^20 bytes and the input 2^30; at most 2^30 + 65,536
+/// bytes are taken from the reader, also from one that never ends. Any failure of the reader is `Read`. Any other
+/// refusal holds of every input that begins with the bytes that the reader gave.
 pub fn read_trace<R: Source>(alloc: Global, reader: &mut R) -> Result<Trace, TraceFault>
-    ensures exact { IfSome (R.remaining reader.old) (λ input. GivesTrace result (trace_of true input)) }
-    // Of a reader that failed, by the bytes that it gave before.
-    ensures failed { IfErr result (λ e. e.cause ≡ Read → IfSome (R.remaining reader.old) (λ input.
-        (given : List ℕ) × Consumes (R.remaining reader.old) (R.remaining reader.new) given
-        × (trace_of false given ≡ Err e))) }
+    // Of every input that the reader may have: it begins with the bytes that came, and is these where the reader was at its end.
+    ensures exact { OfInput R.given R.ends reader.old reader.new (λ input. GivesTrace result (trace_of true input)) }
+    // Of a reader that failed, by the bytes that came before.
+    ensures failed { IfErr result (λ e. e.cause ≡ Read → OfBytes R.given reader.old reader.new (λ came. trace_of false came ≡ Err e)) }
+    ensures ended { OnOk result (R.ends reader.new ≡ R.ends reader.old + 1) }
+    // Also of a reader that never ends.
+    ensures most { OfBytes R.given reader.old reader.new (λ came. length came ≤ MAX_INPUT + CHUNK) }
+    ensures known { AreNext R.given R.ends R.remaining reader.old reader.new }
     // A reader's failure is told, and nothing else is called one.
-    ensures counted { IfErr result (λ e. e.cause ≡ Read → R.failures reader.new ≡ one_more (R.failures reader.old)) }
+    ensures counted { IfErr result (λ e. e.cause ≡ Read → R.failures reader.new ≡ R.failures reader.old + 1) }
     ensures kept { OnOk result (R.failures reader.new ≡ R.failures reader.old) }
     ensures unfailed { IfErr result (λ e. e.cause ≢ Read → R.failures reader.new ≡ R.failures reader.old) }
 {

@@ -5,8 +5,6 @@ ghost use Rattle.std.specs.Io.KnownBytes.{Consumes};
 ghost use Rattle.serde_json.specs.View.{view};
 ghost use Rattle.tuple_text.specs.Refs.{set_value};
 ghost use Rattle.trace_lines.specs.Causes.{Gives};
-ghost use Rattle.json_lines.specs.Counts.{one_more};
-ghost use Rattle.json_lines.specs.Reading.{Refuses};
 ghost use Rattle.trace_lines.specs.Values.{empty_trace, entry_value, entry_lines, next_line};
 ghost use Rattle.trace_lines.specs.Traces.{is_declared, are_declared, is_begun, namespace_line, change_line, declaration_line, commit_checked, commit_of, with_commit, commit_line, entry_of, recorded, with_entry, entry_line, value_line};
 ghost use Rattle.trace_lines.specs.Versions.{entry_version, version_issued, issuer, content_among, content_of};

@@ -1,15 +1,20 @@
-use Rattle.std.proofs.Common.{sym, ◌∙◌, rules}
-use Rattle.trace_lines.specs.Causes.{of_input}
+use Rattle.std.proofs.Common.{sym, ◌∙◌, ◌||◌, refl, rules}
+use Rattle.trace_lines.specs.Causes.{of_input, is_memory, is_read}
 use Rattle.trace_lines.specs.Traces.{faulted}
 use Rattle.trace_lines.proofs.LineCauses.{readers_own}
-use Rattle.json_lines.proofs.ReadFaults.{reader_failed, failed_so_far}
+use Rattle.json_lines.proofs.ReadFaults.{reader_failed, failed_so_far, refused_so_far}
 use Rattle.trace_lines.proofs.read.read_trace.Goals as goal
 
 pub returns-in-Err-clause-failed : goal.returns-in-Err-clause-failed
 returns-in-Err-clause-failed g c = λ e.
     let stop = reader_failed _ of_input c.in-Err.fault readers_own c.in-Err.ensures.told (sym c.cause.ensures ∙ e) in
-    failed_so_far _ faulted _ _ c.new-trace.result _ c.in-Err.fault _ c.new-trace.ensures (search rules) (c.in-Err.ensures.failed stop)
+    failed_so_far g.R.Source.given c.args.reader.now c.read_lines.new.reader _ faulted c.new-trace.result _ c.in-Err.fault _ c.new-trace.ensures (search rules) (c.in-Err.ensures.failed stop)
 
 pub returns-in-Err-clause-counted : goal.returns-in-Err-clause-counted
 returns-in-Err-clause-counted g c = λ e.
     c.in-Err.ensures.counted (reader_failed _ of_input c.in-Err.fault readers_own c.in-Err.ensures.told (sym c.cause.ensures ∙ e))
+
+pub returns-in-Err-clause-exact : goal.returns-in-Err-clause-exact
+returns-in-Err-clause-exact g c =
+    refused_so_far g.R.Source.given g.R.Source.ends c.args.reader.now c.read_lines.new.reader _ faulted (λ e. is_memory e.cause || is_read e.cause) c.new-trace.result _ c.in-Err.fault _ c.new-trace.ensures (search rules)
+    (λ h. rw (c.cause.ensures, h) refl) (λ h. rw (c.cause.ensures, h) refl) c.in-Err.ensures.exact

@@ -1,13 +1,15 @@
 use Rattle.std.proofs.Common.{◌≡◌, ◌≤◌, true, vec_len}
-use Rattle.std.specs.Io.KnownBytes.{Consumes, prepend_known}
-use Rattle.json_lines.specs.Lines.{lacks}
+use Rattle.json_lines.specs.Given.{AreNext}
+use Rattle.json_lines.specs.Lines.{lacks, Takes}
 use Rattle.json_lines.proofs.lines.Lines.next.Given as goal
 
 abbrev pub invariant-loop-turn : goal.invariant-loop-turn
 invariant-loop-turn g l = record {
-  taken : Consumes (prepend_known l.fn.self (g.R.Read.remaining l.fn.reader)) (prepend_known l.self (g.R.Read.remaining l.reader)) l.line.items;
+  taken : Takes (g.R.Source.given l.fn.reader) (g.R.Source.given l.reader) l.fn.self l.self l.line.items;
   no_newline : lacks l.line.items ≡ true;
   within : vec_len l.line ≤ l.max;
   turns : l._turn ≤ vec_len l.line;
+  known : AreNext g.R.Source.given g.R.Source.ends g.R.Read.remaining l.fn.reader l.reader;
+  going : g.R.Source.ends l.reader ≡ g.R.Source.ends l.fn.reader;
   kept : g.R.Source.failures l.reader ≡ g.R.Source.failures l.fn.reader;
 }

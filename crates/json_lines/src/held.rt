@@ -1,0 +1,51 @@
+//! Bytes in memory, as a source.
+
+ghost use Rattle.std.specs.Prelude.{◌≡◌, Some};
+ghost use Rattle.json_lines.specs.Devices.{held_bytes};
+ghost use Rattle.json_lines.specs.History.{moved_so_far, stops_so_far};
+
+use crate::history::History;
+use crate::source::Source;
+use std::io;
+use std::io::Read;
+
+/// Bytes in memory, as a source that never fails. At run time it is just the bytes that are left.
+#[derive(Drop)]
+pub struct Held<'a> {
+    left: &'a [u8],
+    history: History,
+}
+
+impl<'a> Held<'a> {
+    /// All of the bytes.
+    pub fn new(bytes: &'a [u8]) -> Held<'a>
+        ensures { held_bytes result ≡ bytes.now }
+    {
+        Held {
+            left: bytes,
+            history: History::new(),
+        }
+    }
+}
+
+impl<'a> Read for Held<'a> {
+    ghost remaining = { λ s. Some (held_bytes s) };
+
+    fn read(&mut self, buf: &mut [u8]) -> io::Result<usize> {
+        self.give(buf)
+    }
+}
+
+impl<'a> Source for Held<'a> {
+    ghost given = { λ s. moved_so_far s.history };
+
+    ghost failures = { λ _. 0 };
+
+    ghost ends = { λ s. stops_so_far s.history };
+
+    fn give(&mut self, buf: &mut [u8]) -> io::Result<usize> {
+        let read = self.left.read(buf);
+        self.history.add(&read, buf);
+        read
+    }
+}

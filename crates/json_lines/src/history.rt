@@ -1,0 +1,92 @@
+//! What a reader or a writer did so far. Only contracts read it, and it takes no memory.
+
+ghost use Rattle.std.specs.Prelude.{◌≡◌, ◌+◌, ◌++◌, ◌∷◌, [], length};
+ghost use Rattle.std.specs.Io.{WritesAtMost};
+ghost use Rattle.json_lines.specs.History.{moved_so_far, failures_so_far, stops_so_far, flushes_so_far};
+ghost use Rattle.json_lines.specs.Moves.{moved, failure_count, stops_after};
+
+use boxcar::tag::{Names, Tag};
+use std::io;
+
+/// The bytes that went through, and lists by whose lengths calls are counted.
+#[derive(Drop)]
+pub(crate) struct History {
+    moved: Tag,
+    failed: Tag,
+    stopped: Tag,
+    flushed: Tag,
+}
+
+#[derive(Drop)]
+struct More<'a> {
+    before: &'a Tag,
+    bytes: &'a [u8],
+}
+
+struct Then;
+
+impl<'a> Names<More<'a>> for Then {
+    ghost numbers = { λ m. m.before.now.numbers ++ m.bytes.now };
+}
+
+impl Names<Tag> for Then {
+    ghost numbers = { λ t. 0 ∷ t.numbers };
+}
+
+/// The bytes before, and then these.
+fn with_bytes(before: &Tag, bytes: &[u8]) -> Tag
+    ensures { result.numbers ≡ before.now.numbers ++ bytes.now }
+{
+    Tag::of::<More, Then>(&More { before, bytes })
+}
+
+fn one_longer(before: &Tag) -> Tag
+    ensures { length result.numbers ≡ length before.now.numbers + 1 }
+{
+    Tag::of::<Tag, Then>(before)
+}
+
+impl History {
+    /// Nothing was done.
+    pub(crate) fn new() -> History
+        ensures moved { moved_so_far result ≡ [] }
+        ensures failures { failures_so_far result ≡ 0 }
+        ensures stops { stops_so_far result ≡ 0 }
+        ensures flushes { flushes_so_far result ≡ 0 }
+    {
+        History {
+            moved: Tag::empty(),
+            failed: Tag::empty(),
+            stopped: Tag::empty(),
+            flushed: Tag::empty(),
+        }
+    }
+
+    /// One call more, which moved bytes of `buf`, failed, or stopped.
+    pub(crate) fn add(&mut self, call: &io::Result<usize>, buf: &[u8])
+        requires { WritesAtMost call.now buf.now }
+        ensures moved { moved_so_far self.new ≡ moved_so_far self.old ++ moved call.now buf.now }
+        ensures failures { failures_so_far self.new ≡ failures_so_far self.old + failure_count call.now }
+        ensures stops { stops_so_far self.new ≡ stops_after call.now (length buf.now) (stops_so_far self.old) }
+        ensures flushes { flushes_so_far self.new ≡ flushes_so_far self.old }
+    {
+        match *call {
+            Ok(0) if !buf.is_empty() => self.stopped = one_longer(&self.stopped),
+            Ok(n) => self.moved = with_bytes(&self.moved, &buf[..n]),
+            Err(_) => self.failed = one_longer(&self.failed),
+        }
+    }
+
+    /// One flush more.
+    pub(crate) fn add_flush(&mut self, call: &io::Result<()>)
+        ensures moved { moved_so_far self.new ≡ moved_so_far self.old }
+        ensures failures { failures_so_far self.new ≡ failures_so_far self.old + failure_count call.now }
+        ensures stops { stops_so_far self.new ≡ stops_so_far self.old }
+        ensures flushes { flushes_so_far self.new ≡ flushes_so_far self.old + 1 }
+    {
+        self.flushed = one_longer(&self.flushed);
+        if call.is_err() {
+            self.failed = one_longer(&self.failed);
+        }
+    }
+}
