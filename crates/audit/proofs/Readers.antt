@@ -1,7 +1,8 @@
 -- What two readers say, put together.
-use Rattle.std.proofs.Common.{◌≡◌, ◌⊎◌, inl, inr, ℕ, true, false, List, Option, Some, None, Result, Ok, Err}
-use Rattle.std.specs.Prelude.{IfSome, IfOk, IfErr, OnOk}
-use Rattle.std.specs.Io.KnownBytes.{Appends, Consumes}
+use Rattle.std.proofs.Common.{◌≡◌, ◌⊎◌, inl, inr, ℕ, true, false, List, ◌++◌, Option, Result, Ok, Err}
+use Rattle.std.specs.Prelude.{IfOk, IfErr, OnOk}
+use Rattle.json_lines.specs.Given.{OfBytes, OfWhole, OfInput}
+use Rattle.json_lines.proofs.Given.{of_bytes-map, of_whole-map, of_input-map}
 use Rattle.trace_lines.specs.Values.{TraceValue}
 use Rattle.trace_lines.specs.Traces.{trace_of}
 use Rattle.evidence_check.specs.Reading as evidence
@@ -14,36 +15,37 @@ use Rattle.audit.specs.declared.audit.Verdict.{Verdict}
 use Rattle.audit.specs.declared.audit.AuditFault.{AuditFault}
 use Rattle.audit.specs.declared.audit.AuditFault.TheVariants as faults
 
-pub refused_evidence : (x y : Option (List ℕ)) (t : TraceValue) (f : EvidenceFault) → IfSome x (λ a. trace_of true a ≡ Ok t)
-    → IfSome y (λ b. evidence.FailsBy f.cause f (evidence_of t.entries true b)) → IfSome x (λ a. IfSome y (λ b. RefusesEvidence a b f))
-refused_evidence None y t f h k = tt
-refused_evidence (Some a) None t f h k = tt
-refused_evidence (Some a) (Some b) t f h k = (t, h, k)
+module _ {A B : Type 0} (given_a : A → List ℕ) (ends_a : A → ℕ) (a0 a1 : A) (given_b : B → List ℕ) (ends_b : B → ℕ) (b0 b1 : B) (t : TraceValue)
+    (says : OfWhole given_a ends_a a0 a1 (λ a. trace_of true a ≡ Ok t)) where
+  pub refused_evidence : (f : EvidenceFault) → OfInput given_b ends_b b0 b1 (λ b. evidence.FailsBy f.cause f (evidence_of t.entries true b))
+      → OfWhole given_a ends_a a0 a1 (λ a. OfInput given_b ends_b b0 b1 (λ b. RefusesEvidence a b f))
+  refused_evidence f h =
+      of_whole-map given_a ends_a a0 a1 (λ a. trace_of true a ≡ Ok t) (λ a. OfInput given_b ends_b b0 b1 (λ b. RefusesEvidence a b f))
+      (λ a is. of_input-map given_b ends_b b0 b1 (λ b. evidence.FailsBy f.cause f (evidence_of t.entries true b)) (λ b. RefusesEvidence a b f) (λ b by. (t, is, by)) h) says
 
-pub cut_evidence : (x y z : Option (List ℕ)) (t : TraceValue) (f : EvidenceFault) → IfSome x (λ a. trace_of true a ≡ Ok t)
-    → IfSome y (λ b. (given : List ℕ) × Consumes y z given × (evidence_of t.entries false given ≡ Err f)) → CutsEvidence x y z f
-cut_evidence None y z t f h k = tt
-cut_evidence (Some a) None z t f h k = tt
-cut_evidence (Some a) (Some b) z t f h k = (t, h, k.0, k.1, k.2)
+  pub cut_evidence : (f : EvidenceFault) → OfBytes given_b b0 b1 (λ b. evidence_of t.entries false b ≡ Err f)
+      → OfWhole given_a ends_a a0 a1 (λ a. OfBytes given_b b0 b1 (λ b. CutsEvidence a b f))
+  cut_evidence f h =
+      of_whole-map given_a ends_a a0 a1 (λ a. trace_of true a ≡ Ok t) (λ a. OfBytes given_b b0 b1 (λ b. CutsEvidence a b f))
+      (λ a is. of_bytes-map given_b b0 b1 (λ b. evidence_of t.entries false b ≡ Err f) (λ b. CutsEvidence a b f) (λ b by. (t, is, by)) h) says
 
-pub audited : (x y old new : Option (List ℕ)) (t : TraceValue) (given : List (Option (List StepValue))) (v : Verdict) → IfSome x (λ a. trace_of true a ≡ Ok t)
-    → IfSome y (λ b. evidence_of t.entries true b ≡ Ok given) → Appends old new (report_on t given) → v ≡ verdict_of (findings_of t given)
-    → IfSome x (λ a. IfSome y (λ b. Audits a b old new v))
-audited None y old new t given v h k w e = tt
-audited (Some a) None old new t given v h k w e = tt
-audited (Some a) (Some b) old new t given v h k w e = (t, given, h, k, w, e)
+  -- what the bytes of both say, where they are a trace and evidence for it
+  on_both : (P : List ℕ → List ℕ → Type 0) (given : List (Option (List StepValue))) → OfWhole given_b ends_b b0 b1 (λ b. evidence_of t.entries true b ≡ Ok given)
+      → ((a b : List ℕ) → trace_of true a ≡ Ok t → evidence_of t.entries true b ≡ Ok given → P a b)
+      → OfWhole given_a ends_a a0 a1 (λ a. OfWhole given_b ends_b b0 b1 (λ b. P a b))
+  on_both P given h f =
+      of_whole-map given_a ends_a a0 a1 (λ a. trace_of true a ≡ Ok t) (λ a. OfWhole given_b ends_b b0 b1 (λ b. P a b))
+      (λ a is. of_whole-map given_b ends_b b0 b1 (λ b. evidence_of t.entries true b ≡ Ok given) (λ b. P a b) (λ b by. f a b is by) h) says
 
-pub audited_if : (r : Result Verdict AuditFault) (x y old new : Option (List ℕ)) (t : TraceValue) (given : List (Option (List StepValue))) → IfSome x (λ a. trace_of true a ≡ Ok t)
-    → IfSome y (λ b. evidence_of t.entries true b ≡ Ok given) → OnOk r (Appends old new (report_on t given)) → IfOk r (λ v. v ≡ verdict_of (findings_of t given))
-    → IfOk r (λ v. IfSome x (λ a. IfSome y (λ b. Audits a b old new v)))
-audited_if (Ok v) x y old new t given h k w e = audited x y old new t given v h k w e
-audited_if (Err f) x y old new t given h k w e = tt
+  pub audited_if : (r : Result Verdict AuditFault) (old new : List ℕ) (given : List (Option (List StepValue))) → OfWhole given_b ends_b b0 b1 (λ b. evidence_of t.entries true b ≡ Ok given)
+      → OnOk r (new ≡ old ++ report_on t given) → IfOk r (λ v. v ≡ verdict_of (findings_of t given))
+      → IfOk r (λ v. OfWhole given_a ends_a a0 a1 (λ a. OfWhole given_b ends_b b0 b1 (λ b. Audits a b old new v)))
+  audited_if (Ok v) old new given h w e = on_both (λ a b. Audits a b old new v) given h (λ a b is by. (t, given, is, by, w, e))
+  audited_if (Err f) old new given h w e = tt
 
-pub broken : (x y old new : Option (List ℕ)) (n : ℕ) (t : TraceValue) (given : List (Option (List StepValue))) → IfSome x (λ a. trace_of true a ≡ Ok t)
-    → IfSome y (λ b. evidence_of t.entries true b ≡ Ok given) → FailsWriting old new n (report_on t given) → IfSome x (λ a. IfSome y (λ b. Breaks a b old new n))
-broken None y old new n t given h k w = tt
-broken (Some a) None old new n t given h k w = tt
-broken (Some a) (Some b) old new n t given h k w = (t, given, h, k, w)
+  pub broken : (old new : List ℕ) (n : ℕ) (given : List (Option (List StepValue))) → OfWhole given_b ends_b b0 b1 (λ b. evidence_of t.entries true b ≡ Ok given)
+      → FailsWriting old new n (report_on t given) → OfWhole given_a ends_a a0 a1 (λ a. OfWhole given_b ends_b b0 b1 (λ b. Breaks a b old new n))
+  broken old new n given h w = on_both (λ a b. Breaks a b old new n) given h (λ a b is by. (t, given, is, by, w))
 
 -- writing fails by the writer, and else for want of memory
 pub devices_of_writing : (r : Result Verdict AuditFault) (trace evidence out : Type 0) → IfErr r (λ e. (e ≡ faults.OutOfMemory) ⊎ IsWrite e) → IfErr r (λ e. IsWrite e → out)

@@ -1,7 +1,5 @@
 -- What an audit answers and writes.
-use Rattle.std.specs.Prelude.{◌≡◌, ◌≢◌, ℕ, ◌≤◌, true, false, List, [], ◌∷◌, length, take, Option, Ok, Err, IfSome, ⊤}
-use Rattle.std.specs.Io.KnownBytes.{Appends, Consumes}
-use Rattle.json_lines.specs.Counts.{one_more}
+use Rattle.std.specs.Prelude.{◌≡◌, ◌≢◌, ℕ, ◌+◌, ◌≤◌, true, false, List, [], ◌∷◌, ◌++◌, length, take, Option, Ok, Err, ⊤}
 use Rattle.trace_lines.specs.Values.{TraceValue}
 use Rattle.trace_lines.specs.Traces.{trace_of}
 use Rattle.trace_lines.specs.Results.{FailsBy}
@@ -39,16 +37,16 @@ IsUnwritten (faults.Write n) = ⊥
 IsUnwritten _ = ⊤
 
 -- the first n bytes of the report went out, and no others
-abbrev pub FailsWriting : Option (List ℕ) → Option (List ℕ) → ℕ → List ℕ → Type 0
-FailsWriting old new n report = (n ≤ length report) × Appends old new (take n report)
+abbrev pub FailsWriting : List ℕ → List ℕ → ℕ → List ℕ → Type 0
+FailsWriting old new n report = (n ≤ length report) × (new ≡ old ++ take n report)
 
 -- ---- what the readers' bytes say
 
 -- the bytes say a trace and evidence for it, and the report on them went out
-abbrev pub Audits : List ℕ → List ℕ → Option (List ℕ) → Option (List ℕ) → Verdict → Type 0
+abbrev pub Audits : List ℕ → List ℕ → List ℕ → List ℕ → Verdict → Type 0
 Audits a b old new v =
     (t : TraceValue) × (given : List (Option (List StepValue))) × (trace_of true a ≡ Ok t) × (evidence_of t.entries true b ≡ Ok given)
-    × Appends old new (report_on t given) × (v ≡ verdict_of (findings_of t given))
+    × (new ≡ old ++ report_on t given) × (v ≡ verdict_of (findings_of t given))
 
 -- the fault is that of the bytes of a trace
 abbrev pub RefusesTrace : List ℕ → TraceFault → Type 0
@@ -59,7 +57,7 @@ abbrev pub RefusesEvidence : List ℕ → List ℕ → EvidenceFault → Type 0
 RefusesEvidence a b f = (t : TraceValue) × (trace_of true a ≡ Ok t) × evidence.FailsBy f.cause f (evidence_of t.entries true b)
 
 -- the bytes say a trace and evidence for it, and the report on them went out up to its first n bytes
-abbrev pub Breaks : List ℕ → List ℕ → Option (List ℕ) → Option (List ℕ) → ℕ → Type 0
+abbrev pub Breaks : List ℕ → List ℕ → List ℕ → List ℕ → ℕ → Type 0
 Breaks a b old new n =
     (t : TraceValue) × (given : List (Option (List StepValue))) × (trace_of true a ≡ Ok t) × (evidence_of t.entries true b ≡ Ok given)
     × FailsWriting old new n (report_on t given)
@@ -68,16 +66,11 @@ Breaks a b old new n =
 
 -- a count of failures rose by one
 abbrev pub HasRisen : ℕ → ℕ → Type 0
-HasRisen old new = new ≡ one_more old
+HasRisen old new = new ≡ old + 1
 
--- The reader failed, and the fault is of the line that its bytes had come to.
-abbrev pub CutsTrace : Option (List ℕ) → Option (List ℕ) → TraceFault → Type 0
-CutsTrace old new f = IfSome old (λ a. (given : List ℕ) × Consumes old new given × (trace_of false given ≡ Err f))
-
--- the same of the evidence for the trace of some bytes
-abbrev pub CutsEvidence : Option (List ℕ) → Option (List ℕ) → Option (List ℕ) → EvidenceFault → Type 0
-CutsEvidence trace old new f = IfSome trace (λ a. IfSome old (λ b.
-    (t : TraceValue) × (trace_of true a ≡ Ok t) × (given : List ℕ) × Consumes old new given × (evidence_of t.entries false given ≡ Err f)))
+-- The reader of the evidence failed, and the fault is of the line that its bytes had come to.
+abbrev pub CutsEvidence : List ℕ → List ℕ → EvidenceFault → Type 0
+CutsEvidence a came f = (t : TraceValue) × (trace_of true a ≡ Ok t) × (evidence_of t.entries false came ≡ Err f)
 
 -- the fault of a device is answered only where that device failed
 abbrev pub IsOfDevices : (input trace evidence out : Type 0) → AuditFault → Type 0
@@ -86,6 +79,14 @@ IsOfDevices input trace evidence out (faults.Evidence f) = f.cause ≡ evidence_
 IsOfDevices input trace evidence out (faults.Write n) = out
 IsOfDevices input trace evidence out faults.Input = input
 IsOfDevices input trace evidence out _ = ⊤
+
+-- a fault that no device has
+abbrev pub IsOfNoDevice : AuditFault → Type 0
+IsOfNoDevice (faults.Trace f) = f.cause ≢ causes.Read
+IsOfNoDevice (faults.Evidence f) = f.cause ≢ evidence_causes.Read
+IsOfNoDevice (faults.Write n) = ⊥
+IsOfNoDevice faults.Input = ⊥
+IsOfNoDevice _ = ⊤
 
 -- ---- which faults there are: want of memory is told as such, whatever it stopped
 

@@ -1,7 +1,9 @@
 //! The audit on one thread.
 
-ghost use Rattle.std.specs.Prelude.{◌≡◌, ◌⊎◌, ℕ, List, true, false, Ok, IfOk, IfErr, IfSome, OnOk, Err, string_bytes};
-ghost use Rattle.std.specs.Io.KnownBytes.{Appends, Consumes, Keeps};
+ghost use Rattle.std.specs.Prelude.{◌≡◌, ◌⊎◌, ℕ, ◌+◌, ◌≤◌, ◌++◌, length, true, false, Ok, IfOk, IfErr, OnOk, Err, string_bytes};
+ghost use Rattle.json_lines.specs.Given.{OfBytes, OfWhole, OfInput, AreNext};
+ghost use Rattle.json_lines.specs.declared.lines.TheConstants.{CHUNK};
+ghost use Rattle.json_lines.specs.declared.reading.TheConstants.{MAX_INPUT};
 ghost use Rattle.trace_lines.specs.declared.cause.Cause.TheVariants as causes;
 ghost use Rattle.trace_lines.specs.declared.cause.TraceFault.{TraceFault};
 ghost use Rattle.evidence_check.specs.declared.cause.EvidenceCause.TheVariants as evidence_causes;
@@ -10,7 +12,7 @@ ghost use Rattle.trace_lines.specs.Traces.{trace_of};
 ghost use Rattle.evidence_check.specs.Reading as evidence;
 ghost use Rattle.evidence_check.specs.Reading.{evidence_of};
 ghost use Rattle.evidence_check.specs.Evidences.{evidence_value};
-ghost use Rattle.audit.specs.Audit.{verdict_of, report_on, Audits, Breaks, RefusesTrace, RefusesEvidence, CutsTrace, CutsEvidence, HasRisen, IsOfDevices, IsWrite, IsUnwritten, FailsWriting, IsOfTrace, IsOfEvidence, IsOfAudit};
+ghost use Rattle.audit.specs.Audit.{verdict_of, report_on, Audits, Breaks, RefusesTrace, RefusesEvidence, CutsEvidence, HasRisen, IsOfDevices, IsOfNoDevice, IsWrite, IsUnwritten, FailsWriting, IsOfTrace, IsOfEvidence, IsOfAudit};
 ghost use Rattle.audit.specs.declared.audit.AuditFault.TheVariants as faults;
 ghost use Rattle.audit.specs.Findings.{findings_of};
 ghost use Rattle.audit.specs.Headline.{IsRightAndFresh, IsTraceRightAndFresh};
@@ -100,14 +102,15 @@ pub fn audit_values<W: Sink>(
     ensures verdict { IfOk result (λ v. v ≡ verdict_of (findings_of trace.now (evidence_value evidence.now))) }
     // Whoever made the evidence.
     ensures headline { result ≡ Ok Clean → IsRightAndFresh trace.now }
-    ensures report { OnOk result (Appends (W.contents out.old) (W.contents out.new) (report_on trace.now (evidence_value evidence.now))) }
+    ensures report { OnOk result (W.taken out.new ≡ W.taken out.old ++ report_on trace.now (evidence_value evidence.now)) }
+    ensures flushed { OnOk result (W.flushes out.new ≡ W.flushes out.old + 1) }
     // The first n bytes went out, and the writer failed or took none of some.
-    ensures write { (n : ℕ) → result ≡ Err (faults.Write n) → FailsWriting (W.contents out.old) (W.contents out.new) n (report_on trace.now (evidence_value evidence.now)) }
+    ensures write { (n : ℕ) → result ≡ Err (faults.Write n) → FailsWriting (W.taken out.old) (W.taken out.new) n (report_on trace.now (evidence_value evidence.now)) }
     ensures device { IfErr result (λ e. IsWrite e → HasRisen (W.failures out.old) (W.failures out.new) ⊎ HasRisen (W.idle out.old) (W.idle out.new)) }
     ensures kept { OnOk result (W.failures out.new ≡ W.failures out.old) }
     // Of memory alone nothing is written.
     ensures faults { IfErr result (λ e. (e ≡ faults.OutOfMemory) ⊎ IsWrite e) }
-    ensures unwritten { IfErr result (λ e. IsUnwritten e → Keeps (W.contents out.old) (W.contents out.new)) }
+    ensures unwritten { IfErr result (λ e. IsUnwritten e → (W.taken out.new ≡ W.taken out.old) × (W.failures out.new ≡ W.failures out.old)) }
 {
     valid_strata(trace);
     fresh_without_findings(trace);
@@ -122,11 +125,14 @@ pub fn audit_values<W: Sink>(
 
 /// The trace of a reader.
 fn trace_from<R: Source>(alloc: Global, reader: &mut R) -> Result<Trace, AuditFault>
-    ensures given { IfOk result (λ t. IfSome (R.remaining reader.old) (λ a. trace_of true a ≡ Ok t)) }
-    ensures refused { (f : TraceFault) → result ≡ Err (faults.Trace f) → IfSome (R.remaining reader.old) (λ a. RefusesTrace a f) }
-    ensures cut { (f : TraceFault) → result ≡ Err (faults.Trace f) → f.cause ≡ causes.Read → CutsTrace (R.remaining reader.old) (R.remaining reader.new) f }
+    ensures given { IfOk result (λ t. OfWhole R.given R.ends reader.old reader.new (λ a. trace_of true a ≡ Ok t)) }
+    ensures refused { (f : TraceFault) → result ≡ Err (faults.Trace f) → OfInput R.given R.ends reader.old reader.new (λ a. RefusesTrace a f) }
+    ensures cut { (f : TraceFault) → result ≡ Err (faults.Trace f) → f.cause ≡ causes.Read → OfBytes R.given reader.old reader.new (λ a. trace_of false a ≡ Err f) }
+    ensures most { OfBytes R.given reader.old reader.new (λ a. length a ≤ MAX_INPUT + CHUNK) }
+    ensures known { AreNext R.given R.ends R.remaining reader.old reader.new }
     ensures device { (f : TraceFault) → result ≡ Err (faults.Trace f) → f.cause ≡ causes.Read → HasRisen (R.failures reader.old) (R.failures reader.new) }
     ensures kept { OnOk result (R.failures reader.new ≡ R.failures reader.old) }
+    ensures unfailed { IfErr result (λ e. IsOfNoDevice e → R.failures reader.new ≡ R.failures reader.old) }
     ensures faults { IfErr result IsOfTrace }
 {
     match read_trace(alloc, reader) {
@@ -147,12 +153,14 @@ fn evidence_from<R: Source>(
     reader: &mut R,
     trace: &Trace,
 ) -> Result<Evidence, AuditFault>
-    ensures given { IfOk result (λ e. IfSome (R.remaining reader.old) (λ b. evidence_of trace.now.entries true b ≡ Ok (evidence_value e))) }
-    ensures refused { (f : EvidenceFault) → result ≡ Err (faults.Evidence f) → IfSome (R.remaining reader.old) (λ b. evidence.FailsBy f.cause f (evidence_of trace.now.entries true b)) }
-    ensures cut { (f : EvidenceFault) → result ≡ Err (faults.Evidence f) → f.cause ≡ evidence_causes.Read → IfSome (R.remaining reader.old) (λ b.
-        (given : List ℕ) × Consumes (R.remaining reader.old) (R.remaining reader.new) given × (evidence_of trace.now.entries false given ≡ Err f)) }
+    ensures given { IfOk result (λ e. OfWhole R.given R.ends reader.old reader.new (λ b. evidence_of trace.now.entries true b ≡ Ok (evidence_value e))) }
+    ensures refused { (f : EvidenceFault) → result ≡ Err (faults.Evidence f) → OfInput R.given R.ends reader.old reader.new (λ b. evidence.FailsBy f.cause f (evidence_of trace.now.entries true b)) }
+    ensures cut { (f : EvidenceFault) → result ≡ Err (faults.Evidence f) → f.cause ≡ evidence_causes.Read → OfBytes R.given reader.old reader.new (λ b. evidence_of trace.now.entries false b ≡ Err f) }
+    ensures most { OfBytes R.given reader.old reader.new (λ b. length b ≤ MAX_INPUT + CHUNK) }
+    ensures known { AreNext R.given R.ends R.remaining reader.old reader.new }
     ensures device { (f : EvidenceFault) → result ≡ Err (faults.Evidence f) → f.cause ≡ evidence_causes.Read → HasRisen (R.failures reader.old) (R.failures reader.new) }
     ensures kept { OnOk result (R.failures reader.new ≡ R.failures reader.old) }
+    ensures unfailed { IfErr result (λ e. IsOfNoDevice e → R.failures reader.new ≡ R.failures reader.old) }
     ensures faults { IfErr result IsOfEvidence }
 {
     match read_evidence(alloc, reader, trace) {
@@ -170,33 +178,41 @@ fn evidence_from<R: Source>(
 /// Audits a trace by its evidence, and writes the report: a line for each finding, by trace line, then how many
 /// entries and findings there are, and the verdict.
 ///
-/// The report is whole before its first byte is written, and nothing is written where a reader's bytes are
-/// refused or memory runs out. `Read` of either reader, and `Write`, are answered only where that device failed; `Write`
-/// also where it took none of some bytes.
+/// The report is whole before its first byte is written, and a flush is asked for behind its last; nothing is written
+/// where a reader's bytes are refused or memory runs out. `Read` of either reader, and `Write`, are answered only where
+/// that device failed; `Write` also where it took none of some bytes. At most 2^30 + 65,536 bytes are taken from either
+/// reader, also from one that never ends.
 pub fn audit_plain<A: Source, B: Source, W: Sink>(
     alloc: Global,
     trace: &mut A,
     evidence: &mut B,
     out: &mut W,
 ) -> Result<Verdict, AuditFault>
-    // The report on what the readers' bytes say went out, and the verdict is its last line.
-    ensures audits { IfOk result (λ v. IfSome (A.remaining trace.old) (λ a. IfSome (B.remaining evidence.old) (λ b.
-        Audits a b (W.contents out.old) (W.contents out.new) v))) }
+    // The report on what the readers gave, to their ends, went out whole, and the verdict is its last line.
+    ensures audits { IfOk result (λ v. OfWhole A.given A.ends trace.old trace.new (λ a. OfWhole B.given B.ends evidence.old evidence.new (λ b.
+        Audits a b (W.taken out.old) (W.taken out.new) v))) }
+    ensures flushed { OnOk result (W.flushes out.new ≡ W.flushes out.old + 1) }
     // A clean verdict says that each reply is what the rules mean over the tuples committed up to its snapshot, and that no check is older
     // than its zookie, nor than any access change committed before the content check of the version that it names.
-    ensures headline { result ≡ Ok Clean → IfSome (A.remaining trace.old) IsTraceRightAndFresh }
-    ensures trace { (f : TraceFault) → result ≡ Err (faults.Trace f) → IfSome (A.remaining trace.old) (λ a. RefusesTrace a f) }
-    ensures trace_cut { (f : TraceFault) → result ≡ Err (faults.Trace f) → f.cause ≡ causes.Read → CutsTrace (A.remaining trace.old) (A.remaining trace.new) f }
-    ensures evidence { (f : EvidenceFault) → result ≡ Err (faults.Evidence f) → IfSome (A.remaining trace.old) (λ a. IfSome (B.remaining evidence.old) (λ b.
+    ensures headline { result ≡ Ok Clean → OfWhole A.given A.ends trace.old trace.new IsTraceRightAndFresh }
+    // A refusal holds of every input that begins with the bytes that came.
+    ensures trace { (f : TraceFault) → result ≡ Err (faults.Trace f) → OfInput A.given A.ends trace.old trace.new (λ a. RefusesTrace a f) }
+    ensures trace_cut { (f : TraceFault) → result ≡ Err (faults.Trace f) → f.cause ≡ causes.Read → OfBytes A.given trace.old trace.new (λ a. trace_of false a ≡ Err f) }
+    ensures evidence { (f : EvidenceFault) → result ≡ Err (faults.Evidence f) → OfWhole A.given A.ends trace.old trace.new (λ a. OfInput B.given B.ends evidence.old evidence.new (λ b.
         RefusesEvidence a b f)) }
     ensures evidence_cut { (f : EvidenceFault) → result ≡ Err (faults.Evidence f) → f.cause ≡ evidence_causes.Read
-        → CutsEvidence (A.remaining trace.old) (B.remaining evidence.old) (B.remaining evidence.new) f }
-    ensures write { (n : ℕ) → result ≡ Err (faults.Write n) → IfSome (A.remaining trace.old) (λ a. IfSome (B.remaining evidence.old) (λ b.
-        Breaks a b (W.contents out.old) (W.contents out.new) n)) }
-    ensures unwritten { IfErr result (λ e. IsUnwritten e → Keeps (W.contents out.old) (W.contents out.new)) }
+        → OfWhole A.given A.ends trace.old trace.new (λ a. OfBytes B.given evidence.old evidence.new (λ b. CutsEvidence a b f)) }
+    ensures write { (n : ℕ) → result ≡ Err (faults.Write n) → OfWhole A.given A.ends trace.old trace.new (λ a. OfWhole B.given B.ends evidence.old evidence.new (λ b.
+        Breaks a b (W.taken out.old) (W.taken out.new) n)) }
+    ensures unwritten { IfErr result (λ e. IsUnwritten e → W.taken out.new ≡ W.taken out.old) }
+    // Also of readers that never end.
+    ensures most { OfBytes A.given trace.old trace.new (λ a. length a ≤ MAX_INPUT + CHUNK) × OfBytes B.given evidence.old evidence.new (λ b. length b ≤ MAX_INPUT + CHUNK) }
+    ensures known { AreNext A.given A.ends A.remaining trace.old trace.new × AreNext B.given B.ends B.remaining evidence.old evidence.new }
     ensures devices { IfErr result (IsOfDevices ⊥ (HasRisen (A.failures trace.old) (A.failures trace.new)) (HasRisen (B.failures evidence.old) (B.failures evidence.new))
         (HasRisen (W.failures out.old) (W.failures out.new) ⊎ HasRisen (W.idle out.old) (W.idle out.new))) }
+    // Any other answer comes only where no device failed.
     ensures kept { OnOk result ((A.failures trace.new ≡ A.failures trace.old) × (B.failures evidence.new ≡ B.failures evidence.old) × (W.failures out.new ≡ W.failures out.old)) }
+    ensures unfailed { IfErr result (λ e. IsOfNoDevice e → (A.failures trace.new ≡ A.failures trace.old) × (B.failures evidence.new ≡ B.failures evidence.old) × (W.failures out.new ≡ W.failures out.old)) }
     ensures faults { IfErr result IsOfAudit }
 {
     let trace = trace_from(alloc, trace)?;

@@ -1,7 +1,7 @@
 //! The audit of joined input.
 
-ghost use Rattle.std.specs.Prelude.{◌≡◌, ◌≢◌, ◌⊎◌, ℕ, ◌<◌, ◌≤◌, ◌^◌, length, drop, option_map, Ok, Err, IfOk, IfErr, IfSome};
-ghost use Rattle.std.specs.Io.KnownBytes.{Keeps};
+ghost use Rattle.std.specs.Prelude.{◌≡◌, ◌≢◌, ◌⊎◌, ℕ, ◌+◌, ◌<◌, ◌≤◌, length, drop, option_map, Ok, Err, IfOk, IfErr, OnOk};
+ghost use Rattle.json_lines.specs.Given.{OfBytes, OfWhole, OfInput};
 ghost use Rattle.trace_lines.specs.declared.cause.TraceFault.{TraceFault};
 ghost use Rattle.evidence_check.specs.declared.cause.EvidenceFault.{EvidenceFault};
 ghost use Rattle.audit.specs.Audit.{Audits, Breaks, RefusesTrace, RefusesEvidence, HasRisen, IsOfDevices, IsUnwritten, IsOfReading, IsOfJoined};
@@ -11,13 +11,14 @@ ghost use Rattle.audit.specs.declared.audit.AuditFault.TheVariants as faults;
 ghost use Rattle.audit.specs.declared.audit.Verdict.TheVariants.{Clean};
 
 use crate::audit::{AuditFault, Verdict, audit_plain};
-use json_lines::{CHUNK, MAX_INPUT, Sink, Source, line_end};
+use json_lines::{CHUNK, Held, MAX_INPUT, Sink, Source, line_end};
 use std::alloc::Global;
 
 /// All bytes of a reader.
 fn read_whole<R: Source>(alloc: Global, input: &mut R) -> Result<Vec<u8>, AuditFault>
-    ensures whole { IfOk result (λ v. (length v.items ≤ 2 ^ 30) × IfSome (R.remaining input.old) (λ bytes. v.items ≡ bytes)) }
-    ensures long { result ≡ Err faults.Joined → IfSome (R.remaining input.old) (λ bytes. 2 ^ 30 < length bytes) }
+    ensures whole { IfOk result (λ v. (length v.items ≤ MAX_INPUT) × OfWhole R.given R.ends input.old input.new (λ came. v.items ≡ came)) }
+    ensures long { result ≡ Err faults.Joined → OfBytes R.given input.old input.new (λ came. MAX_INPUT < length came) }
+    ensures most { OfBytes R.given input.old input.new (λ came. length came ≤ MAX_INPUT + CHUNK) }
     ensures device { result ≡ Err faults.Input → HasRisen (R.failures input.old) (R.failures input.new) }
     ensures kept { result ≢ Err faults.Input → R.failures input.new ≡ R.failures input.old }
     ensures causes { IfErr result IsOfReading }
@@ -79,21 +80,28 @@ pub fn audit_joined<R: Source, W: Sink>(
     input: &mut R,
     out: &mut W,
 ) -> Result<Verdict, AuditFault>
-    // The report on what the two parts say went out, and the verdict is its last line.
-    ensures audits { IfOk result (λ v. IfSome (R.remaining input.old) (OfParts (λ a b. Audits a b (W.contents out.old) (W.contents out.new) v))) }
+    // The report on what the two parts of the whole input say went out whole, and the verdict is its last line.
+    ensures audits { IfOk result (λ v. OfWhole R.given R.ends input.old input.new (OfParts (λ a b. Audits a b (W.taken out.old) (W.taken out.new) v))) }
+    ensures flushed { OnOk result (W.flushes out.new ≡ W.flushes out.old + 1) }
     // A clean verdict is right and fresh, as that of `audit_plain`.
-    ensures headline { result ≡ Ok Clean → IfSome (R.remaining input.old) (OfParts (λ a b. IsTraceRightAndFresh a)) }
-    ensures trace { (f : TraceFault) → result ≡ Err (faults.Trace f) → IfSome (R.remaining input.old) (OfParts (λ a b. RefusesTrace a f)) }
-    ensures evidence { (f : EvidenceFault) → result ≡ Err (faults.Evidence f) → IfSome (R.remaining input.old) (OfParts (λ a b. RefusesEvidence a b f)) }
-    ensures joined { result ≡ Err faults.Joined → IfSome (R.remaining input.old) HasNoParts }
-    ensures write { (n : ℕ) → result ≡ Err (faults.Write n) → IfSome (R.remaining input.old) (OfParts (λ a b. Breaks a b (W.contents out.old) (W.contents out.new) n)) }
-    ensures unwritten { IfErr result (λ e. IsUnwritten e → Keeps (W.contents out.old) (W.contents out.new)) }
+    ensures headline { result ≡ Ok Clean → OfWhole R.given R.ends input.old input.new (OfParts (λ a b. IsTraceRightAndFresh a)) }
+    ensures trace { (f : TraceFault) → result ≡ Err (faults.Trace f) → OfWhole R.given R.ends input.old input.new (OfParts (λ a b. RefusesTrace a f)) }
+    ensures evidence { (f : EvidenceFault) → result ≡ Err (faults.Evidence f) → OfWhole R.given R.ends input.old input.new (OfParts (λ a b. RefusesEvidence a b f)) }
+    // Of every input that begins with the bytes that came.
+    ensures joined { result ≡ Err faults.Joined → OfInput R.given R.ends input.old input.new HasNoParts }
+    ensures write { (n : ℕ) → result ≡ Err (faults.Write n) → OfWhole R.given R.ends input.old input.new (OfParts (λ a b. Breaks a b (W.taken out.old) (W.taken out.new) n)) }
+    ensures unwritten { IfErr result (λ e. IsUnwritten e → W.taken out.new ≡ W.taken out.old) }
+    // Also of a reader that never ends.
+    ensures most { OfBytes R.given input.old input.new (λ came. length came ≤ MAX_INPUT + CHUNK) }
     ensures devices { IfErr result (IsOfDevices (HasRisen (R.failures input.old) (R.failures input.new)) ⊥ ⊥
         (HasRisen (W.failures out.old) (W.failures out.new) ⊎ HasRisen (W.idle out.old) (W.idle out.new))) }
+    // Any other answer comes only where no device failed.
     ensures kept { result ≢ Err faults.Input → R.failures input.new ≡ R.failures input.old }
+    ensures out_kept { OnOk result (W.failures out.new ≡ W.failures out.old) }
+    ensures out_unfailed { IfErr result (λ e. IsUnwritten e → W.failures out.new ≡ W.failures out.old) }
     ensures faults { IfErr result IsOfJoined }
 {
     let bytes = read_whole(alloc, input)?;
-    let (mut trace, mut evidence) = parts_of(&bytes).ok_or(AuditFault::Joined)?;
-    audit_plain(alloc, &mut trace, &mut evidence, out)
+    let (trace, evidence) = parts_of(&bytes).ok_or(AuditFault::Joined)?;
+    audit_plain(alloc, &mut Held::new(trace), &mut Held::new(evidence), out)
 }

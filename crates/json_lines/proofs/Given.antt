@@ -6,7 +6,7 @@ use Rattle.std.proofs.KnownBytes.{Consumes-nil, Consumes-trans, Consumes-kept, C
 use Rattle.std.proofs.lemmas.Bool.{cases_lt}
 use Rattle.std.proofs.lemmas.Grind.{common_steps}
 use Rattle.std.proofs.lemmas.List.{append_cancel_left, nil_from_length}
-use Rattle.json_lines.specs.Given.{OfBytes, OfInput, AreNext}
+use Rattle.json_lines.specs.Given.{OfBytes, OfWhole, OfInput, AreNext}
 use Rattle.json_lines.specs.Moves.{moved, stops_after}
 
 -- a fact from another, of the same bytes
@@ -17,9 +17,18 @@ pub of_input-map : {R : Type 0} (given : R → List ℕ) (ends : R → ℕ) (old
     → OfInput given ends old new P → OfInput given ends old new Q
 of_input-map given ends old new P Q f h = (h.0, h.1, λ rest ended. f (h.0 ++ rest) (h.2 rest ended))
 
+pub of_whole-map : {R : Type 0} (given : R → List ℕ) (ends : R → ℕ) (old new : R) (P Q : List ℕ → Type 0) → ((input : List ℕ) → P input → Q input)
+    → OfWhole given ends old new P → OfWhole given ends old new Q
+of_whole-map given ends old new P Q f h = (h.0, of_bytes-map given old new P Q f h.1)
+
+-- a whole input is the only one that a reader may have
+pub of_input-whole : {R : Type 0} (given : R → List ℕ) (ends : R → ℕ) (old new : R) (P : List ℕ → Type 0) → OfWhole given ends old new P → OfInput given ends old new P
+of_input-whole given ends old new P h =
+    (h.1.0, h.1.1, λ rest ended. let none : rest ≡ [] = ended (omega (arith, h.0)) in rw none (subst P (sym (append-nil h.1.0)) h.1.2))
+
 -- a reader that was at its end has given its whole input
-pub of_ended : {R : Type 0} (given : R → List ℕ) (ends : R → ℕ) (old new : R) (P : List ℕ → Type 0) → ends old < ends new → OfInput given ends old new P → OfBytes given old new P
-of_ended given ends old new P lt h = (h.0, h.1, subst P (append-nil h.0) (h.2 [] (λ _. refl)))
+pub of_ended : {R : Type 0} (given : R → List ℕ) (ends : R → ℕ) (old new : R) (P : List ℕ → Type 0) → ends new ≡ ends old + 1 → OfInput given ends old new P → OfWhole given ends old new P
+of_ended given ends old new P is h = (is, (h.0, h.1, subst P (append-nil h.0) (h.2 [] (λ _. refl))))
 
 at_end_none : (n count before after : ℕ) → after ≡ stops_after {E = ℕ} (Ok n) count before → before < after → n ≡ 0
 at_end_none n count before after is lt = grind (arith, common_steps)
@@ -90,3 +99,6 @@ module _ {R : Type 0} (given : R → List ℕ) (ends : R → ℕ) (remaining : R
       let cut = left_of (remaining old) (remaining new) left known.0 is known.2.0 in
       let nothing : ends old < ends new → cut.0 ≡ [] = λ lt. append_cancel_left known.0 cut.0 [] (sym cut.1 ∙ sym (at_some (remaining old) left (λ l. known.0 ≡ l) is (known.2.1 lt)) ∙ sym (append-nil known.0)) in
       subst P (ap (λ (l : List ℕ). l ++ cut.0) (sym same) ∙ sym cut.1) (holds.2 cut.0 nothing)
+
+  pub of_known_whole : (P : List ℕ → Type 0) (old new : R) (left : List ℕ) → remaining old ≡ Some left → AreNext given ends remaining old new → OfWhole given ends old new P → P left
+  of_known_whole P old new left is known holds = of_known P old new left is known (of_input-whole given ends old new P holds)

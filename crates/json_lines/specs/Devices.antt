@@ -1,5 +1,5 @@
 -- What a clause reads of the devices of this crate.
-use Rattle.std.specs.Prelude.{ℕ, List}
+use Rattle.std.specs.Prelude.{ℕ, List, Option, Some}
 use Rattle.json_lines.specs.History.{moved_so_far, failures_so_far, stops_so_far, flushes_so_far}
 use Rattle.json_lines.specs.declared.devices.Counted.{Counted}
 use Rattle.json_lines.specs.declared.devices.Failing.{Failing}
@@ -24,9 +24,18 @@ stops_of c = stops_so_far c.history
 abbrev pub flushes_of : {X : Type 0} → Counted X → ℕ
 flushes_of c = flushes_so_far c.history
 
--- the bytes that are left
+-- the bytes in memory that are left
 abbrev pub held_bytes : Held → List ℕ
 held_bytes h = h.left.now
+
+abbrev pub left_in : Held → Option (List ℕ)
+left_in h = Some (held_bytes h)
+
+abbrev pub given_by : Held → List ℕ
+given_by h = moved_so_far h.history
+
+abbrev pub ends_of : Held → ℕ
+ends_of h = stops_so_far h.history
 
 -- the reader or writer that is made to fail
 abbrev pub failing_inner : {X : Type 0} → Failing X → X

@@ -1,10 +1,14 @@
 -- What is said of the bytes that a reader gave during a call: `given` has all that it gave so far, and `ends` counts how often it was at its end.
-use Rattle.std.specs.Prelude.{◌≡◌, ℕ, ◌<◌, List, [], ◌++◌, Option, IfSome}
+use Rattle.std.specs.Prelude.{◌≡◌, ℕ, ◌+◌, ◌<◌, List, [], ◌++◌, Option, IfSome}
 use Rattle.std.specs.Io.KnownBytes.{Consumes}
 
 -- a fact of the bytes that came
 abbrev pub OfBytes : {R : Type 0} → (R → List ℕ) → R → R → (List ℕ → Type 0) → Type 0
 OfBytes given old new P = (came : List ℕ) × (given new ≡ given old ++ came) × P came
+
+-- a fact of the whole input: of the bytes that came, to the reader's end
+abbrev pub OfWhole : {R : Type 0} → (R → List ℕ) → (R → ℕ) → R → R → (List ℕ → Type 0) → Type 0
+OfWhole given ends old new P = (ends new ≡ ends old + 1) × OfBytes given old new P
 
 -- A fact of every input that the reader may have: the bytes that came, and behind them any others, but none where it was at its end.
 abbrev pub OfInput : {R : Type 0} → (R → List ℕ) → (R → ℕ) → R → R → (List ℕ → Type 0) → Type 0

@@ -1,8 +1,7 @@
 //! Bytes in memory, as a source.
 
-ghost use Rattle.std.specs.Prelude.{◌≡◌, Some};
-ghost use Rattle.json_lines.specs.Devices.{held_bytes};
-ghost use Rattle.json_lines.specs.History.{moved_so_far, stops_so_far};
+ghost use Rattle.std.specs.Prelude.{◌≡◌};
+ghost use Rattle.json_lines.specs.Devices.{held_bytes, left_in, given_by, ends_of};
 
 use crate::history::History;
 use crate::source::Source;
@@ -29,7 +28,7 @@ impl<'a> Held<'a> {
 }
 
 impl<'a> Read for Held<'a> {
-    ghost remaining = { λ s. Some (held_bytes s) };
+    ghost remaining = { left_in };
 
     fn read(&mut self, buf: &mut [u8]) -> io::Result<usize> {
         self.give(buf)
@@ -37,11 +36,11 @@ impl<'a> Read for Held<'a> {
 }
 
 impl<'a> Source for Held<'a> {
-    ghost given = { λ s. moved_so_far s.history };
+    ghost given = { given_by };
 
     ghost failures = { λ _. 0 };
 
-    ghost ends = { λ s. stops_so_far s.history };
+    ghost ends = { ends_of };
 
     fn give(&mut self, buf: &mut [u8]) -> io::Result<usize> {
         let read = self.left.read(buf);

@@ -10,20 +10,20 @@ use Rattle.audit.proofs.audit.audit_plain.Goals as goal
 pub returns-in-Err-clause-evidence : goal.returns-in-Err-clause-evidence
 returns-in-Err-clause-evidence g c = λ f e.
     let same : c.in-Err.fault ≡ faults.Evidence f = cc (e) in
-    refused_evidence _ _ c.in_ok-trace.trace f c.in_ok-trace.ensures.given (c.evidence_from.ensures.refused f (c.in-Err.is ∙ ap (λ (x : AuditFault). Err x) same))
+    refused_evidence g.A.Source.given g.A.Source.ends c.args.trace.now c.trace_from.new.reader g.B.Source.given g.B.Source.ends c.args.evidence.now c.evidence_from.new.reader c.in_ok-trace.trace c.in_ok-trace.ensures.given f (c.evidence_from.ensures.refused f (c.in-Err.is ∙ ap (λ (x : AuditFault). Err x) same))
 
 pub returns-in-Err-clause-evidence_cut : goal.returns-in-Err-clause-evidence_cut
 returns-in-Err-clause-evidence_cut g c = λ f e read.
     let same : c.in-Err.fault ≡ faults.Evidence f = cc (e) in
-    cut_evidence _ _ _ c.in_ok-trace.trace f c.in_ok-trace.ensures.given (c.evidence_from.ensures.cut f (c.in-Err.is ∙ ap (λ (x : AuditFault). Err x) same) read)
+    cut_evidence g.A.Source.given g.A.Source.ends c.args.trace.now c.trace_from.new.reader g.B.Source.given g.B.Source.ends c.args.evidence.now c.evidence_from.new.reader c.in_ok-trace.trace c.in_ok-trace.ensures.given f (c.evidence_from.ensures.cut f (c.in-Err.is ∙ ap (λ (x : AuditFault). Err x) same) read)
 
 pub returns-clause-write : goal.returns-clause-write
 returns-clause-write g c = λ n e.
-    broken _ _ _ _ n c.in_ok-trace.trace (evidence_value c.in-Ok.evidence) c.in_ok-trace.ensures.given c.in-Ok.ensures.given (c.audit_values.ensures.write n e)
+    broken g.A.Source.given g.A.Source.ends c.args.trace.now c.trace_from.new.reader g.B.Source.given g.B.Source.ends c.args.evidence.now c.evidence_from.new.reader c.in_ok-trace.trace c.in_ok-trace.ensures.given _ _ n (evidence_value c.in-Ok.evidence) c.in-Ok.ensures.given (c.audit_values.ensures.write n e)
 
 pub returns-clause-audits : goal.returns-clause-audits
 returns-clause-audits g c =
-    audited_if c.audit_values.result _ _ _ _ c.in_ok-trace.trace (evidence_value c.in-Ok.evidence) c.in_ok-trace.ensures.given c.in-Ok.ensures.given c.audit_values.ensures.report c.audit_values.ensures.verdict
+    audited_if g.A.Source.given g.A.Source.ends c.args.trace.now c.trace_from.new.reader g.B.Source.given g.B.Source.ends c.args.evidence.now c.evidence_from.new.reader c.in_ok-trace.trace c.in_ok-trace.ensures.given c.audit_values.result _ _ (evidence_value c.in-Ok.evidence) c.in-Ok.ensures.given c.audit_values.ensures.report c.audit_values.ensures.verdict
 
 pub returns-clause-faults : goal.returns-clause-faults
 returns-clause-faults g c = IfErr-weaker c.audit_values.result _ IsOfAudit of_audit c.audit_values.ensures.faults

@@ -1,4 +1,4 @@
-use Rattle.std.proofs.Common.{sym, ◌∙◌, ◌||◌, refl, rules}
+use Rattle.std.proofs.Common.{sym, ◌∙◌, ◌||◌, [], append-nil, refl, rules}
 use Rattle.evidence_check.specs.Causes.{of_input, is_memory, is_read}
 use Rattle.evidence_check.specs.Reading.{faulted}
 use Rattle.evidence_check.proofs.LineCauses.{readers_own}
@@ -18,3 +18,6 @@ pub returns-in-Err-read_lines-clause-exact : goal.returns-in-Err-read_lines-clau
 returns-in-Err-read_lines-clause-exact g c =
     refused_so_far g.R.Source.given g.R.Source.ends c.args.reader.now c.read_lines.new.reader _ faulted (λ e. is_memory e.cause || is_read e.cause) c.in-Ok.recorder _ c.in-Err-read_lines.fault _ c.in-Ok.ensures (search rules)
     (λ h. rw (c.cause.ensures, h) refl) (λ h. rw (c.cause.ensures, h) refl) c.in-Err-read_lines.ensures.exact
+
+pub returns-in-Err-clause-exact : goal.returns-in-Err-clause-exact
+returns-in-Err-clause-exact g c = ([], sym (append-nil (g.R.Source.given c.args.reader.now)), λ rest ended. tt)
