@@ -1,5 +1,5 @@
 -- All bytes of a reader.
-use Rattle.std.proofs.Common.{◌≡◌, ℕ, ◌+◌, ◌<◌, ◌≤◌, List, [], ◌++◌, length, take, drop, ◌^◌, length-append, Option, Some, Result, Ok, Err, refl, subst, sym, ap, ◌∙◌, append_assoc, append-nil, arith}
+use Rattle.std.proofs.Common.{◌≡◌, ℕ, ◌+◌, ◌<◌, ◌≤◌, List, [], ◌++◌, length, take, drop, ◌^◌, length-append, Option, Some, Result, Ok, Err, refl, subst, sym, ap, ◌∙◌, append_assoc, append-nil, arith, inr}
 use Rattle.std.specs.Prelude.{IfOk}
 use Rattle.std.proofs.lemmas.Grind.{common_steps}
 use Rattle.std.proofs.lemmas.List.{take-take, take-append-le, length-take-le}
@@ -8,7 +8,7 @@ use Rattle.json_lines.specs.Given.{OfBytes, OfWhole, OfInput, AreNext}
 use Rattle.json_lines.specs.Moves.{stops_after}
 use Rattle.json_lines.specs.declared.held.Held.{Held}
 use Rattle.json_lines.proofs.Given.{of_whole-map, of_known, of_known_whole}
-use Rattle.audit.specs.Joined.{joined_of, OfParts}
+use Rattle.audit.specs.Joined.{joined_of, OfParts, HasNoParts}
 
 -- what was read at first, and then
 pub read_on : (a b c before piece : List ℕ) → b ≡ a ++ before → c ≡ b ++ piece → c ≡ a ++ (before ++ piece)
@@ -26,6 +26,10 @@ piece_length bs buf n le = let sum = length-append bs (take n buf) in let short 
 -- the front of a buffer that was written over
 pub front_of : (len n : ℕ) (buf old : List ℕ) → n ≤ length buf → n ≤ len → take n (take len (buf ++ drop (length buf) old)) ≡ take n buf
 front_of len n buf old within le = take-take n len (buf ++ drop (length buf) old) le ∙ take-append-le n buf (drop (length buf) old) within
+
+-- what begins so has too many bytes
+pub too_long_to_part : {R : Type 0} (given : R → List ℕ) (ends : R → ℕ) (old new : R) → OfBytes given old new (λ came. 2 ^ 30 < length came) → OfInput given ends old new HasNoParts
+too_long_to_part given ends old new h = (h.0, h.1, λ rest ended. inr (omega (arith, length-append h.0 rest, h.2)))
 
 -- what holds of the two parts of what was read
 pub of_parts : {R : Type 0} (given : R → List ℕ) (ends : R → ℕ) (old new : R) (P : List ℕ → List ℕ → Type 0) (bytes a b : List ℕ) → length bytes ≤ 2 ^ 30

@@ -9,7 +9,7 @@ use Rattle.evidence_check.specs.Reading as evidence
 use Rattle.evidence_check.specs.Reading.{evidence_of}
 use Rattle.evidence_check.specs.Steps.{StepValue}
 use Rattle.evidence_check.specs.declared.cause.EvidenceFault.{EvidenceFault}
-use Rattle.audit.specs.Audit.{Audits, Breaks, RefusesEvidence, CutsEvidence, IsOfDevices, IsWrite, FailsWriting, report_on, verdict_of}
+use Rattle.audit.specs.Audit.{Audits, Breaks, RefusesEvidence, CutsEvidence, IsOfDevices, IsOfNoDevice, IsUnwritten, IsWrite, FailsWriting, report_on, verdict_of}
 use Rattle.audit.specs.Findings.{findings_of}
 use Rattle.audit.specs.declared.audit.Verdict.{Verdict}
 use Rattle.audit.specs.declared.audit.AuditFault.{AuditFault}
@@ -65,6 +65,19 @@ devices_of_writing (Err faults.Input) trace evidence out (inr w) at = absurd w
 pub all_kept : (r : Result Verdict AuditFault) (trace evidence out : Type 0) → trace → evidence → OnOk r out → OnOk r (trace × evidence × out)
 all_kept (Ok v) trace evidence out a b c = (a, b, c)
 all_kept (Err f) trace evidence out a b c = tt
+
+unwritten_without_device : (e : AuditFault) → IsOfNoDevice e → IsUnwritten e
+unwritten_without_device (faults.Trace f) h = tt
+unwritten_without_device (faults.Evidence f) h = tt
+unwritten_without_device (faults.Write n) h = h
+unwritten_without_device faults.OutOfMemory h = tt
+unwritten_without_device faults.Limits h = tt
+unwritten_without_device faults.Joined h = tt
+unwritten_without_device faults.Input h = tt
+
+pub all_unfailed : (r : Result Verdict AuditFault) (trace evidence out : Type 0) → trace → evidence → IfErr r (λ e. IsUnwritten e → out) → IfErr r (λ e. IsOfNoDevice e → trace × evidence × out)
+all_unfailed (Ok v) trace evidence out a b c = tt
+all_unfailed (Err f) trace evidence out a b c = λ h. (a, b, c (unwritten_without_device f h))
 
 -- readers that do not fail are not blamed
 pub never_read : (r : Result Verdict AuditFault) (input trace evidence out : Type 0) → (trace → ⊥) → (evidence → ⊥) → IfErr r (IsOfDevices ⊥ trace evidence out)

@@ -110,7 +110,8 @@ pub fn audit_values<W: Sink>(
     ensures kept { OnOk result (W.failures out.new ≡ W.failures out.old) }
     // Of memory alone nothing is written.
     ensures faults { IfErr result (λ e. (e ≡ faults.OutOfMemory) ⊎ IsWrite e) }
-    ensures unwritten { IfErr result (λ e. IsUnwritten e → (W.taken out.new ≡ W.taken out.old) × (W.failures out.new ≡ W.failures out.old)) }
+    ensures unwritten { IfErr result (λ e. IsUnwritten e → W.taken out.new ≡ W.taken out.old) }
+    ensures unfailed { IfErr result (λ e. IsUnwritten e → W.failures out.new ≡ W.failures out.old) }
 {
     valid_strata(trace);
     fresh_without_findings(trace);

@@ -4,7 +4,7 @@ use Rattle.evidence_check.specs.Evidences.{evidence_value}
 use Rattle.audit.specs.Audit.{IsOfAudit, IsWrite}
 use Rattle.audit.specs.declared.audit.AuditFault.{AuditFault}
 use Rattle.audit.specs.declared.audit.AuditFault.TheVariants as faults
-use Rattle.audit.proofs.Readers.{refused_evidence, cut_evidence, audited_if, broken, devices_of_writing, all_kept}
+use Rattle.audit.proofs.Readers.{refused_evidence, cut_evidence, audited_if, broken, devices_of_writing, all_kept, all_unfailed}
 use Rattle.audit.proofs.audit.audit_plain.Goals as goal
 
 pub returns-in-Err-clause-evidence : goal.returns-in-Err-clause-evidence
@@ -47,3 +47,6 @@ returns-clause-devices g c = devices_of_writing c.audit_values.result _ _ _ c.au
 
 pub returns-clause-kept : goal.returns-clause-kept
 returns-clause-kept g c = all_kept c.audit_values.result _ _ _ c.in_ok-trace.ensures.kept c.in-Ok.ensures.kept c.audit_values.ensures.kept
+
+pub returns-clause-unfailed : goal.returns-clause-unfailed
+returns-clause-unfailed g c = all_unfailed c.audit_values.result _ _ _ c.in_ok-trace.ensures.kept c.in-Ok.ensures.kept c.audit_values.ensures.unfailed

@@ -5,8 +5,10 @@ use Rattle.audit.proofs.joined.read_whole.Goals as goal
 pub returns-then-given-eq0-clause-whole : goal.returns-then-given-eq0-clause-whole
 returns-then-given-eq0-clause-whole g c = (
   c.loop-turn.invariant.room,
-  stops_at _ _ _ _ c.in-Ok.ensures.stops c.if-given-eq0.true (omega (arith, c.loop-turn.invariant.chunk, c.deref_mut.ensures.len)) ∙ ap (λ (n : ℕ). n + 1) c.loop-turn.invariant.going,
-  (c.loop-turn.bytes.items, rw c.if-given-eq0.true at c.in-Ok.ensures.gives ∙ append-nil (g.R.Source.given c.loop-turn.input) ∙ c.loop-turn.invariant.read, refl),
+  (
+    stops_at _ _ _ _ c.in-Ok.ensures.stops c.if-given-eq0.true (omega (arith, c.loop-turn.invariant.chunk, c.deref_mut.ensures.len)) ∙ ap (λ (n : ℕ). n + 1) c.loop-turn.invariant.going,
+    (c.loop-turn.bytes.items, rw c.if-given-eq0.true at c.in-Ok.ensures.gives ∙ append-nil (g.R.Source.given c.loop-turn.input) ∙ c.loop-turn.invariant.read, refl),
+  ),
 )
 
 pub returns-then-given-len-clause-long : goal.returns-then-given-len-clause-long
@@ -15,6 +17,22 @@ returns-then-given-len-clause-long g c = λ e.
       c.loop-turn.bytes.items ++ take c.in-Ok.given c.give.new.buf,
       read_on _ _ _ c.loop-turn.bytes.items (take c.in-Ok.given c.give.new.buf) c.loop-turn.invariant.read c.in-Ok.ensures.gives,
       omega (arith, size, c.if-given-len.true, c.len.ensures, c.loop-turn.bytes.ok.0),
+    )
+
+pub returns-then-given-len-clause-most : goal.returns-then-given-len-clause-most
+returns-then-given-len-clause-most g c =
+    let size = piece_length c.loop-turn.bytes.items c.give.new.buf c.in-Ok.given c.in-Ok.ensures.bound.0 in (
+      c.loop-turn.bytes.items ++ take c.in-Ok.given c.give.new.buf,
+      read_on _ _ _ c.loop-turn.bytes.items (take c.in-Ok.given c.give.new.buf) c.loop-turn.invariant.read c.in-Ok.ensures.gives,
+      omega (arith, size, c.loop-turn.invariant.room, c.in-Ok.ensures.bound.0, c.deref_mut.ensures.len, c.loop-turn.invariant.chunk),
+    )
+
+pub returns-in_err-extend_from_slice-clause-most : goal.returns-in_err-extend_from_slice-clause-most
+returns-in_err-extend_from_slice-clause-most g c =
+    let size = piece_length c.loop-turn.bytes.items c.give.new.buf c.in-Ok.given c.in-Ok.ensures.bound.0 in (
+      c.loop-turn.bytes.items ++ take c.in-Ok.given c.give.new.buf,
+      read_on _ _ _ c.loop-turn.bytes.items (take c.in-Ok.given c.give.new.buf) c.loop-turn.invariant.read c.in-Ok.ensures.gives,
+      omega (arith, size, c.loop-turn.invariant.room, c.in-Ok.ensures.bound.0, c.deref_mut.ensures.len, c.loop-turn.invariant.chunk),
     )
 
 pub loop-turn-preserved : goal.loop-turn-preserved
