@@ -5,7 +5,7 @@
 #![tactic(auto)]
 
 use audit::{Verdict, audit_plain};
-use json_lines::Counted;
+use json_lines::{Counted, Held};
 use std::io;
 use std::process::ExitCode;
 
@@ -23,8 +23,8 @@ const EVIDENCE: &str = "\
 ";
 
 fn main(rt: HostRuntime) -> ExitCode {
-    let mut trace = TRACE.as_bytes();
-    let mut evidence = EVIDENCE.as_bytes();
+    let mut trace = Held::new(TRACE.as_bytes());
+    let mut evidence = Held::new(EVIDENCE.as_bytes());
     let mut out = Counted::new(io::writer(&rt));
     match audit_plain(rt.alloc(), &mut trace, &mut evidence, &mut out) {
         Ok(Verdict::Clean) => ExitCode::from(0),

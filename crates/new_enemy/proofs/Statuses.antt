@@ -1,13 +1,13 @@
 -- What the status of a fault tells.
-use Rattle.std.proofs.Common.{◌≡◌, ◌≢◌, inl, inr, ℕ, true, List, Option, Result, Err, refl, arith}
-use Rattle.std.specs.Prelude.{IfSome}
+use Rattle.std.proofs.Common.{◌≡◌, ◌≢◌, inl, inr, ℕ, true, List, Result, Err, refl, arith}
+use Rattle.json_lines.specs.Given.{OfWhole, OfInput}
+use Rattle.json_lines.proofs.Given.{of_input-map, of_input-whole, of_whole-map}
 use Rattle.trace_lines.specs.Values.{TraceValue}
 use Rattle.trace_lines.specs.Traces.{trace_of}
 use Rattle.trace_lines.specs.Results.{FailsBy}
 use Rattle.trace_lines.specs.declared.cause.Cause.{Cause}
 use Rattle.trace_lines.specs.declared.cause.Cause.TheVariants as causes
 use Rattle.trace_lines.specs.declared.cause.TraceFault.{TraceFault}
-use Rattle.json_lines.proofs.Folds.{under}
 use Rattle.evidence_check.specs.Reading as evidence
 use Rattle.evidence_check.specs.Reading.{evidence_of}
 use Rattle.evidence_check.specs.declared.cause.EvidenceCause.{EvidenceCause}
@@ -15,7 +15,7 @@ use Rattle.evidence_check.specs.declared.cause.EvidenceCause.TheVariants as evid
 use Rattle.evidence_check.specs.declared.cause.EvidenceFault.{EvidenceFault}
 use Rattle.audit.specs.Audit.{RefusesTrace, RefusesEvidence, IsOfJoined}
 use Rattle.audit.specs.Joined.{OfParts, HasNoParts}
-use Rattle.new_enemy.specs.Run.{IsStatus, IsRefused}
+use Rattle.new_enemy.specs.Run.{IsStatus, SayNoAudit, IsRefused}
 use Rattle.audit.specs.declared.audit.AuditFault.{AuditFault}
 use Rattle.audit.specs.declared.audit.AuditFault.TheVariants as faults
 
@@ -35,20 +35,23 @@ said_by_evidence _ f given n m h = h
 two_or_five : {X : Type 0} (s : ℕ) → s ≡ 2 → s ≡ 5 → X
 two_or_five s two five = absurd (omega (arith, two, five))
 
-pub refused : (fault : AuditFault) (s : ℕ) (o : Option (List ℕ)) → IsStatus fault s → s ≡ 2 → IsOfJoined fault
-    → ((f : TraceFault) → fault ≡ faults.Trace f → IfSome o (OfParts (λ a b. RefusesTrace a f)))
-    → ((f : EvidenceFault) → fault ≡ faults.Evidence f → IfSome o (OfParts (λ a b. RefusesEvidence a b f)))
-    → (fault ≡ faults.Joined → IfSome o HasNoParts) → IfSome o IsRefused
-refused (faults.Trace f) s o (inl p) two of t e j = two_or_five s two p.1
-refused (faults.Trace f) s o (inr p) two of t e j =
-    under o (OfParts (λ a b. RefusesTrace a f)) IsRefused (t f refl)
-    (λ input h. inr (h.0, h.1, h.2, h.3, inl (f, said_by_trace f.cause f (trace_of true h.0) p.0 of h.4)))
-refused (faults.Evidence f) s o (inl p) two of t e j = two_or_five s two p.1
-refused (faults.Evidence f) s o (inr p) two of t e j =
-    under o (OfParts (λ a b. RefusesEvidence a b f)) IsRefused (e f refl)
-    (λ input h. let r = h.4 in inr (h.0, h.1, h.2, h.3, inr (r.0, r.1, f, said_by_evidence f.cause f (evidence_of r.0.entries true h.1) p.0 of r.2)))
-refused (faults.Write n) s o five two of t e j = two_or_five s two five
-refused faults.OutOfMemory s o four two of t e j = absurd (omega (arith, four, two))
-refused faults.Limits s o three two of t e j = absurd of
-refused faults.Joined s o same two of t e j = under o HasNoParts IsRefused (j refl) (λ input h. inl h)
-refused faults.Input s o five two of t e j = two_or_five s two five
+module _ {R : Type 0} (given : R → List ℕ) (ends : R → ℕ) (old new : R) where
+  -- the parts of a whole input that are refused
+  of_parts : (P : List ℕ → List ℕ → Type 0) → OfWhole given ends old new (OfParts P) → ((a b : List ℕ) → P a b → SayNoAudit a b) → OfInput given ends old new IsRefused
+  of_parts P h f = of_input-whole given ends old new IsRefused (of_whole-map given ends old new (OfParts P) IsRefused (λ input p. inr (p.0, p.1, p.2, p.3, f p.0 p.1 p.4)) h)
+
+  pub refused : (fault : AuditFault) (s : ℕ) → IsStatus fault s → s ≡ 2 → IsOfJoined fault
+      → ((f : TraceFault) → fault ≡ faults.Trace f → OfWhole given ends old new (OfParts (λ a b. RefusesTrace a f)))
+      → ((f : EvidenceFault) → fault ≡ faults.Evidence f → OfWhole given ends old new (OfParts (λ a b. RefusesEvidence a b f)))
+      → (fault ≡ faults.Joined → OfInput given ends old new HasNoParts) → OfInput given ends old new IsRefused
+  refused (faults.Trace f) s (inl p) two of t e j = two_or_five s two p.1
+  refused (faults.Trace f) s (inr p) two of t e j =
+      of_parts (λ a b. RefusesTrace a f) (t f refl) (λ a b h. inl (f, said_by_trace f.cause f (trace_of true a) p.0 of h))
+  refused (faults.Evidence f) s (inl p) two of t e j = two_or_five s two p.1
+  refused (faults.Evidence f) s (inr p) two of t e j =
+      of_parts (λ a b. RefusesEvidence a b f) (e f refl) (λ a b r. inr (r.0, r.1, f, said_by_evidence f.cause f (evidence_of r.0.entries true b) p.0 of r.2))
+  refused (faults.Write n) s five two of t e j = two_or_five s two five
+  refused faults.OutOfMemory s four two of t e j = absurd (omega (arith, four, two))
+  refused faults.Limits s three two of t e j = absurd of
+  refused faults.Joined s same two of t e j = of_input-map given ends old new HasNoParts IsRefused (λ input h. inl h) (j refl)
+  refused faults.Input s five two of t e j = two_or_five s two five

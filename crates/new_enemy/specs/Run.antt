@@ -1,5 +1,7 @@
 -- What the program answers.
-use Rattle.std.specs.Prelude.{◌≡◌, ◌≢◌, ◌⊎◌, ℕ, true, List, Ok, Err}
+use Rattle.std.specs.Prelude.{◌≡◌, ◌≢◌, ◌⊎◌, ℕ, true, List, [], Ok, Err, ⊤}
+use Rattle.json_lines.specs.Devices.{moved_by, stops_of, flushes_of}
+use Rattle.json_lines.specs.declared.devices.Counted.{Counted}
 use Rattle.trace_lines.specs.Values.{TraceValue}
 use Rattle.trace_lines.specs.Traces.{trace_of}
 use Rattle.trace_lines.specs.declared.cause.Cause.TheVariants as causes
@@ -7,7 +9,11 @@ use Rattle.trace_lines.specs.declared.cause.TraceFault.{TraceFault}
 use Rattle.evidence_check.specs.Reading.{evidence_of}
 use Rattle.evidence_check.specs.declared.cause.EvidenceCause.TheVariants as evidence_causes
 use Rattle.evidence_check.specs.declared.cause.EvidenceFault.{EvidenceFault}
+use Rattle.audit.specs.Audit.{Audits}
+use Rattle.audit.specs.Headline.{IsTraceRightAndFresh}
 use Rattle.audit.specs.Joined.{HasNoParts, OfParts}
+use Rattle.audit.specs.declared.audit.Verdict.{Verdict}
+use Rattle.audit.specs.declared.audit.Verdict.TheVariants.{Clean, Dirty}
 use Rattle.audit.specs.declared.audit.AuditFault.{AuditFault}
 use Rattle.audit.specs.declared.audit.AuditFault.TheVariants as faults
 
@@ -30,3 +36,18 @@ SayNoAudit a b =
 -- joined input that is refused
 abbrev pub IsRefused : List ℕ → Type 0
 IsRefused input = HasNoParts input ⊎ OfParts SayNoAudit input
+
+-- ---- the program on its devices, by all that they gave and took
+
+-- All that was read, to its end, is a trace and evidence for it. All that was written is the report on them, with this verdict, and a flush was
+-- asked for.
+abbrev pub IsRun : {R W : Type 0} → Verdict → (List ℕ → Type 0) → Counted R → Counted W → Type 0
+IsRun v OfTrace input out =
+    (stops_of input ≡ 1) × (flushes_of out ≡ 1) × OfParts (λ a b. Audits a b [] (moved_by out) v × OfTrace a) (moved_by input)
+
+-- and the trace is right and fresh
+abbrev pub IsCleanRun : {R W : Type 0} → Counted R → Counted W → Type 0
+IsCleanRun input out = IsRun Clean IsTraceRightAndFresh input out
+
+abbrev pub IsDirtyRun : {R W : Type 0} → Counted R → Counted W → Type 0
+IsDirtyRun input out = IsRun Dirty (λ a. ⊤) input out

@@ -1,17 +1,21 @@
 //! The program, over any reader and writers.
 
-ghost use Rattle.std.specs.Prelude.{◌≡◌, ◌<◌, ◌≤◌, ◌⊎◌, length, IfSome};
-ghost use Rattle.std.specs.Io.KnownBytes.{Keeps};
+ghost use Rattle.std.specs.Prelude.{◌≡◌, ◌≢◌, ◌+◌, ◌<◌, ◌≤◌, ◌⊎◌, ◌++◌, ℕ, List, [], length};
+ghost use Rattle.json_lines.specs.Devices.{moved_by, failures_of, stops_of};
+ghost use Rattle.json_lines.specs.Given.{OfBytes, OfWhole, OfInput};
+ghost use Rattle.json_lines.specs.declared.lines.TheConstants.{CHUNK};
+ghost use Rattle.json_lines.specs.declared.reading.TheConstants.{MAX_INPUT};
 ghost use Rattle.audit.specs.Audit.{Audits, HasRisen};
 ghost use Rattle.audit.specs.Headline.{IsTraceRightAndFresh};
 ghost use Rattle.audit.specs.Joined.{OfParts};
-ghost use Rattle.new_enemy.specs.Run.{IsStatus, IsRefused};
+ghost use Rattle.new_enemy.specs.Run.{IsStatus, IsRefused, IsCleanRun, IsDirtyRun};
 ghost use Rattle.audit.specs.declared.audit.Verdict.TheVariants.{Clean, Dirty};
 
 use audit::{AuditFault, Verdict, audit_joined};
 use evidence_check::{EvidenceCause, EvidenceFault};
-use json_lines::{Sink, Source, send};
+use json_lines::{Counted, Sink, Source, send};
 use std::alloc::{AllocError, Global};
+use std::io::{Read, Write};
 use trace_lines::{Cause, TraceFault};
 
 /// The exit status of a fault.
@@ -73,16 +77,23 @@ pub fn run_words<R: Source, W: Sink, E: Sink>(
     err: &mut E,
 ) -> u8
     ensures usage { 0 < length words.now → result ≡ 3 }
-    // The report went out, and the status is its verdict.
-    ensures clean { result ≡ 0 → IfSome (R.remaining input.old) (OfParts (λ a b. Audits a b (W.contents out.old) (W.contents out.new) Clean)) }
-    ensures dirty { result ≡ 1 → IfSome (R.remaining input.old) (OfParts (λ a b. Audits a b (W.contents out.old) (W.contents out.new) Dirty)) }
+    ensures used { result ≡ 3 → 0 < length words.now }
+    // The report on the whole input went out, and the status is its verdict.
+    ensures clean { result ≡ 0 → OfWhole R.given R.ends input.old input.new (OfParts (λ a b. Audits a b (W.taken out.old) (W.taken out.new) Clean)) }
+    ensures dirty { result ≡ 1 → OfWhole R.given R.ends input.old input.new (OfParts (λ a b. Audits a b (W.taken out.old) (W.taken out.new) Dirty)) }
+    ensures flushed { result ≤ 1 → W.flushes out.new ≡ W.flushes out.old + 1 }
     // Status 0 says that the trace is right and fresh, as the headline of an audit.
-    ensures headline { result ≡ 0 → IfSome (R.remaining input.old) (OfParts (λ a b. IsTraceRightAndFresh a)) }
-    ensures refused { result ≡ 2 → IfSome (R.remaining input.old) IsRefused }
+    ensures headline { result ≡ 0 → OfWhole R.given R.ends input.old input.new (OfParts (λ a b. IsTraceRightAndFresh a)) }
+    // Of every input that begins with the bytes that came.
+    ensures refused { result ≡ 2 → OfInput R.given R.ends input.old input.new IsRefused }
     ensures device { result ≡ 5 → HasRisen (R.failures input.old) (R.failures input.new)
         ⊎ (HasRisen (W.failures out.old) (W.failures out.new) ⊎ HasRisen (W.idle out.old) (W.idle out.new)) }
+    // Any other status comes only where neither failed.
+    ensures kept { result ≢ 5 → (R.failures input.new ≡ R.failures input.old) × (W.failures out.new ≡ W.failures out.old) }
     // A report goes out with a verdict, or as far as the writer took it.
-    ensures unwritten { 2 ≤ result → result ≤ 4 → Keeps (W.contents out.old) (W.contents out.new) }
+    ensures unwritten { 2 ≤ result → result ≤ 4 → W.taken out.new ≡ W.taken out.old }
+    // Also of input that never ends.
+    ensures most { OfBytes R.given input.old input.new (λ came. length came ≤ MAX_INPUT + CHUNK) }
     ensures statuses { result ≤ 5 }
 {
     if !words.is_empty() {
@@ -97,4 +108,32 @@ pub fn run_words<R: Source, W: Sink, E: Sink>(
             status_of(&fault)
         }
     }
+}
+
+/// Runs the program on its devices, and hands them back with what they gave and took.
+pub fn run_on<R: Read, W: Write, E: Write>(
+    alloc: Global,
+    words: &[String],
+    input: R,
+    out: W,
+    err: E,
+) -> (u8, Counted<R>, Counted<W>, Counted<E>)
+    // All that was read, to its end, is a trace and evidence for it, all that was written is the report on them, and the trace is right
+    // and fresh.
+    ensures clean { result.0 ≡ 0 → IsCleanRun result.1 result.2 }
+    ensures dirty { result.0 ≡ 1 → IsDirtyRun result.1 result.2 }
+    ensures refused { result.0 ≡ 2 → (rest : List ℕ) → (0 < stops_of result.1 → rest ≡ []) → IsRefused (moved_by result.1 ++ rest) }
+    ensures usage { 0 < length words.now → result.0 ≡ 3 }
+    ensures used { result.0 ≡ 3 → 0 < length words.now }
+    ensures device { result.0 ≡ 5 → 0 < failures_of result.1 + failures_of result.2 + stops_of result.2 }
+    ensures kept { result.0 ≢ 5 → (failures_of result.1 ≡ 0) × (failures_of result.2 ≡ 0) }
+    ensures unwritten { 2 ≤ result.0 → result.0 ≤ 4 → moved_by result.2 ≡ [] }
+    ensures most { length (moved_by result.1) ≤ MAX_INPUT + CHUNK }
+    ensures statuses { result.0 ≤ 5 }
+{
+    let mut input = Counted::new(input);
+    let mut out = Counted::new(out);
+    let mut err = Counted::new(err);
+    let status = run_words(alloc, words, &mut input, &mut out, &mut err);
+    (status, input, out, err)
 }

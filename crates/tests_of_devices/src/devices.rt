@@ -2,7 +2,7 @@
 //! shown by rows.
 
 use audit::{AuditFault, Verdict, audit_joined, audit_plain};
-use json_lines::{Counted, Failing};
+use json_lines::{Counted, Failing, Held};
 use std::alloc::Global;
 use std::test::Fail;
 use trace_lines::{Cause, TraceFault};
@@ -20,7 +20,7 @@ fn joined(alloc: Global) -> Result<String, Fail> {
 
 /// Whether the joined audit stops behind these bytes of the report.
 fn stops_behind(alloc: Global, input: &str, writer: Failing<Vec<u8>>, report: &str) -> bool {
-    let mut reader = input.as_bytes();
+    let mut reader = Held::new(input.as_bytes());
     let mut out = Counted::new(writer);
     let answer = audit_joined(alloc, &mut reader, &mut out);
     let went: Vec<u8> = out.into_inner().into_inner();
@@ -48,7 +48,7 @@ fn writers_fail(rt: HostRuntime) -> Result<(), Fail> {
 /// The answer of a plain audit whose trace can be read up to a place, where nothing is written.
 fn cut_trace(alloc: Global, bytes: u64) -> Option<Result<Verdict, AuditFault>> {
     let mut trace = Counted::new(Failing::after(TRACE.as_bytes(), bytes));
-    let mut evidence = EVIDENCE.as_bytes();
+    let mut evidence = Held::new(EVIDENCE.as_bytes());
     let mut out = Counted::new(Vec::new(alloc));
     let answer = audit_plain(alloc, &mut trace, &mut evidence, &mut out);
     let written: Vec<u8> = out.into_inner();
@@ -83,9 +83,14 @@ fn readers_fail(rt: HostRuntime) -> Result<(), Fail> {
 
 #[test]
 fn plain_audits_answer(rt: HostRuntime) {
-    let mut trace = TRACE.as_bytes();
-    let mut evidence = EVIDENCE.as_bytes();
+    let mut trace = Held::new(TRACE.as_bytes());
+    let mut evidence = Held::new(EVIDENCE.as_bytes());
     let mut out = Counted::new(Vec::new(rt.alloc()));
     let answer = audit_plain(rt.alloc(), &mut trace, &mut evidence, &mut out);
     assert!(rt; answer == Ok(Verdict::Clean));
+}
+
+#[test]
+fn histories_take_no_memory(rt: HostRuntime) {
+    assert_eq!(rt; size_of::<Counted<u64>>(), size_of::<u64>());
 }

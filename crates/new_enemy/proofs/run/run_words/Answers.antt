@@ -5,7 +5,7 @@ use Rattle.new_enemy.proofs.run.run_words.Goals as goal
 
 pub returns-in-Err-clause-refused : goal.returns-in-Err-clause-refused
 returns-in-Err-clause-refused g c = λ two.
-    refused c.in-Err.fault c.status_of.result (g.R.Read.remaining c.args.input.now) c.status_of.ensures.status two c.in-Err.ensures.faults
+    refused g.R.Source.given g.R.Source.ends c.args.input.now c.audit_joined.new.input c.in-Err.fault c.status_of.result c.status_of.ensures.status two c.in-Err.ensures.faults
     (λ f is. c.audit_joined.ensures.trace f (c.in-Err.is ∙ ap (λ (x : AuditFault). Err x) is))
     (λ f is. c.audit_joined.ensures.evidence f (c.in-Err.is ∙ ap (λ (x : AuditFault). Err x) is))
     (λ is. c.audit_joined.ensures.joined (c.in-Err.is ∙ ap (λ (x : AuditFault). Err x) is))
