@@ -1,5 +1,6 @@
 -- What a clause says of alerts.
-use Rattle.std.specs.Prelude.{◌≡◌, ℕ, Bool, true}
+use Rattle.std.specs.Prelude.{◌≡◌, ◌<◌, ◌≤◌, ℕ, Bool, true, Option, IfSome, IfNone, OnSome}
+use Rattle.std.specs.Borrow.{Bor}
 use Rattle.boxcar.specs.Table.{Shows}
 use Rattle.audit_slices.specs.declared.board.Alert.{Alert}
 use Rattle.audit_slices.specs.declared.board.Alerts.{Alerts}
@@ -36,3 +37,11 @@ module _ {X N : Type 0} where
   -- how many places they go through
   abbrev pub end_of : Alerts X N → ℕ
   end_of alerts = alerts.inner.end
+
+  -- one step: an alert that is true, of a place further on, or none where all places were gone through
+  pub record GivesAlert (named : ℕ → X) (alerts : X → Bool) (old : Alerts X N) (given : Option (Bor (Alert X))) (new : Alerts X N) : Type 0 where
+    pub raised : IfSome given (λ a. IsTrueAlert named alerts a.now)
+    pub board : (board : Board X N) → IsOver board old → IsOver board new
+    pub onward : OnSome given (place_of old < place_of new)
+    pub end : end_of new ≡ end_of old
+    pub all : IfNone given (end_of old ≤ place_of new)

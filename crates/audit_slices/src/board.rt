@@ -1,6 +1,7 @@
 //! A board of alerts that threads share: each alert on it is true.
-ghost use Rattle.std.specs.Prelude.{◌≡◌, ◌<◌, ◌≤◌, ℕ, Bool, IfOk, IfErr, IfSome, IfNone, OnSome};
-ghost use Rattle.audit_slices.specs.Board.{IsTrueAlert, IsPostedOn, posted_alert, IsOver, place_of, end_of};
+ghost use Rattle.std.specs.Prelude.{◌≡◌, ◌-◌, ℕ, Bool, IfOk, IfErr};
+ghost use Rattle.std.specs.Iterator.{at_most};
+ghost use Rattle.audit_slices.specs.Board.{IsTrueAlert, IsPostedOn, posted_alert, IsOver, GivesAlert, place_of, end_of};
 
 use boxcar::tag::Tag;
 use boxcar::{Iter, Keeps, Pushed, Vec};
@@ -88,15 +89,15 @@ pub struct Alerts<'a, X, N: Names<X>> {
     inner: Iter<'a, Alert<X>, Global, True<N>>,
 }
 
-impl<'a, X, N: Names<X>> Alerts<'a, X, N> {
+impl<'a, X, N: Names<X>> Iterator for Alerts<'a, X, N> {
+    type Item = &'a Alert<X>;
+
+    ghost next_gives = { GivesAlert N.named N.alerts };
+
+    ghost remaining = { λ it. at_most (end_of it - place_of it) };
+
     /// The next alert, which is true. None is given twice. `None` where all places were gone through.
-    pub fn next(&mut self) -> Option<&'a Alert<X>>
-        ensures raised { IfSome result (λ a. IsTrueAlert N.named N.alerts a.now) }
-        ensures board { (board : Board X N) → IsOver board self.old → IsOver board self.new }
-        ensures onward { OnSome result (place_of self.old < place_of self.new) }
-        ensures end { end_of self.new ≡ end_of self.old }
-        ensures all { IfNone result (end_of self.old ≤ place_of self.new) }
-    {
+    fn next(&mut self) -> Option<&'a Alert<X>> {
         let (_place, alert) = self.inner.next()?;
         Some(alert)
     }

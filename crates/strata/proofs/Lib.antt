@@ -1,4 +1,5 @@
 pub mod Decided
+pub mod DeclaredNames
 pub mod LeastRound
 pub mod Lists
 pub mod NestedExclusion

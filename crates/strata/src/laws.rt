@@ -21,11 +21,14 @@ pub fn closed()
     ensures { (rules : Lookup) (store : List TupleValue) → HasValidStrata rules store → IsClosed rules store }
 {}
 
-/// A member has a least round at its stratum, and its rule derives it from the round before and the strata below.
+/// A member has a least round at its stratum, and its rule derives it from the round before and the strata below. That is so of any rules
+/// whose relations have names in a list, and so of those in force at any timestamp.
 pub fn supported()
-    ensures { (rules : Lookup) (store : List TupleValue) → HasValidStrata rules store →
+    ensures named { (rules : Lookup) (store : List TupleValue) → HasValidStrata rules store →
         (names : List (List ℕ)) → HasNames rules names →
         (f : FactValue) (r : Rule) → rule_of rules f.set ≡ Some r → Member rules store f → HasLeastRound rules store f r }
+    ensures at_each_time { (ds : List Declaration) (at : ℕ) (store : List TupleValue) → HasValidStrata (rule_at ds at) store →
+        (f : FactValue) (r : Rule) → rule_of (rule_at ds at) f.set ≡ Some r → Member (rule_at ds at) store f → HasLeastRound (rule_at ds at) store f r }
 {}
 
 /// Renumbering the strata changes no member, where both numberings are valid.

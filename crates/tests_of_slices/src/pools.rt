@@ -170,5 +170,6 @@ fn one_alert_is_posted(rt: HostRuntime) -> Result<(), Fail> {
     };
     assert!(rt; board.of(&posted).entry == 4);
     assert!(rt; has_the_last_alone(&board));
+    assert!(rt; board.alerts().count() == 1);
     Ok(())
 }

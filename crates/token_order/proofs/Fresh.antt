@@ -1,10 +1,10 @@
 -- A trace without findings on tokens is in order.
-use Rattle.std.proofs.Common.{◌≡◌, ℕ, ◌<◌, ◌≤◌, Bool, true, false, cond, ltb, leb, List, [], ◌∷◌, length, get_or, Option, Some, None, arith, refl, sym, ap, ◌∙◌, inl, inr}
-use Rattle.std.specs.Prelude.{IfSome, filter, slice_get}
+use Rattle.std.proofs.Common.{◌≡◌, ℕ, ◌<◌, ◌≤◌, Bool, true, false, cond, eqb, ltb, leb, List, [], ◌∷◌, length, get_or, Option, Some, None, arith, refl, sym, ap, ◌∙◌, inl, inr}
+use Rattle.std.specs.Prelude.{IfSome, IsSomeAnd, filter, not, slice_get}
 use Rattle.std.specs.Option.{option_or}
 use Rattle.std.specs.List.{list_any, AllByRecursion}
 use Rattle.std.specs.List.Sorted.{IsStrictlyIncreasing}
-use Rattle.std.proofs.lemmas.Bool.{true≢false, cases_Bool, ltb-false, leb-false, lt-ltb, or_parts}
+use Rattle.std.proofs.lemmas.Bool.{true≢false, cases_Bool, eqb-true, ltb-false, leb-false, lt-ltb, or_parts}
 use Rattle.std.proofs.lemmas.List.{get_or-map, length-map}
 use Rattle.std.proofs.lemmas.List.Elements.{All-from_recursion}
 use Rattle.std.proofs.lemmas.List.Kept.{AllPairs-from_increasing}
@@ -15,8 +15,8 @@ use Rattle.trace_lines.specs.Versions.{Version, entry_version, version_named, ve
 use Rattle.trace_lines.specs.declared.entry.EntryKind.{EntryKind}
 use Rattle.trace_lines.specs.declared.entry.EntryKind.TheVariants.{Check, Content}
 use Rattle.trace_lines.proofs.IssuedVersions.{Means, named_content-means}
-use Rattle.token_order.specs.Order.{CommitLine, commit_lines_of, IsLatest, IsClosed, CoversVersion, IsFresh, IsInOrder}
-use Rattle.token_order.specs.Found.{is_check, is_content, is_above, line_if_short, old_token, earlier_commits, later_commits, first_line, last_line, not_latest, open_snapshot, is_unknown_version, order_of, nothing_found, HasNoOrderFindings}
+use Rattle.token_order.specs.Order.{CommitLine, commit_lines_of, IsLatest, IsClosed, CoversVersion, IsFresh, IssuesItsSnapshot, IsInOrder}
+use Rattle.token_order.specs.Found.{is_check, is_content, is_above, line_if_short, old_token, earlier_commits, later_commits, first_line, last_line, not_latest, open_snapshot, is_token_of, is_wrong_token, is_unknown_version, order_of, nothing_found, HasNoOrderFindings}
 use Rattle.token_order.specs.declared.findings.OrderFindings.{OrderFindings}
 
 -- what a filter passes and a test does not
@@ -79,6 +79,17 @@ reaches : (z : Option Token) (s : ℕ) → is_above z s ≡ false → IfSome z (
 reaches None s h = tt
 reaches (Some z) s h = ltb-false _ _ h
 
+-- a token that is one of a snapshot carries it
+carries : (z : Option Token) (s : ℕ) → not (is_token_of s z) ≡ false → IsSomeAnd z (λ (z : Token). z.at ≡ s)
+carries None s h = absurd (true≢false h)
+carries (Some z) s h = elim (cases_Bool (eqb z.at s)) [
+  | inl t ↦ eqb-true z.at s t
+  | inr f ↦ absurd (true≢false (sym (rw f refl) ∙ h))
+]
+
+issues_snapshot : (e : EntryValue) → is_content e.kind ≡ true → e.reply ≡ true → is_wrong_token e ≡ false → IssuesItsSnapshot e
+issues_snapshot e content authorized h = carries e.zookie e.snapshot (sym (rw (content, authorized) refl) ∙ h)
+
 -- a zookie between two snapshots
 between : (z : Option Token) (c : EntryValue) (s : ℕ) → line_if_short z c ≡ None → is_above z s ≡ false → c.snapshot ≤ s
 between None c s h below = absurd (none-some c.line (sym h))
@@ -121,6 +132,7 @@ module _ (t : TraceValue) (rising : IsStrictlyIncreasing (entry_lines t.entries)
           recorded = (j, within, get_or_from_slice_get t.entries j c c m.there);
           earlier = line_before i j e c at m.there m.earlier;
           issued = m.issued;
+          reaches_content = covers;
           covered = λ k d lt before. let h = latest k d lt before in omega (arith, h, covers);
         }
 
@@ -136,6 +148,7 @@ module _ (t : TraceValue) (rising : IsStrictlyIncreasing (entry_lines t.entries)
     latest = λ k d lt content. is_latest t (get_or t.entries k d) (content_kind _ content) (ap (λ (f : OrderFindings). f.not_latest) (found k d lt));
     closed = λ k d lt. is_closed t (get_or t.entries k d) (ap (λ (f : OrderFindings). f.open_snapshot) (found k d lt));
     fresh = λ k d lt check. is_fresh k (get_or t.entries k d) (slice_get-get_or t.entries k d lt) check;
+    issued = λ k d lt content authorized. issues_snapshot (get_or t.entries k d) (content_kind _ content) authorized (ap (λ (f : OrderFindings). f.wrong_token) (found k d lt));
   }
     where
       found : (k : ℕ) (d : EntryValue) → k < length t.entries → order_of t k (get_or t.entries k d) ≡ nothing_found

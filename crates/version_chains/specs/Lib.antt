@@ -7,3 +7,4 @@ pub mod Jumps
 pub mod Links
 pub mod Marks
 pub mod Placed
+pub mod Walks

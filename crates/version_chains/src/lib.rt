@@ -11,7 +11,8 @@
 //! model is the list of what is left to give; `proofs.CallerLemmas` says what a loop over them shows.
 //!
 //! Each tuple is kept once, and touches are linked, so that a question walks back over the touches or the users that
-//! it is about and no others; nothing of that shows in a contract.
+//! it is about and no others; nothing of that shows in a contract. Why such a walk may jump is the law
+//! [`laws::jump_is_walk`].
 #![tactic(auto)]
 
 pub mod among;
@@ -19,6 +20,7 @@ mod arena;
 mod chains;
 mod fault;
 mod history;
+pub mod laws;
 mod marks;
 mod node;
 mod places;

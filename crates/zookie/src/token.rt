@@ -1,6 +1,6 @@
 //! Zookies and their texts.
 
-ghost use Rattle.std.specs.Prelude.{◌≡◌, ℕ, ◌<◌, ◌^◌, ◌-◌, ◌++◌, Some, None, IfOk, length, replicate, not, position, Ok, take};
+ghost use Rattle.std.specs.Prelude.{◌≡◌, ℕ, ◌<◌, ◌^◌, ◌-◌, ◌++◌, Some, None, IfOk, length, replicate, not, position, Ok, take, MatchOption};
 ghost use Rattle.zookie.specs.Reading.{is_digit, kind_of, first_version, second_version, read_token, token_at, Spells};
 ghost use Rattle.zookie.specs.Tokens.{Token, token_text, sixteen_digits};
 
@@ -184,9 +184,10 @@ impl Zookie {
         self.kind
     }
 
-    /// The text of the zookie, from which `parse` gives the same zookie back.
+    /// The text of the zookie, from which `parse` gives the same zookie back. It has 19 bytes, and one more where it says the kind.
     pub fn text(&self) -> TokenText
         ensures text { take result.len result.bytes ≡ token_text self.now }
+        ensures len { MatchOption self.now.kind (result.len ≡ 19) (λ _. result.len ≡ 20) }
         ensures rest { result.bytes ≡ token_text self.now ++ replicate (20 - result.len) 0 }
     {
         let mut bytes = [0; 20];
