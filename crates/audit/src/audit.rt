@@ -13,7 +13,7 @@ ghost use Rattle.evidence_check.specs.Evidences.{evidence_value};
 ghost use Rattle.audit.specs.Audit.{verdict_of, report_on, Audits, Breaks, RefusesTrace, RefusesEvidence, CutsTrace, CutsEvidence, HasRisen, IsOfDevices, IsWrite, IsUnwritten, FailsWriting, IsOfTrace, IsOfEvidence, IsOfAudit};
 ghost use Rattle.audit.specs.declared.audit.AuditFault.TheVariants as faults;
 ghost use Rattle.audit.specs.Findings.{findings_of};
-ghost use Rattle.audit.specs.Headline.{IsRightAndFresh, IsTraceRightAndFresh};
+ghost use Rattle.audit.specs.Headline.{IsRightAndFresh, IsTraceRightAndFresh, HasOnlyWrongRepliesNamed};
 ghost use Rattle.audit.specs.Report.{report_text};
 ghost use Rattle.audit.specs.declared.audit.Verdict.{Verdict};
 ghost use Rattle.audit.specs.declared.audit.Verdict.TheVariants.{Clean};
@@ -25,7 +25,7 @@ use json_lines::{Sink, Source, send};
 use std::alloc::{AllocError, Global};
 use thiserror::Error;
 use token_order::laws::fresh_without_findings;
-use trace_lines::laws::valid_strata;
+use trace_lines::laws::{entries_rise, valid_strata};
 use trace_lines::{Cause, Trace, TraceFault, read_trace};
 
 /// What an audit answers.
@@ -100,6 +100,8 @@ pub fn audit_values<W: Sink>(
     ensures verdict { IfOk result (λ v. v ≡ verdict_of (findings_of trace.now (evidence_value evidence.now))) }
     // Whoever made the evidence.
     ensures headline { result ≡ Ok Clean → IsRightAndFresh trace.now }
+    // Whatever the verdict: a reply that a finding F10 calls wrong is wrong.
+    ensures wrong_replies { HasOnlyWrongRepliesNamed trace.now (findings_of trace.now (evidence_value evidence.now)) }
     ensures report { OnOk result (Appends (W.contents out.old) (W.contents out.new) (report_on trace.now (evidence_value evidence.now))) }
     // The first n bytes went out, and the writer failed or took none of some.
     ensures write { (n : ℕ) → result ≡ Err (faults.Write n) → FailsWriting (W.contents out.old) (W.contents out.new) n (report_on trace.now (evidence_value evidence.now)) }
@@ -110,6 +112,7 @@ pub fn audit_values<W: Sink>(
     ensures unwritten { IfErr result (λ e. IsUnwritten e → Keeps (W.contents out.old) (W.contents out.new)) }
 {
     valid_strata(trace);
+    entries_rise(trace);
     fresh_without_findings(trace);
     let (text, verdict) = report_on(alloc, trace, evidence)?;
     match send(out, text.as_bytes()) {
