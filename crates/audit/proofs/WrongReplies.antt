@@ -1,6 +1,6 @@
 -- An entry of which the findings say that its reply is wrong has a wrong reply.
-use Rattle.std.proofs.Common.{◌≡◌, ◌⊎◌, inl, inr, ℕ, zero, suc, ◌+◌, ◌<◌, ◌≤◌, List, [], ◌∷◌, ◌++◌, length, get_or, Bool, true, false, Option, None, Some, option_map, Ok, refl, sym, subst, ap, ◌∙◌, arith}
-use Rattle.std.specs.Prelude.{All, IfSome, slice_get}
+use Rattle.std.proofs.Common.{◌≡◌, ◌⊎◌, inl, inr, ℕ, zero, suc, ◌+◌, ◌<◌, ◌≤◌, List, [], ◌∷◌, ◌++◌, length, get_or, Bool, true, false, Option, None, Some, option_map, Result, Ok, Err, refl, sym, subst, ap, ◌∙◌, arith}
+use Rattle.std.specs.Prelude.{All, IfSome, IfOk, slice_get}
 use Rattle.std.specs.List.{AllByRecursion}
 use Rattle.std.specs.List.Sorted.{IsStrictlyIncreasing}
 use Rattle.std.proofs.lemmas.Bool.{cases_lt}
@@ -12,6 +12,7 @@ use Rattle.trace_lines.specs.Traces.{trace_of}
 use Rattle.trace_lines.specs.Values.{TraceValue, EntryValue, entry_lines}
 use Rattle.trace_lines.proofs.OfBytes.{strata_of_bytes, lines_of_bytes}
 use Rattle.evidence_check.specs.Laws.{HasValidStrataAt}
+use Rattle.evidence_check.specs.Reading.{evidence_of}
 use Rattle.evidence_check.specs.Steps.{StepValue}
 use Rattle.evidence_check.specs.Evidences.{steps_of}
 use Rattle.evidence_check.specs.Judged.{judged}
@@ -21,7 +22,7 @@ use Rattle.evidence_check.proofs.JudgedLemmas.{judged_right}
 use Rattle.token_order.specs.Found.{order_of}
 use Rattle.token_order.specs.declared.findings.OrderFindings.{OrderFindings}
 use Rattle.audit.specs.Findings.{found_by, if_told, found_on_tokens, found_on, on_line, findings_from, findings_of}
-use Rattle.audit.specs.Headline.{IsWrong, HasOnlyWrongRepliesNamed}
+use Rattle.audit.specs.Headline.{IsWrong, HasOnlyWrongRepliesNamed, NamesOnlyWrongReplies}
 use Rattle.audit.specs.declared.finding.Finding.{Finding}
 use Rattle.audit.specs.declared.finding.What.{What}
 use Rattle.audit.specs.declared.finding.What.TheVariants.{Stale, OldToken, NotLatest, OpenSnapshot, WrongToken, UnknownVersion, WrongReply}
@@ -138,3 +139,16 @@ named_are_wrong t evidence valid up k d lt c =
 -- the same of the trace that some bytes say
 pub named_by_bytes : (a : List ℕ) (t : TraceValue) (evidence : List (Option (List StepValue))) → trace_of true a ≡ Ok t → HasOnlyWrongRepliesNamed t (findings_of t evidence)
 named_by_bytes a t evidence says = named_are_wrong t evidence (strata_of_bytes a t says) (lines_of_bytes a t says)
+
+-- ---- over readers
+
+pub named_by_readers : (x y : Option (List ℕ)) (t : TraceValue) (given : List (Option (List StepValue))) → IfSome x (λ a. trace_of true a ≡ Ok t) → IfSome y (λ b. evidence_of t.entries true b ≡ Ok given)
+    → IfSome x (λ a. IfSome y (λ b. NamesOnlyWrongReplies a b))
+named_by_readers None y t given h k = tt
+named_by_readers (Some a) None t given h k = tt
+named_by_readers (Some a) (Some b) t given h k = (t, given, h, k, named_by_bytes a t given h)
+
+pub named_if : {V E : Type 0} (r : Result V E) (x y : Option (List ℕ)) (t : TraceValue) (given : List (Option (List StepValue))) → IfSome x (λ a. trace_of true a ≡ Ok t)
+    → IfSome y (λ b. evidence_of t.entries true b ≡ Ok given) → IfOk r (λ v. IfSome x (λ a. IfSome y (λ b. NamesOnlyWrongReplies a b)))
+named_if (Ok v) x y t given h k = named_by_readers x y t given h k
+named_if (Err e) x y t given h k = tt

@@ -13,7 +13,7 @@ ghost use Rattle.evidence_check.specs.Evidences.{evidence_value};
 ghost use Rattle.audit.specs.Audit.{verdict_of, report_on, Audits, Breaks, RefusesTrace, RefusesEvidence, CutsTrace, CutsEvidence, HasRisen, IsOfDevices, IsWrite, IsUnwritten, FailsWriting, IsOfTrace, IsOfEvidence, IsOfAudit};
 ghost use Rattle.audit.specs.declared.audit.AuditFault.TheVariants as faults;
 ghost use Rattle.audit.specs.Findings.{findings_of};
-ghost use Rattle.audit.specs.Headline.{IsRightAndFresh, IsTraceRightAndFresh, HasOnlyWrongRepliesNamed};
+ghost use Rattle.audit.specs.Headline.{IsRightAndFresh, IsTraceRightAndFresh, HasOnlyWrongRepliesNamed, NamesOnlyWrongReplies};
 ghost use Rattle.audit.specs.Report.{report_text};
 ghost use Rattle.audit.specs.declared.audit.Verdict.{Verdict};
 ghost use Rattle.audit.specs.declared.audit.Verdict.TheVariants.{Clean};
@@ -188,6 +188,8 @@ pub fn audit_plain<A: Source, B: Source, W: Sink>(
     // A clean verdict says that each reply is what the rules mean over the tuples committed up to its snapshot, and that no check is older
     // than its zookie, nor than any access change committed before the content check of the version that it names.
     ensures headline { result ≡ Ok Clean → IfSome (A.remaining trace.old) IsTraceRightAndFresh }
+    // Whatever the verdict: a reply that a finding F10 calls wrong is wrong.
+    ensures wrong_replies { IfOk result (λ _. IfSome (A.remaining trace.old) (λ a. IfSome (B.remaining evidence.old) (λ b. NamesOnlyWrongReplies a b))) }
     ensures trace { (f : TraceFault) → result ≡ Err (faults.Trace f) → IfSome (A.remaining trace.old) (λ a. RefusesTrace a f) }
     ensures trace_cut { (f : TraceFault) → result ≡ Err (faults.Trace f) → f.cause ≡ causes.Read → CutsTrace (A.remaining trace.old) (A.remaining trace.new) f }
     ensures evidence { (f : EvidenceFault) → result ≡ Err (faults.Evidence f) → IfSome (A.remaining trace.old) (λ a. IfSome (B.remaining evidence.old) (λ b.

@@ -5,7 +5,7 @@ ghost use Rattle.std.specs.Io.KnownBytes.{Keeps};
 ghost use Rattle.trace_lines.specs.declared.cause.TraceFault.{TraceFault};
 ghost use Rattle.evidence_check.specs.declared.cause.EvidenceFault.{EvidenceFault};
 ghost use Rattle.audit.specs.Audit.{Audits, Breaks, RefusesTrace, RefusesEvidence, HasRisen, IsOfDevices, IsUnwritten, IsOfReading, IsOfJoined};
-ghost use Rattle.audit.specs.Headline.{IsTraceRightAndFresh};
+ghost use Rattle.audit.specs.Headline.{IsTraceRightAndFresh, NamesOnlyWrongReplies};
 ghost use Rattle.audit.specs.Joined.{is_marker, joined_of, OfParts, HasNoParts};
 ghost use Rattle.audit.specs.declared.audit.AuditFault.TheVariants as faults;
 ghost use Rattle.audit.specs.declared.audit.Verdict.TheVariants.{Clean};
@@ -83,6 +83,8 @@ pub fn audit_joined<R: Source, W: Sink>(
     ensures audits { IfOk result (λ v. IfSome (R.remaining input.old) (OfParts (λ a b. Audits a b (W.contents out.old) (W.contents out.new) v))) }
     // A clean verdict is right and fresh, as that of `audit_plain`.
     ensures headline { result ≡ Ok Clean → IfSome (R.remaining input.old) (OfParts (λ a b. IsTraceRightAndFresh a)) }
+    // Whatever the verdict: a reply that a finding F10 calls wrong is wrong, as that of `audit_plain`.
+    ensures wrong_replies { IfOk result (λ _. IfSome (R.remaining input.old) (OfParts NamesOnlyWrongReplies)) }
     ensures trace { (f : TraceFault) → result ≡ Err (faults.Trace f) → IfSome (R.remaining input.old) (OfParts (λ a b. RefusesTrace a f)) }
     ensures evidence { (f : EvidenceFault) → result ≡ Err (faults.Evidence f) → IfSome (R.remaining input.old) (OfParts (λ a b. RefusesEvidence a b f)) }
     ensures joined { result ≡ Err faults.Joined → IfSome (R.remaining input.old) HasNoParts }

@@ -1,7 +1,7 @@
 use Rattle.std.proofs.Common.{◌≡◌, Some, rules, arith}
 use Rattle.std.proofs.lemmas.Result.{IfErr-weaker}
 use Rattle.audit.specs.Audit.{RefusesTrace, RefusesEvidence, Audits, Breaks, IsOfAudit, IsOfJoined}
-use Rattle.audit.specs.Headline.{IsTraceRightAndFresh}
+use Rattle.audit.specs.Headline.{IsTraceRightAndFresh, NamesOnlyWrongReplies}
 use Rattle.audit.specs.Joined.{joined_of}
 use Rattle.audit.specs.declared.audit.AuditFault.{AuditFault}
 use Rattle.audit.specs.declared.audit.AuditFault.TheVariants as faults
@@ -56,3 +56,9 @@ returns-clause-faults g c = IfErr-weaker c.audit_plain.result IsOfAudit IsOfJoin
     of_joined faults.Limits h = h
     of_joined faults.Joined h = tt
     of_joined faults.Input h = tt
+
+pub returns-clause-wrong_replies : goal.returns-clause-wrong_replies
+returns-clause-wrong_replies g c =
+    let parts : joined_of c.in_ok-bytes.bytes.items ≡ Some (c.in_ok-trace.trace.now, c.in_ok-trace.evidence.now) = search rules in
+    of_parts_if c.audit_plain.result (λ v. NamesOnlyWrongReplies) (g.R.Read.remaining c.args.input.now)
+    c.in_ok-bytes.bytes.items c.in_ok-trace.trace.now c.in_ok-trace.evidence.now c.in_ok-bytes.ensures.whole.0 c.in_ok-bytes.ensures.whole.1 parts c.audit_plain.ensures.wrong_replies
