@@ -1,4 +1,5 @@
 pub mod Decided
+pub mod LeastRelation
 pub mod LeastRound
 pub mod Lists
 pub mod NestedExclusion
