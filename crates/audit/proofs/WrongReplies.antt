@@ -22,7 +22,7 @@ use Rattle.evidence_check.proofs.JudgedLemmas.{judged_right}
 use Rattle.token_order.specs.Found.{order_of}
 use Rattle.token_order.specs.declared.findings.OrderFindings.{OrderFindings}
 use Rattle.audit.specs.Findings.{found_by, if_told, found_on_tokens, found_on, on_line, findings_from, findings_of}
-use Rattle.audit.specs.Headline.{IsWrong, HasOnlyWrongRepliesNamed, NamesOnlyWrongReplies}
+use Rattle.audit.specs.WrongReplies.{IsWrong, HasOnlyWrongRepliesNamed, NamesOnlyWrongReplies}
 use Rattle.audit.specs.declared.finding.Finding.{Finding}
 use Rattle.audit.specs.declared.finding.What.{What}
 use Rattle.audit.specs.declared.finding.What.TheVariants.{Stale, OldToken, NotLatest, OpenSnapshot, WrongToken, UnknownVersion, WrongReply}

@@ -13,8 +13,9 @@ ghost use Rattle.evidence_check.specs.Evidences.{evidence_value};
 ghost use Rattle.audit.specs.Audit.{verdict_of, report_on, Audits, Breaks, RefusesTrace, RefusesEvidence, CutsTrace, CutsEvidence, HasRisen, IsOfDevices, IsWrite, IsUnwritten, FailsWriting, IsOfTrace, IsOfEvidence, IsOfAudit};
 ghost use Rattle.audit.specs.declared.audit.AuditFault.TheVariants as faults;
 ghost use Rattle.audit.specs.Findings.{findings_of};
-ghost use Rattle.audit.specs.Headline.{IsRightAndFresh, IsTraceRightAndFresh, HasOnlyWrongRepliesNamed, NamesOnlyWrongReplies};
+ghost use Rattle.audit.specs.Headline.{IsRightAndFresh, IsTraceRightAndFresh};
 ghost use Rattle.audit.specs.Report.{report_text};
+ghost use Rattle.audit.specs.WrongReplies.{HasOnlyWrongRepliesNamed, NamesOnlyWrongReplies};
 ghost use Rattle.audit.specs.declared.audit.Verdict.{Verdict};
 ghost use Rattle.audit.specs.declared.audit.Verdict.TheVariants.{Clean};
 

@@ -5,8 +5,9 @@ ghost use Rattle.std.specs.Io.KnownBytes.{Keeps};
 ghost use Rattle.trace_lines.specs.declared.cause.TraceFault.{TraceFault};
 ghost use Rattle.evidence_check.specs.declared.cause.EvidenceFault.{EvidenceFault};
 ghost use Rattle.audit.specs.Audit.{Audits, Breaks, RefusesTrace, RefusesEvidence, HasRisen, IsOfDevices, IsUnwritten, IsOfReading, IsOfJoined};
-ghost use Rattle.audit.specs.Headline.{IsTraceRightAndFresh, NamesOnlyWrongReplies};
+ghost use Rattle.audit.specs.Headline.{IsTraceRightAndFresh};
 ghost use Rattle.audit.specs.Joined.{is_marker, joined_of, OfParts, HasNoParts};
+ghost use Rattle.audit.specs.WrongReplies.{NamesOnlyWrongReplies};
 ghost use Rattle.audit.specs.declared.audit.AuditFault.TheVariants as faults;
 ghost use Rattle.audit.specs.declared.audit.Verdict.TheVariants.{Clean};
 

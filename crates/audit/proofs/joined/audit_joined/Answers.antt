@@ -1,8 +1,9 @@
 use Rattle.std.proofs.Common.{◌≡◌, Some, rules, arith}
 use Rattle.std.proofs.lemmas.Result.{IfErr-weaker}
 use Rattle.audit.specs.Audit.{RefusesTrace, RefusesEvidence, Audits, Breaks, IsOfAudit, IsOfJoined}
-use Rattle.audit.specs.Headline.{IsTraceRightAndFresh, NamesOnlyWrongReplies}
+use Rattle.audit.specs.Headline.{IsTraceRightAndFresh}
 use Rattle.audit.specs.Joined.{joined_of}
+use Rattle.audit.specs.WrongReplies.{NamesOnlyWrongReplies}
 use Rattle.audit.specs.declared.audit.AuditFault.{AuditFault}
 use Rattle.audit.specs.declared.audit.AuditFault.TheVariants as faults
 use Rattle.audit.proofs.ReadWhole.{of_parts, of_parts_if}
