@@ -9,7 +9,7 @@ use Rattle.evidence_check.specs.Evidences.{steps_of}
 use Rattle.evidence_check.specs.Judged.{judged}
 use Rattle.evidence_check.specs.declared.judged.Judged.{Judged}
 use Rattle.evidence_check.specs.declared.judged.Judged.TheVariants as by
-use Rattle.evidence_check.proofs.JudgedLemmas.{supported_right}
+use Rattle.evidence_check.proofs.JudgedLemmas.{judged_right}
 use Rattle.token_order.specs.Order.{IsInOrder}
 use Rattle.token_order.specs.Found.{order_of, nothing_found, HasNoOrderFindings}
 use Rattle.token_order.specs.declared.findings.OrderFindings.{OrderFindings}
@@ -95,7 +95,7 @@ clean_is_right_and_fresh t evidence valid ordered clean =
     record {
       right = λ i d lt.
           let e = get_or t.entries i d in
-          supported_right t e (valid e.snapshot) (steps_of evidence i) (on i e (slice_get-get_or t.entries i d lt)).1;
+          judged_right t e (valid e.snapshot) true (steps_of evidence i) (on i e (slice_get-get_or t.entries i d lt)).1;
       fresh = ordered (λ i e at. (on i e at).0);
     }
 

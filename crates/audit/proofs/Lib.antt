@@ -3,3 +3,4 @@ pub mod Headline
 pub mod JoinedParts
 pub mod ReadWhole
 pub mod Readers
+pub mod WrongReplies

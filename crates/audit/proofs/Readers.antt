@@ -30,7 +30,7 @@ module _ {A B : Type 0} (given_a : A → List ℕ) (ends_a : A → ℕ) (a0 a1 :
       (λ a is. of_bytes-map given_b b0 b1 (λ b. evidence_of t.entries false b ≡ Err f) (λ b. CutsEvidence a b f) (λ b by. (t, is, by)) h) says
 
   -- what the bytes of both say, where they are a trace and evidence for it
-  on_both : (P : List ℕ → List ℕ → Type 0) (given : List (Option (List StepValue))) → OfWhole given_b ends_b b0 b1 (λ b. evidence_of t.entries true b ≡ Ok given)
+  pub on_both : (P : List ℕ → List ℕ → Type 0) (given : List (Option (List StepValue))) → OfWhole given_b ends_b b0 b1 (λ b. evidence_of t.entries true b ≡ Ok given)
       → ((a b : List ℕ) → trace_of true a ≡ Ok t → evidence_of t.entries true b ≡ Ok given → P a b)
       → OfWhole given_a ends_a a0 a1 (λ a. OfWhole given_b ends_b b0 b1 (λ b. P a b))
   on_both P given h f =

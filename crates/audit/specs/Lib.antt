@@ -3,3 +3,4 @@ pub mod Findings
 pub mod Headline
 pub mod Joined
 pub mod Report
+pub mod WrongReplies

@@ -17,6 +17,7 @@ ghost use Rattle.audit.specs.declared.audit.AuditFault.TheVariants as faults;
 ghost use Rattle.audit.specs.Findings.{findings_of};
 ghost use Rattle.audit.specs.Headline.{IsRightAndFresh, IsTraceRightAndFresh};
 ghost use Rattle.audit.specs.Report.{report_text};
+ghost use Rattle.audit.specs.WrongReplies.{HasOnlyWrongRepliesNamed, NamesOnlyWrongReplies};
 ghost use Rattle.audit.specs.declared.audit.Verdict.{Verdict};
 ghost use Rattle.audit.specs.declared.audit.Verdict.TheVariants.{Clean};
 
@@ -27,7 +28,7 @@ use json_lines::{Sink, Source, send};
 use std::alloc::{AllocError, Global};
 use thiserror::Error;
 use token_order::laws::fresh_without_findings;
-use trace_lines::laws::valid_strata;
+use trace_lines::laws::{entries_rise, valid_strata};
 use trace_lines::{Cause, Trace, TraceFault, read_trace};
 
 /// What an audit answers.
@@ -102,6 +103,8 @@ pub fn audit_values<W: Sink>(
     ensures verdict { IfOk result (λ v. v ≡ verdict_of (findings_of trace.now (evidence_value evidence.now))) }
     // Whoever made the evidence.
     ensures headline { result ≡ Ok Clean → IsRightAndFresh trace.now }
+    // Whatever the verdict: a reply that a finding F10 calls wrong is wrong.
+    ensures wrong_replies { HasOnlyWrongRepliesNamed trace.now (findings_of trace.now (evidence_value evidence.now)) }
     ensures report { OnOk result (W.taken out.new ≡ W.taken out.old ++ report_on trace.now (evidence_value evidence.now)) }
     ensures flushed { OnOk result (W.flushes out.new ≡ W.flushes out.old + 1) }
     // The first n bytes went out, and the writer failed or took none of some.
@@ -114,6 +117,7 @@ pub fn audit_values<W: Sink>(
     ensures unfailed { IfErr result (λ e. IsUnwritten e → W.failures out.new ≡ W.failures out.old) }
 {
     valid_strata(trace);
+    entries_rise(trace);
     fresh_without_findings(trace);
     let (text, verdict) = report_on(alloc, trace, evidence)?;
     match send(out, text.as_bytes()) {
@@ -196,6 +200,8 @@ pub fn audit_plain<A: Source, B: Source, W: Sink>(
     // A clean verdict says that each reply is what the rules mean over the tuples committed up to its snapshot, and that no check is older
     // than its zookie, nor than any access change committed before the content check of the version that it names.
     ensures headline { result ≡ Ok Clean → OfWhole A.given A.ends trace.old trace.new IsTraceRightAndFresh }
+    // Whatever the verdict: a reply that a finding F10 calls wrong is wrong.
+    ensures wrong_replies { IfOk result (λ _. OfWhole A.given A.ends trace.old trace.new (λ a. OfWhole B.given B.ends evidence.old evidence.new (λ b. NamesOnlyWrongReplies a b))) }
     // A refusal holds of every input that begins with the bytes that came.
     ensures trace { (f : TraceFault) → result ≡ Err (faults.Trace f) → OfInput A.given A.ends trace.old trace.new (λ a. RefusesTrace a f) }
     ensures trace_cut { (f : TraceFault) → result ≡ Err (faults.Trace f) → f.cause ≡ causes.Read → OfBytes A.given trace.old trace.new (λ a. trace_of false a ≡ Err f) }

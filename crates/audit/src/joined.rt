@@ -7,6 +7,7 @@ ghost use Rattle.evidence_check.specs.declared.cause.EvidenceFault.{EvidenceFaul
 ghost use Rattle.audit.specs.Audit.{Audits, Breaks, RefusesTrace, RefusesEvidence, HasRisen, IsOfDevices, IsUnwritten, IsOfReading, IsOfJoined};
 ghost use Rattle.audit.specs.Headline.{IsTraceRightAndFresh};
 ghost use Rattle.audit.specs.Joined.{is_marker, joined_of, OfParts, HasNoParts};
+ghost use Rattle.audit.specs.WrongReplies.{NamesOnlyWrongReplies};
 ghost use Rattle.audit.specs.declared.audit.AuditFault.TheVariants as faults;
 ghost use Rattle.audit.specs.declared.audit.Verdict.TheVariants.{Clean};
 
@@ -85,6 +86,8 @@ pub fn audit_joined<R: Source, W: Sink>(
     ensures flushed { OnOk result (W.flushes out.new ≡ W.flushes out.old + 1) }
     // A clean verdict is right and fresh, as that of `audit_plain`.
     ensures headline { result ≡ Ok Clean → OfWhole R.given R.ends input.old input.new (OfParts (λ a b. IsTraceRightAndFresh a)) }
+    // Whatever the verdict: a reply that a finding F10 calls wrong is wrong, as that of `audit_plain`.
+    ensures wrong_replies { IfOk result (λ _. OfWhole R.given R.ends input.old input.new (OfParts NamesOnlyWrongReplies)) }
     ensures trace { (f : TraceFault) → result ≡ Err (faults.Trace f) → OfWhole R.given R.ends input.old input.new (OfParts (λ a b. RefusesTrace a f)) }
     ensures evidence { (f : EvidenceFault) → result ≡ Err (faults.Evidence f) → OfWhole R.given R.ends input.old input.new (OfParts (λ a b. RefusesEvidence a b f)) }
     // Of every input that begins with the bytes that came.

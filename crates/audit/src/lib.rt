@@ -7,7 +7,8 @@
 //!
 //! Callers may rely on this: what is written is the report text of the findings of the values read, and nothing else; the verdict is clean
 //! exactly where there is none; nothing is written where input is refused. Where it is clean, each reply is what the rules mean over the tuples
-//! committed up to its snapshot, and no check is older than its zookie or than its version's content check.
+//! committed up to its snapshot, and no check is older than its zookie or than its version's content check. Whatever the verdict, a reply that a
+//! finding F10 calls wrong is wrong.
 //!
 //! ```text
 //! let verdict = audit_plain(alloc, &mut trace, &mut evidence, &mut out)?;

@@ -19,7 +19,7 @@ use Rattle.evidence_check.specs.Members.{IsMemberAt}
 use Rattle.evidence_check.specs.Laws.{HasValidStrataAt}
 use Rattle.evidence_check.specs.Steps.{StepValue}
 use Rattle.evidence_check.specs.declared.judged.Judged.{Judged}
-use Rattle.evidence_check.specs.declared.judged.Judged.TheVariants.{Supported, Contradicted, Silent}
+use Rattle.evidence_check.specs.declared.judged.Judged.TheVariants.{Silent}
 use Rattle.evidence_check.proofs.Sound.{steps_true}
 
 not_true : IsTrue false → ⊥
@@ -71,20 +71,25 @@ no_rule (Some r) e = absurd cc
 
 -- ---- what is known of the goal
 
-module _ (rules : Lookup) (store : List TupleValue) (known : KnownValue) (true_of : IsTrueOf rules store known) (goal : FactValue) where
-  supported_by : (y n reply : Bool) → is_among known.yes goal ≡ y → is_among known.no goal ≡ n → cond y (by_reply reply) (cond n (by_reply (not reply)) Silent) ≡ Supported → (IsTrue reply ↔ Member rules store goal)
-  supported_by true n true y_is n_is e = (λ t. true_of.yes goal ((among_iff known.yes goal).0 y_is), λ m. refl)
-  supported_by true n false y_is n_is e = absurd cc
-  supported_by false true true y_is n_is e = absurd cc
-  supported_by false true false y_is n_is e = (λ t. absurd (not_true t), λ m. absurd (true_of.no goal ((among_iff known.no goal).0 n_is) m))
-  supported_by false false reply y_is n_is e = absurd cc
+-- M where the reply agrees with what is known, and else that M does not hold
+abbrev pub IfAgreed : Bool → Type 0 → Type 0
+IfAgreed true M = M
+IfAgreed false M = ¬ M
 
-  contradicted_by : (y n reply : Bool) → is_among known.yes goal ≡ y → is_among known.no goal ≡ n → cond y (by_reply reply) (cond n (by_reply (not reply)) Silent) ≡ Contradicted → (IsTrue reply ↔ ¬ Member rules store goal)
-  contradicted_by true n true y_is n_is e = absurd cc
-  contradicted_by true n false y_is n_is e = (λ t. absurd (not_true t), λ m. absurd (m (true_of.yes goal ((among_iff known.yes goal).0 y_is))))
-  contradicted_by false true true y_is n_is e = (λ t. true_of.no goal ((among_iff known.no goal).0 n_is), λ m. refl)
-  contradicted_by false true false y_is n_is e = absurd cc
-  contradicted_by false false reply y_is n_is e = absurd cc
+module _ (rules : Lookup) (store : List TupleValue) (known : KnownValue) (true_of : IsTrueOf rules store known) (goal : FactValue) where
+  -- what is known of the goal settles whether the reply is right
+  settled_by : (agrees y n reply : Bool) → is_among known.yes goal ≡ y → is_among known.no goal ≡ n → cond y (by_reply reply) (cond n (by_reply (not reply)) Silent) ≡ by_reply agrees
+      → (IsTrue reply ↔ IfAgreed agrees (Member rules store goal))
+  settled_by true true n true y_is n_is e = (λ t. true_of.yes goal ((among_iff known.yes goal).0 y_is), λ m. refl)
+  settled_by true true n false y_is n_is e = absurd cc
+  settled_by false true n true y_is n_is e = absurd cc
+  settled_by false true n false y_is n_is e = (λ t. absurd (not_true t), λ m. absurd (m (true_of.yes goal ((among_iff known.yes goal).0 y_is))))
+  settled_by true false true true y_is n_is e = absurd cc
+  settled_by true false true false y_is n_is e = (λ t. absurd (not_true t), λ m. absurd (true_of.no goal ((among_iff known.no goal).0 n_is) m))
+  settled_by false false true true y_is n_is e = (λ t. true_of.no goal ((among_iff known.no goal).0 n_is), λ m. refl)
+  settled_by false false true false y_is n_is e = absurd cc
+  settled_by true false false reply y_is n_is e = absurd cc
+  settled_by false false false reply y_is n_is e = absurd cc
 
 module _ (t : TraceValue) (e : EntryValue) (valid : HasValidStrataAt t e.snapshot) where
   known_true : (ss : List StepValue) → first_bad (rule_at t.declarations e.snapshot) (store_at t.commits e.snapshot) nothing_known 1 ss ≡ None
@@ -94,27 +99,19 @@ module _ (t : TraceValue) (e : EntryValue) (valid : HasValidStrataAt t e.snapsho
       (closed_law (rule_at t.declarations e.snapshot) (store_at t.commits e.snapshot) valid) ss
       (none_bad (rule_at t.declarations e.snapshot) (store_at t.commits e.snapshot) nothing_known 1 ss good)
 
-  pub supported_right : (steps : Option (List StepValue)) → judged t e steps ≡ Supported → (IsTrue e.reply ↔ IsMemberAt t e.snapshot e.goal)
-  supported_right None h = absurd cc
-  supported_right (Some ss) h = by_first (first_bad (rule_at t.declarations e.snapshot) (store_at t.commits e.snapshot) nothing_known 1 ss) refl h
+  -- A supported reply is what the rules mean, and a contradicted one is not.
+  pub judged_right : (agrees : Bool) (steps : Option (List StepValue)) → judged t e steps ≡ by_reply agrees → (IsTrue e.reply ↔ IfAgreed agrees (IsMemberAt t e.snapshot e.goal))
+  judged_right true None h = absurd cc
+  judged_right false None h = absurd cc
+  judged_right agrees (Some ss) h = by_first agrees (first_bad (rule_at t.declarations e.snapshot) (store_at t.commits e.snapshot) nothing_known 1 ss) refl h
     where
-      by_first : (o : Option ℕ) → first_bad (rule_at t.declarations e.snapshot) (store_at t.commits e.snapshot) nothing_known 1 ss ≡ o
-          → by_steps o (after_steps nothing_known ss) e ≡ Supported → (IsTrue e.reply ↔ IsMemberAt t e.snapshot e.goal)
-      by_first (Some k) o_is s = absurd cc
-      by_first None o_is s =
-          supported_by (rule_at t.declarations e.snapshot) (store_at t.commits e.snapshot) (after_steps nothing_known ss) (known_true ss o_is) e.goal
-          (is_among (after_steps nothing_known ss).yes e.goal) (is_among (after_steps nothing_known ss).no e.goal) e.reply refl refl s
-
-  pub contradicted_right : (steps : Option (List StepValue)) → judged t e steps ≡ Contradicted → (IsTrue e.reply ↔ ¬ IsMemberAt t e.snapshot e.goal)
-  contradicted_right None h = absurd cc
-  contradicted_right (Some ss) h = by_first (first_bad (rule_at t.declarations e.snapshot) (store_at t.commits e.snapshot) nothing_known 1 ss) refl h
-    where
-      by_first : (o : Option ℕ) → first_bad (rule_at t.declarations e.snapshot) (store_at t.commits e.snapshot) nothing_known 1 ss ≡ o
-          → by_steps o (after_steps nothing_known ss) e ≡ Contradicted → (IsTrue e.reply ↔ ¬ IsMemberAt t e.snapshot e.goal)
-      by_first (Some k) o_is s = absurd cc
-      by_first None o_is s =
-          contradicted_by (rule_at t.declarations e.snapshot) (store_at t.commits e.snapshot) (after_steps nothing_known ss) (known_true ss o_is) e.goal
-          (is_among (after_steps nothing_known ss).yes e.goal) (is_among (after_steps nothing_known ss).no e.goal) e.reply refl refl s
+      by_first : (agrees : Bool) (o : Option ℕ) → first_bad (rule_at t.declarations e.snapshot) (store_at t.commits e.snapshot) nothing_known 1 ss ≡ o
+          → by_steps o (after_steps nothing_known ss) e ≡ by_reply agrees → (IsTrue e.reply ↔ IfAgreed agrees (IsMemberAt t e.snapshot e.goal))
+      by_first true (Some k) o_is s = absurd cc
+      by_first false (Some k) o_is s = absurd cc
+      by_first agrees None o_is s =
+          settled_by (rule_at t.declarations e.snapshot) (store_at t.commits e.snapshot) (after_steps nothing_known ss) (known_true ss o_is) e.goal
+          agrees (is_among (after_steps nothing_known ss).yes e.goal) (is_among (after_steps nothing_known ss).no e.goal) e.reply refl refl s
 
 -- a test that holds where the fact is in the list
 pub among_by : (facts : List FactValue) (f : FactValue) (r : Bool) → (IsTrue r ↔ Contains facts f) → r ≡ is_among facts f
@@ -135,18 +132,10 @@ by_none known goal reply e h =
 
 -- ---- what an answer shows of the entry
 
-pub if_supported : {E : Type 0} → (t : TraceValue) → ((at : ℕ) → HasValidStrataAt t at) → (i : ℕ) (x : EntryValue) (steps : Option (List StepValue)) (r : Result Judged E) → slice_get t.entries i ≡ Some x
-    → IfOk r (λ j. j ≡ judged t x steps)
-    → IfOk r (λ j. j ≡ Supported → (e : EntryValue) → slice_get t.entries i ≡ Some e → (IsTrue e.reply ↔ IsMemberAt t e.snapshot e.goal))
-if_supported t valid i x steps (Ok j) at h = λ s e here.
+pub if_judged : {E : Type 0} → (agrees : Bool) (t : TraceValue) → ((at : ℕ) → HasValidStrataAt t at) → (i : ℕ) (x : EntryValue) (steps : Option (List StepValue)) (r : Result Judged E)
+    → slice_get t.entries i ≡ Some x → IfOk r (λ j. j ≡ judged t x steps)
+    → IfOk r (λ j. j ≡ by_reply agrees → (e : EntryValue) → slice_get t.entries i ≡ Some e → (IsTrue e.reply ↔ IfAgreed agrees (IsMemberAt t e.snapshot e.goal)))
+if_judged agrees t valid i x steps (Ok j) at h = λ s e here.
     let same : x ≡ e = (let p : Some x ≡ Some e = sym at ∙ here in cc) in
-    supported_right t e (valid e.snapshot) steps (subst (λ (y : EntryValue). judged t y steps ≡ Supported) same (sym h ∙ s))
-if_supported t valid i x steps (Err f) at h = tt
-
-pub if_contradicted : {E : Type 0} → (t : TraceValue) → ((at : ℕ) → HasValidStrataAt t at) → (i : ℕ) (x : EntryValue) (steps : Option (List StepValue)) (r : Result Judged E) → slice_get t.entries i ≡ Some x
-    → IfOk r (λ j. j ≡ judged t x steps)
-    → IfOk r (λ j. j ≡ Contradicted → (e : EntryValue) → slice_get t.entries i ≡ Some e → (IsTrue e.reply ↔ ¬ IsMemberAt t e.snapshot e.goal))
-if_contradicted t valid i x steps (Ok j) at h = λ s e here.
-    let same : x ≡ e = (let p : Some x ≡ Some e = sym at ∙ here in cc) in
-    contradicted_right t e (valid e.snapshot) steps (subst (λ (y : EntryValue). judged t y steps ≡ Contradicted) same (sym h ∙ s))
-if_contradicted t valid i x steps (Err f) at h = tt
+    judged_right t e (valid e.snapshot) agrees steps (subst (λ (y : EntryValue). judged t y steps ≡ by_reply agrees) same (sym h ∙ s))
+if_judged agrees t valid i x steps (Err f) at h = tt

@@ -1,5 +1,6 @@
 pub mod Decided
 pub mod DeclaredNames
+pub mod LeastRelation
 pub mod LeastRound
 pub mod Lists
 pub mod NestedExclusion

@@ -8,7 +8,7 @@ ghost use Rattle.namespaces.specs.Lookup.{Lookup, Rule, rule_of, rule_at};
 ghost use Rattle.namespaces.specs.WellFormed.{IsWellFormed};
 ghost use Rattle.strata.specs.Edges.{HasNoBrokenEdge};
 ghost use Rattle.strata.specs.Meaning.{Member, HasLeastRound};
-ghost use Rattle.strata.specs.Laws.{IsStable, IsClosed};
+ghost use Rattle.strata.specs.Laws.{IsStable, IsClosed, IsDerived, HasNoExclusion, HasLeastMembers, HasLeastMembersAt, HasMemberTest};
 ghost use Rattle.strata.specs.Strata.{HasValidStrata, HasNames, HaveSameExpressions, DifferInStrataAlone};
 
 /// A fact of a stratum is settled there: no higher stratum changes it.
@@ -19,6 +19,29 @@ pub fn stable()
 /// What a rule derives from members and from those who are none is a member.
 pub fn closed()
     ensures { (rules : Lookup) (store : List TupleValue) → HasValidStrata rules store → IsClosed rules store }
+{}
+
+/// A member is derived by its rule from members and from those who are none.
+pub fn derived()
+    ensures { (rules : Lookup) (store : List TupleValue) → HasValidStrata rules store → IsDerived rules store }
+{}
+
+/// Where no rule has an exclusion, the members are the least relation that is closed under the rules: each such relation that a test
+/// tells contains them.
+pub fn least()
+    ensures { (rules : Lookup) (store : List TupleValue) → HasNoExclusion rules → HasLeastMembers rules store }
+{}
+
+/// With exclusion the same stratum by stratum: each relation that a test tells, that is membership below a stratum and is closed under
+/// the rules of that stratum, contains the members there.
+pub fn least_of_each_stratum()
+    ensures { (rules : Lookup) (store : List TupleValue) → HasValidStrata rules store → (k : ℕ) → HasLeastMembersAt rules store k }
+{}
+
+/// Some test tells members, so that they are themselves one of the relations of which `least` and `least_of_each_stratum` speak.
+pub fn told_by_a_test()
+    ensures { (rules : Lookup) (store : List TupleValue) → HasValidStrata rules store →
+        (names : List (List ℕ)) → HasNames rules names → HasMemberTest rules store }
 {}
 
 /// A member has a least round at its stratum, and its rule derives it from the round before and the strata below. That is so of any rules

@@ -6,8 +6,8 @@
 //!
 //! Callers may rely on this: [`check_rules`], [`check_tuple`] and [`check_change`] answer the first broken edge of those lists, or
 //! that there is none; where there is none, strata are valid at each timestamp; and the laws in [`laws`] hold for valid
-//! strata: a settled fact stays settled at higher strata, what a rule gives from members is a member, a member has a least round,
-//! and renumbering the strata changes no member.
+//! strata: a settled fact stays settled at higher strata, members are a fixed point of the rules, and the least one (stratum by stratum
+//! where rules have exclusions), a member has a least round, and renumbering the strata changes no member.
 #![tactic(auto)]
 
 mod change;

@@ -2,6 +2,7 @@ pub mod Answers
 pub mod IssuedVersions
 pub mod Keeping
 pub mod LineCauses
+pub mod OfBytes
 pub mod Orderly
 pub mod Recording
 pub mod RisingLines

@@ -66,7 +66,7 @@ valid_strata ds commits sample is at =
 
 -- ---- commits
 
-last_pushed : (commits : List Commit) (c : Commit) → last_at (commits ++ c ∷ []) ≡ Some c.at
+pub last_pushed : (commits : List Commit) (c : Commit) → last_at (commits ++ c ∷ []) ≡ Some c.at
 last_pushed commits c =
     let all : map (λ (x : Commit). x.at) (commits ++ c ∷ []) ≡ map (λ (x : Commit). x.at) commits ++ c.at ∷ [] = map-append (λ (x : Commit). x.at) commits (c ∷ []) in
     let long : length (commits ++ c ∷ []) - 1 ≡ length commits = let n = length-append commits (c ∷ []) in omega (arith, n) in
@@ -107,7 +107,7 @@ accepted commits c h = by (late_fault (last_at commits) c.at) refl (twice_fault 
     by None is (Some e) g = cc
     by (Some e) is p g = cc
 
-added_pushed : (commits : List Commit) (c : Commit) → added (commits ++ c ∷ []) ≡ added commits ++ c.adds
+pub added_pushed : (commits : List Commit) (c : Commit) → added (commits ++ c ∷ []) ≡ added commits ++ c.adds
 added_pushed commits c = flat_map-append (λ (x : Commit). x.adds) commits (c ∷ []) ∙ ap (λ ts. added commits ++ ts) (append-nil c.adds)
 
 log_pushed : (commits : List Commit) (c : Commit) → length (changelog (commits ++ c ∷ [])) ≡ length (changelog commits) + (length c.adds + length c.removes)

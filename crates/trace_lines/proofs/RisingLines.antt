@@ -130,7 +130,7 @@ fits_kind n t d (Some kind) le =
     (either_passes (Fits n) (bytes_eq kind (codes "content")) _ _ (fits_entry_line Content n t d le)
     (either_passes (Fits n) (bytes_eq kind (codes "check")) _ _ (fits_entry_line Check n t d le) tt)))
 
-fits_value : (n : ℕ) (t : TraceValue) (d : Data) → next_line t ≤ n → OkHas (Fits n) (value_line n t d)
+pub fits_value : (n : ℕ) (t : TraceValue) (d : Data) → next_line t ≤ n → OkHas (Fits n) (value_line n t d)
 unfolding value_line
 fits_value n t d le = fits_kind n t d (option_and_then as_str (get (codes "kind") d)) le
 

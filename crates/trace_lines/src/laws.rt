@@ -1,11 +1,12 @@
-//! What the type of a trace keeps. Each function computes nothing: what it ensures is the law.
+//! What the type of a trace keeps, and what holds of the trace that bytes say. Each function computes nothing: what it ensures is the law.
 
-ghost use Rattle.std.specs.Prelude.{ℕ};
+ghost use Rattle.std.specs.Prelude.{◌≡◌, ℕ, List, true, Ok};
 ghost use Rattle.std.specs.List.Sorted.{IsStrictlyIncreasing};
 ghost use Rattle.namespaces.specs.Lookup.{rule_at};
 ghost use Rattle.version_chains.specs.Commits.{store_at};
 ghost use Rattle.strata.specs.Strata.{HasValidStrata};
-ghost use Rattle.trace_lines.specs.Values.{entry_lines};
+ghost use Rattle.trace_lines.specs.Traces.{trace_of};
+ghost use Rattle.trace_lines.specs.Values.{TraceValue, entry_lines};
 
 use crate::trace::Trace;
 
@@ -22,3 +23,14 @@ pub fn entries_rise(trace: &Trace)
 {
     let _ = trace.len();
 }
+
+/// In the trace that some bytes say, strata are valid at each timestamp, over what is stored then.
+pub fn valid_strata_of_bytes()
+    ensures { (bytes : List ℕ) (t : TraceValue) → trace_of true bytes ≡ Ok t →
+        (at : ℕ) → HasValidStrata (rule_at t.declarations at) (store_at t.commits at) }
+{}
+
+/// In the trace that some bytes say, the entries stand on lines that rise.
+pub fn entries_of_bytes_rise()
+    ensures { (bytes : List ℕ) (t : TraceValue) → trace_of true bytes ≡ Ok t → IsStrictlyIncreasing (entry_lines t.entries) }
+{}

@@ -5,8 +5,8 @@
 //!
 //! Callers may rely on this: what is read is `trace_of` the bytes, value or first fault, with its line, also of a
 //! reader that fails; input that never ends is refused at the limits; commits and entries stand on lines that rise; no
-//! look-up takes memory; strata are valid at each timestamp, over what is stored then. One pass over the input, one JSON
-//! value at a time.
+//! look-up takes memory; strata are valid at each timestamp, over what is stored then, as [`laws`] say of `trace_of` any bytes too.
+//! One pass over the input, one JSON value at a time.
 //!
 //! ```text
 //! let trace = read_trace(alloc, &mut reader)?;

@@ -5,6 +5,7 @@ use Rattle.audit.specs.Audit.{IsOfAudit, IsWrite}
 use Rattle.audit.specs.declared.audit.AuditFault.{AuditFault}
 use Rattle.audit.specs.declared.audit.AuditFault.TheVariants as faults
 use Rattle.audit.proofs.Readers.{refused_evidence, cut_evidence, audited_if, broken, devices_of_writing, all_kept, all_unfailed}
+use Rattle.audit.proofs.WrongReplies.{named_if}
 use Rattle.audit.proofs.audit.audit_plain.Goals as goal
 
 pub returns-in-Err-clause-evidence : goal.returns-in-Err-clause-evidence
@@ -50,3 +51,6 @@ returns-clause-kept g c = all_kept c.audit_values.result _ _ _ c.in_ok-trace.ens
 
 pub returns-clause-unfailed : goal.returns-clause-unfailed
 returns-clause-unfailed g c = all_unfailed c.audit_values.result _ _ _ c.in_ok-trace.ensures.kept c.in-Ok.ensures.kept c.audit_values.ensures.unfailed
+
+pub returns-clause-wrong_replies : goal.returns-clause-wrong_replies
+returns-clause-wrong_replies g c = named_if c.audit_values.result g.A.Source.given g.A.Source.ends c.args.trace.now c.trace_from.new.reader g.B.Source.given g.B.Source.ends c.args.evidence.now c.evidence_from.new.reader c.in_ok-trace.trace (evidence_value c.in-Ok.evidence) c.in_ok-trace.ensures.given c.in-Ok.ensures.given

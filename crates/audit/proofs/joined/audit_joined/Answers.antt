@@ -3,6 +3,7 @@ use Rattle.std.proofs.lemmas.Result.{IfErr-weaker}
 use Rattle.audit.specs.Audit.{RefusesTrace, RefusesEvidence, Audits, Breaks, IsOfAudit, IsOfJoined}
 use Rattle.audit.specs.Headline.{IsTraceRightAndFresh}
 use Rattle.audit.specs.Joined.{joined_of}
+use Rattle.audit.specs.WrongReplies.{NamesOnlyWrongReplies}
 use Rattle.audit.specs.declared.audit.AuditFault.{AuditFault}
 use Rattle.audit.specs.declared.audit.AuditFault.TheVariants as faults
 use Rattle.audit.proofs.ReadWhole.{too_long_to_part, of_parts, of_parts_if, of_first, of_first_whole, of_second, of_both, of_both_if}
@@ -56,3 +57,9 @@ returns-clause-faults g c = IfErr-weaker c.audit_plain.result IsOfAudit IsOfJoin
     of_joined faults.Limits h = h
     of_joined faults.Joined h = tt
     of_joined faults.Input h = tt
+
+pub returns-clause-wrong_replies : goal.returns-clause-wrong_replies
+returns-clause-wrong_replies g c =
+    let parts : joined_of c.in_ok-bytes.bytes.items ≡ Some (c.in_ok-trace.trace.now, c.in_ok-trace.evidence.now) = search rules in
+    of_parts_if g.R.Source.given g.R.Source.ends c.args.input.now c.read_whole.new.input c.audit_plain.result (λ v. NamesOnlyWrongReplies) c.in_ok-bytes.bytes.items c.in_ok-trace.trace.now c.in_ok-trace.evidence.now c.in_ok-bytes.ensures.whole.0 c.in_ok-bytes.ensures.whole.1 parts
+    (of_both_if c.new.result c.audit_plain.new.trace c.new-2.result c.audit_plain.new.evidence c.in_ok-trace.trace.now c.in_ok-trace.evidence.now (ap (λ (l : List ℕ). Some l) c.new.ensures) (ap (λ (l : List ℕ). Some l) c.new-2.ensures) c.audit_plain.ensures.known.0 c.audit_plain.ensures.known.1 c.audit_plain.result (λ v. NamesOnlyWrongReplies) c.audit_plain.ensures.wrong_replies)
