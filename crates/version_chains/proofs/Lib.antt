@@ -5,6 +5,7 @@ pub mod BackLemmas
 pub mod CallerLemmas
 pub mod CommitLemmas
 pub mod FindLemmas
+pub mod KindLemmas
 pub mod NewestLemmas
 pub mod PlacedLemmas
 pub mod LinkLemmas
