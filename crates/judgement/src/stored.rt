@@ -1,20 +1,20 @@
 //! What is stored in a userset: a user, and passes over the usersets.
 
 ghost use Rattle.std.specs.Prelude.{◌≡◌, ◌↔◌, IsTrue, option_map};
-ghost use Rattle.tuple_text.specs.Refs.{set_value, user_value};
+ghost use Rattle.tuple_text.specs.Refs.{set_value};
 ghost use Rattle.tuple_text.specs.Tuples.{fact_of};
 ghost use Rattle.tuple_text.specs.declared.users.User.TheVariants.{Id};
 ghost use Rattle.namespaces.specs.Lookup.{rule_at};
 ghost use Rattle.strata.specs.Meaning.{IsStored};
 ghost use Rattle.version_chains.specs.Commits.{store_at};
 ghost use Rattle.judgement.specs.Judgement.{IsOut};
-ghost use Rattle.judgement.specs.Passes.{target, GivesUser, BarsUser, SomeUser, EachUser, IsLed, IsBarred};
+ghost use Rattle.judgement.specs.Passes.{target, GivesId, BarsId, SomeSet, EachSet, IsLed, IsBarred};
 
 use crate::known::Known;
 use namespaces::Rules;
 use trace_lines::Trace;
-use tuple_text::{SetRef, UserRef};
-use version_chains::Users;
+use tuple_text::SetRef;
+use version_chains::Usersets;
 
 /// The userset whose members are asked for: a stored one itself, or its object under a relation.
 fn target<'a>(set: SetRef<'a>, relation: Option<&'a str>) -> SetRef<'a>
@@ -26,15 +26,6 @@ fn target<'a>(set: SetRef<'a>, relation: Option<&'a str>) -> SetRef<'a>
     }
 }
 
-fn gives_user(known: &Known, relation: Option<&str>, id: u64, user: UserRef<'_>) -> bool
-    ensures { IsTrue result ↔ GivesUser known.now (option_map (λ s. s.now) relation.entry) id (user_value user.entry) }
-{
-    match user {
-        UserRef::Id(_) => false,
-        UserRef::Set(set) => known.yes(target(set, relation), id),
-    }
-}
-
 /// Whether a fact is known not to hold, or its userset is undeclared at a timestamp and so has no members.
 fn is_out(rules: &Rules, at: u64, known: &Known, set: SetRef<'_>, id: u64) -> bool
     ensures { IsTrue result ↔ IsOut (rule_at rules.now at) known.now (fact_of (set_value set.entry) id) }
@@ -42,28 +33,11 @@ fn is_out(rules: &Rules, at: u64, known: &Known, set: SetRef<'_>, id: u64) -> bo
     rules.body(set, at).is_none() || known.no(set, id)
 }
 
-fn bars_user(
-    rules: &Rules,
-    at: u64,
-    known: &Known,
-    relation: Option<&str>,
-    id: u64,
-    user: UserRef<'_>,
-) -> bool
-    ensures { IsTrue result
-        ↔ BarsUser (rule_at rules.now at) known.now (option_map (λ s. s.now) relation.entry) id (user_value user.entry) }
+fn gives_some(known: &Known, relation: Option<&str>, id: u64, sets: Usersets<'_>) -> bool
+    ensures { IsTrue result ↔ SomeSet (GivesId known.now (option_map (λ s. s.now) relation.entry) id) sets.entry }
 {
-    match user {
-        UserRef::Id(_) => true,
-        UserRef::Set(set) => is_out(rules, at, known, target(set, relation), id),
-    }
-}
-
-fn gives_some(known: &Known, relation: Option<&str>, id: u64, users: Users<'_>) -> bool
-    ensures { IsTrue result ↔ SomeUser (GivesUser known.now (option_map (λ s. s.now) relation.entry) id) users.entry }
-{
-    for user in users {
-        if gives_user(known, relation, id, user) {
+    for set in sets {
+        if known.yes(target(set, relation), id) {
             return true;
         }
     }
@@ -76,13 +50,13 @@ fn bars_each(
     known: &Known,
     relation: Option<&str>,
     id: u64,
-    users: Users<'_>,
+    sets: Usersets<'_>,
 ) -> bool
     ensures { IsTrue result
-        ↔ EachUser (BarsUser (rule_at rules.now at) known.now (option_map (λ s. s.now) relation.entry) id) users.entry }
+        ↔ EachSet (BarsId (rule_at rules.now at) known.now (option_map (λ s. s.now) relation.entry) id) sets.entry }
 {
-    for user in users {
-        if !bars_user(rules, at, known, relation, id, user) {
+    for set in sets {
+        if !is_out(rules, at, known, target(set, relation), id) {
             return false;
         }
     }
@@ -108,8 +82,8 @@ pub(crate) fn is_led(
     ensures { IsTrue result
         ↔ IsLed (store_at trace.now.commits at) known.now (set_value set.entry) (option_map (λ s. s.now) relation.entry) user }
 {
-    let users = trace.chains().users(set, at);
-    gives_some(known, relation, user, users)
+    let sets = trace.chains().usersets(set, at);
+    gives_some(known, relation, user, sets)
 }
 
 /// Whether no userset that is stored in a set has a target that may hold a user.
@@ -125,6 +99,6 @@ pub(crate) fn is_barred(
         ↔ IsBarred (rule_at trace.now.declarations at) (store_at trace.now.commits at) known.now (set_value set.entry)
         (option_map (λ s. s.now) relation.entry) user }
 {
-    let users = trace.chains().users(set, at);
-    bars_each(trace.rules(), at, known, relation, user, users)
+    let sets = trace.chains().usersets(set, at);
+    bars_each(trace.rules(), at, known, relation, user, sets)
 }

@@ -166,6 +166,14 @@ fn are_among(these: &[Userset], chains: &Chains, at: u64) -> (bool, bool) {
     (every, some)
 }
 
+fn count_of_usersets(chains: &Chains, at: u64) -> usize {
+    let mut count = 0usize;
+    for _ in chains.usersets(VIEWED, at) {
+        count = count.saturating_add(1);
+    }
+    count
+}
+
 fn usersets(alloc: Global) -> Result<Vec<Userset>, Fail> {
     let mut all = Vec::new(alloc);
     for text in ["group:a#member", "group:c#member"] {
@@ -189,5 +197,9 @@ fn stored_usersets_among_others(rt: HostRuntime) -> Result<(), Fail> {
     for (at, every, some) in [(4, true, false), (5, false, true), (7, true, true)] {
         assert!(rt; are_among(&known, &chains, at) == (every, some), "at {at}");
     }
+    for (at, count) in [(4, 0usize), (5, 2), (7, 1)] {
+        assert!(rt; count_of_usersets(&chains, at) == count, "at {at}");
+    }
+    assert!(rt; count_of_users(&chains, 5) == 3 && is_listed(&chains, 1, 5));
     Ok(())
 }

@@ -10,7 +10,7 @@ use Rattle.tuple_text.specs.OrderLaws.{tuple_equiv}
 use Rattle.tuple_text.proofs.ValueLemmas.{tuple_eq-same, tuple_eq-itself}
 use Rattle.version_chains.specs.Commits.{Touch}
 use Rattle.version_chains.specs.Placed.{last_place}
-use Rattle.version_chains.specs.Marks.{set_mark, tuple_mark}
+use Rattle.version_chains.specs.Marks.{held_mark, tuple_mark}
 use Rattle.version_chains.specs.Arena.{IsLinked, touch_of, nobody, AreApartAt, AreUpTo}
 use Rattle.version_chains.specs.Jumps.{AreJumps, IsBack}
 use Rattle.version_chains.specs.declared.node.Node.{Node}
@@ -95,11 +95,11 @@ module _ (tuples : List TupleValue) (latest named held : List ℕ) (nodes : List
           (n.tuple, w.1 ∙ ap Some tuple)
 
   -- tuples by their marks
-  pub sibling_by_mark : (k p : ℕ) (t : TupleValue) → slice_get tuples k ≡ Some t → ((mark : ℕ) → slice_get held k ≡ Some mark → p ≡ last_place (nat_eq mark) held k) → p ≡ last_place (λ u. nat_eq (set_mark t.set) (set_mark u.set)) tuples k
+  pub sibling_by_mark : (k p : ℕ) (t : TupleValue) → slice_get tuples k ≡ Some t → ((mark : ℕ) → slice_get held k ≡ Some mark → p ≡ last_place (nat_eq mark) held k) → p ≡ last_place (λ u. nat_eq (held_mark t) (held_mark u)) tuples k
   sibling_by_mark k p t at older =
-      older (set_mark t.set) (ap (λ (ms : List ℕ). slice_get ms k) is.sets ∙ slice_get-map (λ t. set_mark t.set) tuples k ∙ ap (option_map (λ t. set_mark t.set)) at)
-      ∙ ap (λ (ms : List ℕ). last_place (nat_eq (set_mark t.set)) ms k) is.sets
-      ∙ last_place-map (λ t. set_mark t.set) (nat_eq (set_mark t.set)) tuples k
+      older (held_mark t) (ap (λ (ms : List ℕ). slice_get ms k) is.sets ∙ slice_get-map held_mark tuples k ∙ ap (option_map held_mark) at)
+      ∙ ap (λ (ms : List ℕ). last_place (nat_eq (held_mark t)) ms k) is.sets
+      ∙ last_place-map held_mark (nat_eq (held_mark t)) tuples k
 
   -- the new touch jumps to itself, or to where the links of the touch before it lead
   abbrev pub JumpsOn : Node → Type 0
@@ -161,11 +161,11 @@ module _ (tuples : List TupleValue) (latest named held : List ℕ) (nodes : List
 
   -- with one more tuple
   pub more_tuples : (t : TupleValue) → ((i : ℕ) (u : TupleValue) → slice_get tuples i ≡ Some u → tuple_eq u t ≡ false)
-      → IsLinked (tuples ++ t ∷ []) (latest ++ 0 ∷ []) (named ++ tuple_mark t ∷ []) (held ++ set_mark t.set ∷ []) nodes
+      → IsLinked (tuples ++ t ∷ []) (latest ++ 0 ∷ []) (named ++ tuple_mark t ∷ []) (held ++ held_mark t ∷ []) nodes
   more_tuples t absent = record {
     apart = λ i j u h k. apart i j u (slice_get-cases tuples t i u h) (slice_get-cases tuples t j u k);
     names = ap (λ (ms : List ℕ). ms ++ tuple_mark t ∷ []) is.names ∙ sym (map-append tuple_mark tuples (t ∷ []));
-    sets = ap (λ (ms : List ℕ). ms ++ set_mark t.set ∷ []) is.sets ∙ sym (map-append (λ (u : TupleValue). set_mark u.set) tuples (t ∷ []));
+    sets = ap (λ (ms : List ℕ). ms ++ held_mark t ∷ []) is.sets ∙ sym (map-append held_mark tuples (t ∷ []));
     known = λ i n h. let less = is.known i n h in let e = length-more tuples t in omega (arith, less, e);
     earlier = is.earlier;
     jumps = is.jumps;

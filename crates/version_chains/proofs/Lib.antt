@@ -6,6 +6,7 @@ pub mod CallerLemmas
 pub mod CommitLemmas
 pub mod FindLemmas
 pub mod HistoryLemmas
+pub mod KindLemmas
 pub mod NewestLemmas
 pub mod PlacedLemmas
 pub mod LinkLemmas

@@ -4,7 +4,7 @@ use Rattle.tuple_text.specs.Tuples.{TupleValue}
 use Rattle.tuple_text.specs.declared.users.User.TheVariants.{Id}
 use Rattle.version_chains.specs.Commits.{Touch}
 use Rattle.version_chains.specs.Jumps.{AreJumps}
-use Rattle.version_chains.specs.Marks.{set_mark, tuple_mark}
+use Rattle.version_chains.specs.Marks.{held_mark, tuple_mark}
 use Rattle.version_chains.specs.Placed.{last_place}
 use Rattle.version_chains.specs.declared.node.Node.{Node}
 
@@ -47,13 +47,13 @@ AreUpTo at touches = (i : ℕ) (x : Touch) → slice_get touches i ≡ Some x �
 abbrev pub Extends : List TupleValue → List TupleValue → Type 0
 Extends old new = (i : ℕ) (t : TupleValue) → slice_get old i ≡ Some t → slice_get new i ≡ Some t
 
--- each tuple is found by its mark, and by that of its userset; each touch is one of a tuple that is there, and is
+-- each tuple is found by its mark, and by that of its userset and the kind of its user; each touch is one of a tuple that is there, and is
 -- linked to the touch of the same tuple before it, and jumps to one; timestamps do not fall; and each tuple is linked to its
 -- newest touch
 pub record IsLinked (tuples : List TupleValue) (latest named held : List ℕ) (nodes : List Node) : Type 0 where
   pub apart : AreApartAt tuples
   pub names : named ≡ map tuple_mark tuples
-  pub sets : held ≡ map (λ t. set_mark t.set) tuples
+  pub sets : held ≡ map held_mark tuples
   pub known : (i : ℕ) (n : Node) → slice_get nodes i ≡ Some n → n.tuple < length tuples
   pub earlier : (i : ℕ) (n : Node) → slice_get nodes i ≡ Some n → n.older ≡ last_place (λ m. nat_eq n.tuple m.tuple) nodes i
   pub counted : length latest ≡ length tuples

@@ -1,5 +1,6 @@
 -- The users that the arena gives, and the commits that its touches make. No public clause cites this module.
-use Rattle.std.specs.Prelude.{◌≡◌, ℕ, Bool, false, List, ◌++◌, None, map, filter, length, ◌&&◌, ◌≤◌, not, nat_eq, nat_le, suc, slice_get, Some, Option, MatchOption, true}
+use Rattle.std.specs.Prelude.{◌≡◌, ℕ, Bool, false, List, [], ◌∷◌, ◌++◌, None, map, filter, length, ◌&&◌, ◌≤◌, not, nat_eq, nat_le, suc, slice_get, Some, Option, MatchOption, true}
+use Rattle.std.specs.Bool.{beq}
 use Rattle.std.specs.List.{AllByRecursion}
 use Rattle.std.specs.List.Sorted.{IsStrictlyIncreasing}
 use Rattle.tuple_text.specs.Sets.{SetValue, set_eq}
@@ -7,12 +8,13 @@ use Rattle.tuple_text.specs.Tuples.{TupleValue}
 use Rattle.tuple_text.specs.Order.{tuple_eq}
 use Rattle.tuple_text.specs.Refs.{user_value}
 use Rattle.tuple_text.specs.declared.users.User.{User}
+use Rattle.tuple_text.specs.declared.users.User.TheVariants.{Id, Set}
 use Rattle.tuple_text.specs.declared.users.UserRef.{UserRef}
 use Rattle.version_chains.specs.Appends.{first_repeat}
 use Rattle.version_chains.specs.Arena.{Held}
 use Rattle.version_chains.specs.Commits.{Commit, Touch, changelog, touches_to, until, last_live}
 use Rattle.version_chains.specs.Placed.{last_place, newest_first, IsLinkedPlace}
-use Rattle.version_chains.specs.Marks.{set_mark}
+use Rattle.version_chains.specs.Marks.{set_mark, held_mark, is_userset}
 use Rattle.version_chains.specs.declared.node.Node.{Node}
 
 -- the place of the newest touch of a tuple among the first n
@@ -38,21 +40,35 @@ AreTouchesKnown h = (i : ℕ) (x : Touch) → slice_get h.touches i ≡ Some x �
 abbrev pub IsTouchAt : List Touch → ℕ → Node → Type 0
 IsTouchAt touches i n = (x : Touch) × (slice_get touches i ≡ Some x) × (n.at ≡ x.at) × (n.live ≡ x.live) × (n.older ≡ newest_of x.tuple touches i)
 
--- the tuple is of the userset and stored
-abbrev pub is_given : SetValue → ℕ → List Touch → TupleValue → Bool
-is_given g s touches t = set_eq t.set g && is_stored_by touches s t
+-- the user is of a kind: a userset, or else an id
+abbrev pub is_of_kind : Bool → User → Bool
+is_of_kind usersets u = beq (is_userset u) usersets
+
+-- the tuple is of the userset, its user is of the kind, and it is stored
+abbrev pub is_given : SetValue → Bool → ℕ → List Touch → TupleValue → Bool
+is_given g usersets s touches t = set_eq t.set g && (is_of_kind usersets t.user && is_stored_by touches s t)
 
 -- the user is given where the test says so
 abbrev pub Gives : Option UserRef → Bool → User → Type 0
 Gives result given user = MatchOption result (given ≡ false) (λ u. (given ≡ true) × (user_value u ≡ user))
 
 -- the users of such tuples at the first places, the last first
-abbrev pub users_before : SetValue → ℕ → Held → ℕ → List User
-users_before g s h place = map (λ t. t.user) (newest_first (is_given g s h.touches) h.tuples place)
+abbrev pub users_before : SetValue → Bool → ℕ → Held → ℕ → List User
+users_before g usersets s h place = map (λ t. t.user) (newest_first (is_given g usersets s h.touches) h.tuples place)
 
--- the tuple's userset has this mark
-abbrev pub has_mark_of : SetValue → TupleValue → Bool
-has_mark_of g t = nat_eq (set_mark g) (set_mark t.set)
+-- the usersets among users
+abbrev pub usersets_of : List User → List SetValue
+usersets_of [] = []
+usersets_of (Id n ∷ us) = usersets_of us
+usersets_of (Set g ∷ us) = g ∷ usersets_of us
+
+-- each of the users is a userset
+abbrev pub AreUsersets : List User → Type 0
+AreUsersets us = AllByRecursion (λ u. is_userset u ≡ true) us
+
+-- the tuple's userset and the kind of its user have this mark
+abbrev pub has_mark_of : SetValue → Bool → TupleValue → Bool
+has_mark_of g usersets t = nat_eq (set_mark g usersets) (held_mark t)
 
 -- the tuple's touches at the first places, the last first
 abbrev pub history_before : TupleValue → Held → ℕ → List (ℕ × Bool)

@@ -7,9 +7,10 @@ ghost use Rattle.tuple_text.specs.Tuples.{tuple_of, TupleValue};
 ghost use Rattle.version_chains.specs.Arena.{AreApartAt, AreUpTo, Extends, IsNumber};
 ghost use Rattle.version_chains.specs.Commits.{Touch, touches_to, until, last_live};
 ghost use Rattle.version_chains.specs.Given.{AreTouchesKnown, Gives, IsTouchAt, IsUnnumbered, IsUntouched, LeadsBack, has_mark_of, is_given, is_stored_by, newest_of};
+ghost use Rattle.version_chains.specs.Marks.{is_userset};
 ghost use Rattle.version_chains.specs.Placed.{last_place};
 
-use crate::marks::{set_mark, tuple_mark};
+use crate::marks::{is_userset, set_mark, tuple_mark};
 use crate::node::{Node, at_place, next_links};
 use crate::places::Places;
 use std::alloc::{AllocError, Global};
@@ -20,7 +21,7 @@ use tuple_text::{SetRef, Tuple, UserRef};
 /// counts from 1, and 0 is no place.
 ///
 /// From each touch a link leads to the one before it of the same tuple, and from each tuple to the one before it of
-/// the same userset, so that each question is a walk back from the newest.
+/// the same userset whose user is of the same kind, a userset or an id, so that each question is a walk back from the newest.
 #[derive(Drop)]
 pub struct Arena {
     tuples: Vec<Tuple>,
@@ -89,19 +90,20 @@ impl Arena {
         None
     }
 
-    /// The place of the newest tuple of the userset, or of one with its mark. No tuple stands at two places, and each
-    /// touch is of a tuple that stands at one.
-    pub fn newest_of_set(&self, set: SetRef<'_>) -> usize
+    /// The place of the newest tuple of the userset whose user is of the kind, or of one with the same mark. No tuple
+    /// stands at two places, and each touch is of a tuple that stands at one.
+    pub fn newest_of_set(&self, set: SetRef<'_>, usersets: bool) -> usize
         ensures apart { AreApartAt self.now.tuples }
         ensures known { AreTouchesKnown self.now }
-        ensures newest { result ≡ last_place (has_mark_of (set_value set.entry)) self.now.tuples (length self.now.tuples) }
+        ensures newest { result ≡ last_place (has_mark_of (set_value set.entry) usersets) self.now.tuples (length self.now.tuples) }
     {
-        self.held.newest(set_mark(set))
+        self.held.newest(set_mark(set, usersets))
     }
 
-    /// The place of the tuple before this one whose userset has the same mark.
+    /// The place of the tuple before this one whose userset and kind of user have the same mark.
     pub fn sibling(&self, number: usize) -> usize
-        ensures { (t : TupleValue) → IsNumber self.now.tuples t number → result ≡ last_place (has_mark_of t.set) self.now.tuples number }
+        ensures { (t : TupleValue) → IsNumber self.now.tuples t number
+            → result ≡ last_place (has_mark_of t.set (is_userset t.user)) self.now.tuples number }
     {
         self.held.older(number)
     }
@@ -174,14 +176,21 @@ impl Arena {
         }
     }
 
-    /// The user of the tuple, where it is of this userset and stored at the timestamp.
-    pub fn given(&self, number: usize, set: SetRef<'_>, at: u64) -> Option<UserRef<'_>>
+    /// The user of the tuple, where it is of the kind and the tuple is of this userset and stored at the timestamp.
+    pub fn given(
+        &self,
+        number: usize,
+        set: SetRef<'_>,
+        usersets: bool,
+        at: u64,
+    ) -> Option<UserRef<'_>>
         ensures { (t : TupleValue) → IsNumber self.now.tuples t number
-            → Gives result (is_given (set_value set.entry) at self.now.touches t) t.user }
+            → Gives result (is_given (set_value set.entry) usersets at self.now.touches t) t.user }
     {
         let tuple = self.tuples.get(number)?;
-        if tuple.set() == set && self.is_live(number, at) {
-            Some(tuple.user())
+        let user = tuple.user();
+        if tuple.set() == set && is_userset(user) == usersets && self.is_live(number, at) {
+            Some(user)
         } else {
             None
         }
@@ -201,7 +210,10 @@ impl Arena {
         self.tuples.reserve(1)?;
         self.latest.reserve(1)?;
         self.named.push(tuple_mark(tuple.set(), tuple.user()))?;
-        if let Err(fault) = self.held.push(set_mark(tuple.set())) {
+        if let Err(fault) = self
+            .held
+            .push(set_mark(tuple.set(), is_userset(tuple.user())))
+        {
             self.named.pop();
             return Err(fault);
         }

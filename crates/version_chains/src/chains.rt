@@ -5,9 +5,10 @@ ghost use Rattle.std.specs.List.{list_any, IsDistinct};
 ghost use Rattle.std.specs.List.Sorted.{IsStrictlyIncreasing};
 ghost use Rattle.tuple_text.specs.Order.{user_eq};
 ghost use Rattle.tuple_text.specs.Refs.{set_value};
+ghost use Rattle.tuple_text.specs.Sets.{SetValue, set_eq};
 ghost use Rattle.tuple_text.specs.Tuples.{TupleValue, tuple_of};
 ghost use Rattle.tuple_text.specs.declared.users.User.{User};
-ghost use Rattle.tuple_text.specs.declared.users.User.TheVariants.{Id};
+ghost use Rattle.tuple_text.specs.declared.users.User.TheVariants.{Id, Set};
 ghost use Rattle.version_chains.specs.Appends.{append_fault, appended, last_at, late_fault, IsRefusal};
 ghost use Rattle.version_chains.specs.Arena.{AreNumbersOf, AreNumbersOfParts, AreUpTo};
 ghost use Rattle.version_chains.specs.Commits.{TouchesOnce, touches, is_stored, history_of};
@@ -16,7 +17,7 @@ use crate::arena::Arena;
 use crate::fault::AppendFault;
 use crate::history::History;
 use crate::repeats::first_repeat;
-use crate::users::Users;
+use crate::users::{Users, Usersets};
 use std::alloc::{AllocError, Global};
 use std::marker::Model;
 use tuple_text::{SetRef, Tuple, UserRef};
@@ -188,6 +189,15 @@ impl Chains {
         ensures stored { (user : User) → list_any (user_eq user) result ≡ is_stored self.now.commits at (tuple_of (set_value set.entry) user) }
     {
         Users::over(&self.arena, set, at)
+    }
+
+    /// The usersets among those users, each once, in no promised order. What it takes is that of the usersets alone,
+    /// however many ids the userset has.
+    pub fn usersets<'a>(&'a self, set: SetRef<'a>, at: u64) -> Usersets<'a>
+        ensures distinct { IsDistinct set_eq result }
+        ensures stored { (g : SetValue) → list_any (set_eq g) result ≡ is_stored self.now.commits at (tuple_of (set_value set.entry) (Set g)) }
+    {
+        Usersets::over(&self.arena, set, at)
     }
 
     /// Each touch of the tuple as its timestamp and whether it adds, the newest first.

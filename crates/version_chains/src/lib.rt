@@ -7,11 +7,11 @@
 //!
 //! Callers may rely on this: timestamps rise strictly from commit to commit, no commit touches a tuple twice,
 //! [`Chains::append`] adds one commit at the end or changes nothing, each question is answered by those
-//! definitions alone, and none of the questions takes memory. [`Users`] and [`History`] are iterators whose
+//! definitions alone, and none of the questions takes memory. [`Users`], [`Usersets`] and [`History`] are iterators whose
 //! model is the list of what is left to give; `proofs.CallerLemmas` says what a loop over them shows.
 //!
-//! Each tuple is kept once, and touches are linked, so that a question walks back over the touches or the users that
-//! it is about and no others; nothing of that shows in a contract. Why such a walk may jump is the law
+//! Each tuple is kept once, and touches are linked, so that a question walks back over the touches, the users or the
+//! usersets that it is about and no others; nothing of that shows in a contract. Why such a walk may jump is the law
 //! [`laws::jump_is_walk`].
 #![tactic(auto)]
 
@@ -32,4 +32,4 @@ mod users;
 pub use chains::Chains;
 pub use fault::AppendFault;
 pub use history::History;
-pub use users::Users;
+pub use users::{Users, Usersets};

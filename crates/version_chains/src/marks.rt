@@ -32,13 +32,32 @@ fn feed_user(hasher: &mut DefaultHasher, user: UserRef<'_>)
     }
 }
 
-/// The mark of a userset: equal usersets have equal marks.
+/// Whether the user is a userset.
+pub fn is_userset(user: UserRef<'_>) -> bool
+    ensures { result ≡ marks.is_userset (user_value user.entry) }
+{
+    match user {
+        UserRef::Id(_) => false,
+        UserRef::Set(_) => true,
+    }
+}
+
+fn feed_kind(hasher: &mut DefaultHasher, usersets: bool)
+    ensures { hasher.new ≡ marks.fed_kind hasher.old usersets }
+{
+    if usersets {
+        hasher.write(&[1]);
+    }
+}
+
+/// The mark of a userset and one kind of its users, which are usersets or ids: equal usersets have equal marks for each kind.
 #[tactic(auto, unfolding(crate::specs::Marks::set_mark))]
-pub fn set_mark(set: SetRef<'_>) -> u64
-    ensures { result ≡ marks.set_mark (set_value set.entry) }
+pub fn set_mark(set: SetRef<'_>, usersets: bool) -> u64
+    ensures { result ≡ marks.set_mark (set_value set.entry) usersets }
 {
     let mut hasher = DefaultHasher::new();
     feed_set(&mut hasher, set);
+    feed_kind(&mut hasher, usersets);
     hasher.finish()
 }
 

@@ -1,28 +1,32 @@
 //! The users of a userset.
 
-ghost use Rattle.std.specs.Prelude.{◌≡◌, false};
+ghost use Rattle.std.specs.Prelude.{◌≡◌, ◌&&◌, true, false};
 ghost use Rattle.std.specs.Iterator.{YieldsFirstBy, item_count};
 ghost use Rattle.std.specs.List.{list_any, IsDistinct};
 ghost use Rattle.tuple_text.specs.Order.{user_eq};
 ghost use Rattle.tuple_text.specs.Refs.{set_value, user_value};
+ghost use Rattle.tuple_text.specs.Sets.{SetValue, set_eq};
 ghost use Rattle.tuple_text.specs.Tuples.{tuple_of};
 ghost use Rattle.tuple_text.specs.declared.users.User.{User};
-ghost use Rattle.version_chains.specs.Given.{is_stored_by};
+ghost use Rattle.tuple_text.specs.declared.users.User.TheVariants.{Set};
+ghost use Rattle.version_chains.specs.Given.{is_of_kind, is_stored_by};
 
 use crate::arena::Arena;
 use std::marker::Model;
 use tuple_text::{SetRef, UserRef};
 
-/// The users of a userset at a timestamp. A contract sees the list of those that are left to give.
+/// The users of one kind, usersets or ids, that a userset has at a timestamp. A contract sees the list of those that are left
+/// to give.
 #[derive(Drop)]
-pub struct Users<'a> {
+pub(crate) struct OfKind<'a> {
     arena: &'a Arena,
     set: SetRef<'a>,
+    usersets: bool,
     at: u64,
     place: usize,
 }
 
-impl<'a> Model for Users<'a> {
+impl<'a> Model for OfKind<'a> {
     ghost use Rattle.std.specs.Prelude.{List};
     ghost use Rattle.tuple_text.specs.declared.users.User.{User};
     ghost use Rattle.tuple_text.specs.Refs.{set_value};
@@ -32,12 +36,12 @@ impl<'a> Model for Users<'a> {
     ghost use Rattle.version_chains.specs.Given.{users_before, has_mark_of};
     ghost use Rattle.version_chains.specs.Placed.{IsLinkedPlace};
 
-    ghost view = { λ it. users_before (set_value it.set) it.at it.arena.now it.place };
+    ghost view = { λ it. users_before (set_value it.set) it.usersets it.at it.arena.now it.place };
 
-    ghost invariant = { λ it. IsLinkedPlace (has_mark_of (set_value it.set)) it.arena.now.tuples it.place };
+    ghost invariant = { λ it. IsLinkedPlace (has_mark_of (set_value it.set) it.usersets) it.arena.now.tuples it.place };
 }
 
-impl<'a> Iterator for Users<'a> {
+impl<'a> Iterator for OfKind<'a> {
     type Item = UserRef<'a>;
 
     ghost next_gives = { YieldsFirstBy user_value (λ users. users) };
@@ -48,12 +52,61 @@ impl<'a> Iterator for Users<'a> {
         while self.place > 0 {
             let number = self.place - 1;
             self.place = self.arena.sibling(number);
-            match self.arena.given(number, self.set, self.at) {
+            match self.arena.given(number, self.set, self.usersets, self.at) {
                 Some(user) => return Some(user),
                 None => {}
             }
         }
         None
+    }
+}
+
+impl<'a> OfKind<'a> {
+    /// The users of the kind that the arena gives at the timestamp.
+    fn over(arena: &'a Arena, set: SetRef<'a>, usersets: bool, at: u64) -> OfKind<'a>
+        ensures distinct { IsDistinct user_eq result }
+        ensures stored { (user : User) → list_any (user_eq user) result
+            ≡ (is_of_kind usersets user && is_stored_by arena.now.touches at (tuple_of (set_value set.entry) user)) }
+    {
+        let place = arena.newest_of_set(set, usersets);
+        OfKind {
+            arena,
+            set,
+            usersets,
+            at,
+            place,
+        }
+    }
+}
+
+/// The users of a userset at a timestamp. A contract sees the list of those that are left to give.
+#[derive(Drop)]
+pub struct Users<'a> {
+    usersets: OfKind<'a>,
+    ids: OfKind<'a>,
+}
+
+impl<'a> Model for Users<'a> {
+    ghost use Rattle.std.specs.Prelude.{List, ◌++◌};
+    ghost use Rattle.tuple_text.specs.declared.users.User.{User};
+
+    ghost Value = { List User };
+
+    ghost view = { λ it. it.usersets ++ it.ids };
+}
+
+impl<'a> Iterator for Users<'a> {
+    type Item = UserRef<'a>;
+
+    ghost next_gives = { YieldsFirstBy user_value (λ users. users) };
+
+    ghost remaining = { item_count (λ users. users) };
+
+    fn next(&mut self) -> Option<UserRef<'a>> {
+        match self.usersets.next() {
+            Some(user) => Some(user),
+            None => self.ids.next(),
+        }
     }
 }
 
@@ -63,12 +116,55 @@ impl<'a> Users<'a> {
         ensures distinct { IsDistinct user_eq result }
         ensures stored { (user : User) → list_any (user_eq user) result ≡ is_stored_by arena.now.touches at (tuple_of (set_value set.entry) user) }
     {
-        let place = arena.newest_of_set(set);
         Users {
-            arena,
-            set,
-            at,
-            place,
+            usersets: OfKind::over(arena, set, true, at),
+            ids: OfKind::over(arena, set, false, at),
+        }
+    }
+}
+
+/// The usersets among the users of a userset at a timestamp. A contract sees the list of those that are left to give.
+#[derive(Drop)]
+pub struct Usersets<'a> {
+    users: OfKind<'a>,
+}
+
+impl<'a> Model for Usersets<'a> {
+    ghost use Rattle.std.specs.Prelude.{List};
+    ghost use Rattle.tuple_text.specs.Sets.{SetValue};
+
+    ghost Value = { List SetValue };
+
+    ghost use Rattle.version_chains.specs.Given.{AreUsersets, usersets_of};
+
+    ghost view = { λ it. usersets_of it.users };
+
+    ghost invariant = { λ it. AreUsersets it.users };
+}
+
+impl<'a> Iterator for Usersets<'a> {
+    type Item = SetRef<'a>;
+
+    ghost next_gives = { YieldsFirstBy set_value (λ sets. sets) };
+
+    ghost remaining = { item_count (λ sets. sets) };
+
+    fn next(&mut self) -> Option<SetRef<'a>> {
+        match self.users.next() {
+            Some(UserRef::Set(set)) => Some(set),
+            _ => None,
+        }
+    }
+}
+
+impl<'a> Usersets<'a> {
+    /// The usersets that the arena gives at the timestamp.
+    pub(crate) fn over(arena: &'a Arena, set: SetRef<'a>, at: u64) -> Usersets<'a>
+        ensures distinct { IsDistinct set_eq result }
+        ensures stored { (g : SetValue) → list_any (set_eq g) result ≡ is_stored_by arena.now.touches at (tuple_of (set_value set.entry) (Set g)) }
+    {
+        Usersets {
+            users: OfKind::over(arena, set, true, at),
         }
     }
 }

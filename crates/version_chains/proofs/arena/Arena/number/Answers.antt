@@ -3,7 +3,7 @@ use Rattle.std.specs.Prelude.{slice_get}
 use Rattle.tuple_text.specs.Order.{tuple_eq}
 use Rattle.tuple_text.specs.Tuples.{TupleValue}
 use Rattle.version_chains.specs.Arena.{Held}
-use Rattle.version_chains.specs.Marks.{set_mark, tuple_mark}
+use Rattle.version_chains.specs.Marks.{held_mark, tuple_mark}
 use Rattle.version_chains.proofs.ArenaLemmas.{more_tuples, same_touches}
 use Rattle.version_chains.proofs.PlacedLemmas.{slice_get-kept, slice_get-next}
 use Rattle.version_chains.proofs.arena.Arena.number.Goals as goal
@@ -13,7 +13,7 @@ invariant_of-self-else-is_err-2 c =
     let tuples : c.push-3.new.self.items ≡ c.self.inside.tuples.items ++ c.args.tuple.now ∷ [] = search rules in
     let latest : c.push-else-is_err.new.self.items ≡ c.self.inside.latest.items ++ 0 ∷ [] = search rules in
     let named : c.push.new.self ≡ c.self.inside.named ++ tuple_mark c.args.tuple.now ∷ [] = search rules in
-    let held : c.push-2.new.self ≡ c.self.inside.held ++ set_mark c.args.tuple.now.set ∷ [] = search rules in
+    let held : c.push-2.new.self ≡ c.self.inside.held ++ held_mark c.args.tuple.now ∷ [] = search rules in
     let absent : (i : ℕ) (u : TupleValue) → slice_get c.self.inside.tuples.items i ≡ Some u → tuple_eq u c.args.tuple.now ≡ false =
     λ i u h.
     subst (λ (t : TupleValue). tuple_eq u t ≡ false) (λ j. record { set = c.set.ensures.parts j; user = c.user.ensures.parts j })

@@ -2,13 +2,13 @@ use Rattle.std.proofs.Common.{◌≡◌}
 use Rattle.tuple_text.specs.Refs.{set_value}
 use Rattle.version_chains.specs.Given.{users_before, has_mark_of}
 use Rattle.version_chains.specs.Placed.{IsLinkedPlace}
-use Rattle.version_chains.proofs.users.UsersIterator.next.Given as goal
+use Rattle.version_chains.proofs.users.OfKindIterator.next.Given as goal
 
 -- what is left to give stays
 abbrev pub invariant-loop-self : goal.invariant-loop-self
 invariant-loop-self l = record {
-  on : IsLinkedPlace (has_mark_of (set_value l.self-inside.set)) l.self-inside.arena.now.tuples l.self-inside.place;
-  left : users_before (set_value l.self-inside.set) l.self-inside.at l.self-inside.arena.now l.self-inside.place ≡ l.fn.self;
+  on : IsLinkedPlace (has_mark_of (set_value l.self-inside.set) l.self-inside.usersets) l.self-inside.arena.now.tuples l.self-inside.place;
+  left : users_before (set_value l.self-inside.set) l.self-inside.usersets l.self-inside.at l.self-inside.arena.now l.self-inside.place ≡ l.fn.self;
 }
 
 abbrev pub decreases-loop-self : goal.decreases-loop-self
