@@ -2,6 +2,7 @@ pub mod Decided
 pub mod LeastRound
 pub mod Lists
 pub mod NestedExclusion
+pub mod Newest
 pub mod Premises
 pub mod Renumbered
 pub mod Restratified
