@@ -4,6 +4,7 @@ pub mod LeastRelation
 pub mod LeastRound
 pub mod Lists
 pub mod NestedExclusion
+pub mod Newest
 pub mod Premises
 pub mod Renumbered
 pub mod Restratified

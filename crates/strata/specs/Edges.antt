@@ -82,6 +82,10 @@ abbrev pub namespace_edges : List Declaration → (Place → Option RelationName
 namespace_edges ds reads n =
     flat_map (λ r. relation_edges ds reads (record { namespace = n; relation = r })) (range_with_len 1 (length (relations_in ds n)))
 
+-- the edges of the rules of the namespace that has a name
+abbrev pub edges_of_namespace : List Declaration → List ℕ → List Edge
+edges_of_namespace ds q = unwrap_or (option_map (namespace_edges ds (read_by_rule q)) (place_of q (namespace_names ds))) []
+
 -- the edges of the rules alone, namespace by namespace
 abbrev pub rule_edges : List Declaration → List Edge
 rule_edges ds = flat_map (λ (p : ℕ × List ℕ). namespace_edges ds (read_by_rule p.1) p.0) (enumerate_from 1 (namespace_names ds))

@@ -1,8 +1,9 @@
 //! The first broken edge of rules and of tuples.
 
-ghost use Rattle.std.specs.Prelude.{◌≡◌};
+ghost use Rattle.std.specs.Prelude.{◌≡◌, ◌∷◌, ◌++◌, [], List, Ok};
 ghost use Rattle.strata.specs.Edges as edges;
-ghost use Rattle.strata.specs.Edges.{first_broken, rule_edges, tuple_edges};
+ghost use Rattle.namespaces.specs.Declaration.{Declaration};
+ghost use Rattle.strata.specs.Edges.{edges_of_namespace, first_broken, rule_edges, tuple_edges};
 ghost use Rattle.strata.specs.Sights.{reads};
 ghost use Rattle.tuple_text.specs.Refs.{set_value};
 
@@ -40,6 +41,21 @@ pub fn check_rules(rules: &Rules) -> Result<(), Edge>
         number += 1;
     }
     Ok(())
+}
+
+/// Looks at the edges of every rule that the namespace with this name ever had, in the order of [`check_rules`].
+///
+/// Where the last declaration is of this namespace, and the rules before it had no broken edge, no rule of another namespace has one now, and so the
+/// answer is that of [`check_rules`].
+pub fn check_declared(rules: &Rules, namespace: &str) -> Result<(), Edge>
+    ensures exact { result ≡ first_broken rules.now (edges_of_namespace rules.now namespace.now) }
+    ensures first { (ds : List Declaration) (d : Declaration) → rules.now ≡ ds ++ d ∷ [] → d.name ≡ namespace.now
+        → first_broken ds (rule_edges ds) ≡ Ok (tt {0}) → result ≡ first_broken rules.now (rule_edges rules.now) }
+{
+    match rules.namespace_number(namespace) {
+        Some(number) => check_namespace(rules, number, Sight::Rule(namespace)),
+        None => Ok(()),
+    }
 }
 
 /// Looks at the edges of a tuple with every rule ever declared.

@@ -1,9 +1,11 @@
 -- The rules after a change, over what was added so far. No public clause cites this module.
-use Rattle.std.specs.Prelude.{ℕ, List, Result, Ok, Err}
+use Rattle.std.specs.Prelude.{◌≡◌, ℕ, List, [], ◌∷◌, ◌++◌, Some, Result, Ok, Err, codes}
 use Rattle.serde_json.specs.Data.{Data}
 use Rattle.tuple_text.specs.Tuples.{TupleValue}
 use Rattle.namespaces.specs.Declaration.{Declaration}
 use Rattle.namespaces.specs.Changing.{rules_change}
+use Rattle.json_lines.specs.Fields.{text_at}
+use Rattle.strata.specs.Edges.{first_broken, rule_edges}
 use Rattle.version_chains.specs.Commits.{added}
 use Rattle.version_chains.specs.declared.fault.AppendFault.TheVariants.{NotLater}
 use Rattle.refusals.specs.Refusals.{◌>>=◌}
@@ -12,6 +14,18 @@ use Rattle.trace_lines.specs.Values.{TraceValue}
 use Rattle.trace_lines.specs.Traces.{rules_checked, tuples_checked}
 use Rattle.trace_lines.specs.declared.cause.Cause.{Cause}
 use Rattle.trace_lines.specs.declared.cause.Cause.TheVariants.{Commit}
+
+-- no edge of the rules is broken
+abbrev pub AreUnbroken : List Declaration → Type 0
+AreUnbroken ds = first_broken ds (rule_edges ds) ≡ Ok (tt {0})
+
+-- a value declared a namespace last, and before that no edge of the rules was broken
+pub record IsDeclaredLast (ds : List Declaration) (d : Data) : Type 0 where
+  pub before : List Declaration
+  pub last : Declaration
+  pub are : ds ≡ before ++ last ∷ []
+  pub named : text_at (codes "name") d ≡ Some last.name
+  pub unbroken : AreUnbroken before
 
 abbrev pub checked : List TupleValue → List Declaration → Result (List Declaration) Cause
 checked ts ds = rules_checked ds >>= λ u. tuples_checked ds ts >>= λ v. Ok ds

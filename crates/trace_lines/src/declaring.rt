@@ -4,24 +4,31 @@ ghost use Rattle.std.specs.Prelude.{◌≡◌, ℕ, ◌<◌, [], OnOk, OnErr};
 ghost use Rattle.serde_json.specs.View.{view};
 ghost use Rattle.namespaces.specs.Changing.{IsLater};
 ghost use Rattle.trace_lines.specs.Causes.{Gives, Fails, namespace_cause};
-ghost use Rattle.trace_lines.specs.Declaring.{checked, changed_rules, refused_late};
+ghost use Rattle.trace_lines.specs.Declaring.{AreUnbroken, IsDeclaredLast, checked, changed_rules, refused_late};
 ghost use Rattle.trace_lines.specs.Traces.{with_namespace, rules_checked};
 
 use crate::cause::Cause;
 use crate::sample::Sample;
+use json_lines::fields::text_at;
 use namespaces::{Rules, RulesFault};
 use serde_json::Value;
 use std::alloc::Global;
-use strata::{ChangeFault, check_change, check_rules};
+use strata::{ChangeFault, check_change, check_declared};
 use version_chains::AppendFault;
 
-fn check(rules: &Rules) -> Result<(), Cause>
+/// The first broken edge of the rules, after a value declared a namespace: it is one of that namespace.
+fn check(rules: &Rules, value: &Value) -> Result<(), Cause>
+    requires { IsDeclaredLast rules.now (view value.now) }
     ensures { result ≡ rules_checked rules.now }
 {
-    check_rules(rules).map_err(Cause::Strata)
+    match text_at(value, "name") {
+        Some(namespace) => check_declared(rules, namespace).map_err(Cause::Strata),
+        None => unreachable!(),
+    }
 }
 
 fn add(rules: &mut Rules, begun: bool, value: &Value) -> Result<(), Cause>
+    requires { AreUnbroken rules.old }
     ensures answer { Gives (λ _. rules.new) result (with_namespace begun rules.old (view value.now)) }
     ensures later { (at : ℕ) → IsLater at rules.old → IsLater at rules.new }
 {
@@ -33,7 +40,7 @@ fn add(rules: &mut Rules, begun: bool, value: &Value) -> Result<(), Cause>
     if begun {
         return Err(Cause::Late);
     }
-    check(rules)
+    check(rules, value)
 }
 
 /// Declares a namespace that is in force from the start on.
@@ -43,6 +50,7 @@ pub(crate) fn declare(
     begun: bool,
     value: &Value,
 ) -> Result<(), Cause>
+    requires { AreUnbroken rules.old }
     ensures answer { Gives (λ _. rules.new) result (with_namespace begun rules.old (view value.now)) }
     ensures dropped { OnErr result (rules.new ≡ []) }
     ensures later { OnOk result ((at : ℕ) → IsLater at rules.old → IsLater at rules.new) }
@@ -55,7 +63,8 @@ pub(crate) fn declare(
 }
 
 fn make_change(rules: &mut Rules, sample: &Sample, at: u64, value: &Value) -> Result<(), Cause>
-    requires { IsLater at rules.old }
+    requires later { IsLater at rules.old }
+    requires unbroken { AreUnbroken rules.old }
     ensures answer { Gives (λ _. rules.new) result (changed_rules at rules.old sample.now (view value.now)) }
     ensures later { (next : ℕ) → at < next → IsLater next rules.new }
 {
@@ -64,7 +73,7 @@ fn make_change(rules: &mut Rules, sample: &Sample, at: u64, value: &Value) -> Re
         Err(RulesFault::OutOfMemory) => return Err(Cause::OutOfMemory),
         Err(fault) => return Err(Cause::Namespace(fault)),
     }
-    check(rules)?;
+    check(rules, value)?;
     sample.check(rules).map_err(Cause::Strata)
 }
 
@@ -76,7 +85,8 @@ pub(crate) fn change(
     at: u64,
     value: &Value,
 ) -> Result<(), Cause>
-    requires { IsLater at rules.old }
+    requires later { IsLater at rules.old }
+    requires unbroken { AreUnbroken rules.old }
     ensures answer { Gives (λ _. rules.new) result (changed_rules at rules.old sample.now (view value.now)) }
     ensures dropped { OnErr result (rules.new ≡ []) }
     ensures later { OnOk result ((next : ℕ) → at < next → IsLater next rules.new) }

@@ -7,7 +7,10 @@ use Rattle.trace_lines.proofs.Orderly.{orderly_changed}
 use Rattle.trace_lines.proofs.trace.Trace.change_rules.Goals as goal
 
 pub change-requires : goal.change-requires
-change-requires c = subst (λ (t : TraceValue). IsLater c.args.at t.declarations) (sym c.self.view_is) c.requires.later
+change-requires c = record {
+  later = subst (λ (t : TraceValue). IsLater c.args.at t.declarations) (sym c.self.view_is) c.requires.later;
+  unbroken = c.self.invariant.2.unbroken.of_rules;
+}
 
 pub invariant_of-self : goal.invariant_of-self
 invariant_of-self c = (
