@@ -1,5 +1,5 @@
 -- All bytes of a reader.
-use Rattle.std.proofs.Common.{◌≡◌, ℕ, ◌+◌, ◌<◌, ◌≤◌, List, [], ◌++◌, length, take, drop, ◌^◌, length-append, Option, Some, Result, Ok, Err, refl, subst, sym, ap, ◌∙◌, append_assoc, append-nil, arith, inr}
+use Rattle.std.proofs.Common.{◌≡◌, ℕ, ◌+◌, ◌<◌, ◌≤◌, List, ◌++◌, length, take, drop, ◌^◌, length-append, Some, Result, Ok, Err, subst, ap, ◌∙◌, append_assoc, arith, inr}
 use Rattle.std.specs.Prelude.{IfOk}
 use Rattle.std.proofs.lemmas.Grind.{common_steps}
 use Rattle.std.proofs.lemmas.List.{take-take, take-append-le, length-take-le}

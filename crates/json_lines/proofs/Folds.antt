@@ -7,7 +7,7 @@ use Rattle.std.proofs.lemmas.Bool.{lt-ltb, le-ltb, eqb-false, ne_eqb, or_left, o
 use Rattle.std.proofs.lemmas.List.Splits.{slice_split_at, slice_split_none, length-slice_split}
 use Rattle.refusals.specs.Refusals.{◌>>=◌}
 use Rattle.json_lines.specs.Given.{OfBytes, OfInput}
-use Rattle.json_lines.specs.Lines.{lacks, line_len, first_line, after_line, has_newline, line_ending, BeginsTooLong, ComeAtMost}
+use Rattle.json_lines.specs.Lines.{lacks, first_line, after_line, has_newline, line_ending}
 use Rattle.json_lines.specs.Reading.{at_line, passes_limit, parts, read_from, read_all, Fails, Refuses}
 use Rattle.json_lines.specs.declared.lines.InputFault.{InputFault}
 use Rattle.json_lines.specs.declared.lines.InputFault.TheVariants.{TooLong, Read, OutOfMemory}

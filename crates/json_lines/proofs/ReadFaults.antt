@@ -1,5 +1,5 @@
 -- An input is refused as a failure of the reader only where the reader failed.
-use Rattle.std.proofs.Common.{◌≡◌, ◌≢◌, ℕ, Bool, true, false, List, Result, Err, refl, ap, subst, ◌∙◌, sym}
+use Rattle.std.proofs.Common.{◌≡◌, ◌≢◌, ℕ, Bool, true, false, List, Result, Err, refl, ap, ◌∙◌}
 use Rattle.refusals.specs.Refusals.{Unless, Fails}
 use Rattle.json_lines.specs.Given.{OfBytes, OfInput}
 use Rattle.json_lines.specs.Reading as reading

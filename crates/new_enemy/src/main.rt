@@ -26,6 +26,12 @@ fn main(rt: HostRuntime) -> ExitCode {
     let Ok(words) = words(&rt) else {
         return ExitCode::from(3);
     };
-    let (status, _, _, _) = run_on(rt.alloc(), &words, rt.reader(), io::writer(&rt), rt.stderr());
+    let (status, _, _, _) = run_on(
+        rt.alloc(),
+        &words,
+        rt.reader(),
+        io::writer(&rt),
+        rt.stderr(),
+    );
     ExitCode::from(status)
 }

@@ -2,7 +2,7 @@
 use Rattle.std.proofs.Common.{◌≡◌, ℕ, List, [], ◌∷◌, inl, refl, arith}
 use Rattle.std.specs.Prelude.{codes, Ok}
 use Rattle.tuple_text.specs.Sets.{SetValue}
-use Rattle.tuple_text.specs.Tuples.{TupleValue, FactValue}
+use Rattle.tuple_text.specs.Tuples.{TupleValue}
 use Rattle.tuple_text.specs.declared.users.User.TheVariants.{Id}
 use Rattle.namespaces.specs.Expression.{this, computed, minus}
 use Rattle.namespaces.specs.Declaration.{Declaration, addition}

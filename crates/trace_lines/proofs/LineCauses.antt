@@ -1,5 +1,5 @@
 -- A line is never refused as a failure of the reader.
-use Rattle.std.proofs.Common.{◌≡◌, ℕ, ◌&&◌, Bool, true, false, cond, List, [], Option, Some, None, Result, Ok, Err, length, subst}
+use Rattle.std.proofs.Common.{ℕ, ◌&&◌, List, [], Option, Some, None, Result, Ok, Err, length, subst}
 use Rattle.std.specs.Prelude.{codes, bytes_eq, option_and_then}
 use Rattle.serde_json.specs.Data.{Data, Items, no_items, item}
 use Rattle.serde_json.specs.Find.{get, as_str}
@@ -23,7 +23,6 @@ use Rattle.json_lines.specs.Json.{taken_line}
 use Rattle.json_lines.proofs.JsonLines.{line_refused}
 use Rattle.json_lines.proofs.ReadFaults.{IsReadersOwn}
 use Rattle.json_lines.specs.Fields.{number_at, optional_number_at, flag_at, text_at, optional_text_at, strings_at}
-use Rattle.refusals.specs.Refusals.{◌>>=◌}
 use Rattle.trace_lines.specs.Causes.{needed, text_cause, token_cause, namespace_cause, of_input}
 use Rattle.trace_lines.specs.Texts.{tuple_of_text, tuples_of, goal_of, some_token, token_of, version_at}
 use Rattle.trace_lines.specs.Values.{EntryValue, TraceValue}

@@ -1,7 +1,5 @@
 -- Strata stay valid, from one line to the next.
-use Rattle.std.proofs.Common.{◌≡◌, if◌then◌else◌, ℕ, suc, ◌+◌, ◌-◌, ◌<◌, ◌≤◌, ◌^◌, nat_le, nat_lt, not, ◌==◌, ◌||◌, Bool, true, false, List, [], ◌∷◌, ◌++◌, length, map, slice_get, Option, None, Some, Result, Ok, Err, refl, subst, sym, ap, ◌∙◌, append-nil, length-append, arith}
-use Rattle.std.specs.Prelude.{Contains, All}
-use Rattle.std.specs.List.{flat_map}
+use Rattle.std.proofs.Common.{◌≡◌, if◌then◌else◌, ℕ, ◌+◌, ◌-◌, ◌<◌, ◌≤◌, ◌^◌, nat_le, nat_lt, not, ◌==◌, ◌||◌, Bool, true, false, List, [], ◌∷◌, ◌++◌, length, map, Option, None, Some, Result, Ok, Err, refl, subst, sym, ap, ◌∙◌, append-nil, length-append, arith}
 use Rattle.std.proofs.lemmas.Bool.Decides.{nat_tests}
 use Rattle.std.proofs.lemmas.Grind.{flat_map-append}
 use Rattle.std.proofs.lemmas.List.{length-map, map-append}
@@ -11,9 +9,9 @@ use Rattle.std.proofs.Math.Seq.{get_or-append_seam}
 use Rattle.serde_json.specs.Data.{Data}
 use Rattle.tuple_text.specs.Tuples.{TupleValue}
 use Rattle.namespaces.specs.declared.fault.RulesFault.{RulesFault}
-use Rattle.namespaces.specs.Declaration.{Namespace, Declaration, change}
+use Rattle.namespaces.specs.Declaration.{Declaration, change}
 use Rattle.namespaces.specs.Adding.{rules_add}
-use Rattle.namespaces.specs.Changing.{changed, change_answer, rules_change, IsLater}
+use Rattle.namespaces.specs.Changing.{change_answer, rules_change, IsLater}
 use Rattle.namespaces.specs.Lookup.{rule_at}
 use Rattle.namespaces.specs.WellFormed.{IsWellFormed}
 use Rattle.namespaces.proofs.Growth.{well_formed_add, well_formed_change, later_on}
@@ -23,10 +21,9 @@ use Rattle.version_chains.specs.declared.fault.AppendFault.{AppendFault}
 use Rattle.version_chains.specs.declared.fault.AppendFault.TheVariants.{NotLater, Full}
 use Rattle.version_chains.proofs.StoreLemmas.{store_at-iff, added-stored}
 use Rattle.strata.specs.declared.edge.Edge.{Edge}
-use Rattle.strata.specs.Edges.{first_broken, rule_edges, edges_of_tuples, HasNoBrokenEdge}
+use Rattle.strata.specs.Edges.{first_broken, rule_edges, edges_of_tuples}
 use Rattle.strata.specs.Strata.{HasValidStrata}
 use Rattle.strata.proofs.ValidStrata.{valid_at_each_time_law}
-use Rattle.strata.proofs.Walks.{both}
 use Rattle.refusals.specs.Refusals.{◌>>=◌}
 use Rattle.std.specs.Result.{OnOk, OnErr, is_err}
 use Rattle.trace_lines.specs.Causes.{Gives, namespace_cause}

@@ -1,5 +1,5 @@
 -- Commits and entries stand on lines that rise.
-use Rattle.std.proofs.Common.{◌≡◌, ℕ, ◌+◌, ◌-◌, ◌≤◌, ◌&&◌, Bool, true, false, cond, List, [], ◌∷◌, ◌++◌, length, get_or, Option, Some, None, Result, Ok, Err, arith, refl, subst, inl, inr}
+use Rattle.std.proofs.Common.{◌≡◌, ℕ, ◌+◌, ◌-◌, ◌≤◌, ◌&&◌, List, [], ◌∷◌, ◌++◌, length, get_or, Option, Some, None, Result, Ok, Err, arith, refl, inl, inr}
 use Rattle.std.specs.Prelude.{codes, bytes_eq, option_and_then, OnOk}
 use Rattle.std.specs.List.Sorted.{IsStrictlyIncreasing}
 use Rattle.std.proofs.Math.ListN.{get_or-append}
@@ -9,17 +9,11 @@ use Rattle.std.proofs.lemmas.List.{length-append, map-append}
 use Rattle.std.proofs.lemmas.Option.{slice_get-get_or}
 use Rattle.serde_json.specs.Data.{Data}
 use Rattle.serde_json.specs.Find.{get, as_str}
-use Rattle.namespaces.specs.Adding.{rules_add}
 use Rattle.namespaces.specs.Changing.{rules_change}
-use Rattle.tuple_text.specs.Tuples.{TupleValue}
-use Rattle.strata.specs.declared.edge.Edge.{Edge}
-use Rattle.strata.specs.Edges.{first_broken, rule_edges, edges_of_tuples}
-use Rattle.version_chains.specs.Commits.{Commit, Changes, added}
+use Rattle.version_chains.specs.Commits.{Commit, added}
 use Rattle.version_chains.specs.Appends.{append_fault}
-use Rattle.version_chains.specs.declared.fault.AppendFault.{AppendFault}
 use Rattle.refusals.proofs.Steps.{OkHas, passes, passes_with, either_passes, value_has}
 use Rattle.json_lines.specs.Fields.{number_at, optional_number_at, flag_at, text_at, optional_text_at}
-use Rattle.refusals.specs.Refusals.{◌>>=◌}
 use Rattle.trace_lines.specs.Causes.{needed, namespace_cause, Gives}
 use Rattle.trace_lines.specs.Texts.{goal_of, token_of, version_at}
 use Rattle.trace_lines.specs.Values.{EntryValue, TraceValue, entry_lines, after_last, next_line}

@@ -1,26 +1,22 @@
 -- A sample has the edges of all the tuples that it stands for.
-use Rattle.std.proofs.Common.{◌≡◌, ℕ, zero, suc, ◌+◌, ◌<◌, ◌≤◌, ◌&&◌, List, [], ◌∷◌, ◌++◌, length, take, drop, get_or, add-one, Bool, true, false, Result, Ok, Err, ◌⊎◌, inl, inr, refl, subst, sym, ap, ◌∙◌, append-nil, append_assoc, arith}
+use Rattle.std.proofs.Common.{◌≡◌, ℕ, zero, suc, ◌+◌, ◌<◌, ◌≤◌, List, [], ◌∷◌, ◌++◌, length, take, drop, get_or, add-one, true, Result, Ok, Err, ◌⊎◌, inl, inr, refl, subst, sym, ap, ◌∙◌, append-nil, append_assoc, arith}
 use Rattle.std.specs.Prelude.{Contains}
-use Rattle.std.specs.List.{flat_map}
 use Rattle.std.specs.Str.{bytes_eq}
 use Rattle.std.proofs.Math.Seq.{drop-cons}
 use Rattle.std.proofs.lemmas.List.{take_more, take-take}
 use Rattle.std.proofs.lemmas.Grind.{flat_map-append}
-use Rattle.std.proofs.lemmas.Slice.Eq.{bytes_eq-Decides}
-use Rattle.tuple_text.specs.Sets.{SetValue}
 use Rattle.tuple_text.specs.Tuples.{TupleValue}
 use Rattle.tuple_text.specs.declared.users.User.{User}
 use Rattle.tuple_text.specs.declared.users.User.TheVariants.{Id, Set}
 use Rattle.namespaces.specs.Declaration.{Declaration}
 use Rattle.strata.specs.declared.edge.Edge.{Edge}
-use Rattle.strata.specs.Edges.{userset_edges, user_edges, tuple_edges, edges_of_tuples, first_broken, rule_edges}
+use Rattle.strata.specs.Edges.{userset_edges, user_edges, tuple_edges, edges_of_tuples, first_broken}
 use Rattle.strata.proofs.Lists.{Contains-cons_cases, not_in_nil}
 use Rattle.strata.proofs.Walks.{both, edges_joined}
 use Rattle.namespaces.proofs.Names.{and_true, one_name}
 use Rattle.refusals.specs.Refusals.{◌>>=◌}
 use Rattle.trace_lines.specs.Traces.{strata_cause, tuples_checked}
 use Rattle.trace_lines.specs.Tuples.{is_user_of_kind, is_of_kind, IsSomeOfKind, Represents}
-use Rattle.trace_lines.specs.declared.cause.Cause.{Cause}
 
 pub tuples_joined : (ds : List Declaration) (ts us : List TupleValue)
     → first_broken ds (edges_of_tuples ds (ts ++ us)) ≡ both (first_broken ds (edges_of_tuples ds ts)) (first_broken ds (edges_of_tuples ds us))

@@ -1,5 +1,5 @@
 -- Reading a line in steps, where the first fault ends it, and what a function answers of it.
-use Rattle.std.specs.Prelude.{Bool, true, false, ◌||◌, Option, Result, Ok, Err}
+use Rattle.std.specs.Prelude.{Bool, true, false, Option, Result, Ok, Err}
 use Rattle.refusals.specs.Refusals as refusals
 use Rattle.tuple_text.specs.declared.fault.TupleFault.{TupleFault}
 use Rattle.zookie.specs.declared.fault.ZookieFault.{ZookieFault}

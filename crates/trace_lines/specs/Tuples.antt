@@ -1,5 +1,5 @@
 -- The tuples of all commits, and some of them that stand for all.
-use Rattle.std.specs.Prelude.{◌≡◌, ℕ, ◌&&◌, ◌<◌, ◌≤◌, ◌^◌, ◌-◌, Bool, false, true, Contains, List, length, None, Result, Ok, Err}
+use Rattle.std.specs.Prelude.{◌≡◌, ℕ, ◌&&◌, ◌≤◌, ◌^◌, ◌-◌, Bool, false, true, Contains, List, length, None}
 use Rattle.std.specs.Str.{bytes_eq}
 use Rattle.tuple_text.specs.Tuples.{TupleValue}
 use Rattle.tuple_text.specs.declared.users.User.{User}

@@ -1,5 +1,5 @@
 -- A tuple's history does not rise, so that what lies before a touch above a timestamp is above it too.
-use Rattle.std.proofs.Common.{◌≡◌, ℕ, suc, ◌+◌, ◌-◌, ◌<◌, ◌≤◌, Bool, true, false, List, [], ◌∷◌, ◌++◌, length, map, reverse, take, drop, get_or, Option, None, Some, leb, refl, ap, ◌∙◌, arith}
+use Rattle.std.proofs.Common.{◌≡◌, ℕ, suc, ◌+◌, ◌-◌, ◌<◌, ◌≤◌, Bool, true, false, List, [], ◌∷◌, ◌++◌, length, map, reverse, drop, get_or, Option, None, Some, leb, refl, ap, ◌∙◌, arith}
 use Rattle.std.specs.Prelude.{All, AllPairs, find, slice_get, slice_range, IsSomeAnd}
 use Rattle.std.specs.Option.{option_or}
 use Rattle.std.specs.List.Sorted.{IsStrictlyIncreasing}

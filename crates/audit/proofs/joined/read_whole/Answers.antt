@@ -1,4 +1,4 @@
-use Rattle.std.proofs.Common.{◌≡◌, ℕ, ◌+◌, ◌^◌, ◌≤◌, ◌++◌, List, [], length, take, refl, subst, sym, ap, ◌∙◌, append-nil, arith, rules}
+use Rattle.std.proofs.Common.{◌≡◌, ℕ, ◌+◌, ◌≤◌, ◌++◌, List, length, take, refl, sym, ap, ◌∙◌, append-nil, arith, rules}
 use Rattle.audit.proofs.ReadWhole.{read_on, stops_at, goes_on, piece_length, front_of}
 use Rattle.audit.proofs.joined.read_whole.Goals as goal
 

@@ -1,9 +1,8 @@
-use Rattle.std.proofs.Common.{◌≡◌, ◌∙◌, sym, refl, ap, subst, arith, rules, ℕ, List, [], ◌++◌, length, ◌+◌, ◌≤◌, ◌<◌, ◌^◌, min, Bool, true, false, ◌&&◌, eqb, append_assoc, append-nil, length-append}
-use Rattle.json_lines.specs.Given.{OfBytes, OfInput}
+use Rattle.std.proofs.Common.{◌≡◌, ◌∙◌, sym, refl, ap, arith, rules, ℕ, List, [], ◌++◌, length, ◌≤◌, ◌^◌, min, true, false, ◌&&◌, eqb, append_assoc, append-nil, length-append}
 use Rattle.json_lines.specs.Json.{taken_line}
 use Rattle.json_lines.specs.Lines.{line_ending}
-use Rattle.json_lines.proofs.Folds.{Within, within_from, room_left, came_in_all, goes_first, goes_on, cut_ends, over_ends, step_cut, last_ends, read_fails}
-use Rattle.json_lines.proofs.Given.{next-refl, next-trans}
+use Rattle.json_lines.proofs.Folds.{Within, within_from, room_left, came_in_all, goes_on, cut_ends, over_ends, step_cut, last_ends, read_fails}
+use Rattle.json_lines.proofs.Given.{next-trans}
 use Rattle.json_lines.proofs.reading.read_lines.Goals as goal
 
 pub returns-in-Err-clause-exact : goal.returns-in-Err-clause-exact

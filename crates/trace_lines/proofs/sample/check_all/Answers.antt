@@ -1,4 +1,4 @@
-use Rattle.std.proofs.Common.{◌≡◌, ◌∙◌, rules}
+use Rattle.std.proofs.Common.{◌∙◌, rules}
 use Rattle.trace_lines.proofs.Sampling.{edges_step}
 use Rattle.trace_lines.proofs.sample.check_all.Goals as goal
 

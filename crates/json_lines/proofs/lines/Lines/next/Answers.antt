@@ -1,6 +1,6 @@
-use Rattle.std.proofs.Common.{◌≡◌, sym, ap, subst, ◌∙◌, ℕ, List, [], ◌++◌, Err, arith, rules, true}
+use Rattle.std.proofs.Common.{◌≡◌, sym, subst, ◌∙◌, ℕ, List, [], Err, arith, rules, true}
 use Rattle.std.proofs.lemmas.Result.{err_from_is_err_and}
-use Rattle.json_lines.specs.Lines.{line_ending, Takes, lacks}
+use Rattle.json_lines.specs.Lines.{Takes}
 use Rattle.json_lines.specs.declared.lines.InputFault.TheVariants.{TooLong}
 use Rattle.json_lines.proofs.Given.{next-trans}
 use Rattle.json_lines.proofs.Steps.{takes_then, takes_on, takes_line, goes_on, lacks_line, too_long, come_at_most}

@@ -1,4 +1,4 @@
-use Rattle.std.proofs.Common.{◌≡◌, rules, sym, ◌∙◌}
+use Rattle.std.proofs.Common.{rules, ◌∙◌}
 use Rattle.trace_lines.proofs.Sampling.{left_step, taken_step, unbroken_step, kept_step}
 use Rattle.trace_lines.proofs.sample.Sample.admit_all.Goals as goal
 

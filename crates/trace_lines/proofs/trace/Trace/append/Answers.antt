@@ -1,5 +1,4 @@
-use Rattle.std.proofs.Common.{◌≡◌, ℕ, ◌-◌, ◌^◌, None, ◌≤◌, ◌∷◌, ◌++◌, [], Ok, arith, sym, subst, ◌∙◌}
-use Rattle.strata.specs.Edges.{first_broken, edges_of_tuples}
+use Rattle.std.proofs.Common.{◌≡◌, ℕ, ◌-◌, ◌^◌, None, ◌≤◌, ◌∷◌, ◌++◌, [], arith, sym, subst}
 use Rattle.version_chains.specs.Appends.{append_fault}
 use Rattle.version_chains.specs.Commits.{Commit}
 use Rattle.trace_lines.specs.Values.{TraceValue, next_line}
