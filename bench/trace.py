@@ -157,4 +157,5 @@ def main():
     print("\n".join(given.records))
 
 
-main()
+if __name__ == "__main__":
+    main()
