@@ -124,9 +124,19 @@ class Devices(Case):
             out, err = run.communicate(timeout=60)
         self.assertEqual((run.returncode, out, err), (0, CLEAN, b""))
 
+    def run_words(self, *words):
+        return subprocess.run([self.program.encode(), *words], input=self.proved, capture_output=True, timeout=60)
+
     def test_words(self):
-        """Any word is a fault of usage."""
-        for word in (b"audit", b"--help", b"", b"a" * 100000):
-            run = subprocess.run([self.program.encode(), word], input=self.proved, capture_output=True, timeout=60)
-            self.assertEqual((run.returncode, run.stdout), (3, b""), word[:9])
-            self.assertRegex(run.stderr, rb"\Ausage: .*\n\Z", word[:9])
+        """Words that ask for nothing are a fault of usage, also one that is not UTF-8."""
+        for words in ((b"audit",), (b"audit", b"t"), (b"--nope",), (b"",), (b"a" * 100000,), (b"\xff",)):
+            run = self.run_words(*words)
+            self.assertEqual((run.returncode, run.stdout), (3, b""), words[0][:9])
+            self.assertNotEqual(run.stderr, b"", words[0][:9])
+
+    def test_help(self):
+        """Help and the version go to standard output."""
+        for words in ((b"--help",), (b"audit", b"--help"), (b"history", b"--help"), (b"--version",)):
+            run = self.run_words(*words)
+            self.assertEqual((run.returncode, run.stderr), (0, b""), words)
+            self.assertNotEqual(run.stdout, b"", words)

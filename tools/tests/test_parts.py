@@ -94,7 +94,7 @@ class Wholes(PartsCase):
     def test_the_worked_cases(self):
         given = loaded_file(os.path.join(TOP, "rows", "run")).given
         with open(os.path.join(TOP, "rows", "cases.json"), encoding="utf-8") as file:
-            cases = [case for case in json.load(file) if not {"room", "unreadable"} & set(case)
+            cases = [case for case in json.load(file) if not {"words", "room", "unreadable"} & set(case)
                      and case["stderr"] != "joined input refused\n"]
         count = 0
         for case in cases:

@@ -16,8 +16,8 @@ use Rattle.token_order.specs.declared.findings.OrderFindings.{OrderFindings}
 use Rattle.audit.specs.Audit.{verdict_of}
 use Rattle.audit.specs.Findings.{found_by, if_told, found_on_tokens, found_on, on_line, findings_from, findings_of}
 use Rattle.audit.specs.Headline.{IsRightAndFresh}
-use Rattle.audit.specs.declared.audit.Verdict.{Verdict}
-use Rattle.audit.specs.declared.audit.Verdict.TheVariants.{Clean}
+use Rattle.audit.specs.declared.plain.Verdict.{Verdict}
+use Rattle.audit.specs.declared.plain.Verdict.TheVariants.{Clean}
 use Rattle.audit.specs.declared.finding.Finding.{Finding}
 use Rattle.audit.specs.declared.finding.What.{What}
 use Rattle.audit.specs.declared.finding.What.TheVariants.{Stale, OldToken, NotLatest, OpenSnapshot, WrongToken, UnknownVersion}

@@ -1,13 +1,14 @@
 -- All bytes of a reader.
-use Rattle.std.proofs.Common.{◌≡◌, ℕ, ◌+◌, ◌<◌, ◌≤◌, List, ◌++◌, length, take, drop, ◌^◌, length-append, Some, Result, Ok, Err, subst, ap, ◌∙◌, append_assoc, arith, inr}
+use Rattle.std.proofs.Common.{◌≡◌, ℕ, ◌+◌, ◌<◌, ◌≤◌, List, ◌++◌, length, take, drop, ◌^◌, length-append, Some, Option, Result, Ok, Err, subst, ap, ◌∙◌, append_assoc, arith, inr}
 use Rattle.std.specs.Prelude.{IfOk}
+use Rattle.std.specs.Io.KnownBytes.{ReadConsumes}
 use Rattle.std.proofs.lemmas.Grind.{common_steps}
 use Rattle.std.proofs.lemmas.List.{take-take, take-append-le, length-take-le}
 use Rattle.json_lines.specs.Devices.{given_by, ends_of, left_in}
 use Rattle.json_lines.specs.Given.{OfBytes, OfWhole, OfInput, AreNext}
-use Rattle.json_lines.specs.Moves.{stops_after}
+use Rattle.json_lines.specs.Moves.{moved, stops_after}
 use Rattle.json_lines.specs.declared.held.Held.{Held}
-use Rattle.json_lines.proofs.Given.{of_whole-map, of_known, of_known_whole}
+use Rattle.json_lines.proofs.Given.{of_whole-map, of_known, of_known_whole, next-trans, by_give}
 use Rattle.audit.specs.Joined.{joined_of, OfParts, HasNoParts}
 
 -- what was read at first, and then
@@ -26,6 +27,11 @@ piece_length bs buf n le = let sum = length-append bs (take n buf) in let short 
 -- the front of a buffer that was written over
 pub front_of : (len n : ℕ) (buf old : List ℕ) → n ≤ length buf → n ≤ len → take n (take len (buf ++ drop (length buf) old)) ≡ take n buf
 front_of len n buf old within le = take-take n len (buf ++ drop (length buf) old) le ∙ take-append-le n buf (drop (length buf) old) within
+
+-- one more call of a reader, of which it was known what it had left
+pub next_given : {R E : Type 0} (given : R → List ℕ) (ends : R → ℕ) (remaining : R → Option (List ℕ)) (a b c : R) (result : Result ℕ E) (buf : List ℕ) → AreNext given ends remaining a b
+    → given c ≡ given b ++ moved result buf → ends c ≡ stops_after result (length buf) (ends b) → ReadConsumes (remaining b) (remaining c) result buf → AreNext given ends remaining a c
+next_given given ends remaining a b c result buf known gives stops bytes = next-trans given ends remaining a b c known (by_give given ends remaining b c result buf gives stops bytes)
 
 -- what begins so has too many bytes
 pub too_long_to_part : {R : Type 0} (given : R → List ℕ) (ends : R → ℕ) (old new : R) → OfBytes given old new (λ came. 2 ^ 30 < length came) → OfInput given ends old new HasNoParts

@@ -1,5 +1,5 @@
 -- What two readers say, put together.
-use Rattle.std.proofs.Common.{◌≡◌, ◌⊎◌, inl, inr, ℕ, true, false, List, ◌++◌, Option, Result, Ok, Err}
+use Rattle.std.proofs.Common.{◌≡◌, ◌⊎◌, inl, inr, ℕ, true, false, List, ◌++◌, Option, Result, Ok, Err, refl}
 use Rattle.std.specs.Prelude.{IfOk, IfErr, OnOk}
 use Rattle.json_lines.specs.Given.{OfBytes, OfWhole, OfInput}
 use Rattle.json_lines.proofs.Given.{of_bytes-map, of_whole-map, of_input-map}
@@ -8,12 +8,13 @@ use Rattle.trace_lines.specs.Traces.{trace_of}
 use Rattle.evidence_check.specs.Reading as evidence
 use Rattle.evidence_check.specs.Reading.{evidence_of}
 use Rattle.evidence_check.specs.Steps.{StepValue}
+use Rattle.evidence_check.specs.declared.cause.EvidenceCause.TheVariants as evidence_causes
 use Rattle.evidence_check.specs.declared.cause.EvidenceFault.{EvidenceFault}
-use Rattle.audit.specs.Audit.{Audits, Breaks, RefusesEvidence, CutsEvidence, IsOfDevices, IsOfNoDevice, IsUnwritten, IsWrite, FailsWriting, report_on, verdict_of}
+use Rattle.audit.specs.Audit.{Audits, Breaks, RefusesEvidence, CutsEvidence, IsOfDevices, IsOfEvidence, IsOfNoDevice, IsUnwritten, IsWrite, FailsWriting, report_on, verdict_of}
 use Rattle.audit.specs.Findings.{findings_of}
-use Rattle.audit.specs.declared.audit.Verdict.{Verdict}
-use Rattle.audit.specs.declared.audit.AuditFault.{AuditFault}
-use Rattle.audit.specs.declared.audit.AuditFault.TheVariants as faults
+use Rattle.audit.specs.declared.plain.Verdict.{Verdict}
+use Rattle.audit.specs.declared.plain.AuditFault.{AuditFault}
+use Rattle.audit.specs.declared.plain.AuditFault.TheVariants as faults
 
 module _ {A B : Type 0} (given_a : A → List ℕ) (ends_a : A → ℕ) (a0 a1 : A) (given_b : B → List ℕ) (ends_b : B → ℕ) (b0 b1 : B) (t : TraceValue)
     (says : OfWhole given_a ends_a a0 a1 (λ a. trace_of true a ≡ Ok t)) where
@@ -47,8 +48,33 @@ module _ {A B : Type 0} (given_a : A → List ℕ) (ends_a : A → ℕ) (a0 a1 :
       → FailsWriting old new n (report_on t given) → OfWhole given_a ends_a a0 a1 (λ a. OfWhole given_b ends_b b0 b1 (λ b. Breaks a b old new n))
   broken old new n given h w = on_both (λ a b. Breaks a b old new n) given h (λ a b is by. (t, given, is, by, w))
 
+-- of the faults of writing
+pub of_writing : (P : AuditFault → Type 0) → P faults.OutOfMemory → ((n : ℕ) → P (faults.Write n)) → (e : AuditFault) → (e ≡ faults.OutOfMemory) ⊎ IsWrite e → P e
+of_writing P memory write (faults.Trace f) (inl e) = absurd cc
+of_writing P memory write (faults.Trace f) (inr w) = absurd w
+of_writing P memory write (faults.Evidence f) (inl e) = absurd cc
+of_writing P memory write (faults.Evidence f) (inr w) = absurd w
+of_writing P memory write (faults.Write n) h = write n
+of_writing P memory write faults.OutOfMemory h = memory
+of_writing P memory write faults.Limits (inl e) = absurd cc
+of_writing P memory write faults.Limits (inr w) = absurd w
+of_writing P memory write faults.Joined (inl e) = absurd cc
+of_writing P memory write faults.Joined (inr w) = absurd w
+of_writing P memory write faults.Input (inl e) = absurd cc
+of_writing P memory write faults.Input (inr w) = absurd w
+
+-- a fault of the evidence is of its reader, where that failed, or else of no device
+pub devices_of_evidence : (e : AuditFault) (trace evidence out : Type 0) → IsOfEvidence e → ((f : EvidenceFault) → e ≡ faults.Evidence f → f.cause ≡ evidence_causes.Read → evidence) → IsOfDevices ⊥ trace evidence out e
+devices_of_evidence (faults.Trace f) trace evidence out of at = absurd of
+devices_of_evidence (faults.Evidence f) trace evidence out of at = at f refl
+devices_of_evidence (faults.Write n) trace evidence out of at = absurd of
+devices_of_evidence faults.OutOfMemory trace evidence out of at = tt
+devices_of_evidence faults.Limits trace evidence out of at = absurd of
+devices_of_evidence faults.Joined trace evidence out of at = absurd of
+devices_of_evidence faults.Input trace evidence out of at = absurd of
+
 -- writing fails by the writer, and else for want of memory
-pub devices_of_writing : (r : Result Verdict AuditFault) (trace evidence out : Type 0) → IfErr r (λ e. (e ≡ faults.OutOfMemory) ⊎ IsWrite e) → IfErr r (λ e. IsWrite e → out)
+pub devices_of_writing : {V : Type 0} (r : Result V AuditFault) (trace evidence out : Type 0) → IfErr r (λ e. (e ≡ faults.OutOfMemory) ⊎ IsWrite e) → IfErr r (λ e. IsWrite e → out)
     → IfErr r (IsOfDevices ⊥ trace evidence out)
 devices_of_writing (Ok v) trace evidence out of at = tt
 devices_of_writing (Err (faults.Trace f)) trace evidence out (inl e) at = absurd cc
@@ -66,7 +92,7 @@ pub all_kept : (r : Result Verdict AuditFault) (trace evidence out : Type 0) →
 all_kept (Ok v) trace evidence out a b c = (a, b, c)
 all_kept (Err f) trace evidence out a b c = tt
 
-unwritten_without_device : (e : AuditFault) → IsOfNoDevice e → IsUnwritten e
+pub unwritten_without_device : (e : AuditFault) → IsOfNoDevice e → IsUnwritten e
 unwritten_without_device (faults.Trace f) h = tt
 unwritten_without_device (faults.Evidence f) h = tt
 unwritten_without_device (faults.Write n) h = h

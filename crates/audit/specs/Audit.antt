@@ -13,10 +13,10 @@ use Rattle.evidence_check.specs.Steps.{StepValue}
 use Rattle.audit.specs.Findings.{findings_of}
 use Rattle.audit.specs.Report.{report_text}
 use Rattle.audit.specs.declared.finding.Finding.{Finding}
-use Rattle.audit.specs.declared.audit.Verdict.{Verdict}
-use Rattle.audit.specs.declared.audit.Verdict.TheVariants.{Clean, Dirty}
-use Rattle.audit.specs.declared.audit.AuditFault.{AuditFault}
-use Rattle.audit.specs.declared.audit.AuditFault.TheVariants as faults
+use Rattle.audit.specs.declared.plain.Verdict.{Verdict}
+use Rattle.audit.specs.declared.plain.Verdict.TheVariants.{Clean, Dirty}
+use Rattle.audit.specs.declared.plain.AuditFault.{AuditFault}
+use Rattle.audit.specs.declared.plain.AuditFault.TheVariants as faults
 
 -- clean exactly where there is no finding
 abbrev pub verdict_of : List Finding → Verdict
@@ -47,6 +47,10 @@ abbrev pub Audits : List ℕ → List ℕ → List ℕ → List ℕ → Verdict 
 Audits a b old new v =
     (t : TraceValue) × (given : List (Option (List StepValue))) × (trace_of true a ≡ Ok t) × (evidence_of t.entries true b ≡ Ok given)
     × (new ≡ old ++ report_on t given) × (v ≡ verdict_of (findings_of t given))
+
+-- the bytes say a trace and evidence for it, of which P holds
+abbrev pub IsOfBytes : List ℕ → List ℕ → (TraceValue → List (Option (List StepValue)) → Type 0) → Type 0
+IsOfBytes a b P = (t : TraceValue) × (given : List (Option (List StepValue))) × (trace_of true a ≡ Ok t) × (evidence_of t.entries true b ≡ Ok given) × P t given
 
 -- the fault is that of the bytes of a trace
 abbrev pub RefusesTrace : List ℕ → TraceFault → Type 0

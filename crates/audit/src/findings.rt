@@ -1,9 +1,10 @@
 //! Finding what is wrong with the recorded decisions.
 
-ghost use Rattle.std.specs.Prelude.{◌≡◌, ◌<◌, ◌++◌, Some, length, slice_get, IfOk, string_bytes, OnOk};
+ghost use Rattle.std.specs.Prelude.{◌≡◌, ◌<◌, ◌++◌, ℕ, List, Option, Some, length, slice_get, IfOk, string_bytes, OnOk};
 ghost use Rattle.std.specs.List.{flat_map};
-ghost use Rattle.trace_lines.specs.Values.{EntryValue};
+ghost use Rattle.trace_lines.specs.Values.{TraceValue, EntryValue};
 ghost use Rattle.evidence_check.specs.Evidences.{evidence_value};
+ghost use Rattle.evidence_check.specs.Steps.{StepValue};
 ghost use Rattle.audit.specs.Findings.{found_by, if_told, found_on, on_line, findings_of};
 ghost use Rattle.audit.specs.Report.{line_text, last_lines, verdict_text, report_text};
 
@@ -32,7 +33,11 @@ fn if_told(what: What, told: bool) -> Option<What>
 }
 
 /// What is found on entry `i`, by the findings' numbers.
-fn found_on(trace: &Trace, evidence: &Evidence, i: usize) -> Result<[Option<What>; 7], AllocError>
+pub(crate) fn found_on(
+    trace: &Trace,
+    evidence: &Evidence,
+    i: usize,
+) -> Result<[Option<What>; 7], AllocError>
     requires { i < length trace.now.entries }
     ensures { IfOk result (λ found. (e : EntryValue) → slice_get trace.now.entries i ≡ Some e → found ≡ found_on trace.now (evidence_value evidence.now) i e) }
 {
@@ -49,7 +54,7 @@ fn found_on(trace: &Trace, evidence: &Evidence, i: usize) -> Result<[Option<What
     ])
 }
 
-fn push_found(
+pub(crate) fn push_found(
     line: u64,
     found: &[Option<What>],
     findings: &mut Vec<Finding>,
@@ -78,6 +83,52 @@ pub fn findings_of(
         push_found(trace.entry(i).line, &found, &mut findings)?;
     }
     Ok(findings)
+}
+
+/// How an audit comes by the findings.
+pub(crate) trait Finder {
+    // What it needs of its handles.
+    ghost asks: { Self → Type 0 };
+
+    // What no call changes.
+    ghost mark: { Self → ℕ };
+
+    // What it tells of them elsewhere, from its value before to that after.
+    ghost tells: { TraceValue → List (Option (List StepValue)) → Self → Self → Type 0 };
+
+    fn findings(
+        &mut self,
+        alloc: Global,
+        trace: &Trace,
+        evidence: &Evidence,
+    ) -> Result<Vec<Finding>, AllocError>
+        requires { asks self.old }
+        ensures found { IfOk result (λ v. v.items ≡ findings_of trace.now (evidence_value evidence.now)) }
+        ensures mark { mark self.new ≡ mark self.old }
+        ensures tells { tells trace.now (evidence_value evidence.now) self.old self.new };
+}
+
+/// It finds them in the calling thread.
+#[derive(Drop)]
+pub(crate) struct OneThread;
+
+impl Finder for OneThread {
+    ghost use Rattle.std.specs.Prelude.{⊤};
+
+    ghost asks = { λ _. ⊤ };
+
+    ghost mark = { λ _. 0 };
+
+    ghost tells = { λ _ _ _ _. ⊤ };
+
+    fn findings(
+        &mut self,
+        alloc: Global,
+        trace: &Trace,
+        evidence: &Evidence,
+    ) -> Result<Vec<Finding>, AllocError> {
+        findings_of(alloc, trace, evidence)
+    }
 }
 
 fn push_lines(findings: &[Finding], text: &mut String) -> Result<(), AllocError>

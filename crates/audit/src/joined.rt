@@ -1,17 +1,17 @@
 //! The audit of joined input.
 
 ghost use Rattle.std.specs.Prelude.{◌≡◌, ◌≢◌, ◌⊎◌, ℕ, ◌+◌, ◌<◌, ◌≤◌, length, drop, option_map, Ok, Err, IfOk, IfErr, OnOk};
-ghost use Rattle.json_lines.specs.Given.{OfBytes, OfWhole, OfInput};
+ghost use Rattle.json_lines.specs.Given.{OfBytes, OfWhole, OfInput, AreNext, StandBehind};
 ghost use Rattle.trace_lines.specs.declared.cause.TraceFault.{TraceFault};
 ghost use Rattle.evidence_check.specs.declared.cause.EvidenceFault.{EvidenceFault};
 ghost use Rattle.audit.specs.Audit.{Audits, Breaks, RefusesTrace, RefusesEvidence, HasRisen, IsOfDevices, IsUnwritten, IsOfReading, IsOfJoined};
 ghost use Rattle.audit.specs.Headline.{IsTraceRightAndFresh};
 ghost use Rattle.audit.specs.Joined.{is_marker, joined_of, OfParts, HasNoParts};
 ghost use Rattle.audit.specs.WrongReplies.{NamesOnlyWrongReplies};
-ghost use Rattle.audit.specs.declared.audit.AuditFault.TheVariants as faults;
-ghost use Rattle.audit.specs.declared.audit.Verdict.TheVariants.{Clean};
+ghost use Rattle.audit.specs.declared.plain.AuditFault.TheVariants as faults;
+ghost use Rattle.audit.specs.declared.plain.Verdict.TheVariants.{Clean};
 
-use crate::audit::{AuditFault, Verdict, audit_plain};
+use crate::plain::{AuditFault, Verdict, audit_plain};
 use json_lines::{CHUNK, Held, MAX_INPUT, Sink, Source, line_end};
 use std::alloc::Global;
 
@@ -20,6 +20,7 @@ fn read_whole<R: Source>(alloc: Global, input: &mut R) -> Result<Vec<u8>, AuditF
     ensures whole { IfOk result (λ v. (length v.items ≤ MAX_INPUT) × OfWhole R.given R.ends input.old input.new (λ came. v.items ≡ came)) }
     ensures long { result ≡ Err faults.Joined → OfBytes R.given input.old input.new (λ came. MAX_INPUT < length came) }
     ensures most { OfBytes R.given input.old input.new (λ came. length came ≤ MAX_INPUT + CHUNK) }
+    ensures known { AreNext R.given R.ends R.remaining input.old input.new }
     ensures device { result ≡ Err faults.Input → HasRisen (R.failures input.old) (R.failures input.new) }
     ensures kept { result ≢ Err faults.Input → R.failures input.new ≡ R.failures input.old }
     ensures causes { IfErr result IsOfReading }
@@ -96,6 +97,9 @@ pub fn audit_joined<R: Source, W: Sink>(
     ensures unwritten { IfErr result (λ e. IsUnwritten e → W.taken out.new ≡ W.taken out.old) }
     // Also of a reader that never ends.
     ensures most { OfBytes R.given input.old input.new (λ came. length came ≤ MAX_INPUT + CHUNK) }
+    // Of devices in memory: what came is what the reader had left, and what went out stands behind what the writer held.
+    ensures known { AreNext R.given R.ends R.remaining input.old input.new }
+    ensures held { StandBehind W.taken W.contents out.old out.new }
     ensures devices { IfErr result (IsOfDevices (HasRisen (R.failures input.old) (R.failures input.new)) ⊥ ⊥
         (HasRisen (W.failures out.old) (W.failures out.new) ⊎ HasRisen (W.idle out.old) (W.idle out.new))) }
     // Any other answer comes only where no device failed.

@@ -105,8 +105,12 @@ impl<'a, X, N: Names<X>> Iterator for Alerts<'a, X, N> {
 
 /// It is shown alerts, each of them true.
 pub trait Watch<X, N: Names<X>> {
+    // What no alert changes.
+    ghost mark: { Self → ℕ };
+
     fn seen(&mut self, alert: &Alert<X>)
-        requires { IsTrueAlert N.named N.alerts alert.now };
+        requires { IsTrueAlert N.named N.alerts alert.now }
+        ensures { mark self.new ≡ mark self.old };
 }
 
 /// It looks at nothing.
@@ -114,6 +118,8 @@ pub trait Watch<X, N: Names<X>> {
 pub struct Blind;
 
 impl<X, N: Names<X>> Watch<X, N> for Blind {
+    ghost mark = { λ _. 0 };
+
     fn seen(&mut self, _alert: &Alert<X>) {}
 }
 
@@ -126,10 +132,12 @@ pub(crate) trait Desk<X, N: Names<X>> {
         requires { IsTrueAlert N.named N.alerts alert };
 
     // Shows a watch the alerts from this place on, up to the first place that is still empty, which it answers.
-    fn show_new<W: Watch<X, N>>(&self, from: usize, watch: &mut W) -> usize;
+    fn show_new<W: Watch<X, N>>(&self, from: usize, watch: &mut W) -> usize
+        ensures { W.mark watch.new ≡ W.mark watch.old };
 
     // Shows a watch the alerts from this place on. A place whose alert found no memory stays empty.
-    fn show_rest<W: Watch<X, N>>(&self, from: usize, watch: &mut W);
+    fn show_rest<W: Watch<X, N>>(&self, from: usize, watch: &mut W)
+        ensures { W.mark watch.new ≡ W.mark watch.old };
 }
 
 impl<X: Drop, N: Names<X>> Desk<X, N> for Board<X, N> {

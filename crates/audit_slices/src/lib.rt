@@ -13,7 +13,7 @@
 //! `None`, a pool in one thread and a pool whose workers never steal would be proved: in the crate `tests_of_slices`
 //! the tests of the yards and `two_workers_are_at_work_at_once` refuse them. No clause says that a new `Board` is empty,
 //! since none says what is on a board that threads share: `one_alert_is_posted` there tests it. `Watch::seen` is the
-//! caller's, and may do anything.
+//! caller's, and may do anything but change its watch's mark, which `run_pool` keeps.
 #![tactic(auto)]
 
 mod board;

@@ -192,6 +192,7 @@ pub(crate) fn work_watched<
     requires before { IsSettled (C.named check.now) member.old }
     ensures after { IsSettled (C.named check.now) member.new }
     ensures places { member_places member.new ≡ member_places member.old }
+    ensures mark { W.mark watch.new ≡ W.mark watch.old }
 {
     let mut shown = 0;
     for _ in rt.forever() {

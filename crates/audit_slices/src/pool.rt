@@ -52,6 +52,7 @@ pub(crate) fn run_watched<
     requires before { All (IsSettled (C.named check.now)) members.old }
     ensures after { All (IsSettled (C.named check.now)) members.new }
     ensures places { map member_places members.new ≡ map member_places members.old }
+    ensures mark { W.mark watch.new ≡ W.mark watch.old }
 {
     let Some((first, others)) = members.split_first_mut() else {
         return;
@@ -92,6 +93,7 @@ fn run_beside<
     ensures first_places { member_places first.new ≡ member_places first.old }
     ensures after { All (IsSettled (C.named check.now)) others.new }
     ensures places { map member_places others.new ≡ map member_places others.old }
+    ensures mark { W.mark watch.new ≡ W.mark watch.old }
 {
     let mut theirs = ||
         requires { IsSync R.row × IsSync C.row × IsSync N.row × IsSync B.row × IsSync G.row × IsSync X.row × IsSend X.row
@@ -105,7 +107,8 @@ fn run_beside<
         requires { SameNames (C.named check.now) (C.raises check.now) N.named N.alerts
             × AreBelow (C.entries check.now) (member_places first.now) × IsSettled (C.named check.now) first.now }
         ensures { IsSettled (C.named check.entry.now) first.exit.now
-            × (member_places first.exit.now ≡ member_places first.entry.now) }
+            × (member_places first.exit.now ≡ member_places first.entry.now)
+            × (W.mark watch.exit.now ≡ W.mark watch.entry.now) }
     { work_watched(rt, alloc, check, gate, board, watch, first) };
     join_mut(rt, &mut theirs, &mut ours);
 }

@@ -179,6 +179,7 @@ pub fn run_pool<
     ensures named { IfOk result (λ v. All (IsNamed (C.named check.now)) v.items) }
     ensures all { IfOk result (λ v. flat_map report_items v.items
         ≡ map (C.named check.now) (entries_of slices.items)) }
+    ensures mark { W.mark watch.new ≡ W.mark watch.old }
 {
     let members = hire(alloc, slices, workers)?;
     let members = run_members(rt, alloc, check, gate, board, watch, members);
@@ -209,6 +210,7 @@ fn run_members<
     requires before { All (IsSettled (C.named check.now)) members.items }
     ensures after { All (IsSettled (C.named check.now)) result.items }
     ensures places { map member_places result.items ≡ map member_places members.items }
+    ensures mark { W.mark watch.new ≡ W.mark watch.old }
 {
     match board {
         Some(board) => run_at_desk(rt, alloc, check, gate, board, watch, members),
@@ -238,6 +240,7 @@ fn run_at_desk<
     requires before { All (IsSettled (C.named check.now)) members.items }
     ensures after { All (IsSettled (C.named check.now)) result.items }
     ensures places { map member_places result.items ≡ map member_places members.items }
+    ensures mark { W.mark watch.new ≡ W.mark watch.old }
 {
     run_watched(rt, alloc, check, gate, board, watch, members.as_mut_slice());
     show_rest(board, watch, members.as_slice());
@@ -249,7 +252,9 @@ fn show_rest<X, N: Names<X>, B: Desk<X, N>, W: Watch<X, N>>(
     board: &B,
     watch: &mut W,
     members: &[Member<X>],
-) {
+)
+    ensures { W.mark watch.new ≡ W.mark watch.old }
+{
     if let Some(first) = members.first() {
         board.show_rest(first.shown, watch);
     }

@@ -37,7 +37,7 @@ pub enum Judged {
 }
 
 /// Whether the fact's relation is declared, and its rule gives the fact from what is known.
-fn is_proved(trace: &Trace, at: u64, known: &Known, fact: &Fact) -> bool
+pub fn is_proved(trace: &Trace, at: u64, known: &Known, fact: &Fact) -> bool
     ensures { IsTrue result ↔ IsProved (rule_at trace.now.declarations at) (store_at trace.now.commits at) known.now fact.now }
 {
     match trace.rules().body(fact.set(), at) {
@@ -139,7 +139,8 @@ fn by_goal(known: &Known, goal: &Fact, reply: bool) -> Judged
     }
 }
 
-fn by_steps(trace: &Trace, entry: &Entry, steps: &Steps) -> Result<Judged, AllocError>
+/// How steps judge an entry, whether or not evidence has them.
+pub fn judge_steps(trace: &Trace, entry: &Entry, steps: &Steps) -> Result<Judged, AllocError>
     ensures { IfOk result (λ j. j ≡ judged trace.now (entry_value entry.now) (Some (step_values steps.now.items))) }
 {
     let mut known = Known::new(*steps.allocator());
@@ -155,7 +156,7 @@ fn judge(trace: &Trace, entry: &Entry, steps: Option<&Steps>) -> Result<Judged, 
 {
     match steps {
         None => Ok(Judged::Missing),
-        Some(steps) => by_steps(trace, entry, steps),
+        Some(steps) => judge_steps(trace, entry, steps),
     }
 }
 

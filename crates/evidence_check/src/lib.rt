@@ -21,6 +21,7 @@ mod step;
 
 pub use cause::{EvidenceCause, EvidenceFault};
 pub use evidence::Evidence;
-pub use judged::{Judged, judge_entry};
+pub use judged::{Judged, is_proved, judge_entry, judge_steps};
 pub use read::read_evidence;
+pub use records::{MAX_FACTS, has_too_many};
 pub use step::{Step, Steps};

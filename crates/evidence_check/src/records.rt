@@ -15,7 +15,7 @@ use std::alloc::Global;
 use tuple_text::{Fact, TupleFault, parse_fact};
 
 /// How many facts a record may have.
-const MAX_FACTS: usize = 100000;
+pub const MAX_FACTS: usize = 100000;
 
 /// What stands at a key of a step that does not have the other key.
 fn at_only<'a>(step: &'a Value, key: &str, other: &str) -> Option<&'a Value>
@@ -165,7 +165,7 @@ fn count_of(step: &Step) -> usize
 }
 
 /// Whether the steps have more facts than a record may have.
-pub(crate) fn has_too_many(steps: &[Step]) -> bool
+pub fn has_too_many(steps: &[Step]) -> bool
     ensures { result ≡ nat_lt MAX_FACTS (fact_count (step_values steps.now)) }
 {
     let mut room = MAX_FACTS;

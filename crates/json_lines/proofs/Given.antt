@@ -1,12 +1,12 @@
 -- The bytes that a reader gave, and what it is known to have had left.
 use Rattle.std.proofs.Common.{◌≡◌, ℕ, ◌+◌, ◌<◌, List, [], ◌++◌, length, take, Option, Some, None, Result, Ok, Err, arith, refl, sym, ap, subst, ◌∙◌, inl, inr, append_assoc, append-nil, length-append, ◌⊎◌}
 use Rattle.std.specs.Prelude.{IfSome}
-use Rattle.std.specs.Io.KnownBytes.{Consumes, ReadConsumes}
-use Rattle.std.proofs.KnownBytes.{Consumes-nil, Consumes-trans, Consumes-kept, Consumes-all}
+use Rattle.std.specs.Io.KnownBytes.{Consumes, ReadConsumes, Keeps, Appends, WriteAppends}
+use Rattle.std.proofs.KnownBytes.{Consumes-nil, Consumes-trans, Consumes-kept, Consumes-all, Appends-trans}
 use Rattle.std.proofs.lemmas.Bool.{cases_lt}
 use Rattle.std.proofs.lemmas.Grind.{common_steps}
 use Rattle.std.proofs.lemmas.List.{append_cancel_left, nil_from_length}
-use Rattle.json_lines.specs.Given.{OfBytes, OfWhole, OfInput, AreNext}
+use Rattle.json_lines.specs.Given.{OfBytes, OfWhole, OfInput, AreNext, StandBehind}
 use Rattle.json_lines.specs.Moves.{moved, stops_after}
 
 -- a fact from another, of the same bytes
@@ -102,3 +102,21 @@ module _ {R : Type 0} (given : R → List ℕ) (ends : R → ℕ) (remaining : R
 
   pub of_known_whole : (P : List ℕ → Type 0) (old new : R) (left : List ℕ) → remaining old ≡ Some left → AreNext given ends remaining old new → OfWhole given ends old new P → P left
   of_known_whole P old new left is known holds = of_known P old new left is known (of_input-whole given ends old new P holds)
+
+kept_behind : (a b : Option (List ℕ)) → Keeps a b → Appends a b []
+kept_behind None b h = tt
+kept_behind (Some xs) None h = absurd h
+kept_behind (Some xs) (Some ys) h = h ∙ sym (append-nil xs)
+
+module _ {W : Type 0} (taken : W → List ℕ) (contents : W → Option (List ℕ)) where
+  pub by_take_some : {E : Type 0} (old new : W) (result : Result ℕ E) (buf : List ℕ) → taken new ≡ taken old ++ moved result buf
+      → WriteAppends (contents old) (contents new) result buf → StandBehind taken contents old new
+  by_take_some old new (Ok n) buf went held = (take n buf, went, held)
+  by_take_some old new (Err e) buf went kept = ([], went, kept_behind (contents old) (contents new) kept)
+
+  pub behind-trans : (a b c : W) → StandBehind taken contents a b → StandBehind taken contents b c → StandBehind taken contents a c
+  behind-trans a b c one two = (
+    one.0 ++ two.0,
+    two.1 ∙ ap (λ (l : List ℕ). l ++ two.0) one.1 ∙ append_assoc (taken a) one.0 two.0,
+    Appends-trans (contents a) (contents b) (contents c) one.0 two.0 one.2 two.2,
+  )

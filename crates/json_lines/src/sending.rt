@@ -1,6 +1,7 @@
 //! Writing a whole text.
 
 ghost use Rattle.std.specs.Prelude.{◌≡◌, ◌≤◌, ◌<◌, ◌+◌, ◌++◌, ◌⊎◌, length, take, OnOk, IfErr};
+ghost use Rattle.json_lines.specs.Given.{StandBehind};
 
 use crate::source::Sink;
 
@@ -22,6 +23,7 @@ pub fn send<W: Sink>(out: &mut W, bytes: &[u8]) -> Result<(), Unsent>
     // The writer failed, or took none of some bytes.
     ensures refused { IfErr result (λ e. (W.failures out.new ≡ W.failures out.old + 1)
         ⊎ ((W.idle out.new ≡ W.idle out.old + 1) × (e.written < length bytes.now))) }
+    ensures held { StandBehind W.taken W.contents out.old out.new }
 {
     let mut written = 0;
     for _turn in 0..bytes.len() {

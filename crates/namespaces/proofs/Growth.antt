@@ -30,17 +30,18 @@ pub record HasPassed (repeated full : Bool) (new got : Namespace) : Type 0 where
   pub distinct : has_repeats (relation_names new.relations) ≡ false
   pub room : full ≡ false
   pub count : length new.relations ≤ 256
+  pub reads : list_all (reads_declared new.relations) new.relations ≡ true
 
 chain : (a b c d e f : Bool) (n m : Namespace)
     → cond a (Err Name) (cond b (Err RepeatedNamespace) (cond c (Err RepeatedRelation) (cond d (Err UndeclaredRelation) (cond e (Err TooDeep) (cond f (Err TooMany) (Ok n)))))) ≡ Ok m
-    → (b ≡ false) × (c ≡ false) × (f ≡ false) × (n ≡ m)
+    → (b ≡ false) × (c ≡ false) × (f ≡ false) × (n ≡ m) × (d ≡ false)
 chain true b c d e f n m h = cc
 chain false true c d e f n m h = cc
 chain false false true d e f n m h = cc
 chain false false false true e f n m h = cc
 chain false false false false true f n m h = cc
 chain false false false false false true n m h = cc
-chain false false false false false false n m h = (refl, refl, refl, cc)
+chain false false false false false false n m h = (refl, refl, refl, cc, refl)
 
 first_false : (a b c : Bool) → ((a || b) || c) ≡ false → (a ≡ false) × (b ≡ false)
 first_false true b c h = cc
@@ -54,13 +55,17 @@ within full rs h =
     let small : not (nat_le (length rs) 256) ≡ false = parts.1 in
     (parts.0, grind (arith, nat_tests))
 
+not_false : (b : Bool) → not b ≡ false → b ≡ true
+not_false true h = refl
+not_false false h = cc
+
 pub passed : (repeated full : Bool) (new got : Namespace) → tested repeated full new ≡ Ok got → HasPassed repeated full new got
 unfolding tested
 passed repeated full new got h =
     let parts = chain (not (is_name new.name && list_all is_well_named new.relations)) repeated (has_repeats (relation_names new.relations))
     (not (list_all (reads_declared new.relations) new.relations)) (list_any is_too_deep new.relations) (is_over_limits full new.relations) new got h in
     let limits = within full new.relations parts.2 in
-    record { same = parts.3; first = parts.0; distinct = parts.1; room = limits.0; count = limits.1 }
+    record { same = parts.3; first = parts.0; distinct = parts.1; room = limits.0; count = limits.1; reads = not_false (list_all (reads_declared new.relations) new.relations) parts.4 }
 
 -- ---- the names of the namespaces
 
@@ -160,7 +165,7 @@ added_well : (ds : List Declaration) (new got : Namespace) → IsWellFormed ds �
 added_well ds new got w h =
     let p = passed (is_declared new.name ds) (is_full ds) new got h in
     rw (← p.same) (grown ds (addition new) w (record {
-      fit = record { distinct = p.distinct; count = p.count; at = λ _. refl };
+      fit = record { distinct = p.distinct; count = p.count; reads = p.reads; at = λ _. refl };
       room = inr p.room;
       changes = λ h. cc;
       continued = none_to_continue (addition new) ds p.first;
@@ -222,7 +227,7 @@ one_change ds at new got w p continues =
     let parts = full_parts (not (nat_lt (change_count ds) 4096)) (is_declared new.name ds) (is_full ds) p.room in
     let few : not (nat_lt (change_count ds) 4096) ≡ false = parts.0 in
     grown ds (change at new) w (record {
-      fit = record { distinct = p.distinct; count = p.count; at = λ h. cc };
+      fit = record { distinct = p.distinct; count = p.count; reads = p.reads; at = λ h. cc };
       room = parts.1;
       changes = λ h. grind (arith, nat_tests);
       continued = continues;

@@ -16,8 +16,8 @@ use Rattle.evidence_check.specs.declared.cause.EvidenceFault.{EvidenceFault}
 use Rattle.audit.specs.Audit.{RefusesTrace, RefusesEvidence, IsOfJoined}
 use Rattle.audit.specs.Joined.{OfParts, HasNoParts}
 use Rattle.new_enemy.specs.Run.{IsStatus, SayNoAudit, IsRefused}
-use Rattle.audit.specs.declared.audit.AuditFault.{AuditFault}
-use Rattle.audit.specs.declared.audit.AuditFault.TheVariants as faults
+use Rattle.audit.specs.declared.plain.AuditFault.{AuditFault}
+use Rattle.audit.specs.declared.plain.AuditFault.TheVariants as faults
 
 -- a fault that is neither the reader's nor want of memory is that of the bytes
 said_by_trace : (c : Cause) (f : TraceFault) (read : Result TraceValue TraceFault) → c ≢ causes.Read → c ≢ causes.OutOfMemory → FailsBy c f read → read ≡ Err f

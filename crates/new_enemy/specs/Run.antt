@@ -1,5 +1,5 @@
 -- What the program answers.
-use Rattle.std.specs.Prelude.{◌≡◌, ◌≢◌, ◌⊎◌, ℕ, true, List, [], Ok, Err, ⊤}
+use Rattle.std.specs.Prelude.{◌≡◌, ◌≢◌, ◌⊎◌, ℕ, ◌≤◌, true, List, [], Result, Ok, Err, ⊤}
 use Rattle.json_lines.specs.Devices.{moved_by, stops_of, flushes_of}
 use Rattle.json_lines.specs.declared.devices.Counted.{Counted}
 use Rattle.trace_lines.specs.Values.{TraceValue}
@@ -12,10 +12,10 @@ use Rattle.evidence_check.specs.declared.cause.EvidenceFault.{EvidenceFault}
 use Rattle.audit.specs.Audit.{Audits}
 use Rattle.audit.specs.Headline.{IsTraceRightAndFresh}
 use Rattle.audit.specs.Joined.{HasNoParts, OfParts}
-use Rattle.audit.specs.declared.audit.Verdict.{Verdict}
-use Rattle.audit.specs.declared.audit.Verdict.TheVariants.{Clean, Dirty}
-use Rattle.audit.specs.declared.audit.AuditFault.{AuditFault}
-use Rattle.audit.specs.declared.audit.AuditFault.TheVariants as faults
+use Rattle.audit.specs.declared.plain.Verdict.{Verdict}
+use Rattle.audit.specs.declared.plain.Verdict.TheVariants.{Clean, Dirty}
+use Rattle.audit.specs.declared.plain.AuditFault.{AuditFault}
+use Rattle.audit.specs.declared.plain.AuditFault.TheVariants as faults
 
 -- the exit status of a fault: 2 for refused input, 3 for limits, 4 for want of memory, 5 for a device that failed
 abbrev pub IsStatus : AuditFault → ℕ → Type 0
@@ -26,6 +26,12 @@ IsStatus faults.OutOfMemory s = s ≡ 4
 IsStatus faults.Limits s = s ≡ 3
 IsStatus faults.Joined s = s ≡ 2
 IsStatus faults.Input s = s ≡ 5
+
+-- the exit status of an answer: 0 for clean, 1 for dirty
+abbrev pub IsStatusOf : Result Verdict AuditFault → ℕ → Type 0
+IsStatusOf (Ok Clean) s = s ≡ 0
+IsStatusOf (Ok Dirty) s = s ≡ 1
+IsStatusOf (Err fault) s = (2 ≤ s) × IsStatus fault s
 
 -- the bytes say no trace, or no evidence for it
 abbrev pub SayNoAudit : List ℕ → List ℕ → Type 0

@@ -8,9 +8,14 @@
 //! is a trace that is right and fresh, and evidence for it, and the report on them went out whole.
 #![tactic(auto)]
 
+mod files;
+mod joined;
 mod run;
+mod status;
 
+use json_lines::Counted;
 use run::run_on;
+use status::refuse_words;
 use std::process::ExitCode;
 use std::{env, io};
 
@@ -23,10 +28,15 @@ fn words(rt: &HostRuntime) -> io::Result<Vec<String>> {
 }
 
 fn main(rt: HostRuntime) -> ExitCode {
-    let Ok(words) = words(&rt) else {
-        return ExitCode::from(3);
+    let words = match words(&rt) {
+        Ok(words) => words,
+        Err(error) => {
+            let mut err = Counted::new(rt.stderr());
+            return ExitCode::from(refuse_words(error.kind(), &mut err));
+        }
     };
-    let (status, _, _, _) = run_on(
+    let (status, _, _) = run_on(
+        &rt,
         rt.alloc(),
         &words,
         rt.reader(),

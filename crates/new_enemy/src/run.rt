@@ -1,139 +1,224 @@
-//! The program, over any reader and writers.
+//! The program, over any runtime, reader and writers.
 
-ghost use Rattle.std.specs.Prelude.{◌≡◌, ◌≢◌, ◌+◌, ◌<◌, ◌≤◌, ◌⊎◌, ◌++◌, ℕ, List, [], length};
+ghost use Rattle.std.specs.Prelude.{◌≡◌, ◌≢◌, ◌↔◌, ◌+◌, ◌<◌, ◌≤◌, ◌⊎◌, ◌++◌, ℕ, List, [], length, ⊤};
 ghost use Rattle.json_lines.specs.Devices.{moved_by, failures_of, stops_of};
-ghost use Rattle.json_lines.specs.Given.{OfBytes, OfWhole, OfInput};
+ghost use Rattle.json_lines.specs.Given.{OfBytes, OfWhole, OfInput, AreNext, StandBehind};
 ghost use Rattle.json_lines.specs.declared.lines.TheConstants.{CHUNK};
 ghost use Rattle.json_lines.specs.declared.reading.TheConstants.{MAX_INPUT};
+ghost use Rattle.tuple_text.specs.Tuples.{TupleValue};
 ghost use Rattle.audit.specs.Audit.{Audits, HasRisen};
 ghost use Rattle.audit.specs.Headline.{IsTraceRightAndFresh};
 ghost use Rattle.audit.specs.Joined.{OfParts};
-ghost use Rattle.new_enemy.specs.Run.{IsStatus, IsRefused, IsCleanRun, IsDirtyRun};
-ghost use Rattle.audit.specs.declared.audit.Verdict.TheVariants.{Clean, Dirty};
+ghost use Rattle.new_enemy.specs.Files.{IsCleanAudit, IsDirtyAudit, IsToldHistory, OfRun};
+ghost use Rattle.new_enemy.specs.Run.{IsRefused, IsCleanRun, IsDirtyRun};
+ghost use Rattle.new_enemy.specs.declared.run.Ran.TheVariants as ran;
+ghost use Rattle.audit.specs.declared.plain.Verdict.TheVariants.{Clean, Dirty};
 
-use audit::{AuditFault, Verdict, audit_joined};
-use evidence_check::{EvidenceCause, EvidenceFault};
+use crate::files::{Sharing, run_audit, run_history};
+use crate::joined::run_joined;
+use crate::status::{tell, tell_path, tell_tuple};
+use audit::AuditFault;
+use command_line::{Answer, Request, read_words};
 use json_lines::{Counted, Sink, Source, send};
-use std::alloc::{AllocError, Global};
+use std::alloc::Global;
+use std::fs::Files;
 use std::io::{Read, Write};
-use trace_lines::{Cause, TraceFault};
+use std::sync::Wait;
+use std::thread::Threads;
+use std::{fs, io};
+use tuple_text::{TupleFault, parse_tuple};
 
-/// The exit status of a fault.
-fn status_of(fault: &AuditFault) -> u8
-    ensures status { IsStatus fault.now result }
-    ensures failure { 2 ≤ result }
-{
-    match fault {
-        AuditFault::Trace(
-            TraceFault {
-                cause: Cause::Read,
-                ..
-            },
-        ) => 5,
-        AuditFault::Trace(_) => 2,
-        AuditFault::Evidence(
-            EvidenceFault {
-                cause: EvidenceCause::Read,
-                ..
-            },
-        ) => 5,
-        AuditFault::Evidence(_) => 2,
-        AuditFault::Write { .. } => 5,
-        AuditFault::OutOfMemory => 4,
-        AuditFault::Limits => 3,
-        AuditFault::Joined => 2,
-        AuditFault::Input => 5,
-    }
+/// What a run read.
+#[derive(Drop)]
+pub enum Ran<F> {
+    /// Joined input.
+    Joined,
+    /// The trace and the evidence of an audit.
+    Audited(Counted<F>, Counted<F>),
+    /// The trace of a tuple's history.
+    Told(Counted<F>),
+    /// No file, or not all that the command names.
+    Nothing,
 }
 
-fn fault_text(alloc: Global, fault: &AuditFault) -> Result<String, AllocError> {
-    let mut text = String::new(alloc);
-    writeln!(text, "{fault}")?;
-    Ok(text)
-}
-
-/// Writes one line; a failure of the writer changes nothing else.
-fn tell<E: Sink>(alloc: Global, err: &mut E, fault: &AuditFault) {
-    match fault_text(alloc, fault) {
-        Ok(text) => {
-            let _ = send(err, text.as_bytes());
-        }
+/// The file of a path, or a line on `err`.
+fn opened<P: Files, E: Sink>(rt: &P, path: &str, err: &mut E) -> Option<P::File> {
+    match fs::open(rt, path) {
+        Ok(file) => Some(file),
         Err(_) => {
-            let _ = send(err, b"out of memory\n");
+            tell_path(err, path);
+            None
         }
     }
 }
 
-/// Runs the program on the words after its name, and answers its exit status: 0 for clean, 1 for dirty, 2 for
-/// refused input, 3 for usage, 4 for want of memory, 5 for a device that failed.
+/// The audit of the files of two paths.
+fn audit_paths<W: Sink, E: Sink, P: Files + Threads + Wait + Sync>(
+    rt: &P,
+    alloc: Global,
+    paths: (&str, &str),
+    sharing: Sharing,
+    out: &mut W,
+    err: &mut E,
+) -> (u8, Ran<P::File>)
+    ensures clean { result.0 ≡ 0 → OfRun result.1 ⊥ (λ t e. IsCleanAudit t e (W.taken out.old) (W.taken out.new)) (λ t. ⊥) ⊥ }
+    ensures dirty { result.0 ≡ 1 → OfRun result.1 ⊥ (λ t e. IsDirtyAudit t e (W.taken out.old) (W.taken out.new)) (λ t. ⊥) ⊥ }
+    ensures files { OfRun result.1 ⊥ (λ t e. ⊤) (λ t. ⊥) ⊤ }
+    ensures flushed { result.0 ≤ 1 → W.flushes out.new ≡ W.flushes out.old + 1 }
+    ensures kept { result.0 ≢ 5 → W.failures out.new ≡ W.failures out.old }
+    ensures unwritten { 2 ≤ result.0 → result.0 ≤ 4 → W.taken out.new ≡ W.taken out.old }
+    ensures held { StandBehind W.taken W.contents out.old out.new }
+    ensures statuses { result.0 ≤ 5 }
+{
+    let (trace, evidence) = paths;
+    let Some(trace) = opened(rt, trace, err) else {
+        return (5, Ran::Nothing);
+    };
+    let Some(evidence) = opened(rt, evidence, err) else {
+        return (5, Ran::Nothing);
+    };
+    let (status, trace, evidence) = run_audit(rt, alloc, trace, evidence, sharing, out, err);
+    (status, Ran::Audited(trace, evidence))
+}
+
+/// The history of a tuple's text in the trace of a path.
+fn history_in_path<W: Sink, E: Sink, P: Files>(
+    rt: &P,
+    alloc: Global,
+    trace: &str,
+    tuple: &str,
+    out: &mut W,
+    err: &mut E,
+) -> (u8, Ran<P::File>)
+    ensures told { result.0 ≡ 0 → OfRun result.1 ⊥ (λ t e. ⊥) (λ t. (tuple : TupleValue) × IsToldHistory tuple t (W.taken out.old) (W.taken out.new)) ⊥ }
+    ensures files { OfRun result.1 ⊥ (λ t e. ⊥) (λ t. ⊤) ⊤ }
+    ensures flushed { result.0 ≤ 1 → W.flushes out.new ≡ W.flushes out.old + 1 }
+    ensures kept { result.0 ≢ 5 → W.failures out.new ≡ W.failures out.old }
+    ensures unwritten { 2 ≤ result.0 → result.0 ≤ 4 → W.taken out.new ≡ W.taken out.old }
+    ensures held { StandBehind W.taken W.contents out.old out.new }
+    ensures statuses { (result.0 ≤ 5) × (result.0 ≢ 1) × (result.0 ≢ 3) }
+{
+    let tuple = match parse_tuple(alloc, tuple) {
+        Ok(tuple) => tuple,
+        Err(TupleFault::OutOfMemory) => {
+            tell(err, &AuditFault::OutOfMemory);
+            return (4, Ran::Nothing);
+        }
+        Err(fault) => {
+            tell_tuple(err, &fault);
+            return (2, Ran::Nothing);
+        }
+    };
+    let Some(trace) = opened(rt, trace, err) else {
+        return (5, Ran::Nothing);
+    };
+    let (status, trace) = run_history(alloc, trace, &tuple, out, err);
+    (status, Ran::Told(trace))
+}
+
+/// Runs the program on the words after its name, and answers its exit status and what it read: 0 for clean, for a history that is told and for
+/// help, 1 for dirty, 2 for refused input, 3 for usage, 4 for want of memory, 5 for a device that failed and a file that could not be opened.
 ///
-/// Without words it audits joined input, and writes the report to `out`. Any word is a fault of usage, until there
-/// are commands. A fault is told to `err` in one line; a failure of `err` changes nothing else.
-pub fn run_words<R: Source, W: Sink, E: Sink>(
+/// Without words it audits joined input. A report, a history or the text of help goes to `out`; a fault is told to `err` in one line, and a
+/// failure of `err` changes nothing else.
+pub fn run_words<R: Source, W: Sink, E: Sink, P: Files + Threads + Wait + Sync>(
+    rt: &P,
     alloc: Global,
     words: &[String],
     input: &mut R,
     out: &mut W,
     err: &mut E,
-) -> u8
-    ensures usage { 0 < length words.now → result ≡ 3 }
-    ensures used { result ≡ 3 → 0 < length words.now }
-    // The report on the whole input went out, and the status is its verdict.
-    ensures clean { result ≡ 0 → OfWhole R.given R.ends input.old input.new (OfParts (λ a b. Audits a b (W.taken out.old) (W.taken out.new) Clean)) }
-    ensures dirty { result ≡ 1 → OfWhole R.given R.ends input.old input.new (OfParts (λ a b. Audits a b (W.taken out.old) (W.taken out.new) Dirty)) }
-    ensures flushed { result ≤ 1 → W.flushes out.new ≡ W.flushes out.old + 1 }
-    // Status 0 says that the trace is right and fresh, as the headline of an audit.
-    ensures headline { result ≡ 0 → OfWhole R.given R.ends input.old input.new (OfParts (λ a b. IsTraceRightAndFresh a)) }
+) -> (u8, Ran<P::File>)
+    ensures joined { result.1 ≡ ran.Joined ↔ words.now ≡ [] }
+    // The report on all that was read went out, its verdict is clean, and the trace is right and fresh.
+    ensures clean { result.0 ≡ 0 → OfRun result.1
+        (OfWhole R.given R.ends input.old input.new (OfParts (λ a b. Audits a b (W.taken out.old) (W.taken out.new) Clean))
+        × OfWhole R.given R.ends input.old input.new (OfParts (λ a b. IsTraceRightAndFresh a)))
+        (λ t e. IsCleanAudit t e (W.taken out.old) (W.taken out.new))
+        (λ t. (tuple : TupleValue) × IsToldHistory tuple t (W.taken out.old) (W.taken out.new)) ⊤ }
+    ensures dirty { result.0 ≡ 1 → OfRun result.1
+        (OfWhole R.given R.ends input.old input.new (OfParts (λ a b. Audits a b (W.taken out.old) (W.taken out.new) Dirty)))
+        (λ t e. IsDirtyAudit t e (W.taken out.old) (W.taken out.new)) (λ t. ⊥) ⊥ }
+    ensures flushed { result.0 ≤ 1 → result.1 ≢ ran.Nothing → W.flushes out.new ≡ W.flushes out.old + 1 }
     // Of every input that begins with the bytes that came.
-    ensures refused { result ≡ 2 → OfInput R.given R.ends input.old input.new IsRefused }
-    ensures device { result ≡ 5 → HasRisen (R.failures input.old) (R.failures input.new)
+    ensures refused { result.1 ≡ ran.Joined → result.0 ≡ 2 → OfInput R.given R.ends input.old input.new IsRefused }
+    ensures used { result.1 ≡ ran.Joined → result.0 ≢ 3 }
+    ensures device { result.1 ≡ ran.Joined → result.0 ≡ 5 → HasRisen (R.failures input.old) (R.failures input.new)
         ⊎ (HasRisen (W.failures out.old) (W.failures out.new) ⊎ HasRisen (W.idle out.old) (W.idle out.new)) }
-    // Any other status comes only where neither failed.
-    ensures kept { result ≢ 5 → (R.failures input.new ≡ R.failures input.old) × (W.failures out.new ≡ W.failures out.old) }
-    // A report goes out with a verdict, or as far as the writer took it.
-    ensures unwritten { 2 ≤ result → result ≤ 4 → W.taken out.new ≡ W.taken out.old }
+    // Any other status comes only where no device failed.
+    ensures kept { result.0 ≢ 5 → (R.failures input.new ≡ R.failures input.old) × (result.1 ≢ ran.Nothing → W.failures out.new ≡ W.failures out.old) }
+    ensures unwritten { 2 ≤ result.0 → result.0 ≤ 4 → W.taken out.new ≡ W.taken out.old }
     // Also of input that never ends.
     ensures most { OfBytes R.given input.old input.new (λ came. length came ≤ MAX_INPUT + CHUNK) }
-    ensures statuses { result ≤ 5 }
+    // Of devices in memory: what came is what the reader had left, and what went out stands behind what the writer held.
+    ensures known { AreNext R.given R.ends R.remaining input.old input.new }
+    ensures held { StandBehind W.taken W.contents out.old out.new }
+    ensures statuses { result.0 ≤ 5 }
 {
-    if !words.is_empty() {
-        let _ = send(err, b"usage: new_enemy < JOINED_INPUT\n");
-        return 3;
-    }
-    match audit_joined(alloc, input, out) {
-        Ok(Verdict::Clean) => 0,
-        Ok(Verdict::Dirty) => 1,
-        Err(fault) => {
-            tell(alloc, err, &fault);
-            status_of(&fault)
+    match read_words(alloc, words) {
+        Ok(Answer::Asks(Request::Joined)) => (run_joined(alloc, input, out, err), Ran::Joined),
+        Ok(
+            Answer::Asks(
+                Request::Audit {
+                    trace,
+                    evidence,
+                    workers,
+                    slice,
+                    early,
+                },
+            ),
+        ) => {
+            let sharing = Sharing {
+                workers: workers as usize,
+                slice: slice as usize,
+                early,
+            };
+            audit_paths(rt, alloc, (trace, evidence), sharing, out, err)
+        }
+        Ok(Answer::Asks(Request::History { trace, tuple })) => {
+            history_in_path(rt, alloc, trace, tuple, out, err)
+        }
+        Ok(Answer::Shows(text)) => {
+            let _ = send(out, text.as_bytes());
+            (0, Ran::Nothing)
+        }
+        Ok(Answer::Refuses(text)) => {
+            let _ = send(err, text.as_bytes());
+            (3, Ran::Nothing)
+        }
+        Err(_) => {
+            tell(err, &AuditFault::OutOfMemory);
+            (4, Ran::Nothing)
         }
     }
 }
 
 /// Runs the program on its devices, and hands them back with what they gave and took.
-pub fn run_on<R: Read, W: Write, E: Write>(
+pub fn run_on<R: Read, W: Write, E: Write, P: Files + Threads + Wait + Sync>(
+    rt: &P,
     alloc: Global,
     words: &[String],
     input: R,
     out: W,
     err: E,
-) -> (u8, Counted<R>, Counted<W>, Counted<E>)
+) -> (u8, Ran<P::File>, (Counted<R>, Counted<W>, Counted<E>))
+    ensures joined { result.1 ≡ ran.Joined ↔ words.now ≡ [] }
     // All that was read, to its end, is a trace and evidence for it, all that was written is the report on them, and the trace is right
     // and fresh.
-    ensures clean { result.0 ≡ 0 → IsCleanRun result.1 result.2 }
-    ensures dirty { result.0 ≡ 1 → IsDirtyRun result.1 result.2 }
-    ensures refused { result.0 ≡ 2 → (rest : List ℕ) → (0 < stops_of result.1 → rest ≡ []) → IsRefused (moved_by result.1 ++ rest) }
-    ensures usage { 0 < length words.now → result.0 ≡ 3 }
-    ensures used { result.0 ≡ 3 → 0 < length words.now }
-    ensures device { result.0 ≡ 5 → 0 < failures_of result.1 + failures_of result.2 + stops_of result.2 }
-    ensures kept { result.0 ≢ 5 → (failures_of result.1 ≡ 0) × (failures_of result.2 ≡ 0) }
-    ensures unwritten { 2 ≤ result.0 → result.0 ≤ 4 → moved_by result.2 ≡ [] }
-    ensures most { length (moved_by result.1) ≤ MAX_INPUT + CHUNK }
+    ensures clean { result.0 ≡ 0 → OfRun result.1 (IsCleanRun result.2.0 result.2.1) (λ t e. IsCleanAudit t e [] (moved_by result.2.1))
+        (λ t. (tuple : TupleValue) × IsToldHistory tuple t [] (moved_by result.2.1)) ⊤ }
+    ensures dirty { result.0 ≡ 1 → OfRun result.1 (IsDirtyRun result.2.0 result.2.1) (λ t e. IsDirtyAudit t e [] (moved_by result.2.1)) (λ t. ⊥) ⊥ }
+    ensures refused { result.1 ≡ ran.Joined → result.0 ≡ 2 → (rest : List ℕ) → (0 < stops_of result.2.0 → rest ≡ []) → IsRefused (moved_by result.2.0 ++ rest) }
+    ensures used { result.1 ≡ ran.Joined → result.0 ≢ 3 }
+    ensures device { result.1 ≡ ran.Joined → result.0 ≡ 5 → 0 < failures_of result.2.0 + failures_of result.2.1 + stops_of result.2.1 }
+    ensures kept { result.0 ≢ 5 → (failures_of result.2.0 ≡ 0) × (result.1 ≢ ran.Nothing → failures_of result.2.1 ≡ 0) }
+    ensures unwritten { 2 ≤ result.0 → result.0 ≤ 4 → moved_by result.2.1 ≡ [] }
+    ensures most { length (moved_by result.2.0) ≤ MAX_INPUT + CHUNK }
     ensures statuses { result.0 ≤ 5 }
 {
     let mut input = Counted::new(input);
     let mut out = Counted::new(out);
     let mut err = Counted::new(err);
-    let status = run_words(alloc, words, &mut input, &mut out, &mut err);
-    (status, input, out, err)
+    let (status, read) = run_words(rt, alloc, words, &mut input, &mut out, &mut err);
+    (status, read, (input, out, err))
 }

@@ -28,6 +28,8 @@ impl Shown {
 }
 
 impl Watch<Option<u8>, FiveNamed> for Shown {
+    ghost mark = { λ _. 0 };
+
     fn seen(&mut self, alert: &Alert<Option<u8>>) {
         match (alert.entry, alert.report) {
             (0, Some(7)) => self.first = self.first.wrapping_add(1),

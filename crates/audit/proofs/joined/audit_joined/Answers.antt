@@ -4,8 +4,8 @@ use Rattle.audit.specs.Audit.{RefusesTrace, RefusesEvidence, Audits, Breaks, IsO
 use Rattle.audit.specs.Headline.{IsTraceRightAndFresh}
 use Rattle.audit.specs.Joined.{joined_of}
 use Rattle.audit.specs.WrongReplies.{NamesOnlyWrongReplies}
-use Rattle.audit.specs.declared.audit.AuditFault.{AuditFault}
-use Rattle.audit.specs.declared.audit.AuditFault.TheVariants as faults
+use Rattle.audit.specs.declared.plain.AuditFault.{AuditFault}
+use Rattle.audit.specs.declared.plain.AuditFault.TheVariants as faults
 use Rattle.audit.proofs.ReadWhole.{too_long_to_part, of_parts, of_parts_if, of_first, of_first_whole, of_second, of_both, of_both_if}
 use Rattle.audit.proofs.Readers.{never_read}
 use Rattle.audit.proofs.joined.audit_joined.Goals as goal

@@ -1,5 +1,6 @@
 use Rattle.std.proofs.Common.{◌≡◌, ℕ, ◌+◌, ◌≤◌, ◌++◌, List, length, take, refl, sym, ap, ◌∙◌, append-nil, arith, rules}
-use Rattle.audit.proofs.ReadWhole.{read_on, stops_at, goes_on, piece_length, front_of}
+use Rattle.json_lines.proofs.Given.{next-refl}
+use Rattle.audit.proofs.ReadWhole.{next_given, read_on, stops_at, goes_on, piece_length, front_of}
 use Rattle.audit.proofs.joined.read_whole.Goals as goal
 
 pub returns-then-given-eq0-clause-whole : goal.returns-then-given-eq0-clause-whole
@@ -35,6 +36,29 @@ returns-in_err-extend_from_slice-clause-most g c =
       omega (arith, size, c.loop-turn.invariant.room, c.in-Ok.ensures.bound.0, c.deref_mut.ensures.len, c.loop-turn.invariant.chunk),
     )
 
+pub returns-in-Err-clause-known : goal.returns-in-Err-clause-known
+returns-in-Err-clause-known g c = next_given g.R.Source.given g.R.Source.ends g.R.Read.remaining c.args.input.now c.loop-turn.input c.give.new.self c.give.result c.give.new.buf c.loop-turn.invariant.known c.give.ensures.gives c.give.ensures.stops c.give.ensures.bytes
+
+pub returns-then-given-eq0-clause-known : goal.returns-then-given-eq0-clause-known
+returns-then-given-eq0-clause-known g c = next_given g.R.Source.given g.R.Source.ends g.R.Read.remaining c.args.input.now c.loop-turn.input c.give.new.self c.give.result c.give.new.buf c.loop-turn.invariant.known c.give.ensures.gives c.give.ensures.stops c.give.ensures.bytes
+
+pub returns-then-given-len-clause-known : goal.returns-then-given-len-clause-known
+returns-then-given-len-clause-known g c = next_given g.R.Source.given g.R.Source.ends g.R.Read.remaining c.args.input.now c.loop-turn.input c.give.new.self c.give.result c.give.new.buf c.loop-turn.invariant.known c.give.ensures.gives c.give.ensures.stops c.give.ensures.bytes
+
+pub returns-in_err-extend_from_slice-clause-known : goal.returns-in_err-extend_from_slice-clause-known
+returns-in_err-extend_from_slice-clause-known g c = next_given g.R.Source.given g.R.Source.ends g.R.Read.remaining c.args.input.now c.loop-turn.input c.give.new.self c.give.result c.give.new.buf c.loop-turn.invariant.known c.give.ensures.gives c.give.ensures.stops c.give.ensures.bytes
+
+pub loop-turn-init : goal.loop-turn-init
+loop-turn-init g c = record {
+  read = search rules;
+  room = search rules;
+  turns = search rules;
+  chunk = search rules;
+  going = search rules;
+  known = next-refl g.R.Source.given g.R.Source.ends g.R.Read.remaining c.args.input.now;
+  kept = search rules;
+}
+
 pub loop-turn-preserved : goal.loop-turn-preserved
 loop-turn-preserved g c =
     let within : c.in-Ok.given ≤ c.loop-turn.chunk.len = omega (arith, c.in-Ok.ensures.bound.0, c.deref_mut.ensures.len, c.loop-turn.invariant.chunk) in
@@ -51,5 +75,6 @@ loop-turn-preserved g c =
       turns = omega (arith, size, whole, c.if-given-eq0.false, c.loop-turn.invariant.turns);
       chunk = c.loop-turn.invariant.chunk;
       going = goes_on _ _ _ _ c.in-Ok.ensures.stops c.if-given-eq0.false ∙ c.loop-turn.invariant.going;
+      known = next_given g.R.Source.given g.R.Source.ends g.R.Read.remaining c.args.input.now c.loop-turn.input c.give.new.self c.give.result c.give.new.buf c.loop-turn.invariant.known c.give.ensures.gives c.give.ensures.stops c.give.ensures.bytes;
       kept = search rules;
     }

@@ -1,4 +1,5 @@
 use Rattle.std.proofs.Common.{◌≡◌, ◌≤◌, ◌++◌, length, take}
+use Rattle.json_lines.specs.Given.{StandBehind}
 use Rattle.json_lines.proofs.sending.send.Given as goal
 
 abbrev pub invariant-loop-turn : goal.invariant-loop-turn
@@ -8,5 +9,6 @@ invariant-loop-turn g l = record {
   turns : l._turn ≤ l.written;
   kept : g.W.Sink.failures l.out ≡ g.W.Sink.failures l.fn.out;
   busy : g.W.Sink.idle l.out ≡ g.W.Sink.idle l.fn.out;
+  held : StandBehind g.W.Sink.taken g.W.Write.contents l.fn.out l.out;
   flushed : g.W.Sink.flushes l.out ≡ g.W.Sink.flushes l.fn.out;
 }

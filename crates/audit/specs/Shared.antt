@@ -1,0 +1,33 @@
+-- What several workers find on the entries of a trace, and what they may be asked for.
+use Rattle.std.specs.Prelude.{ℕ, Bool, nat_le, ◌&&◌, List, [], Option, is_some, length, map, slice_get}
+use Rattle.std.specs.List.{flat_map, list_any, range_with_len}
+use Rattle.std.specs.Option.{option_map_or}
+use Rattle.slice_core.specs.declared.opening.TheConstants.{MOST_WORKERS}
+use Rattle.trace_lines.specs.Values.{TraceValue}
+use Rattle.evidence_check.specs.Steps.{StepValue}
+use Rattle.audit.specs.Findings.{found_on, on_line}
+use Rattle.audit.specs.declared.finding.Finding.{Finding}
+use Rattle.audit.specs.declared.shared.Found.{Found}
+use Rattle.audit.specs.declared.shared.TheConstants.{LARGEST_SLICE}
+
+-- 1 to 16 workers, and slices of 1 to 4,096 entries
+abbrev pub are_within_limits : ℕ → ℕ → Bool
+are_within_limits workers slice = (nat_le 1 workers && nat_le workers MOST_WORKERS) && (nat_le 1 slice && nat_le slice LARGEST_SLICE)
+
+abbrev pub nothing_found : Found
+nothing_found = record { line = 0; what = [] }
+
+-- what is found on entry i, and its line
+abbrev pub found_at : TraceValue → List (Option (List StepValue)) → ℕ → Found
+found_at t evidence i = option_map_or (λ e. record { line = e.line; what = found_on t evidence i e }) (slice_get t.entries i) nothing_found
+
+-- that of each entry, in order
+abbrev pub all_found : TraceValue → List (Option (List StepValue)) → List Found
+all_found t evidence = map (found_at t evidence) (range_with_len 0 (length t.entries))
+
+abbrev pub has_finding : Found → Bool
+has_finding f = list_any is_some f.what
+
+-- the findings that these hold, in order
+abbrev pub found_lines : List Found → List Finding
+found_lines fs = flat_map (λ f. on_line f.line f.what) fs

@@ -1,0 +1,282 @@
+//! The audit by several workers that tells of findings while it runs.
+
+ghost use Rattle.std.specs.Prelude.{◌≡◌, ◌⊎◌, ◌↔◌, ◌<◌, ◌≤◌, ◌+◌, ◌++◌, ℕ, Bool, List, Option, slice_get, true, false, length, Ok, Err, IfOk, IfErr, OnOk, string_bytes};
+ghost use Rattle.std.specs.List.{flat_map};
+ghost use Rattle.audit_slices.specs.Board.{SameNames};
+ghost use Rattle.audit_slices.specs.Reports.{report_items};
+ghost use Rattle.json_lines.specs.Given.{OfBytes, OfWhole, OfInput, AreNext, StandBehind};
+ghost use Rattle.json_lines.specs.declared.lines.TheConstants.{CHUNK};
+ghost use Rattle.json_lines.specs.declared.reading.TheConstants.{MAX_INPUT};
+ghost use Rattle.trace_lines.specs.declared.cause.Cause.TheVariants as causes;
+ghost use Rattle.trace_lines.specs.declared.cause.TraceFault.{TraceFault};
+ghost use Rattle.trace_lines.specs.Traces.{trace_of};
+ghost use Rattle.evidence_check.specs.declared.cause.EvidenceCause.TheVariants as evidence_causes;
+ghost use Rattle.evidence_check.specs.declared.cause.EvidenceFault.{EvidenceFault};
+ghost use Rattle.evidence_check.specs.Evidences.{evidence_value};
+ghost use Rattle.audit.specs.Audit.{Audits, Breaks, RefusesTrace, RefusesEvidence, CutsEvidence, HasRisen, IsOfBytes, IsOfDevices, IsOfNoDevice, IsUnwritten, IsOfAudit};
+ghost use Rattle.audit.specs.Early.{WriterState, WentOut, TellsEarly, state_of};
+ghost use Rattle.audit.specs.Findings.{findings_of, on_line};
+ghost use Rattle.audit.specs.Headline.{IsTraceRightAndFresh};
+ghost use Rattle.audit.specs.Shared.{found_at, has_finding, all_found, are_within_limits};
+ghost use Rattle.audit.specs.Told.{IsLineOf, line_for};
+ghost use Rattle.audit.specs.WrongReplies.{NamesOnlyWrongReplies};
+ghost use Rattle.audit.specs.declared.plain.AuditFault.TheVariants as faults;
+ghost use Rattle.audit.specs.declared.plain.Verdict.TheVariants.{Clean};
+
+use crate::finding::{Finding, report_line};
+use crate::findings::Finder;
+use crate::plain::{AuditFault, Verdict, audit_by};
+use crate::shared::{EntryCheck, Found, are_within_limits, gathered};
+use audit_slices::{Alert, Board, Free, Names, SliceReport, Watch, cut, run_pool};
+use evidence_check::Evidence;
+use json_lines::{Sink, Source, send};
+use std::alloc::{AllocError, Global};
+use std::marker::{Brand, PhantomData};
+use std::sync::Wait;
+use std::thread::Threads;
+use trace_lines::Trace;
+
+/// How a writer stood before. Each call of a pool picks it.
+trait Begun {
+    ghost begun: { WriterState };
+}
+
+impl Begun for Brand {
+    ghost use Rattle.std.specs.Prelude.{[]};
+
+    ghost begun = { record { taken = []; failures = 0; idle = 0 } };
+}
+
+/// It writes a line for each alert that it is shown, until its writer fails or takes nothing.
+#[derive(Drop)]
+struct Teller<'e, E: Sink, N: Names<Found> + Begun> {
+    early: &'e mut E,
+    alloc: Global,
+    given_up: bool,
+    names: PhantomData<N>,
+    ghost told: { ∥ WentOut (IsLineOf N.named N.alerts) N.begun (state_of E.taken E.failures E.idle early.now) given_up ∥₁ },
+}
+
+fn first_of(found: &Found) -> Option<Finding>
+    ensures { result ≡ slice_get (on_line found.now.line found.now.what) 0 }
+{
+    for what in &found.what {
+        if let Some(what) = *what {
+            return Some(Finding {
+                line: found.line,
+                what,
+            });
+        }
+    }
+    None
+}
+
+fn line_of(alloc: Global, found: &Found) -> Result<String, AllocError>
+    ensures { IfOk result (λ s. string_bytes s ≡ line_for found.now) }
+{
+    let mut text = String::new(alloc);
+    if let Some(finding) = first_of(found) {
+        text.push_str("early ")?;
+        report_line(&finding, &mut text)?;
+    }
+    Ok(text)
+}
+
+impl<'e, E: Sink, N: Names<Found> + Begun> Watch<Found, N> for Teller<'e, E, N> {
+    ghost mark = { λ t. t.early.ghost_name };
+
+    fn seen(&mut self, alert: &Alert<Found>) {
+        if self.given_up {
+            return;
+        }
+        match line_of(self.alloc, &alert.report) {
+            Ok(line) => match send(&mut *self.early, line.as_bytes()) {
+                Ok(()) => {}
+                Err(_) => self.given_up = true,
+            },
+            Err(_) => {}
+        }
+    }
+}
+
+/// What is found on each entry, in slices, while a watch is shown it.
+fn found_watched<N: Names<Found> + Sync, W: Watch<Found, N>, R: Threads + Wait + Sync>(
+    rt: &R,
+    alloc: Global,
+    trace: &Trace,
+    evidence: &Evidence,
+    watch: &mut W,
+    workers: usize,
+    size: usize,
+) -> Result<Vec<SliceReport<Found>>, AllocError>
+    requires workers { (0 < workers) × (workers ≤ 16) }
+    requires size { 0 < size }
+    requires names { SameNames (found_at trace.now (evidence_value evidence.now)) has_finding N.named N.alerts }
+    ensures found { IfOk result (λ v. flat_map report_items v.items ≡ all_found trace.now (evidence_value evidence.now)) }
+    ensures mark { W.mark watch.new ≡ W.mark watch.old }
+{
+    let entries = trace.len();
+    let check = EntryCheck {
+        trace,
+        evidence,
+        entries,
+    };
+    let board: Board<Found, N> = Board::new(alloc)?;
+    let slices = cut(alloc, entries, size)?;
+    run_pool(
+        rt,
+        alloc,
+        &check,
+        &Free,
+        Some(&board),
+        watch,
+        slices,
+        workers,
+    )
+}
+
+fn found_early<N: Names<Found> + Begun + Sync, E: Sink, R: Threads + Wait + Sync>(
+    rt: &R,
+    alloc: Global,
+    trace: &Trace,
+    evidence: &Evidence,
+    early: &mut E,
+    workers: usize,
+    size: usize,
+) -> Result<Vec<SliceReport<Found>>, AllocError>
+    requires workers { (0 < workers) × (workers ≤ 16) }
+    requires size { 0 < size }
+    requires names { SameNames (found_at trace.now (evidence_value evidence.now)) has_finding N.named N.alerts }
+    requires begun { N.begun ≡ state_of E.taken E.failures E.idle early.old }
+    ensures found { IfOk result (λ v. flat_map report_items v.items ≡ all_found trace.now (evidence_value evidence.now)) }
+    ensures early { (given_up : Bool) × ∥ WentOut (IsLineOf N.named N.alerts) N.begun (state_of E.taken E.failures E.idle early.new) given_up ∥₁ }
+{
+    let mut teller: Teller<'_, E, N> = Teller {
+        early,
+        alloc,
+        given_up: false,
+        names: PhantomData,
+    };
+    found_watched::<N, Teller<'_, E, N>, R>(rt, alloc, trace, evidence, &mut teller, workers, size)
+}
+
+/// The findings on each entry, in line order and by their numbers, by several workers, of which lines go to `early` as they come.
+fn findings_early<E: Sink, R: Threads + Wait + Sync>(
+    rt: &R,
+    alloc: Global,
+    trace: &Trace,
+    evidence: &Evidence,
+    early: &mut E,
+    workers: usize,
+    size: usize,
+) -> Result<Vec<Finding>, AllocError>
+    requires workers { (0 < workers) × (workers ≤ 16) }
+    requires size { 0 < size }
+    ensures found { IfOk result (λ v. v.items ≡ findings_of trace.now (evidence_value evidence.now)) }
+    ensures early { TellsEarly trace.now (evidence_value evidence.now) (state_of E.taken E.failures E.idle early.old) (state_of E.taken E.failures E.idle early.new) }
+{
+    let reports = found_early::<Brand, E, R>(rt, alloc, trace, evidence, early, workers, size)?;
+    gathered(alloc, reports.as_slice())
+}
+
+/// Workers who share the entries, and what they find goes to a writer as it comes.
+#[derive(Drop)]
+struct Tellers<'r, 'e, R: Threads + Wait + Sync, E: Sink> {
+    rt: &'r R,
+    early: &'e mut E,
+    workers: usize,
+    size: usize,
+    ghost some: { 0 < workers },
+    ghost few: { workers ≤ 16 },
+    ghost filled: { 0 < size },
+}
+
+impl<'r, 'e, R: Threads + Wait + Sync, E: Sink> Finder for Tellers<'r, 'e, R, E> {
+    ghost use Rattle.std.specs.Thread.{IsSync};
+
+    ghost asks = { λ _. IsSync R.row };
+
+    ghost mark = { λ t. t.early.ghost_name };
+
+    ghost tells = { λ t given old new. TellsEarly t given (state_of E.taken E.failures E.idle old.early.now) (state_of E.taken E.failures E.idle new.early.now) };
+
+    fn findings(
+        &mut self,
+        alloc: Global,
+        trace: &Trace,
+        evidence: &Evidence,
+    ) -> Result<Vec<Finding>, AllocError> {
+        findings_early(
+            self.rt,
+            alloc,
+            trace,
+            evidence,
+            &mut *self.early,
+            self.workers,
+            self.size,
+        )
+    }
+}
+
+/// Audits as [`audit`](crate::audit) does, and tells of findings as they come: for each alert that the pool shows, a line goes to
+/// `early`, which is `early ` and the report line of the first finding on an entry.
+///
+/// The lines come in the order in which the workers find them, and each is flushed. A line that finds no memory is dropped. Where
+/// `early` fails or takes no byte nothing more is written there, and the audit goes on: its answer is that of `audit`.
+pub fn audit_early<A: Source, B: Source, W: Sink, E: Sink, R: Threads + Wait + Sync>(
+    rt: &R,
+    alloc: Global,
+    trace: &mut A,
+    evidence: &mut B,
+    out: &mut W,
+    early: &mut E,
+    workers: usize,
+    slice: usize,
+) -> Result<Verdict, AuditFault>
+    // The report on what the readers gave, to their ends, went out whole, and the verdict is its last line.
+    ensures audits { IfOk result (λ v. OfWhole A.given A.ends trace.old trace.new (λ a. OfWhole B.given B.ends evidence.old evidence.new (λ b.
+        Audits a b (W.taken out.old) (W.taken out.new) v))) }
+    ensures flushed { OnOk result (W.flushes out.new ≡ W.flushes out.old + 1) }
+    // A clean verdict says that each reply is what the rules mean over the tuples committed up to its snapshot, and that no check is older
+    // than its zookie, nor than any access change committed before the content check of the version that it names.
+    ensures headline { result ≡ Ok Clean → OfWhole A.given A.ends trace.old trace.new IsTraceRightAndFresh }
+    // Whatever the verdict: a reply that a finding F10 calls wrong is wrong.
+    ensures wrong_replies { IfOk result (λ _. OfWhole A.given A.ends trace.old trace.new (λ a. OfWhole B.given B.ends evidence.old evidence.new (λ b. NamesOnlyWrongReplies a b))) }
+    // A refusal holds of every input that begins with the bytes that came.
+    ensures trace { (f : TraceFault) → result ≡ Err (faults.Trace f) → OfInput A.given A.ends trace.old trace.new (λ a. RefusesTrace a f) }
+    ensures trace_cut { (f : TraceFault) → result ≡ Err (faults.Trace f) → f.cause ≡ causes.Read → OfBytes A.given trace.old trace.new (λ a. trace_of false a ≡ Err f) }
+    ensures evidence { (f : EvidenceFault) → result ≡ Err (faults.Evidence f) → OfWhole A.given A.ends trace.old trace.new (λ a. OfInput B.given B.ends evidence.old evidence.new (λ b.
+        RefusesEvidence a b f)) }
+    ensures evidence_cut { (f : EvidenceFault) → result ≡ Err (faults.Evidence f) → f.cause ≡ evidence_causes.Read
+        → OfWhole A.given A.ends trace.old trace.new (λ a. OfBytes B.given evidence.old evidence.new (λ b. CutsEvidence a b f)) }
+    ensures write { (n : ℕ) → result ≡ Err (faults.Write n) → OfWhole A.given A.ends trace.old trace.new (λ a. OfWhole B.given B.ends evidence.old evidence.new (λ b.
+        Breaks a b (W.taken out.old) (W.taken out.new) n)) }
+    ensures unwritten { IfErr result (λ e. IsUnwritten e → W.taken out.new ≡ W.taken out.old) }
+    // Also of readers that never end.
+    ensures most { OfBytes A.given trace.old trace.new (λ a. length a ≤ MAX_INPUT + CHUNK) × OfBytes B.given evidence.old evidence.new (λ b. length b ≤ MAX_INPUT + CHUNK) }
+    // Of devices in memory: what came is what the readers had left, and what went out stands behind what the writer held.
+    ensures known { AreNext A.given A.ends A.remaining trace.old trace.new × AreNext B.given B.ends B.remaining evidence.old evidence.new }
+    ensures held { StandBehind W.taken W.contents out.old out.new }
+    ensures devices { IfErr result (IsOfDevices ⊥ (HasRisen (A.failures trace.old) (A.failures trace.new)) (HasRisen (B.failures evidence.old) (B.failures evidence.new))
+        (HasRisen (W.failures out.old) (W.failures out.new) ⊎ HasRisen (W.idle out.old) (W.idle out.new))) }
+    // Any other answer comes only where no device failed.
+    ensures kept { OnOk result ((A.failures trace.new ≡ A.failures trace.old) × (B.failures evidence.new ≡ B.failures evidence.old) × (W.failures out.new ≡ W.failures out.old)) }
+    ensures unfailed { IfErr result (λ e. IsOfNoDevice e → (A.failures trace.new ≡ A.failures trace.old) × (B.failures evidence.new ≡ B.failures evidence.old) × (W.failures out.new ≡ W.failures out.old)) }
+    ensures faults { IfErr result (λ e. IsOfAudit e ⊎ (e ≡ faults.Limits)) }
+    ensures limits { result ≡ Err faults.Limits ↔ (are_within_limits workers slice ≡ false) }
+    ensures unread { result ≡ Err faults.Limits → (trace.new ≡ trace.old) × (evidence.new ≡ evidence.old) × (out.new ≡ out.old) × (early.new ≡ early.old) }
+    // Lines went out of entries that have just these findings, and the last may be cut where `early` failed or took none of some bytes.
+    ensures early { (early.new ≡ early.old) ⊎ OfWhole A.given A.ends trace.old trace.new (λ a. OfWhole B.given B.ends evidence.old evidence.new (λ b.
+        IsOfBytes a b (λ t given. TellsEarly t given (state_of E.taken E.failures E.idle early.old) (state_of E.taken E.failures E.idle early.new)))) }
+{
+    if !are_within_limits(workers, slice) {
+        return Err(AuditFault::Limits);
+    }
+    let mut finder = Tellers {
+        rt,
+        early,
+        workers,
+        size: slice,
+    };
+    audit_by(alloc, trace, evidence, out, &mut finder)
+}

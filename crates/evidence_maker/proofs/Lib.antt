@@ -1,0 +1,10 @@
+pub mod JudgedSteps
+pub mod Kept
+pub mod LeftOver
+pub mod MakingLemmas
+pub mod Outgrown
+pub mod Own
+pub mod Saturated
+pub mod Settling
+pub mod Sparing
+pub mod StrataLemmas

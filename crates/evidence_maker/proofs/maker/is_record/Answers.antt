@@ -1,0 +1,25 @@
+use Rattle.std.proofs.Common.{◌≤◌, ◌↔◌, not, false, IsTrue, Some, inl, inr, sym, ◌∙◌}
+use Rattle.trace_lines.specs.Values.{entry_value}
+use Rattle.evidence_check.specs.Judged.{judged}
+use Rattle.evidence_check.specs.Reading.{fact_count}
+use Rattle.evidence_check.specs.Steps.{step_values}
+use Rattle.evidence_maker.proofs.JudgedSteps.{IsSettling, settles_if_judged, judged_if_settles, fits_if}
+use Rattle.evidence_maker.proofs.maker.is_record.Goals as goal
+
+pub returns-in-Supported : goal.returns-in-Supported
+returns-in-Supported c =
+    let ss = step_values c.args.steps.now.items in
+    let settling : IsSettling (judged c.args.trace.now (entry_value c.args.entry.now) (Some ss)) =
+    elim c.in-Supported.is [ inl e ↦ inl (sym c.in_ok-judge_steps.ensures ∙ e) | inr e ↦ inr (sym c.in_ok-judge_steps.ensures ∙ e) ] in
+    let few : IsTrue (not c.has_too_many.result) ↔ (fact_count ss ≤ 100000) = fits_if 100000 (fact_count ss) c.has_too_many.result (rw c.deref.ensures.value at c.has_too_many.ensures) in
+    (λ t. (settles_if_judged c.args.trace.now (entry_value c.args.entry.now) ss settling, few.0 t), λ h. few.1 h.1)
+
+pub returns-in_default : goal.returns-in_default
+returns-in_default c =
+    let ss = step_values c.args.steps.now.items in (
+      λ t. absurd (let f : IsTrue false = t in cc),
+      λ h. absurd (elim (judged_if_settles c.args.trace.now (entry_value c.args.entry.now) ss h.0) [
+        | inl e ↦ c.in_default.not-Supported (c.in_ok-judge_steps.ensures ∙ e)
+        | inr e ↦ c.in_default.not-Contradicted (c.in_ok-judge_steps.ensures ∙ e)
+      ]),
+    )

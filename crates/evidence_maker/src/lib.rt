@@ -1,0 +1,26 @@
+//! Evidence for recorded decisions: steps that are found by search, and judged before they are given.
+//!
+//! [`make`] gives the steps for one entry: those of one step where that is enough, and else those that settle every fact of the goal's
+//! cone (`goal_cone`), stratum by stratum: each fact that holds by what is known is said to hold, and what is left of a stratum is said
+//! not to, all at once. Which facts hold, and in which order that shows, is found with counters, so that each link is looked at once.
+//!
+//! Callers may rely on this: steps that are given are accepted in order, they settle the goal, and they have at most 100,000 facts; so the
+//! entry is supported or contradicted by them. `make` gives up only where one step is not enough, and every list of facts that holds the
+//! goal and its own premises has more than 100,000 facts or reads more than [`MAX_LINKS`] stored usersets. The counters are not trusted:
+//! what they find is judged by `judge_steps`, and what they miss is looked at again. [`laws`] say why there is evidence to find.
+//!
+//! ```text
+//! let steps = make(alloc, &trace, 0)?;
+//! ```
+#![tactic(auto)]
+
+mod fault;
+mod gates;
+mod layers;
+pub mod laws;
+mod maker;
+mod settle;
+
+pub use fault::MakeFault;
+pub use goal_cone::{MAX_LINKS, MAX_USERSETS};
+pub use maker::make;

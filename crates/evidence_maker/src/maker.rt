@@ -1,0 +1,79 @@
+//! Making evidence for a decision.
+
+ghost use Rattle.std.specs.Prelude.{◌≡◌, ◌<◌, ◌≤◌, ◌↔◌, [], ◌∷◌, IsTrue, IfOk, Err, Some, length, slice_get};
+ghost use Rattle.namespaces.specs.Lookup.{rule_at};
+ghost use Rattle.version_chains.specs.Commits.{store_at};
+ghost use Rattle.trace_lines.specs.Values.{EntryValue, entry_value};
+ghost use Rattle.evidence_check.specs.Reading.{fact_count};
+ghost use Rattle.evidence_check.specs.Steps.{yes_step, no_step, step_values};
+ghost use Rattle.evidence_check.specs.declared.records.TheConstants.{MAX_FACTS};
+ghost use Rattle.goal_cone.specs.Bounds.{IsOutgrown};
+ghost use Rattle.goal_cone.specs.declared.premises.TheConstants.{MAX_LINKS};
+ghost use Rattle.evidence_maker.specs.Made.{Settles, IsRecord, IsOneStep};
+
+use crate::fault::MakeFault;
+use crate::settle::settle;
+use evidence_check::{Judged, Step, Steps, has_too_many, judge_steps};
+use goal_cone::explore;
+use std::alloc::{AllocError, Global};
+use trace_lines::{Entry, Trace};
+
+/// Whether the steps are accepted and settle the goal, and a record may hold them.
+fn is_record(trace: &Trace, entry: &Entry, steps: &Steps) -> Result<bool, AllocError>
+    ensures { IfOk result (λ b. IsTrue b ↔ IsRecord trace.now (entry_value entry.now) (step_values steps.now.items)) }
+{
+    match judge_steps(trace, entry, steps)? {
+        Judged::Supported | Judged::Contradicted => Ok(!has_too_many(steps)),
+        _ => Ok(false),
+    }
+}
+
+/// The goal holds, said in one step.
+fn yes_alone(alloc: Global, entry: &Entry) -> Result<Steps, AllocError>
+    ensures { IfOk result (λ v. step_values v.items ≡ yes_step entry.now.goal ∷ []) }
+{
+    let mut steps = Vec::new(alloc);
+    steps.push(Step::Yes(entry.goal.clone()?))?;
+    Ok(steps)
+}
+
+/// The goal does not hold, said in one step.
+fn no_alone(alloc: Global, entry: &Entry) -> Result<Steps, AllocError>
+    ensures { IfOk result (λ v. step_values v.items ≡ no_step (entry.now.goal ∷ []) ∷ []) }
+{
+    let mut facts = Vec::new(alloc);
+    facts.push(entry.goal.clone()?)?;
+    let mut steps = Vec::new(alloc);
+    steps.push(Step::No(facts))?;
+    Ok(steps)
+}
+
+/// Evidence for entry `i`: steps that are accepted in order, after which it is known whether the goal holds, so that the entry is
+/// supported or contradicted by them. They have at most 100,000 facts.
+///
+/// Refusals: 1 GaveUp, only where one step is not enough and every list of facts that holds the goal and its own premises has more than
+/// 100,000 facts or reads more than [`goal_cone::MAX_LINKS`] stored usersets; 2 OutOfMemory.
+pub fn make(alloc: Global, trace: &Trace, i: usize) -> Result<Steps, MakeFault>
+    requires { i < length trace.now.entries }
+    ensures accepted { IfOk result (λ v. (e : EntryValue) → slice_get trace.now.entries i ≡ Some e → Settles trace.now e (step_values v.items)) }
+    ensures fits { IfOk result (λ v. fact_count (step_values v.items) ≤ MAX_FACTS) }
+    ensures complete { result ≡ Err MakeFault.GaveUp → (e : EntryValue) → slice_get trace.now.entries i ≡ Some e →
+        IsOutgrown MAX_FACTS MAX_LINKS (rule_at trace.now.declarations e.snapshot) (store_at trace.now.commits e.snapshot) e.goal }
+    ensures one_step { result ≡ Err MakeFault.GaveUp → (e : EntryValue) → slice_get trace.now.entries i ≡ Some e → ¬ IsOneStep trace.now e }
+{
+    let entry = trace.entry(i);
+    let yes = yes_alone(alloc, entry)?;
+    if is_record(trace, entry, &yes)? {
+        return Ok(yes);
+    }
+    let no = no_alone(alloc, entry)?;
+    if is_record(trace, entry, &no)? {
+        return Ok(no);
+    }
+    let cone = explore(alloc, trace, entry.snapshot, &entry.goal)?;
+    let steps = settle(alloc, trace, entry.snapshot, &cone)?;
+    if is_record(trace, entry, &steps)? {
+        return Ok(steps);
+    }
+    Err(MakeFault::GaveUp)
+}

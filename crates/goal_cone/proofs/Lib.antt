@@ -1,0 +1,6 @@
+pub mod Exploring
+pub mod PremiseLemmas
+pub mod Searching
+pub mod SeenLemmas
+pub mod StoredLemmas
+pub mod Weights

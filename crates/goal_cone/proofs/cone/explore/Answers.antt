@@ -1,0 +1,33 @@
+use Rattle.std.proofs.Common.{rules, ◌≡◌, None, Some, slice_get, arith}
+use Rattle.namespaces.specs.Lookup.{rule_at}
+use Rattle.version_chains.specs.Commits.{store_at}
+use Rattle.goal_cone.proofs.Searching.{searching_done, searching_full, searching_stuck, searching_step}
+use Rattle.goal_cone.proofs.cone.explore.Goals.{In_ok-fact}
+use Rattle.goal_cone.proofs.cone.explore.Goals as goal
+
+there : (c : In_ok-fact) → slice_get c.loop-next.seen c.loop-next.next ≡ Some c.in_ok-fact.fact
+there c = let same : c.in_ok-fact.fact ≡ c.in-Some.fact.now = search rules in let at : Some c.in-Some.fact.now ≡ slice_get c.loop-next.seen c.loop-next.next = c.in-Some.ensures in cc
+
+pub returns-in_default-clause-cone : goal.returns-in_default-clause-cone
+returns-in_default-clause-cone c =
+    let none : slice_get c.loop-next.seen c.loop-next.next ≡ None = search rules in
+    rw c.into_facts.ensures
+    (searching_done (rule_at c.args.trace.now.declarations c.args.at) (store_at c.args.trace.now.commits c.args.at) 4194304 c.args.goal.now
+    c.loop-next.seen c.loop-next.next c.loop-next.room c.loop-next.invariant none)
+
+pub returns-in_err-see_read-clause-outgrown : goal.returns-in_err-see_read-clause-outgrown
+returns-in_err-see_read-clause-outgrown c = λ e.
+    searching_stuck (rule_at c.args.trace.now.declarations c.args.at) (store_at c.args.trace.now.commits c.args.at) 4194304 c.args.goal.now
+    c.loop-next.seen c.loop-next.next c.loop-next.room c.loop-next.invariant c.in_ok-fact.fact (there (goal.at.returns-in_err-see_read-clause-outgrown c).In_ok-fact) 131072
+    (c.in_err-see_read.ensures.stuck (search rules))
+
+pub loop-next-preserved : goal.loop-next-preserved
+loop-next-preserved c =
+    searching_step (rule_at c.args.trace.now.declarations c.args.at) (store_at c.args.trace.now.commits c.args.at) 4194304 c.args.goal.now
+    c.loop-next.seen c.loop-next.next c.loop-next.room c.loop-next.invariant c.in_ok-fact.fact (there (goal.at.loop-next-preserved c).In_ok-fact)
+    c.see_read.new.seen c.see_read.new.room c.in_ok-see_read.ensures.seen c.in_ok-see_read.ensures.links
+
+pub returns-clause-outgrown : goal.returns-clause-outgrown
+returns-clause-outgrown c = λ e.
+    searching_full (rule_at c.args.trace.now.declarations c.args.at) (store_at c.args.trace.now.commits c.args.at) 4194304 c.args.goal.now
+    c.loop-next.seen c.loop-next.next c.loop-next.room c.loop-next.invariant 131072 (omega arith)

@@ -1,0 +1,5 @@
+pub mod Bounds
+pub mod Cone
+pub mod Pass
+pub mod Premises
+pub mod Seen

@@ -1,0 +1,34 @@
+//! The cone of a goal.
+
+ghost use Rattle.std.specs.Prelude.{◌≡◌, IfOk, Err};
+ghost use Rattle.namespaces.specs.Lookup.{rule_at};
+ghost use Rattle.version_chains.specs.Commits.{store_at};
+ghost use Rattle.goal_cone.specs.Bounds.{IsOutgrown};
+ghost use Rattle.goal_cone.specs.Cone.{IsCone, AreDistinct};
+
+use crate::fault::ConeFault;
+use crate::premises::{MAX_LINKS, MAX_USERSETS, see_read};
+use crate::seen::Seen;
+use std::alloc::Global;
+use trace_lines::Trace;
+use tuple_text::Fact;
+
+/// The cone of a goal, each fact once, the goal first and no premise before some reader of it.
+pub fn explore(alloc: Global, trace: &Trace, at: u64, goal: &Fact) -> Result<Vec<Fact>, ConeFault>
+    ensures cone { IfOk result (λ v. IsCone (rule_at trace.now.declarations at) (store_at trace.now.commits at) goal.now v.items) }
+    ensures distinct { IfOk result (λ v. AreDistinct v.items) }
+    ensures outgrown { result ≡ Err ConeFault.Outgrown →
+        IsOutgrown MAX_USERSETS MAX_LINKS (rule_at trace.now.declarations at) (store_at trace.now.commits at) goal.now }
+{
+    let mut seen = Seen::new(alloc);
+    seen.add(goal.clone()?)?;
+    let mut room = MAX_LINKS;
+    for next in 0..MAX_USERSETS + 1 {
+        let Some(fact) = seen.get(next) else {
+            return Ok(seen.into_facts());
+        };
+        let fact = fact.clone()?;
+        see_read(alloc, trace, at, &fact, &mut seen, &mut room)?;
+    }
+    Err(ConeFault::Outgrown)
+}

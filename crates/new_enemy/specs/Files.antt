@@ -1,0 +1,35 @@
+-- What the program answers of files, by all that they gave.
+use Rattle.std.specs.Prelude.{◌≡◌, ℕ, List, ⊤}
+use Rattle.json_lines.specs.Devices.{moved_by, stops_of}
+use Rattle.json_lines.specs.declared.devices.Counted.{Counted}
+use Rattle.tuple_text.specs.Tuples.{TupleValue}
+use Rattle.audit.specs.Audit.{Audits}
+use Rattle.audit.specs.Headline.{IsTraceRightAndFresh}
+use Rattle.audit.specs.History.{TellsHistory}
+use Rattle.audit.specs.declared.plain.Verdict.{Verdict}
+use Rattle.audit.specs.declared.plain.Verdict.TheVariants.{Clean, Dirty}
+use Rattle.new_enemy.specs.declared.run.Ran.{Ran}
+use Rattle.new_enemy.specs.declared.run.Ran.TheVariants as ran
+
+-- All that the two files gave, to their ends, is a trace and evidence for it, and what a writer took is the report on them, with this verdict.
+abbrev pub IsAudit : {F : Type 0} → Verdict → (List ℕ → Type 0) → Counted F → Counted F → List ℕ → List ℕ → Type 0
+IsAudit v OfTrace trace evidence old new =
+    (stops_of trace ≡ 1) × (stops_of evidence ≡ 1) × Audits (moved_by trace) (moved_by evidence) old new v × OfTrace (moved_by trace)
+
+-- and the trace is right and fresh
+abbrev pub IsCleanAudit : {F : Type 0} → Counted F → Counted F → List ℕ → List ℕ → Type 0
+IsCleanAudit trace evidence old new = IsAudit Clean IsTraceRightAndFresh trace evidence old new
+
+abbrev pub IsDirtyAudit : {F : Type 0} → Counted F → Counted F → List ℕ → List ℕ → Type 0
+IsDirtyAudit trace evidence old new = IsAudit Dirty (λ a. ⊤) trace evidence old new
+
+-- all that the file gave, to its end, is a trace, and what a writer took is the tuple's history in it
+abbrev pub IsToldHistory : {F : Type 0} → TupleValue → Counted F → List ℕ → List ℕ → Type 0
+IsToldHistory tuple trace old new = (stops_of trace ≡ 1) × ((n : ℕ) × TellsHistory (moved_by trace) tuple old new n)
+
+-- what holds of a run by what it read: joined input, the files of an audit, the file of a history, or no file
+abbrev pub OfRun : {F : Type 0} → Ran F → Type 0 → (Counted F → Counted F → Type 0) → (Counted F → Type 0) → Type 0 → Type 0
+OfRun ran.Joined joined audited told nothing = joined
+OfRun (ran.Audited trace evidence) joined audited told nothing = audited trace evidence
+OfRun (ran.Told trace) joined audited told nothing = told trace
+OfRun ran.Nothing joined audited told nothing = nothing

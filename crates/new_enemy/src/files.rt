@@ -1,0 +1,112 @@
+//! The commands that read files, by what these gave.
+
+ghost use Rattle.std.specs.Prelude.{◌≡◌, ◌≢◌, ◌↔◌, ◌+◌, ◌<◌, ◌≤◌, [], false, length};
+ghost use Rattle.json_lines.specs.Devices.{moved_by, failures_of, stops_of};
+ghost use Rattle.json_lines.specs.Given.{StandBehind};
+ghost use Rattle.audit.specs.Shared.{are_within_limits};
+ghost use Rattle.new_enemy.specs.Run.{IsStatusOf};
+ghost use Rattle.new_enemy.specs.Files.{IsCleanAudit, IsDirtyAudit, IsToldHistory};
+
+use crate::status::{status_of, tell};
+use audit::{AuditFault, Verdict, audit, audit_early, history};
+use json_lines::{Counted, Sink};
+use std::alloc::Global;
+use std::io::Read;
+use std::sync::Wait;
+use std::thread::Threads;
+use tuple_text::Tuple;
+
+/// How an audit shares its entries, and whether it tells of findings as they come.
+#[derive(Clone, Copy)]
+pub struct Sharing {
+    pub workers: usize,
+    pub slice: usize,
+    pub early: bool,
+}
+
+/// The status of an audit's answer; a fault is told to `err`.
+fn status_with<E: Sink>(answer: Result<Verdict, AuditFault>, err: &mut E) -> u8
+    ensures { IsStatusOf answer result }
+{
+    match answer {
+        Ok(Verdict::Clean) => 0,
+        Ok(Verdict::Dirty) => 1,
+        Err(fault) => {
+            tell(err, &fault);
+            status_of(&fault)
+        }
+    }
+}
+
+/// Audits a trace by its evidence, writes the report to `out`, and hands the two back with what they gave. Early alerts go to `err`, and a fault
+/// is told there in one line.
+pub fn run_audit<F: Read, W: Sink, E: Sink, P: Threads + Wait + Sync>(
+    rt: &P,
+    alloc: Global,
+    trace: F,
+    evidence: F,
+    sharing: Sharing,
+    out: &mut W,
+    err: &mut E,
+) -> (u8, Counted<F>, Counted<F>)
+    // All that the trace's file gave, to its end, is a trace that is right and fresh, all that the evidence's gave is evidence for it, and
+    // the report on them went out whole.
+    ensures clean { result.0 ≡ 0 → IsCleanAudit result.1 result.2 (W.taken out.old) (W.taken out.new) }
+    ensures dirty { result.0 ≡ 1 → IsDirtyAudit result.1 result.2 (W.taken out.old) (W.taken out.new) }
+    ensures flushed { result.0 ≤ 1 → W.flushes out.new ≡ W.flushes out.old + 1 }
+    ensures limits { result.0 ≡ 3 ↔ (are_within_limits sharing.workers sharing.slice ≡ false) }
+    ensures kept { result.0 ≢ 5 → (failures_of result.1 ≡ 0) × (failures_of result.2 ≡ 0) × (W.failures out.new ≡ W.failures out.old) }
+    ensures unwritten { 2 ≤ result.0 → result.0 ≤ 4 → W.taken out.new ≡ W.taken out.old }
+    ensures held { StandBehind W.taken W.contents out.old out.new }
+    ensures statuses { result.0 ≤ 5 }
+{
+    let Sharing {
+        workers,
+        slice,
+        early,
+    } = sharing;
+    let mut trace = Counted::new(trace);
+    let mut evidence = Counted::new(evidence);
+    let answer = if early {
+        audit_early(
+            rt,
+            alloc,
+            &mut trace,
+            &mut evidence,
+            out,
+            err,
+            workers,
+            slice,
+        )
+    } else {
+        audit(rt, alloc, &mut trace, &mut evidence, out, workers, slice)
+    };
+    (status_with(answer, err), trace, evidence)
+}
+
+/// Writes a tuple's history in a trace to `out`, and hands the trace's file back with what it gave. A fault is told to `err` in one line.
+pub fn run_history<F: Read, W: Sink, E: Sink>(
+    alloc: Global,
+    trace: F,
+    tuple: &Tuple,
+    out: &mut W,
+    err: &mut E,
+) -> (u8, Counted<F>)
+    // All that the file gave, to its end, is a trace, and the tuple's history in it went out whole.
+    ensures told { result.0 ≡ 0 → IsToldHistory tuple.now result.1 (W.taken out.old) (W.taken out.new) }
+    ensures flushed { result.0 ≡ 0 → W.flushes out.new ≡ W.flushes out.old + 1 }
+    ensures kept { result.0 ≢ 5 → (failures_of result.1 ≡ 0) × (W.failures out.new ≡ W.failures out.old) }
+    ensures unwritten { 2 ≤ result.0 → result.0 ≤ 4 → W.taken out.new ≡ W.taken out.old }
+    ensures held { StandBehind W.taken W.contents out.old out.new }
+    ensures statuses { (result.0 ≤ 5) × (result.0 ≢ 1) × (result.0 ≢ 3) }
+{
+    let mut trace = Counted::new(trace);
+    let status = match history(alloc, &mut trace, tuple, out) {
+        Ok(_) => 0,
+        Err(fault) => {
+            tell(err, &fault);
+            status_of(&fault)
+        }
+    };
+    (status, trace)
+}

@@ -1,0 +1,80 @@
+//! Exit statuses, and the lines that tell why there is no answer.
+
+ghost use Rattle.std.specs.Prelude.{◌≡◌, ◌≢◌, ◌≤◌};
+ghost use Rattle.new_enemy.specs.Run.{IsStatus};
+
+use arrayvec::ArrayString;
+use audit::AuditFault;
+use evidence_check::{EvidenceCause, EvidenceFault};
+use json_lines::{Sink, send};
+use std::fmt::Write as _;
+use std::io::ErrorKind;
+use trace_lines::{Cause, TraceFault};
+use tuple_text::TupleFault;
+
+/// The exit status of a fault.
+pub fn status_of(fault: &AuditFault) -> u8
+    ensures status { IsStatus fault.now result }
+    ensures failure { 2 ≤ result }
+{
+    match fault {
+        AuditFault::Trace(
+            TraceFault {
+                cause: Cause::Read,
+                ..
+            },
+        ) => 5,
+        AuditFault::Trace(_) => 2,
+        AuditFault::Evidence(
+            EvidenceFault {
+                cause: EvidenceCause::Read,
+                ..
+            },
+        ) => 5,
+        AuditFault::Evidence(_) => 2,
+        AuditFault::Write { .. } => 5,
+        AuditFault::OutOfMemory => 4,
+        AuditFault::Limits => 3,
+        AuditFault::Joined => 2,
+        AuditFault::Input => 5,
+    }
+}
+
+/// How many bytes the line of a fault may have: more than any has.
+const LINE: usize = 256;
+
+/// Writes the line of a fault, and takes no memory for it; a failure of the writer changes nothing else.
+pub fn tell<E: Sink>(err: &mut E, fault: &AuditFault) {
+    let mut line = ArrayString::<LINE>::new();
+    let _ = writeln!(line, "{fault}");
+    let _ = send(err, line.as_str().as_bytes());
+}
+
+/// Tells why the words after the program's name could not be read, and answers the exit status: 4 for want of
+/// memory, 3 for a word that is not UTF-8.
+pub fn refuse_words<E: Sink>(kind: ErrorKind, err: &mut E) -> u8
+    ensures memory { kind ≡ ErrorKind.OutOfMemory → result ≡ 4 }
+    ensures usage { kind ≢ ErrorKind.OutOfMemory → result ≡ 3 }
+{
+    if kind == ErrorKind::OutOfMemory {
+        tell(err, &AuditFault::OutOfMemory);
+        4
+    } else {
+        let _ = send(err, b"usage: a word is not UTF-8\n");
+        3
+    }
+}
+
+/// Writes the line of a tuple that is refused.
+pub fn tell_tuple<E: Sink>(err: &mut E, fault: &TupleFault) {
+    let mut line = ArrayString::<LINE>::new();
+    let _ = writeln!(line, "tuple: {fault}");
+    let _ = send(err, line.as_str().as_bytes());
+}
+
+/// Writes the line of a file that can't be opened.
+pub fn tell_path<E: Sink>(err: &mut E, path: &str) {
+    let _ = send(err, b"cannot open ");
+    let _ = send(err, path.as_bytes());
+    let _ = send(err, b"\n");
+}

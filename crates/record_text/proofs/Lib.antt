@@ -1,0 +1,6 @@
+pub mod Counted
+pub mod JsonBack
+pub mod Lengths
+pub mod NoFloats
+pub mod OneLine
+pub mod Taken

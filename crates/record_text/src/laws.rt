@@ -1,0 +1,17 @@
+//! Laws of a record's text. The functions compute nothing: a law is its function's contract, over the definitions alone.
+
+ghost use Rattle.std.specs.Prelude.{ℕ, ◌<◌, ◌^◌, List, IsUtf8};
+ghost use Rattle.trace_lines.specs.Values.{EntryValue};
+ghost use Rattle.evidence_check.specs.Steps.{StepValue};
+ghost use Rattle.record_text.specs.Record.{record_text};
+ghost use Rattle.record_text.specs.ReadBack.{HaveFacts, IsTaken, IsReadBack};
+
+/// A record's text is a line of evidence that says the same steps. Of its bytes only this is asked, that they are UTF-8, as those of a `String` are.
+pub fn taken()
+    ensures { (line : ℕ) (steps : List StepValue) → line < 2 ^ 64 → HaveFacts steps → IsUtf8 (record_text line steps) → IsTaken line steps }
+{}
+
+/// A record's text that is within the limits, for the line of an entry, and a newline are evidence of that record alone.
+pub fn read_back()
+    ensures { (line : ℕ) (steps : List StepValue) → line < 2 ^ 64 → HaveFacts steps → IsUtf8 (record_text line steps) → (entries : List EntryValue) → IsReadBack entries line steps }
+{}
