@@ -198,9 +198,9 @@ module _ (rules : Lookup) (store : List TupleValue) (old : KnownValue) where
           λ f c. elim (Contains-push_cases R x f c) [
             | inl d ↦ (h.same e).1 f d
             | inr s ↦ (
-                subst (λ (k : KnownValue). ¬ IsKnown k f) (h.same e).0 (subst (λ (y : FactValue). ¬ IsKnown now y) s unknown),
-                subst (λ (k : KnownValue). ¬ IsProved rules store k f) (h.same e).0 (subst (λ (y : FactValue). ¬ IsProved rules store now y) s unproved),
-              )
+              subst (λ (k : KnownValue). ¬ IsKnown k f) (h.same e).0 (subst (λ (y : FactValue). ¬ IsKnown now y) s unknown),
+              subst (λ (k : KnownValue). ¬ IsProved rules store k f) (h.same e).0 (subst (λ (y : FactValue). ¬ IsProved rules store now y) s unproved),
+            )
           ],
         )
 
@@ -260,7 +260,7 @@ module _ (rules : Lookup) (store : List TupleValue) (C : List FactValue) (k : �
           let i = (those.each f).0 l.0 in (
             i.0,
             λ r e. (let same : i.1.0 ≡ r = (let d : Some i.1.0 ≡ Some r = sym i.1.1 ∙ e in cc) in let s : i.1.0.stratum ≡ k = i.1.2 in subst (λ (q : Rule). q.stratum ≤ k) same (omega arith)),
-            λ s. elim s [ | inl y ↦ l.1 (inl y) | inr o ↦ elim o [ inl u ↦ (let d : Some i.1.0 ≡ None = sym i.1.1 ∙ u in cc) | inr n ↦ l.1 (inr n) ] ],
+            λ s. elim s [ inl y ↦ l.1 (inl y) | inr o ↦ elim o [ inl u ↦ (let d : Some i.1.0 ≡ None = sym i.1.1 ∙ u in cc) | inr n ↦ l.1 (inr n) ] ],
           )
 
       back : Contains C f → IsAtMost rules k f → (¬ IsSettled rules known f) → (o : Option Rule) → rule_of rules f.set ≡ o → Contains R f

@@ -16,8 +16,8 @@
 
 mod fault;
 mod gates;
-mod layers;
 pub mod laws;
+mod layers;
 mod maker;
 mod settle;
 

@@ -33,9 +33,9 @@ returns-clause-complete c = λ gave e at.
     let long : ¬ IsRecord c.args.trace.now (entry_value c.entry-entry.result.now) (step_values c.in_ok-steps.steps.items) =
     (λ h. let t : IsTrue c.in_ok-is_record-3.field-0 = c.in_ok-is_record-3.ensures.1 h in let f : c.in_ok-is_record-3.field-0 ≡ false = c.if-branch-3.false in cc) in
     let settled : HasItsPremises (rule_at c.args.trace.now.declarations c.entry-entry.result.now.snapshot) (store_at c.args.trace.now.commits c.entry-entry.result.now.snapshot) c.in_ok-cone.cone.items
-        → AreDistinct c.in_ok-cone.cone.items
-        → IsMade (rule_at c.args.trace.now.declarations c.entry-entry.result.now.snapshot) (store_at c.args.trace.now.commits c.entry-entry.result.now.snapshot) c.in_ok-cone.cone.items
-        (step_values c.in_ok-steps.steps.items) = rw c.deref.ensures.value at c.in_ok-steps.ensures in
+    → AreDistinct c.in_ok-cone.cone.items
+    → IsMade (rule_at c.args.trace.now.declarations c.entry-entry.result.now.snapshot) (store_at c.args.trace.now.commits c.entry-entry.result.now.snapshot) c.in_ok-cone.cone.items
+    (step_values c.in_ok-steps.steps.items) = rw c.deref.ensures.value at c.in_ok-steps.ensures in
     subst (λ (x : EntryValue). IsOutgrown 100000 4194304 (rule_at c.args.trace.now.declarations x.snapshot) (store_at c.args.trace.now.commits x.snapshot) x.goal) same
     (outgrown_made c.args.trace.now (entry_value c.entry-entry.result.now) c.in_ok-cone.cone.items (step_values c.in_ok-steps.steps.items) c.in_ok-cone.ensures.cone
     (settled c.in_ok-cone.ensures.cone.premises c.in_ok-cone.ensures.distinct) 4194304

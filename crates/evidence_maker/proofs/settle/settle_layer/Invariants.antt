@@ -13,5 +13,5 @@ invariant-loop-round l = record {
       → IsMaking (rule_at l.trace.declarations l.at) (store_at l.trace.commits l.at) C k l.fn.known (step_values l.fn.steps.items)
       → IsMaking (rule_at l.trace.declarations l.at) (store_at l.trace.commits l.at) C k l.known (step_values l.steps.items);
   left : HasLeft l.known l.fn.layer.items l.left.items;
-  count : length l.left.items + l.round ≤ l.rounds
+  count : length l.left.items + l.round ≤ l.rounds;
 }

@@ -12,5 +12,5 @@ invariant-loop-fact l = record {
   kept : (C : List FactValue) (k : ℕ) → ((f : FactValue) → Contains l.facts f → Contains C f)
       → IsMaking (rule_at l.trace.declarations l.at) (store_at l.trace.commits l.at) C k l.fn.known (step_values l.fn.steps.items)
       → IsMaking (rule_at l.trace.declarations l.at) (store_at l.trace.commits l.at) C k l.known (step_values l.steps.items);
-  sifted : IsSifted (rule_at l.trace.declarations l.at) (store_at l.trace.commits l.at) l.fn.known l.known (take l.fact-index l.facts) l.left.items
+  sifted : IsSifted (rule_at l.trace.declarations l.at) (store_at l.trace.commits l.at) l.fn.known l.known (take l.fact-index l.facts) l.left.items;
 }
