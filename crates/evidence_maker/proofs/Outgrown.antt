@@ -1,8 +1,9 @@
 -- A goal whose evidence is too long, or whose cone is, outgrows the limits.
-use Rattle.std.proofs.Common.{◌≡◌, ℕ, ◌≤◌, ◌<◌, List, [], ◌∷◌, length, inl, inr, refl, Bool, true, false, nat_lt, Result, Ok, Err, arith}
+use Rattle.std.proofs.Common.{◌≡◌, ℕ, ◌≤◌, ◌<◌, ◌^◌, ◌⊎◌, List, [], ◌∷◌, length, inl, inr, refl, Bool, true, false, nat_lt, Result, Ok, Err, arith}
 use Rattle.std.specs.Prelude.{IsErrAnd}
 use Rattle.std.proofs.lemmas.Bool.{ltb-true, ltb-false}
 use Rattle.std.proofs.lemmas.List.{length-append}
+use Rattle.tuple_text.specs.Grammar.{IsFact}
 use Rattle.tuple_text.specs.Tuples.{TupleValue, FactValue}
 use Rattle.namespaces.specs.Lookup.{Lookup, rule_at}
 use Rattle.version_chains.specs.Commits.{store_at}
@@ -17,7 +18,9 @@ use Rattle.goal_cone.specs.declared.fault.ConeFault.TheVariants.{Outgrown}
 use Rattle.goal_cone.proofs.Weights.{no_longer}
 use Rattle.evidence_maker.specs.declared.fault.MakeFault.{MakeFault}
 use Rattle.evidence_maker.specs.declared.fault.MakeFault.TheVariants.{GaveUp}
-use Rattle.evidence_maker.specs.Made.{Settles, IsRecord, IsOneStep}
+use Rattle.record_text.specs.Record.{record_length}
+use Rattle.record_text.proofs.Short.{yes_short, no_short}
+use Rattle.evidence_maker.specs.Made.{Settles, IsRecord, IsOneStep, IsTooLong}
 use Rattle.evidence_maker.specs.Making.{IsMade}
 use Rattle.evidence_maker.specs.Saturation.{facts_of}
 
@@ -50,18 +53,33 @@ module _ (t : TraceValue) (e : EntryValue) (C : List FactValue) (ss : List StepV
     ];
   }
 
-  -- steps that settle the cone are no record only where they have too many facts
-  pub outgrown_made : (links : ℕ) → ¬ IsOneStep t e → ¬ IsRecord t e ss → IsOutgrown 100000 links (rule_at t.declarations e.snapshot) (store_at t.commits e.snapshot) e.goal
-  outgrown_made links more long = λ D facts holds closed.
-      let count : fact_count ss ≡ length (facts_of ss) = fact_count-is ss in
-      let le : length (facts_of ss) ≤ length D = no_longer (facts_of ss) D made.sparing.distinct (λ f d. cone.least f (made.sparing.inside f d) D holds closed) in
-      let lt : 100000 < fact_count ss = over (fact_count ss) 100000 (λ few. long (settles_made more, few)) in
-      inl (omega arith)
+  -- steps that settle the cone are no record only where they have too many facts, or their record too many bytes
+  pub outgrown_made : (links : ℕ) → ¬ IsOneStep t e → ¬ IsRecord t e ss
+      → IsOutgrown 100000 links (rule_at t.declarations e.snapshot) (store_at t.commits e.snapshot) e.goal ⊎ IsTooLong t e
+  outgrown_made links more no_record = by_test (nat_lt 100000 (fact_count ss)) refl
+    where
+      by_test : (b : Bool) → nat_lt 100000 (fact_count ss) ≡ b
+          → IsOutgrown 100000 links (rule_at t.declarations e.snapshot) (store_at t.commits e.snapshot) e.goal ⊎ IsTooLong t e
+      by_test true many = inl (λ D facts holds closed.
+          let count : fact_count ss ≡ length (facts_of ss) = fact_count-is ss in
+          let le : length (facts_of ss) ≤ length D = no_longer (facts_of ss) D made.sparing.distinct (λ f d. cone.least f (made.sparing.inside f d) D holds closed) in
+          let lt : 100000 < fact_count ss = ltb-true 100000 (fact_count ss) many in
+          inl (omega arith))
+      by_test false few = inr (record {
+        steps = ss;
+        settles = settles_made more;
+        needed = λ f c. cone.least f (made.sparing.inside f c);
+        distinct = made.sparing.distinct;
+        long = over (record_length e.line ss) (2 ^ 20) (λ le. no_record (settles_made more, (ltb-false 100000 (fact_count ss) few, le)));
+      })
 
 -- where the steps of one are no records, one step is not enough
-pub one_step_fails : (t : TraceValue) (e : EntryValue) → ¬ IsRecord t e (yes_step e.goal ∷ []) → ¬ IsRecord t e (no_step (e.goal ∷ []) ∷ []) → ¬ IsOneStep t e
-one_step_fails t e m n (inl h) = m (record { accepted = (h, tt); known = inl (Contains-here e.goal []) }, omega arith)
-one_step_fails t e m n (inr h) = n (record { accepted = (h, tt); known = inr (Contains-here e.goal []) }, omega arith)
+pub one_step_fails : (t : TraceValue) (e : EntryValue) → e.line < 2 ^ 64 → IsFact e.goal
+    → ¬ IsRecord t e (yes_step e.goal ∷ []) → ¬ IsRecord t e (no_step (e.goal ∷ []) ∷ []) → ¬ IsOneStep t e
+one_step_fails t e lt fact m n (inl h) =
+    m (record { accepted = (h, tt); known = inl (Contains-here e.goal []) }, (omega arith, yes_short e.line e.goal lt fact))
+one_step_fails t e lt fact m n (inr h) =
+    n (record { accepted = (h, tt); known = inr (Contains-here e.goal []) }, (omega arith, no_short e.line e.goal lt fact))
 
 -- only of a goal that is outgrown it is said that it was given up
 pub cause_of : {T : Type 0} (r : Result T MakeFault) (cause : ConeFault) → IsErrAnd r (λ fault. fault ≡ GaveUp → cause ≡ Outgrown) → r ≡ Err GaveUp → cause ≡ Outgrown

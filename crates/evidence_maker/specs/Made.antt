@@ -1,24 +1,40 @@
 -- What is made for an entry.
-use Rattle.std.specs.Prelude.{[], ◌∷◌, ◌≤◌, List, ◌⊎◌}
+use Rattle.std.specs.Prelude.{[], ◌∷◌, ℕ, ◌≤◌, ◌<◌, ◌^◌, List, ◌⊎◌, Contains}
+use Rattle.tuple_text.specs.Tuples.{FactValue}
 use Rattle.namespaces.specs.Lookup.{rule_at}
 use Rattle.version_chains.specs.Commits.{store_at}
 use Rattle.trace_lines.specs.Values.{TraceValue, EntryValue}
 use Rattle.evidence_check.specs.Accepted.{nothing_known, after_steps, AreAccepted, IsAccepted}
 use Rattle.evidence_check.specs.Reading.{fact_count}
 use Rattle.evidence_check.specs.Steps.{StepValue, yes_step, no_step}
+use Rattle.record_text.specs.Record.{record_length}
+use Rattle.goal_cone.specs.Cone.{IsNeeded, AreDistinct}
 use Rattle.evidence_maker.specs.Making.{IsKnown}
+use Rattle.evidence_maker.specs.Saturation.{facts_of}
 
 -- the steps are accepted in order, and after them it is known whether the goal holds
 pub record Settles (t : TraceValue) (e : EntryValue) (steps : List StepValue) : Type 0 where
   pub accepted : AreAccepted (rule_at t.declarations e.snapshot) (store_at t.commits e.snapshot) nothing_known steps
   pub known : IsKnown (after_steps nothing_known steps) e.goal
 
--- the same of steps that a record may hold
+-- a record for the entry on a line may hold the steps: at most 100,000 facts, and 2^20 bytes before its newline
+abbrev pub Fits : ℕ → List StepValue → Type 0
+Fits line steps = (fact_count steps ≤ 100000) × (record_length line steps ≤ 2 ^ 20)
+
+-- the steps settle the entry, and its record may hold them
 abbrev pub IsRecord : TraceValue → EntryValue → List StepValue → Type 0
-IsRecord t e steps = Settles t e steps × (fact_count steps ≤ 100000)
+IsRecord t e steps = Settles t e steps × Fits e.line steps
 
 -- from nothing it is accepted that the goal holds, or that it does not
 abbrev pub IsOneStep : TraceValue → EntryValue → Type 0
 IsOneStep t e =
     IsAccepted (rule_at t.declarations e.snapshot) (store_at t.commits e.snapshot) nothing_known (yes_step e.goal)
     ⊎ IsAccepted (rule_at t.declarations e.snapshot) (store_at t.commits e.snapshot) nothing_known (no_step (e.goal ∷ []))
+
+-- The record of the goal's cone is longer than 2^20 bytes: of steps that settle the entry, and speak of facts of the cone alone, of none twice.
+pub record IsTooLong (t : TraceValue) (e : EntryValue) : Type 0 where
+  pub steps : List StepValue
+  pub settles : Settles t e steps
+  pub needed : (f : FactValue) → Contains (facts_of steps) f → IsNeeded (rule_at t.declarations e.snapshot) (store_at t.commits e.snapshot) e.goal f
+  pub distinct : AreDistinct (facts_of steps)
+  pub long : 2 ^ 20 < record_length e.line steps

@@ -1,4 +1,4 @@
-//! Which facts of a cone hold, and in which order that shows.
+//! Which facts of a cone hold, in which order that shows, and on which of them the goal leans.
 //!
 //! Each fact has a gate, and so has each place of its rule. A gate opens once as many of those that feed it as it waits for have
 //! opened, so that each link is looked at once. Nothing here is trusted: each fact is looked at again by its rule.
@@ -11,11 +11,23 @@ use trace_lines::Trace;
 use tuple_text::{Fact, SetRef, TupleFault, Userset};
 use version_chains::Usersets;
 
-/// A gate: how many openings it waits for, and the gates that it feeds.
+/// What a gate waits for, of those that feed it.
+#[derive(Clone, Copy, Drop)]
+enum Wants {
+    Some,
+    Each,
+    /// The one that feeds it, where the gate of the subtracted side stays shut.
+    Without(usize),
+}
+
+/// A gate: how many openings it waits for and of which gates, the gates that it feeds, and the one that opened it.
 #[derive(Drop)]
 struct Gate {
     wanted: usize,
+    wants: Wants,
     feeds: Vec<usize>,
+    fed_by: Vec<usize>,
+    opened_by: Option<usize>,
 }
 
 /// An exclusion: its own gate, that of its subtracted side, and the place of the fact whose rule it is in.
@@ -37,6 +49,50 @@ pub(crate) struct Gates {
     open: Vec<usize>,
     fed: usize,
     told: usize,
+}
+
+/// The gates that are kept, and the order in which they came.
+#[derive(Drop)]
+struct Leaning {
+    kept: Vec<bool>,
+    todo: Vec<usize>,
+}
+
+impl Leaning {
+    fn new(alloc: Global, gates: usize) -> Result<Leaning, AllocError> {
+        let mut kept = Vec::new(alloc);
+        for _ in 0..gates {
+            kept.push(false)?;
+        }
+        Ok(Leaning {
+            kept,
+            todo: Vec::new(alloc),
+        })
+    }
+
+    fn has(&self, gate: usize) -> bool {
+        match self.kept.get(gate) {
+            Some(kept) => *kept,
+            None => false,
+        }
+    }
+
+    fn add(&mut self, gate: usize) -> Result<(), AllocError> {
+        if let Some(kept) = self.kept.get_mut(gate) {
+            if !*kept {
+                *kept = true;
+                self.todo.push(gate)?;
+            }
+        }
+        Ok(())
+    }
+
+    fn add_all(&mut self, gates: &[usize]) -> Result<(), AllocError> {
+        for gate in gates {
+            self.add(*gate)?;
+        }
+        Ok(())
+    }
 }
 
 /// The gates of one rule while they are made.
@@ -84,8 +140,16 @@ impl Gates {
         }
     }
 
+    /// Whether the gate of a fact is among those that are kept.
+    pub(crate) fn is_kept(&self, kept: &[bool], fact: &Fact) -> Result<bool, AllocError> {
+        match self.place_of(fact.set())? {
+            Some(place) => Ok(kept.get(place).copied() == Some(true)),
+            None => Ok(false),
+        }
+    }
+
     fn number(&mut self, fact: &Fact) -> Result<(), AllocError> {
-        let place = self.add(1)?;
+        let place = self.add(1, Wants::Some)?;
         if let Ok(set) = Userset::of(self.alloc, fact.set()) {
             self.places.insert(set, place)?;
         }
@@ -93,11 +157,14 @@ impl Gates {
     }
 
     /// A new gate that waits for so many openings.
-    fn add(&mut self, wanted: usize) -> Result<usize, AllocError> {
+    fn add(&mut self, wanted: usize, wants: Wants) -> Result<usize, AllocError> {
         let gate = self.gates.len();
         self.gates.push(Gate {
             wanted,
+            wants,
             feeds: Vec::new(self.alloc),
+            fed_by: Vec::new(self.alloc),
+            opened_by: None,
         })?;
         Ok(gate)
     }
@@ -107,13 +174,17 @@ impl Gates {
         if let Some(gate) = self.gates.get_mut(from) {
             gate.feeds.push(to)?;
         }
+        if let Some(gate) = self.gates.get_mut(to) {
+            gate.fed_by.push(from)?;
+        }
         Ok(())
     }
 
     /// A gate waits for one opening less.
-    fn lower(&mut self, gate: usize) -> Result<(), AllocError> {
+    fn lower(&mut self, gate: usize, by: Option<usize>) -> Result<(), AllocError> {
         if let Some(found) = self.gates.get_mut(gate) {
             if found.wanted == 1 {
+                found.opened_by = by;
                 self.open.push(gate)?;
             }
             if found.wanted > 0 {
@@ -168,7 +239,7 @@ impl Gates {
                 self.add_premise(set, to)
             }
             Rewrite::TupleTo { tupleset, computed } => {
-                let gate = self.add(1)?;
+                let gate = self.add(1, Wants::Some)?;
                 self.feed(gate, to)?;
                 let set = SetRef {
                     relation: tupleset.as_str(),
@@ -178,20 +249,20 @@ impl Gates {
                 self.add_targets(sets, Some(computed.as_str()), gate)
             }
             Rewrite::Union(children) => {
-                let gate = self.add(1)?;
+                let gate = self.add(1, Wants::Some)?;
                 self.feed(gate, to)?;
                 self.add_places(site, children, gate)
             }
             Rewrite::Inter(children) => {
-                let gate = self.add(children.len())?;
+                let gate = self.add(children.len(), Wants::Each)?;
                 self.feed(gate, to)?;
                 self.add_places(site, children, gate)
             }
             Rewrite::Minus(base, subtract) => {
-                let gate = self.add(2)?;
+                let outer = self.add(1, Wants::Some)?;
+                let gate = self.add(2, Wants::Without(outer))?;
                 self.feed(gate, to)?;
                 self.add_place(site, base, gate)?;
-                let outer = self.add(1)?;
                 self.add_place(site, subtract, outer)?;
                 self.exclusions.push(Exclusion {
                     gate,
@@ -217,10 +288,10 @@ impl Gates {
     }
 
     fn add_this(&mut self, site: Site<'_>, to: usize) -> Result<(), AllocError> {
-        let gate = self.add(1)?;
+        let gate = self.add(1, Wants::Some)?;
         self.feed(gate, to)?;
         if site.trace.chains().has_id(site.set, site.user, site.at) {
-            self.lower(gate)?;
+            self.lower(gate, None)?;
         }
         let sets = site.trace.chains().usersets(site.set, site.at);
         self.add_targets(sets, None, gate)
@@ -268,7 +339,7 @@ impl Gates {
         };
         let feeds = mem::replace(&mut found.feeds, Vec::new(self.alloc));
         for to in &feeds {
-            self.lower(*to)?;
+            self.lower(*to, Some(gate))?;
         }
         Ok(())
     }
@@ -289,7 +360,7 @@ impl Gates {
                 _ => false,
             };
             if of_stratum && !self.is_open(exclusion.subtract) {
-                self.lower(exclusion.gate)?;
+                self.lower(exclusion.gate, None)?;
                 self.drain()?;
             }
         }
@@ -301,5 +372,76 @@ impl Gates {
         }
         self.told = self.open.len();
         Ok(places)
+    }
+    /// Which gates the first fact leans on, itself among them: an open one on those that opened it, and one that is shut on enough of
+    /// those that keep it shut.
+    pub(crate) fn leaning(&self) -> Result<Vec<bool>, AllocError> {
+        let mut leaning = Leaning::new(self.alloc, self.gates.len())?;
+        leaning.add(0)?;
+        for next in 0..self.gates.len() {
+            let Some(gate) = leaning.todo.get(next).copied() else {
+                break;
+            };
+            if self.is_open(gate) {
+                self.lean_open(gate, &mut leaning)?;
+            } else {
+                self.lean_shut(gate, &mut leaning)?;
+            }
+        }
+        let Leaning { kept, todo: _ } = leaning;
+        Ok(kept)
+    }
+
+    fn lean_open(&self, gate: usize, leaning: &mut Leaning) -> Result<(), AllocError> {
+        let Some(found) = self.gates.get(gate) else {
+            return Ok(());
+        };
+        match found.wants {
+            Wants::Some => match found.opened_by {
+                Some(by) => leaning.add(by),
+                None => Ok(()),
+            },
+            Wants::Each => leaning.add_all(&found.fed_by),
+            Wants::Without(outer) => {
+                leaning.add(outer)?;
+                leaning.add_all(&found.fed_by)
+            }
+        }
+    }
+
+    fn lean_shut(&self, gate: usize, leaning: &mut Leaning) -> Result<(), AllocError> {
+        let Some(found) = self.gates.get(gate) else {
+            return Ok(());
+        };
+        match found.wants {
+            Wants::Some => leaning.add_all(&found.fed_by),
+            Wants::Each => self.lean_on_one(found, leaning),
+            Wants::Without(outer) => {
+                if self.is_open(outer) {
+                    leaning.add(outer)
+                } else {
+                    leaning.add_all(&found.fed_by)
+                }
+            }
+        }
+    }
+
+    /// One that is shut is enough to keep a gate shut that waits for each: one that is kept already, and else the first.
+    fn lean_on_one(&self, gate: &Gate, leaning: &mut Leaning) -> Result<(), AllocError> {
+        let mut first = None;
+        for from in &gate.fed_by {
+            if !self.is_open(*from) {
+                if leaning.has(*from) {
+                    return Ok(());
+                }
+                if first.is_none() {
+                    first = Some(*from);
+                }
+            }
+        }
+        match first {
+            Some(from) => leaning.add(from),
+            None => Ok(()),
+        }
     }
 }

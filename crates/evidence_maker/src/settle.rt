@@ -179,17 +179,17 @@ fn settle_stratum(
     leave(trace, at, left, known, steps)
 }
 
-/// Steps that settle each fact of a cone.
+/// Steps that settle each fact of a cone, in the order in which its gates open.
 pub(crate) fn settle(
     alloc: Global,
     trace: &Trace,
     at: u64,
     cone: &[Fact],
+    gates: &mut Gates,
 ) -> Result<Steps, AllocError>
     ensures { IfOk result (λ v. HasItsPremises (rule_at trace.now.declarations at) (store_at trace.now.commits at) cone.now → AreDistinct cone.now →
         IsMade (rule_at trace.now.declarations at) (store_at trace.now.commits at) cone.now (step_values v.items)) }
 {
-    let mut gates = Gates::of(alloc, trace, at, cone)?;
     let strata = strata_of(alloc, trace, at, cone)?;
     let mut known = Known::new(alloc);
     let mut steps = Vec::new(alloc);

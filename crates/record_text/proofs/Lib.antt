@@ -3,4 +3,5 @@ pub mod JsonBack
 pub mod Lengths
 pub mod NoFloats
 pub mod OneLine
+pub mod Short
 pub mod Taken

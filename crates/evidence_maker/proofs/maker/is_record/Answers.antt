@@ -1,9 +1,9 @@
-use Rattle.std.proofs.Common.{◌≤◌, ◌↔◌, not, false, IsTrue, Some, inl, inr, sym, ◌∙◌}
+use Rattle.std.proofs.Common.{◌↔◌, false, IsTrue, Some, inl, inr, sym, ◌∙◌}
 use Rattle.trace_lines.specs.Values.{entry_value}
 use Rattle.evidence_check.specs.Judged.{judged}
-use Rattle.evidence_check.specs.Reading.{fact_count}
 use Rattle.evidence_check.specs.Steps.{step_values}
-use Rattle.evidence_maker.proofs.JudgedSteps.{IsSettling, settles_if_judged, judged_if_settles, fits_if}
+use Rattle.evidence_maker.specs.Made.{Fits}
+use Rattle.evidence_maker.proofs.JudgedSteps.{IsSettling, settles_if_judged, judged_if_settles}
 use Rattle.evidence_maker.proofs.maker.is_record.Goals as goal
 
 pub returns-in-Supported : goal.returns-in-Supported
@@ -11,8 +11,8 @@ returns-in-Supported c =
     let ss = step_values c.args.steps.now.items in
     let settling : IsSettling (judged c.args.trace.now (entry_value c.args.entry.now) (Some ss)) =
     elim c.in-Supported.is [ inl e ↦ inl (sym c.in_ok-judge_steps.ensures ∙ e) | inr e ↦ inr (sym c.in_ok-judge_steps.ensures ∙ e) ] in
-    let few : IsTrue (not c.has_too_many.result) ↔ (fact_count ss ≤ 100000) = fits_if 100000 (fact_count ss) c.has_too_many.result (rw c.deref.ensures.value at c.has_too_many.ensures) in
-    (λ t. (settles_if_judged c.args.trace.now (entry_value c.args.entry.now) ss settling, few.0 t), λ h. few.1 h.1)
+    let fit : IsTrue c.fits.result ↔ Fits c.args.entry.now.line ss = rw c.deref.ensures.value at c.fits.ensures in
+    (λ t. (settles_if_judged c.args.trace.now (entry_value c.args.entry.now) ss settling, fit.0 t), λ h. fit.1 h.1)
 
 pub returns-in_default : goal.returns-in_default
 returns-in_default c =

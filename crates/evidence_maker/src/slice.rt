@@ -1,0 +1,45 @@
+//! The part of steps on which the goal leans.
+//!
+//! Nothing here is trusted: what is kept is judged before it is given.
+
+use crate::gates::Gates;
+use evidence_check::{Step, Steps};
+use std::alloc::{AllocError, Global};
+use tuple_text::Fact;
+
+fn kept_of(
+    alloc: Global,
+    gates: &Gates,
+    leaning: &[bool],
+    facts: &[Fact],
+) -> Result<Vec<Fact>, AllocError> {
+    let mut kept = Vec::new(alloc);
+    for fact in facts {
+        if gates.is_kept(leaning, fact)? {
+            kept.push(fact.clone()?)?;
+        }
+    }
+    Ok(kept)
+}
+
+/// The steps in their order, of the facts alone on which the goal leans.
+pub(crate) fn slice(alloc: Global, gates: &Gates, steps: &[Step]) -> Result<Steps, AllocError> {
+    let leaning = gates.leaning()?;
+    let mut kept = Vec::new(alloc);
+    for step in steps {
+        match step {
+            Step::Yes(fact) => {
+                if gates.is_kept(&leaning, fact)? {
+                    kept.push(Step::Yes(fact.clone()?))?;
+                }
+            }
+            Step::No(facts) => {
+                let facts = kept_of(alloc, gates, &leaning, facts)?;
+                if !facts.is_empty() {
+                    kept.push(Step::No(facts))?;
+                }
+            }
+        }
+    }
+    Ok(kept)
+}
