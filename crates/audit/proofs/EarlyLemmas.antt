@@ -11,11 +11,11 @@ use Rattle.trace_lines.specs.Values.{TraceValue, EntryValue}
 use Rattle.evidence_check.specs.Steps.{StepValue}
 use Rattle.audit.specs.Audit.{HasRisen}
 use Rattle.audit.specs.Early.{IsEarlyLine, WriterState, WentOut, TellsEarly, early_text}
-use Rattle.audit.specs.Findings.{found_on, on_line}
+use Rattle.findings.specs.Findings.{found_on, on_line}
 use Rattle.audit.specs.Shared.{nothing_found, found_at, has_finding}
 use Rattle.audit.specs.Told.{IsLineOf, line_for}
-use Rattle.audit.specs.declared.finding.Finding.{Finding}
-use Rattle.audit.specs.declared.finding.What.{What}
+use Rattle.findings.specs.declared.finding.Finding.{Finding}
+use Rattle.findings.specs.declared.finding.What.{What}
 use Rattle.audit.specs.declared.shared.Found.{Found}
 
 -- ---- what went out grows

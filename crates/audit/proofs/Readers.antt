@@ -1,5 +1,5 @@
 -- What two readers say, put together.
-use Rattle.std.proofs.Common.{◌≡◌, ◌⊎◌, inl, inr, ℕ, true, false, List, ◌++◌, Option, Result, Ok, Err, refl}
+use Rattle.std.proofs.Common.{◌≡◌, ◌⊎◌, inl, inr, ℕ, true, false, List, [], ◌∷◌, ◌++◌, Option, Result, Ok, Err, refl, sym, ◌∙◌}
 use Rattle.std.specs.Prelude.{IfOk, IfErr, OnOk}
 use Rattle.json_lines.specs.Given.{OfBytes, OfWhole, OfInput}
 use Rattle.json_lines.proofs.Given.{of_bytes-map, of_whole-map, of_input-map}
@@ -11,8 +11,12 @@ use Rattle.evidence_check.specs.Steps.{StepValue}
 use Rattle.evidence_check.specs.declared.cause.EvidenceCause.TheVariants as evidence_causes
 use Rattle.evidence_check.specs.declared.cause.EvidenceFault.{EvidenceFault}
 use Rattle.audit.specs.Audit.{Audits, Breaks, RefusesEvidence, CutsEvidence, IsOfDevices, IsOfEvidence, IsOfNoDevice, IsUnwritten, IsWrite, FailsWriting, report_on, verdict_of}
-use Rattle.audit.specs.Findings.{findings_of}
+use Rattle.findings.proofs.WrongReplies.{named_by_bytes}
+use Rattle.findings.specs.Findings.{findings_of}
+use Rattle.findings.specs.WrongReplies.{NamesOnlyWrongReplies}
+use Rattle.findings.specs.declared.finding.Finding.{Finding}
 use Rattle.audit.specs.declared.plain.Verdict.{Verdict}
+use Rattle.audit.specs.declared.plain.Verdict.TheVariants.{Clean}
 use Rattle.audit.specs.declared.plain.AuditFault.{AuditFault}
 use Rattle.audit.specs.declared.plain.AuditFault.TheVariants as faults
 
@@ -116,3 +120,21 @@ never_read (Err faults.OutOfMemory) input trace evidence out n m at = tt
 never_read (Err faults.Limits) input trace evidence out n m at = tt
 never_read (Err faults.Joined) input trace evidence out n m at = tt
 never_read (Err faults.Input) input trace evidence out n m at = absurd at
+
+-- of the reply that a finding F10 calls wrong, where both readers gave all
+pub named_if : {V E A B : Type 0} (r : Result V E) (given_a : A → List ℕ) (ends_a : A → ℕ) (a0 a1 : A) (given_b : B → List ℕ) (ends_b : B → ℕ) (b0 b1 : B) (t : TraceValue) (given : List (Option (List StepValue)))
+    → OfWhole given_a ends_a a0 a1 (λ a. trace_of true a ≡ Ok t) → OfWhole given_b ends_b b0 b1 (λ b. evidence_of t.entries true b ≡ Ok given)
+    → IfOk r (λ v. OfWhole given_a ends_a a0 a1 (λ a. OfWhole given_b ends_b b0 b1 (λ b. NamesOnlyWrongReplies a b)))
+named_if (Ok v) given_a ends_a a0 a1 given_b ends_b b0 b1 t given says h =
+    on_both given_a ends_a a0 a1 given_b ends_b b0 b1 t says (λ a b. NamesOnlyWrongReplies a b) given h (λ a b is by. (t, given, is, by, named_by_bytes a t given is))
+named_if (Err e) given_a ends_a a0 a1 given_b ends_b b0 b1 t given says h = tt
+
+no_findings : (fs : List Finding) → verdict_of fs ≡ Clean → fs ≡ []
+no_findings [] h = refl
+no_findings (f ∷ fs) h = cc
+
+-- a clean verdict is answered where nothing is found
+pub answered_clean : {E : Type 0} (v : Verdict) (fs : List Finding) → v ≡ verdict_of fs → ◌≡◌ {A = Result Verdict E} (Ok v) (Ok Clean) → fs ≡ []
+answered_clean v fs is h =
+    let clean : v ≡ Clean = cc in
+    no_findings fs (sym is ∙ clean)

@@ -5,9 +5,9 @@ use Rattle.std.specs.List.{range_with_len}
 use Rattle.std.specs.Option.{option_map_or}
 use Rattle.trace_lines.specs.Values.{TraceValue, EntryValue}
 use Rattle.evidence_check.specs.Steps.{StepValue}
-use Rattle.audit.specs.Findings.{found_on, on_line, findings_from, findings_of}
+use Rattle.findings.specs.Findings.{found_on, on_line, findings_from, findings_of}
 use Rattle.audit.specs.Shared.{nothing_found, found_at, all_found, found_lines}
-use Rattle.audit.specs.declared.finding.Finding.{Finding}
+use Rattle.findings.specs.declared.finding.Finding.{Finding}
 use Rattle.audit.specs.declared.shared.Found.{Found}
 
 found_from : (t : TraceValue) (evidence : List (Option (List StepValue))) (i : ℕ) (es : List EntryValue) → ((k : ℕ) → slice_get t.entries (i + k) ≡ slice_get es k)

@@ -10,9 +10,9 @@ use Rattle.evidence_check.specs.Reading.{evidence_of}
 use Rattle.evidence_check.specs.declared.cause.EvidenceCause.TheVariants as evidence_causes
 use Rattle.evidence_check.specs.declared.cause.EvidenceFault.{EvidenceFault}
 use Rattle.evidence_check.specs.Steps.{StepValue}
-use Rattle.audit.specs.Findings.{findings_of}
-use Rattle.audit.specs.Report.{report_text}
-use Rattle.audit.specs.declared.finding.Finding.{Finding}
+use Rattle.findings.specs.Findings.{findings_of}
+use Rattle.findings.specs.Report.{report_text}
+use Rattle.findings.specs.declared.finding.Finding.{Finding}
 use Rattle.audit.specs.declared.plain.Verdict.{Verdict}
 use Rattle.audit.specs.declared.plain.Verdict.TheVariants.{Clean, Dirty}
 use Rattle.audit.specs.declared.plain.AuditFault.{AuditFault}

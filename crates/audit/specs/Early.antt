@@ -4,9 +4,9 @@ use Rattle.std.specs.List.{flat_map}
 use Rattle.trace_lines.specs.Values.{TraceValue, EntryValue}
 use Rattle.evidence_check.specs.Steps.{StepValue}
 use Rattle.audit.specs.Audit.{HasRisen}
-use Rattle.audit.specs.Findings.{found_on, on_line}
-use Rattle.audit.specs.Report.{line_text}
-use Rattle.audit.specs.declared.finding.Finding.{Finding}
+use Rattle.findings.specs.Findings.{found_on, on_line}
+use Rattle.findings.specs.Report.{line_text}
+use Rattle.findings.specs.declared.finding.Finding.{Finding}
 
 -- `early ` and the report line of the first finding
 abbrev pub early_text : List Finding → List ℕ

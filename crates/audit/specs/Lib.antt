@@ -1,10 +1,6 @@
 pub mod Audit
 pub mod Early
-pub mod Findings
-pub mod Headline
 pub mod History
 pub mod Joined
-pub mod Report
 pub mod Shared
 pub mod Told
-pub mod WrongReplies

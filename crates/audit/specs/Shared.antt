@@ -5,8 +5,8 @@ use Rattle.std.specs.Option.{option_map_or}
 use Rattle.slice_core.specs.declared.opening.TheConstants.{MOST_WORKERS}
 use Rattle.trace_lines.specs.Values.{TraceValue}
 use Rattle.evidence_check.specs.Steps.{StepValue}
-use Rattle.audit.specs.Findings.{found_on, on_line}
-use Rattle.audit.specs.declared.finding.Finding.{Finding}
+use Rattle.findings.specs.Findings.{found_on, on_line}
+use Rattle.findings.specs.declared.finding.Finding.{Finding}
 use Rattle.audit.specs.declared.shared.Found.{Found}
 use Rattle.audit.specs.declared.shared.TheConstants.{LARGEST_SLICE}
 

@@ -1,7 +1,7 @@
 -- What a watch tells of the reports that it is shown.
 use Rattle.std.specs.Prelude.{◌≡◌, ℕ, Bool, true, List}
 use Rattle.audit.specs.Early.{early_text}
-use Rattle.audit.specs.Findings.{on_line}
+use Rattle.findings.specs.Findings.{on_line}
 use Rattle.audit.specs.declared.shared.Found.{Found}
 
 -- the early line of a report

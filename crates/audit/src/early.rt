@@ -15,20 +15,20 @@ ghost use Rattle.evidence_check.specs.declared.cause.EvidenceFault.{EvidenceFaul
 ghost use Rattle.evidence_check.specs.Evidences.{evidence_value};
 ghost use Rattle.audit.specs.Audit.{Audits, Breaks, RefusesTrace, RefusesEvidence, CutsEvidence, HasRisen, IsOfBytes, IsOfDevices, IsOfNoDevice, IsUnwritten, IsOfAudit};
 ghost use Rattle.audit.specs.Early.{WriterState, WentOut, TellsEarly, state_of};
-ghost use Rattle.audit.specs.Findings.{findings_of, on_line};
-ghost use Rattle.audit.specs.Headline.{IsTraceRightAndFresh};
+ghost use Rattle.findings.specs.Findings.{findings_of, on_line};
+ghost use Rattle.findings.specs.Headline.{IsTraceRightAndFresh};
 ghost use Rattle.audit.specs.Shared.{found_at, has_finding, all_found, are_within_limits};
 ghost use Rattle.audit.specs.Told.{IsLineOf, line_for};
-ghost use Rattle.audit.specs.WrongReplies.{NamesOnlyWrongReplies};
+ghost use Rattle.findings.specs.WrongReplies.{NamesOnlyWrongReplies};
 ghost use Rattle.audit.specs.declared.plain.AuditFault.TheVariants as faults;
 ghost use Rattle.audit.specs.declared.plain.Verdict.TheVariants.{Clean};
 
-use crate::finding::{Finding, report_line};
-use crate::findings::Finder;
+use crate::finder::Finder;
 use crate::plain::{AuditFault, Verdict, audit_by};
 use crate::shared::{EntryCheck, Found, are_within_limits, gathered};
 use audit_slices::{Alert, Board, Free, Names, SliceReport, Watch, cut, run_pool};
 use evidence_check::Evidence;
+use findings::{Finding, report_line};
 use json_lines::{Sink, Source, send};
 use std::alloc::{AllocError, Global};
 use std::marker::{Brand, PhantomData};

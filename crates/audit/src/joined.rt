@@ -5,9 +5,9 @@ ghost use Rattle.json_lines.specs.Given.{OfBytes, OfWhole, OfInput, AreNext, Sta
 ghost use Rattle.trace_lines.specs.declared.cause.TraceFault.{TraceFault};
 ghost use Rattle.evidence_check.specs.declared.cause.EvidenceFault.{EvidenceFault};
 ghost use Rattle.audit.specs.Audit.{Audits, Breaks, RefusesTrace, RefusesEvidence, HasRisen, IsOfDevices, IsUnwritten, IsOfReading, IsOfJoined};
-ghost use Rattle.audit.specs.Headline.{IsTraceRightAndFresh};
+ghost use Rattle.findings.specs.Headline.{IsTraceRightAndFresh};
 ghost use Rattle.audit.specs.Joined.{is_marker, joined_of, OfParts, HasNoParts};
-ghost use Rattle.audit.specs.WrongReplies.{NamesOnlyWrongReplies};
+ghost use Rattle.findings.specs.WrongReplies.{NamesOnlyWrongReplies};
 ghost use Rattle.audit.specs.declared.plain.AuditFault.TheVariants as faults;
 ghost use Rattle.audit.specs.declared.plain.Verdict.TheVariants.{Clean};
 

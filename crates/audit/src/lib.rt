@@ -4,7 +4,8 @@
 //! ignored a newer access change or is wrong, and the verdict. [`audit`] does the same on 1 to 16 workers, and its contract is the same,
 //! clause by clause; [`audit_early`] also tells of findings while it runs. [`audit_joined`] takes one reader that gives both parts, and
 //! [`audit_values`] a trace and evidence that are read already. [`history`] writes a tuple's touches in a trace, the newest first. Contracts
-//! see a reader and a writer as the bytes that they gave and took, and counts of failures, ends and flushes.
+//! see a reader and a writer as the bytes that they gave and took, and counts of failures, ends and flushes. What is found, and its text, are
+//! of the crate `findings`, which this one passes on.
 //!
 //! Callers may rely on this: what is written is the report text of the findings of the values read, and nothing else; the verdict is clean
 //! exactly where there is none; nothing is written where input is refused. Where it is clean, each reply is what the rules mean over the tuples
@@ -17,16 +18,14 @@
 #![tactic(auto)]
 
 mod early;
-mod finding;
-mod findings;
+mod finder;
 mod joined;
 mod plain;
 mod shared;
 mod touches;
 
 pub use early::audit_early;
-pub use finding::{Finding, What, report_line};
-pub use findings::{findings_of, report_of};
+pub use findings::{Finding, What, findings_of, report_line, report_of};
 pub use joined::audit_joined;
 pub use plain::{AuditFault, Verdict, audit_plain, audit_values};
 pub use shared::{LARGEST_SLICE, audit};

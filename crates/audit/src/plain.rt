@@ -14,21 +14,20 @@ ghost use Rattle.evidence_check.specs.Reading.{evidence_of};
 ghost use Rattle.evidence_check.specs.Evidences.{evidence_value};
 ghost use Rattle.audit.specs.Audit.{verdict_of, report_on, Audits, Breaks, RefusesTrace, RefusesEvidence, CutsEvidence, HasRisen, IsOfDevices, IsOfNoDevice, IsWrite, IsUnwritten, FailsWriting, IsOfTrace, IsOfEvidence, IsOfAudit, IsOfBytes};
 ghost use Rattle.audit.specs.declared.plain.AuditFault.TheVariants as faults;
-ghost use Rattle.audit.specs.Findings.{findings_of};
-ghost use Rattle.audit.specs.Headline.{IsRightAndFresh, IsTraceRightAndFresh};
-ghost use Rattle.audit.specs.Report.{report_text};
-ghost use Rattle.audit.specs.WrongReplies.{HasOnlyWrongRepliesNamed, NamesOnlyWrongReplies};
+ghost use Rattle.findings.specs.Findings.{findings_of};
+ghost use Rattle.findings.specs.Headline.{IsRightAndFresh, IsTraceRightAndFresh};
+ghost use Rattle.findings.specs.Report.{report_text};
+ghost use Rattle.findings.specs.WrongReplies.{HasOnlyWrongRepliesNamed, NamesOnlyWrongReplies};
 ghost use Rattle.audit.specs.declared.plain.Verdict.{Verdict};
 ghost use Rattle.audit.specs.declared.plain.Verdict.TheVariants.{Clean};
 
-use crate::finding::Finding;
-use crate::findings::{Finder, OneThread, report_of};
+use crate::finder::{Finder, OneThread};
 use evidence_check::{Evidence, EvidenceCause, EvidenceFault, read_evidence};
+use findings::laws::{right_and_fresh_without_findings, wrong_replies_are_wrong};
+use findings::{Finding, report_of};
 use json_lines::{Sink, Source, send};
 use std::alloc::{AllocError, Global};
 use thiserror::Error;
-use token_order::laws::fresh_without_findings;
-use trace_lines::laws::{entries_rise, valid_strata};
 use trace_lines::{Cause, Trace, TraceFault, read_trace};
 
 /// What an audit answers.
@@ -125,9 +124,8 @@ fn audit_values_by<W: Sink, F: Finder>(
     ensures mark { F.mark finder.new ≡ F.mark finder.old }
     ensures tells { F.tells trace.now (evidence_value evidence.now) finder.old finder.new }
 {
-    valid_strata(trace);
-    entries_rise(trace);
-    fresh_without_findings(trace);
+    right_and_fresh_without_findings(trace);
+    wrong_replies_are_wrong(trace);
     let (text, verdict) = report_on(alloc, trace, evidence, finder)?;
     match send(out, text.as_bytes()) {
         Ok(()) => Ok(verdict),

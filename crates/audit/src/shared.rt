@@ -14,18 +14,18 @@ ghost use Rattle.evidence_check.specs.declared.cause.EvidenceCause.TheVariants a
 ghost use Rattle.evidence_check.specs.declared.cause.EvidenceFault.{EvidenceFault};
 ghost use Rattle.evidence_check.specs.Evidences.{evidence_value};
 ghost use Rattle.audit.specs.Audit.{Audits, Breaks, RefusesTrace, RefusesEvidence, CutsEvidence, HasRisen, IsOfDevices, IsOfNoDevice, IsUnwritten, IsOfAudit};
-ghost use Rattle.audit.specs.Findings.{findings_of};
-ghost use Rattle.audit.specs.Headline.{IsTraceRightAndFresh};
+ghost use Rattle.findings.specs.Findings.{findings_of};
+ghost use Rattle.findings.specs.Headline.{IsTraceRightAndFresh};
 ghost use Rattle.audit.specs.Shared.{found_at, has_finding, all_found, found_lines, are_within_limits};
-ghost use Rattle.audit.specs.WrongReplies.{NamesOnlyWrongReplies};
+ghost use Rattle.findings.specs.WrongReplies.{NamesOnlyWrongReplies};
 ghost use Rattle.audit.specs.declared.plain.AuditFault.TheVariants as faults;
 ghost use Rattle.audit.specs.declared.plain.Verdict.TheVariants.{Clean};
 
-use crate::finding::{Finding, What};
-use crate::findings::{Finder, found_on, push_found};
+use crate::finder::Finder;
 use crate::plain::{AuditFault, Verdict, audit_by};
 use audit_slices::{Blind, Board, Check, Free, MOST_WORKERS, Names, SliceReport, cut, run_pool};
 use evidence_check::Evidence;
+use findings::{Finding, What, found_on, push_found};
 use json_lines::{Sink, Source};
 use std::alloc::{AllocError, Global};
 use std::marker::Brand;

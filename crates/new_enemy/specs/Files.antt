@@ -4,7 +4,7 @@ use Rattle.json_lines.specs.Devices.{moved_by, stops_of}
 use Rattle.json_lines.specs.declared.devices.Counted.{Counted}
 use Rattle.tuple_text.specs.Tuples.{TupleValue}
 use Rattle.audit.specs.Audit.{Audits}
-use Rattle.audit.specs.Headline.{IsTraceRightAndFresh}
+use Rattle.findings.specs.Headline.{IsTraceRightAndFresh}
 use Rattle.audit.specs.History.{TellsHistory}
 use Rattle.audit.specs.declared.plain.Verdict.{Verdict}
 use Rattle.audit.specs.declared.plain.Verdict.TheVariants.{Clean, Dirty}

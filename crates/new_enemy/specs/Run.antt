@@ -10,7 +10,7 @@ use Rattle.evidence_check.specs.Reading.{evidence_of}
 use Rattle.evidence_check.specs.declared.cause.EvidenceCause.TheVariants as evidence_causes
 use Rattle.evidence_check.specs.declared.cause.EvidenceFault.{EvidenceFault}
 use Rattle.audit.specs.Audit.{Audits}
-use Rattle.audit.specs.Headline.{IsTraceRightAndFresh}
+use Rattle.findings.specs.Headline.{IsTraceRightAndFresh}
 use Rattle.audit.specs.Joined.{HasNoParts, OfParts}
 use Rattle.audit.specs.declared.plain.Verdict.{Verdict}
 use Rattle.audit.specs.declared.plain.Verdict.TheVariants.{Clean, Dirty}

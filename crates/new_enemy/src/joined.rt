@@ -5,7 +5,7 @@ ghost use Rattle.json_lines.specs.Given.{OfBytes, OfWhole, OfInput, AreNext, Sta
 ghost use Rattle.json_lines.specs.declared.lines.TheConstants.{CHUNK};
 ghost use Rattle.json_lines.specs.declared.reading.TheConstants.{MAX_INPUT};
 ghost use Rattle.audit.specs.Audit.{Audits, HasRisen};
-ghost use Rattle.audit.specs.Headline.{IsTraceRightAndFresh};
+ghost use Rattle.findings.specs.Headline.{IsTraceRightAndFresh};
 ghost use Rattle.audit.specs.Joined.{OfParts};
 ghost use Rattle.new_enemy.specs.Run.{IsRefused};
 ghost use Rattle.audit.specs.declared.plain.Verdict.TheVariants.{Clean, Dirty};

@@ -7,7 +7,7 @@ ghost use Rattle.json_lines.specs.declared.lines.TheConstants.{CHUNK};
 ghost use Rattle.json_lines.specs.declared.reading.TheConstants.{MAX_INPUT};
 ghost use Rattle.tuple_text.specs.Tuples.{TupleValue};
 ghost use Rattle.audit.specs.Audit.{Audits, HasRisen};
-ghost use Rattle.audit.specs.Headline.{IsTraceRightAndFresh};
+ghost use Rattle.findings.specs.Headline.{IsTraceRightAndFresh};
 ghost use Rattle.audit.specs.Joined.{OfParts};
 ghost use Rattle.new_enemy.specs.Files.{IsCleanAudit, IsDirtyAudit, IsToldHistory, OfRun};
 ghost use Rattle.new_enemy.specs.Run.{IsRefused, IsCleanRun, IsDirtyRun};

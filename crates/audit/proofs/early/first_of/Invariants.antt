@@ -1,6 +1,6 @@
 use Rattle.std.proofs.Common.{◌≡◌, drop}
 use Rattle.std.specs.Prelude.{slice_get}
-use Rattle.audit.specs.Findings.{on_line}
+use Rattle.findings.specs.Findings.{on_line}
 use Rattle.audit.proofs.early.first_of.Given as goal
 
 abbrev pub invariant-loop-what : goal.invariant-loop-what

@@ -1,9 +1,9 @@
 use Rattle.std.proofs.Common.{◌≡◌, ap, List, ℕ, Some, rules, arith}
 use Rattle.std.proofs.lemmas.Result.{IfErr-weaker}
 use Rattle.audit.specs.Audit.{RefusesTrace, RefusesEvidence, Audits, Breaks, IsOfAudit, IsOfJoined}
-use Rattle.audit.specs.Headline.{IsTraceRightAndFresh}
+use Rattle.findings.specs.Headline.{IsTraceRightAndFresh}
 use Rattle.audit.specs.Joined.{joined_of}
-use Rattle.audit.specs.WrongReplies.{NamesOnlyWrongReplies}
+use Rattle.findings.specs.WrongReplies.{NamesOnlyWrongReplies}
 use Rattle.audit.specs.declared.plain.AuditFault.{AuditFault}
 use Rattle.audit.specs.declared.plain.AuditFault.TheVariants as faults
 use Rattle.audit.proofs.ReadWhole.{too_long_to_part, of_parts, of_parts_if, of_first, of_first_whole, of_second, of_both, of_both_if}

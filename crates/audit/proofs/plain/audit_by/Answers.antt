@@ -3,10 +3,9 @@ use Rattle.std.proofs.lemmas.Result.{IfErr-weaker}
 use Rattle.json_lines.proofs.Given.{next-refl}
 use Rattle.evidence_check.specs.Evidences.{evidence_value}
 use Rattle.audit.specs.Audit.{IsOfAudit, IsOfBytes}
-use Rattle.audit.proofs.Readers.{on_both, refused_evidence, cut_evidence, audited_if, broken, devices_of_evidence, of_writing, devices_of_writing, all_kept, all_unfailed}
+use Rattle.audit.proofs.Readers.{on_both, refused_evidence, cut_evidence, audited_if, broken, devices_of_evidence, of_writing, devices_of_writing, all_kept, all_unfailed, named_if}
 use Rattle.audit.specs.declared.plain.AuditFault.{AuditFault}
 use Rattle.audit.specs.declared.plain.AuditFault.TheVariants as faults
-use Rattle.audit.proofs.WrongReplies.{named_if}
 use Rattle.audit.proofs.plain.audit_by.Goals as goal
 
 pub returns-in-Err-clause-evidence : goal.returns-in-Err-clause-evidence

@@ -3,7 +3,7 @@ use Rattle.std.proofs.lemmas.Result.{IfOk-weaker}
 use Rattle.std.specs.List.{flat_map}
 use Rattle.audit_slices.specs.Reports.{report_items}
 use Rattle.evidence_check.specs.Evidences.{evidence_value}
-use Rattle.audit.specs.Findings.{findings_of}
+use Rattle.findings.specs.Findings.{findings_of}
 use Rattle.audit.proofs.SharedLemmas.{found_are_findings}
 use Rattle.audit.proofs.shared.findings_by.Goals as goal
 

@@ -1,6 +1,0 @@
-use Rattle.std.proofs.Common.{◌≡◌, ◌++◌, drop}
-use Rattle.audit.specs.Findings.{on_line}
-use Rattle.audit.proofs.findings.push_found.Given as goal
-
-abbrev pub invariant-loop-what : goal.invariant-loop-what
-invariant-loop-what l = l.findings.items ++ on_line l.line (drop l.what-index l.found) ≡ l.fn.findings.items ++ on_line l.line l.found

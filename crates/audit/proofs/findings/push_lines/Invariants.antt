@@ -1,7 +1,0 @@
-use Rattle.std.proofs.Common.{◌≡◌, ◌++◌, drop, string_bytes}
-use Rattle.std.specs.List.{flat_map}
-use Rattle.audit.specs.Report.{line_text}
-use Rattle.audit.proofs.findings.push_lines.Given as goal
-
-abbrev pub invariant-loop-finding : goal.invariant-loop-finding
-invariant-loop-finding l = string_bytes l.text ++ flat_map line_text (drop l.finding-index l.findings) ≡ string_bytes l.fn.text ++ flat_map line_text l.findings

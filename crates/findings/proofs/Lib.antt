@@ -1,0 +1,3 @@
+pub mod Headline
+pub mod OneMore
+pub mod WrongReplies

@@ -1,0 +1,4 @@
+pub mod Findings
+pub mod Headline
+pub mod Report
+pub mod WrongReplies

@@ -1,0 +1,129 @@
+//! Finding what is wrong with the recorded decisions.
+
+ghost use Rattle.std.specs.Prelude.{◌≡◌, ◌<◌, ◌++◌, ℕ, List, Option, Some, length, slice_get, IfOk, string_bytes, OnOk};
+ghost use Rattle.std.specs.List.{flat_map};
+ghost use Rattle.trace_lines.specs.Values.{TraceValue, EntryValue};
+ghost use Rattle.evidence_check.specs.Evidences.{evidence_value};
+ghost use Rattle.evidence_check.specs.Steps.{StepValue};
+ghost use Rattle.findings.specs.Findings.{found_by, if_told, found_on, on_line, findings_of};
+ghost use Rattle.findings.specs.Report.{line_text, last_lines, verdict_text, report_text};
+
+use crate::finding::{Finding, What, report_line};
+use evidence_check::{Evidence, Judged, judge_entry};
+use std::alloc::{AllocError, Global};
+use token_order::order_of;
+use trace_lines::Trace;
+
+fn found_by(judged: Judged) -> Option<What>
+    ensures { result ≡ found_by judged }
+{
+    match judged {
+        Judged::Supported => None,
+        Judged::Contradicted => Some(What::WrongReply),
+        Judged::Silent => Some(What::Silent),
+        Judged::Bad { step } => Some(What::BadEvidence(step)),
+        Judged::Missing => Some(What::NoEvidence),
+    }
+}
+
+fn if_told(what: What, told: bool) -> Option<What>
+    ensures { result ≡ if_told what told }
+{
+    if told { Some(what) } else { None }
+}
+
+/// What is found on entry `i`, from 0: a place for each finding on tokens, by the findings' numbers, and then what its evidence says. It is
+/// refused for want of memory alone.
+pub fn found_on(
+    trace: &Trace,
+    evidence: &Evidence,
+    i: usize,
+) -> Result<[Option<What>; 7], AllocError>
+    requires { i < length trace.now.entries }
+    ensures { IfOk result (λ found. (e : EntryValue) → slice_get trace.now.entries i ≡ Some e → found ≡ found_on trace.now (evidence_value evidence.now) i e) }
+{
+    let judged = judge_entry(trace, evidence, i)?;
+    let order = order_of(trace, i);
+    Ok([
+        if_told(What::Stale, order.stale),
+        order.old_token.map(What::OldToken),
+        order.not_latest.map(What::NotLatest),
+        order.open_snapshot.map(What::OpenSnapshot),
+        if_told(What::WrongToken, order.wrong_token),
+        if_told(What::UnknownVersion, order.unknown_version),
+        found_by(judged),
+    ])
+}
+
+/// Appends a finding on this line for each thing that was found, in their order. For want of memory some of them may stand there already.
+pub fn push_found(
+    line: u64,
+    found: &[Option<What>],
+    findings: &mut Vec<Finding>,
+) -> Result<(), AllocError>
+    ensures { OnOk result (findings.new.items ≡ findings.old.items ++ on_line line found.now) }
+{
+    for what in found {
+        if let Some(what) = *what {
+            findings.push(Finding { line, what })?;
+        }
+    }
+    Ok(())
+}
+
+/// The findings on each entry, in line order and by their numbers. It is refused for want of memory alone.
+pub fn findings_of(
+    alloc: Global,
+    trace: &Trace,
+    evidence: &Evidence,
+) -> Result<Vec<Finding>, AllocError>
+    ensures { IfOk result (λ v. v.items ≡ findings_of trace.now (evidence_value evidence.now)) }
+{
+    let mut findings = Vec::new(alloc);
+    for i in 0..trace.len() {
+        let found = found_on(trace, evidence, i)?;
+        push_found(trace.entry(i).line, &found, &mut findings)?;
+    }
+    Ok(findings)
+}
+
+fn push_lines(findings: &[Finding], text: &mut String) -> Result<(), AllocError>
+    ensures { OnOk result (string_bytes text.new ≡ string_bytes text.old ++ flat_map line_text findings.now) }
+{
+    for finding in findings {
+        report_line(finding, text)?;
+    }
+    Ok(())
+}
+
+fn push_last_lines(
+    findings: &[Finding],
+    entries: usize,
+    text: &mut String,
+) -> Result<(), AllocError>
+    ensures { OnOk result (string_bytes text.new ≡ string_bytes text.old ++ last_lines findings.now entries) }
+{
+    let count = findings.len();
+    writeln!(text, "entries {entries}")?;
+    writeln!(text, "findings {count}")?;
+    text.push_str(verdict_line(findings))
+}
+
+fn verdict_line(findings: &[Finding]) -> &str
+    ensures { result.now ≡ verdict_text findings.now }
+{
+    match findings {
+        [] => "verdict clean\n",
+        [_, ..] => "verdict dirty\n",
+    }
+}
+
+/// The text of the report on a trace with so many entries. It is refused for want of memory alone.
+pub fn report_of(alloc: Global, findings: &[Finding], entries: usize) -> Result<String, AllocError>
+    ensures { IfOk result (λ s. string_bytes s ≡ report_text findings.now entries) }
+{
+    let mut text = String::new(alloc);
+    push_lines(findings, &mut text)?;
+    push_last_lines(findings, entries, &mut text)?;
+    Ok(text)
+}

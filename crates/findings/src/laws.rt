@@ -1,0 +1,28 @@
+//! What the findings on a trace say of its replies. Each function computes nothing: what it ensures is the law.
+
+ghost use Rattle.std.specs.Prelude.{◌≡◌, List, [], Option};
+ghost use Rattle.evidence_check.specs.Steps.{StepValue};
+ghost use Rattle.findings.specs.Findings.{findings_of};
+ghost use Rattle.findings.specs.Headline.{IsRightAndFresh};
+ghost use Rattle.findings.specs.WrongReplies.{HasOnlyWrongRepliesNamed};
+
+use token_order::laws::fresh_without_findings;
+use trace_lines::Trace;
+use trace_lines::laws::{entries_rise, valid_strata};
+
+/// Where nothing is found, whoever made the evidence, each reply is what the rules mean over the tuples committed up to its snapshot, and
+/// no check is older than its zookie or than its version's content check.
+pub fn right_and_fresh_without_findings(trace: &Trace)
+    ensures { (evidence : List (Option (List StepValue))) → findings_of trace.now evidence ≡ [] → IsRightAndFresh trace.now }
+{
+    valid_strata(trace);
+    fresh_without_findings(trace);
+}
+
+/// Whatever is found: a reply that a finding F10 calls wrong is wrong.
+pub fn wrong_replies_are_wrong(trace: &Trace)
+    ensures { (evidence : List (Option (List StepValue))) → HasOnlyWrongRepliesNamed trace.now (findings_of trace.now evidence) }
+{
+    valid_strata(trace);
+    entries_rise(trace);
+}
