@@ -2,6 +2,8 @@ pub mod EarlyLemmas
 pub mod Entries
 pub mod Headline
 pub mod JoinedParts
+pub mod MadeRecords
+pub mod MadeReadBack
 pub mod ReadWhole
 pub mod Readers
 pub mod SharedLemmas

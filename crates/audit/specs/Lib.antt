@@ -4,6 +4,7 @@ pub mod Findings
 pub mod Headline
 pub mod History
 pub mod Joined
+pub mod Made
 pub mod Report
 pub mod Shared
 pub mod Told
