@@ -1,5 +1,5 @@
 -- Records that are made for the entries of a trace, one after another.
-use Rattle.std.proofs.Common.{◌≡◌, ℕ, suc, ◌+◌, ◌-◌, ◌<◌, ◌≤◌, ◌^◌, min, List, [], ◌∷◌, ◌++◌, length, take, Option, None, Some, inr, sym, ap, subst, ◌∙◌, arith, append_assoc, append-nil}
+use Rattle.std.proofs.Common.{◌≡◌, ℕ, suc, ◌+◌, ◌<◌, ◌≤◌, ◌^◌, List, [], ◌∷◌, ◌++◌, length, take, Option, None, Some, sym, ap, subst, ◌∙◌, arith, append_assoc, append-nil}
 use Rattle.std.specs.Prelude.{slice_get, IfSome, ⊤}
 use Rattle.std.proofs.Math.Seq.{take-length}
 use Rattle.version_chains.proofs.NewestLemmas.{take-next}
@@ -39,22 +39,8 @@ pub record IsMadeSoFar (t : TraceValue) (es : List EntryValue) (text lines : Lis
 
 -- ---- one entry
 
-by_min : (n : ℕ) → min n (2 ^ 64 - 1) ≤ 2 ^ 20 → n ≤ 2 ^ 20
-by_min n le = omega (arith, le)
-
-past_min : (n : ℕ) → 2 ^ 20 < min n (2 ^ 64 - 1) → 2 ^ 20 < n
-past_min n lt = omega (arith, lt)
-
-module _ (t : TraceValue) (e : EntryValue) (steps : List StepValue) (line count : ℕ) (same : line ≡ e.line) (is : count ≡ min (record_length line steps) (2 ^ 64 - 1)) (settles : Settles t e steps) where
-  pub made_within : fact_count steps ≤ 100000 → count ≤ 2 ^ 20 → IsMade t e (Some steps)
-  made_within few short =
-      let within : min (record_length e.line steps) (2 ^ 64 - 1) ≤ 2 ^ 20 = subst (λ (n : ℕ). n ≤ 2 ^ 20) (is ∙ ap (λ (l : ℕ). min (record_length l steps) (2 ^ 64 - 1)) same) short in
-      record { decided = judged_if_settles t e steps settles; facts = few; bytes = by_min (record_length e.line steps) within }
-
-  pub made_too_long : 2 ^ 20 < count → IsMade t e None
-  made_too_long long =
-      let past : 2 ^ 20 < min (record_length e.line steps) (2 ^ 64 - 1) = subst (λ (n : ℕ). 2 ^ 20 < n) (is ∙ ap (λ (l : ℕ). min (record_length l steps) (2 ^ 64 - 1)) same) long in
-      inr (steps, judged_if_settles t e steps settles, past_min (record_length e.line steps) past)
+pub made_by : (t : TraceValue) (e : EntryValue) (steps : List StepValue) → Settles t e steps → fact_count steps ≤ 100000 → record_length e.line steps ≤ 2 ^ 20 → IsMade t e (Some steps)
+made_by t e steps settles few short = record { decided = judged_if_settles t e steps settles; facts = few; bytes = short }
 
 written_if : (t : TraceValue) (e : EntryValue) (o : Option (List StepValue)) → IsMade t e o → e.line < 2 ^ 64 → IfSome o (λ s. IsTaken e.line s) → IfWritten e o
 written_if t e (Some steps) made fits taken = record { line = fits; taken = taken; facts = made.facts; bytes = made.bytes }

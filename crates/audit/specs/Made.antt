@@ -1,5 +1,5 @@
 -- What is made of a trace: a record of steps for each entry that the maker settles, and their text.
-use Rattle.std.specs.Prelude.{◌≡◌, ◌⊎◌, ℕ, ◌<◌, ◌≤◌, ◌^◌, true, List, [], ◌∷◌, ◌++◌, length, Option, None, Some, Ok, ⊤}
+use Rattle.std.specs.Prelude.{◌≡◌, ◌⊎◌, ℕ, ◌≤◌, ◌^◌, true, List, [], ◌∷◌, ◌++◌, length, Option, None, Some, Ok, ⊤}
 use Rattle.namespaces.specs.Lookup.{rule_at}
 use Rattle.version_chains.specs.Commits.{store_at}
 use Rattle.trace_lines.specs.Values.{TraceValue, EntryValue}
@@ -12,7 +12,7 @@ use Rattle.evidence_check.specs.declared.records.TheConstants.{MAX_FACTS}
 use Rattle.goal_cone.specs.Bounds.{IsOutgrown}
 use Rattle.goal_cone.specs.declared.premises.TheConstants.{MAX_LINKS}
 use Rattle.record_text.specs.Record.{record_text, record_length}
-use Rattle.evidence_maker.specs.Made.{IsOneStep}
+use Rattle.evidence_maker.specs.Made.{IsOneStep, IsTooLong}
 use Rattle.audit.specs.Audit.{FailsWriting}
 
 -- by the steps the entry is supported or contradicted
@@ -25,18 +25,16 @@ pub record IsRecorded (t : TraceValue) (e : EntryValue) (steps : List StepValue)
   pub facts : fact_count steps ≤ MAX_FACTS
   pub bytes : record_length e.line steps ≤ 2 ^ 20
 
--- one step is not enough, and the goal outgrows the maker's search
+-- one step is not enough, and the goal outgrows the maker's search, or the record of its whole cone is too long for a line
 abbrev pub IsOutOfReach : TraceValue → EntryValue → Type 0
-IsOutOfReach t e = (¬ IsOneStep t e) × IsOutgrown MAX_FACTS MAX_LINKS (rule_at t.declarations e.snapshot) (store_at t.commits e.snapshot) e.goal
-
--- steps that decide the entry were found, and their record is too long for a line
-abbrev pub IsTooLong : TraceValue → EntryValue → Type 0
-IsTooLong t e = (steps : List StepValue) × IsDecided t e steps × (2 ^ 20 < record_length e.line steps)
+IsOutOfReach t e =
+    (¬ IsOneStep t e)
+    × (IsOutgrown MAX_FACTS MAX_LINKS (rule_at t.declarations e.snapshot) (store_at t.commits e.snapshot) e.goal ⊎ IsTooLong t e)
 
 -- what is made for an entry: the steps of its record, or none where the maker gave up
 abbrev pub IsMade : TraceValue → EntryValue → Option (List StepValue) → Type 0
 IsMade t e (Some steps) = IsRecorded t e steps
-IsMade t e None = IsOutOfReach t e ⊎ IsTooLong t e
+IsMade t e None = IsOutOfReach t e
 
 -- that of each entry, in order
 abbrev pub AreMade : TraceValue → List EntryValue → List (Option (List StepValue)) → Type 0

@@ -19,12 +19,9 @@ use crate::plain::{AuditFault, trace_from};
 use evidence_check::Steps;
 use evidence_maker::{MakeFault, make};
 use json_lines::{Sink, Source, send};
-use record_text::{record_bytes, write_record};
+use record_text::write_record;
 use std::alloc::{AllocError, Global};
 use trace_lines::Trace;
-
-/// How many bytes a record may have, its newline not counted.
-const MAX_RECORD: u64 = 1 << 20;
 
 /// The steps that are made for entry `i`, or none where the maker gave up.
 fn steps_for(alloc: Global, trace: &Trace, i: usize) -> Result<Option<Steps>, AllocError>
@@ -32,10 +29,7 @@ fn steps_for(alloc: Global, trace: &Trace, i: usize) -> Result<Option<Steps>, Al
     ensures { IfOk result (λ o. (e : EntryValue) → slice_get trace.now.entries i ≡ Some e → IsMade trace.now e (option_map (λ v. step_values v.items) o)) }
 {
     match make(alloc, trace, i) {
-        Ok(steps) => {
-            let fits = record_bytes(trace.entry(i).line, &steps) <= MAX_RECORD;
-            Ok(if fits { Some(steps) } else { None })
-        }
+        Ok(steps) => Ok(Some(steps)),
         Err(MakeFault::GaveUp) => Ok(None),
         Err(MakeFault::OutOfMemory) => Err(AllocError),
     }
