@@ -1,5 +1,7 @@
 pub mod EarlyLemmas
 pub mod JoinedParts
+pub mod MadeRecords
+pub mod MadeReadBack
 pub mod ReadWhole
 pub mod Readers
 pub mod SharedLemmas

@@ -2,5 +2,6 @@ pub mod Audit
 pub mod Early
 pub mod History
 pub mod Joined
+pub mod Made
 pub mod Shared
 pub mod Told

@@ -3,9 +3,9 @@
 //! [`audit_plain`] reads a trace and evidence for it from two readers, and writes the report to a writer: a line for each decision that
 //! ignored a newer access change or is wrong, and the verdict. [`audit`] does the same on 1 to 16 workers, and its contract is the same,
 //! clause by clause; [`audit_early`] also tells of findings while it runs. [`audit_joined`] takes one reader that gives both parts, and
-//! [`audit_values`] a trace and evidence that are read already. [`history`] writes a tuple's touches in a trace, the newest first. Contracts
-//! see a reader and a writer as the bytes that they gave and took, and counts of failures, ends and flushes. What is found, and its text, are
-//! of the crate `findings`, which this one passes on.
+//! [`audit_values`] a trace and evidence that are read already. [`make_records`] writes evidence for a trace, and [`history`] a tuple's touches in
+//! it, the newest first. Contracts see a reader and a writer as the bytes that they gave and took, and counts of failures, ends and flushes. What
+//! is found, and its text, are of the crate `findings`, which this one passes on.
 //!
 //! Callers may rely on this: what is written is the report text of the findings of the values read, and nothing else; the verdict is clean
 //! exactly where there is none; nothing is written where input is refused. Where it is clean, each reply is what the rules mean over the tuples
@@ -20,6 +20,7 @@
 mod early;
 mod finder;
 mod joined;
+mod made;
 mod plain;
 mod shared;
 mod touches;
@@ -27,6 +28,7 @@ mod touches;
 pub use early::audit_early;
 pub use findings::{Finding, What, findings_of, report_line, report_of};
 pub use joined::audit_joined;
+pub use made::{make_records, make_records_listing};
 pub use plain::{AuditFault, Verdict, audit_plain, audit_values};
 pub use shared::{LARGEST_SLICE, audit};
 pub use touches::history;

@@ -52,6 +52,20 @@ fn audit<'a>(alloc: Global) -> Result<Command<'a>, AllocError> {
         .arg(early)
 }
 
+fn make<'a>(alloc: Global) -> Result<Command<'a>, AllocError> {
+    let list = Arg::new(alloc, "list")
+        .long("list")
+        .action(ArgAction::SetTrue)
+        .help("Name the line of each entry that has no record on standard error");
+    Command::new(alloc, "make")
+        .about("Writes evidence for a trace: a record for each entry that can be settled")
+        .after_help(
+            "Example: new_enemy make trace.jsonl > evidence.jsonl\n\nHow many entries have no record is told on standard error.",
+        )
+        .arg(file(alloc, "TRACE", "The trace, JSON lines"))?
+        .arg(list)
+}
+
 fn history<'a>(alloc: Global) -> Result<Command<'a>, AllocError> {
     Command::new(alloc, "history")
         .about("Writes when a relation tuple was added and removed, newest first")
@@ -76,5 +90,6 @@ pub fn program<'a>(alloc: Global) -> Result<Command<'a>, AllocError> {
         )
         .no_binary_name(true)
         .subcommand(audit(alloc)?)?
+        .subcommand(make(alloc)?)?
         .subcommand(history(alloc)?)
 }

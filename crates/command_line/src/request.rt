@@ -22,6 +22,11 @@ pub enum Request<'a> {
         slice: u64,
         early: bool,
     },
+    /// Evidence for the trace of a file; the lines of the entries that have none go to standard error where they are asked for.
+    Make {
+        trace: &'a str,
+        list: bool,
+    },
     /// When a tuple was added and removed in the trace of a file.
     History {
         trace: &'a str,
@@ -51,6 +56,15 @@ fn audit_of<'a>(matches: &ArgMatches<'a>) -> Option<Request<'a>>
     })
 }
 
+fn make_of<'a>(matches: &ArgMatches<'a>) -> Option<Request<'a>>
+    ensures { IfSome result (λ r. r ≢ Joined) }
+{
+    Some(Request::Make {
+        trace: matches.get_str("TRACE")?,
+        list: matches.get_flag("list"),
+    })
+}
+
 fn history_of<'a>(matches: &ArgMatches<'a>) -> Option<Request<'a>>
     ensures { IfSome result (λ r. r ≢ Joined) }
 {
@@ -65,6 +79,7 @@ fn request_of<'a>(matches: &ArgMatches<'a>) -> Option<Request<'a>>
 {
     match matches.subcommand()? {
         ("audit", found) => audit_of(found),
+        ("make", found) => make_of(found),
         ("history", found) => history_of(found),
         _ => None,
     }

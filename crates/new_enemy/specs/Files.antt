@@ -6,6 +6,7 @@ use Rattle.tuple_text.specs.Tuples.{TupleValue}
 use Rattle.audit.specs.Audit.{Audits}
 use Rattle.findings.specs.Headline.{IsTraceRightAndFresh}
 use Rattle.audit.specs.History.{TellsHistory}
+use Rattle.audit.specs.Made.{MakesRecords}
 use Rattle.audit.specs.declared.plain.Verdict.{Verdict}
 use Rattle.audit.specs.declared.plain.Verdict.TheVariants.{Clean, Dirty}
 use Rattle.new_enemy.specs.declared.run.Ran.{Ran}
@@ -27,9 +28,14 @@ IsDirtyAudit trace evidence old new = IsAudit Dirty (λ a. ⊤) trace evidence o
 abbrev pub IsToldHistory : {F : Type 0} → TupleValue → Counted F → List ℕ → List ℕ → Type 0
 IsToldHistory tuple trace old new = (stops_of trace ≡ 1) × ((n : ℕ) × TellsHistory (moved_by trace) tuple old new n)
 
--- what holds of a run by what it read: joined input, the files of an audit, the file of a history, or no file
-abbrev pub OfRun : {F : Type 0} → Ran F → Type 0 → (Counted F → Counted F → Type 0) → (Counted F → Type 0) → Type 0 → Type 0
-OfRun ran.Joined joined audited told nothing = joined
-OfRun (ran.Audited trace evidence) joined audited told nothing = audited trace evidence
-OfRun (ran.Told trace) joined audited told nothing = told trace
-OfRun ran.Nothing joined audited told nothing = nothing
+-- all that the file gave, to its end, is a trace, and what a writer took is the records that are made for it
+abbrev pub IsMadeEvidence : {F : Type 0} → Counted F → List ℕ → List ℕ → Type 0
+IsMadeEvidence trace old new = (stops_of trace ≡ 1) × ((lines : List ℕ) × MakesRecords (moved_by trace) old new lines)
+
+-- what holds of a run by what it read: joined input, the files of an audit, the file that evidence was made for, the file of a history, or no file
+abbrev pub OfRun : {F : Type 0} → Ran F → Type 0 → (Counted F → Counted F → Type 0) → (Counted F → Type 0) → (Counted F → Type 0) → Type 0 → Type 0
+OfRun ran.Joined joined audited made told nothing = joined
+OfRun (ran.Audited trace evidence) joined audited made told nothing = audited trace evidence
+OfRun (ran.Made trace) joined audited made told nothing = made trace
+OfRun (ran.Told trace) joined audited made told nothing = told trace
+OfRun ran.Nothing joined audited made told nothing = nothing

@@ -5,10 +5,10 @@ ghost use Rattle.json_lines.specs.Devices.{moved_by, failures_of, stops_of};
 ghost use Rattle.json_lines.specs.Given.{StandBehind};
 ghost use Rattle.audit.specs.Shared.{are_within_limits};
 ghost use Rattle.new_enemy.specs.Run.{IsStatusOf};
-ghost use Rattle.new_enemy.specs.Files.{IsCleanAudit, IsDirtyAudit, IsToldHistory};
+ghost use Rattle.new_enemy.specs.Files.{IsCleanAudit, IsDirtyAudit, IsMadeEvidence, IsToldHistory};
 
-use crate::status::{status_of, tell};
-use audit::{AuditFault, Verdict, audit, audit_early, history};
+use crate::status::{status_of, tell, tell_given_up};
+use audit::{AuditFault, Verdict, audit, audit_early, history, make_records_listing};
 use json_lines::{Counted, Sink};
 use std::alloc::Global;
 use std::io::Read;
@@ -82,6 +82,37 @@ pub fn run_audit<F: Read, W: Sink, E: Sink, P: Threads + Wait + Sync>(
         audit(rt, alloc, &mut trace, &mut evidence, out, workers, slice)
     };
     (status_with(answer, err), trace, evidence)
+}
+
+/// Writes evidence for a trace to `out`, and hands the trace's file back with what it gave. How many entries have none is told to `err`, and with
+/// `list` before it the line of each; a fault is told there in one line.
+pub fn run_make<F: Read, W: Sink, E: Sink>(
+    alloc: Global,
+    trace: F,
+    list: bool,
+    out: &mut W,
+    err: &mut E,
+) -> (u8, Counted<F>)
+    // All that the file gave, to its end, is a trace, and the records that are made for it went out whole.
+    ensures made { result.0 ≡ 0 → IsMadeEvidence result.1 (W.taken out.old) (W.taken out.new) }
+    ensures flushed { result.0 ≡ 0 → W.flushes out.new ≡ W.flushes out.old + 1 }
+    ensures kept { result.0 ≢ 5 → (failures_of result.1 ≡ 0) × (W.failures out.new ≡ W.failures out.old) }
+    ensures unwritten { 2 ≤ result.0 → result.0 ≤ 4 → W.taken out.new ≡ W.taken out.old }
+    ensures held { StandBehind W.taken W.contents out.old out.new }
+    ensures statuses { (result.0 ≤ 5) × (result.0 ≢ 1) × (result.0 ≢ 3) }
+{
+    let mut trace = Counted::new(trace);
+    let status = match make_records_listing(alloc, &mut trace, out) {
+        Ok(given_up) => {
+            tell_given_up(err, &given_up, list);
+            0
+        }
+        Err(fault) => {
+            tell(err, &fault);
+            status_of(&fault)
+        }
+    };
+    (status, trace)
 }
 
 /// Writes a tuple's history in a trace to `out`, and hands the trace's file back with what it gave. A fault is told to `err` in one line.

@@ -9,12 +9,12 @@ ghost use Rattle.tuple_text.specs.Tuples.{TupleValue};
 ghost use Rattle.audit.specs.Audit.{Audits, HasRisen};
 ghost use Rattle.findings.specs.Headline.{IsTraceRightAndFresh};
 ghost use Rattle.audit.specs.Joined.{OfParts};
-ghost use Rattle.new_enemy.specs.Files.{IsCleanAudit, IsDirtyAudit, IsToldHistory, OfRun};
+ghost use Rattle.new_enemy.specs.Files.{IsCleanAudit, IsDirtyAudit, IsMadeEvidence, IsToldHistory, OfRun};
 ghost use Rattle.new_enemy.specs.Run.{IsRefused, IsCleanRun, IsDirtyRun};
 ghost use Rattle.new_enemy.specs.declared.run.Ran.TheVariants as ran;
 ghost use Rattle.audit.specs.declared.plain.Verdict.TheVariants.{Clean, Dirty};
 
-use crate::files::{Sharing, run_audit, run_history};
+use crate::files::{Sharing, run_audit, run_history, run_make};
 use crate::joined::run_joined;
 use crate::status::{tell, tell_path, tell_tuple};
 use audit::AuditFault;
@@ -35,6 +35,8 @@ pub enum Ran<F> {
     Joined,
     /// The trace and the evidence of an audit.
     Audited(Counted<F>, Counted<F>),
+    /// The trace that evidence was made for.
+    Made(Counted<F>),
     /// The trace of a tuple's history.
     Told(Counted<F>),
     /// No file, or not all that the command names.
@@ -61,9 +63,9 @@ fn audit_paths<W: Sink, E: Sink, P: Files + Threads + Wait + Sync>(
     out: &mut W,
     err: &mut E,
 ) -> (u8, Ran<P::File>)
-    ensures clean { result.0 ≡ 0 → OfRun result.1 ⊥ (λ t e. IsCleanAudit t e (W.taken out.old) (W.taken out.new)) (λ t. ⊥) ⊥ }
-    ensures dirty { result.0 ≡ 1 → OfRun result.1 ⊥ (λ t e. IsDirtyAudit t e (W.taken out.old) (W.taken out.new)) (λ t. ⊥) ⊥ }
-    ensures files { OfRun result.1 ⊥ (λ t e. ⊤) (λ t. ⊥) ⊤ }
+    ensures clean { result.0 ≡ 0 → OfRun result.1 ⊥ (λ t e. IsCleanAudit t e (W.taken out.old) (W.taken out.new)) (λ t. ⊥) (λ t. ⊥) ⊥ }
+    ensures dirty { result.0 ≡ 1 → OfRun result.1 ⊥ (λ t e. IsDirtyAudit t e (W.taken out.old) (W.taken out.new)) (λ t. ⊥) (λ t. ⊥) ⊥ }
+    ensures files { OfRun result.1 ⊥ (λ t e. ⊤) (λ t. ⊥) (λ t. ⊥) ⊤ }
     ensures flushed { result.0 ≤ 1 → W.flushes out.new ≡ W.flushes out.old + 1 }
     ensures kept { result.0 ≢ 5 → W.failures out.new ≡ W.failures out.old }
     ensures unwritten { 2 ≤ result.0 → result.0 ≤ 4 → W.taken out.new ≡ W.taken out.old }
@@ -81,6 +83,30 @@ fn audit_paths<W: Sink, E: Sink, P: Files + Threads + Wait + Sync>(
     (status, Ran::Audited(trace, evidence))
 }
 
+/// Evidence for the trace of a path.
+fn make_for_path<W: Sink, E: Sink, P: Files>(
+    rt: &P,
+    alloc: Global,
+    trace: &str,
+    list: bool,
+    out: &mut W,
+    err: &mut E,
+) -> (u8, Ran<P::File>)
+    ensures made { result.0 ≡ 0 → OfRun result.1 ⊥ (λ t e. ⊥) (λ t. IsMadeEvidence t (W.taken out.old) (W.taken out.new)) (λ t. ⊥) ⊥ }
+    ensures files { OfRun result.1 ⊥ (λ t e. ⊥) (λ t. ⊤) (λ t. ⊥) ⊤ }
+    ensures flushed { result.0 ≤ 1 → W.flushes out.new ≡ W.flushes out.old + 1 }
+    ensures kept { result.0 ≢ 5 → W.failures out.new ≡ W.failures out.old }
+    ensures unwritten { 2 ≤ result.0 → result.0 ≤ 4 → W.taken out.new ≡ W.taken out.old }
+    ensures held { StandBehind W.taken W.contents out.old out.new }
+    ensures statuses { (result.0 ≤ 5) × (result.0 ≢ 1) × (result.0 ≢ 3) }
+{
+    let Some(trace) = opened(rt, trace, err) else {
+        return (5, Ran::Nothing);
+    };
+    let (status, trace) = run_make(alloc, trace, list, out, err);
+    (status, Ran::Made(trace))
+}
+
 /// The history of a tuple's text in the trace of a path.
 fn history_in_path<W: Sink, E: Sink, P: Files>(
     rt: &P,
@@ -90,8 +116,8 @@ fn history_in_path<W: Sink, E: Sink, P: Files>(
     out: &mut W,
     err: &mut E,
 ) -> (u8, Ran<P::File>)
-    ensures told { result.0 ≡ 0 → OfRun result.1 ⊥ (λ t e. ⊥) (λ t. (tuple : TupleValue) × IsToldHistory tuple t (W.taken out.old) (W.taken out.new)) ⊥ }
-    ensures files { OfRun result.1 ⊥ (λ t e. ⊥) (λ t. ⊤) ⊤ }
+    ensures told { result.0 ≡ 0 → OfRun result.1 ⊥ (λ t e. ⊥) (λ t. ⊥) (λ t. (tuple : TupleValue) × IsToldHistory tuple t (W.taken out.old) (W.taken out.new)) ⊥ }
+    ensures files { OfRun result.1 ⊥ (λ t e. ⊥) (λ t. ⊥) (λ t. ⊤) ⊤ }
     ensures flushed { result.0 ≤ 1 → W.flushes out.new ≡ W.flushes out.old + 1 }
     ensures kept { result.0 ≢ 5 → W.failures out.new ≡ W.failures out.old }
     ensures unwritten { 2 ≤ result.0 → result.0 ≤ 4 → W.taken out.new ≡ W.taken out.old }
@@ -116,10 +142,10 @@ fn history_in_path<W: Sink, E: Sink, P: Files>(
     (status, Ran::Told(trace))
 }
 
-/// Runs the program on the words after its name, and answers its exit status and what it read: 0 for clean, for a history that is told and for
-/// help, 1 for dirty, 2 for refused input, 3 for usage, 4 for want of memory, 5 for a device that failed and a file that could not be opened.
+/// Runs the program on the words after its name, and answers its exit status and what it read: 0 for clean, for evidence that is made, for a
+/// history that is told and for help, 1 for dirty, 2 for refused input, 3 for usage, 4 for want of memory, 5 for a device that failed and a file that could not be opened.
 ///
-/// Without words it audits joined input. A report, a history or the text of help goes to `out`; a fault is told to `err` in one line, and a
+/// Without words it audits joined input. A report, evidence, a history or the text of help goes to `out`; a fault is told to `err` in one line, and a
 /// failure of `err` changes nothing else.
 pub fn run_words<R: Source, W: Sink, E: Sink, P: Files + Threads + Wait + Sync>(
     rt: &P,
@@ -135,10 +161,11 @@ pub fn run_words<R: Source, W: Sink, E: Sink, P: Files + Threads + Wait + Sync>(
         (OfWhole R.given R.ends input.old input.new (OfParts (λ a b. Audits a b (W.taken out.old) (W.taken out.new) Clean))
         × OfWhole R.given R.ends input.old input.new (OfParts (λ a b. IsTraceRightAndFresh a)))
         (λ t e. IsCleanAudit t e (W.taken out.old) (W.taken out.new))
+        (λ t. IsMadeEvidence t (W.taken out.old) (W.taken out.new))
         (λ t. (tuple : TupleValue) × IsToldHistory tuple t (W.taken out.old) (W.taken out.new)) ⊤ }
     ensures dirty { result.0 ≡ 1 → OfRun result.1
         (OfWhole R.given R.ends input.old input.new (OfParts (λ a b. Audits a b (W.taken out.old) (W.taken out.new) Dirty)))
-        (λ t e. IsDirtyAudit t e (W.taken out.old) (W.taken out.new)) (λ t. ⊥) ⊥ }
+        (λ t e. IsDirtyAudit t e (W.taken out.old) (W.taken out.new)) (λ t. ⊥) (λ t. ⊥) ⊥ }
     ensures flushed { result.0 ≤ 1 → result.1 ≢ ran.Nothing → W.flushes out.new ≡ W.flushes out.old + 1 }
     // Of every input that begins with the bytes that came.
     ensures refused { result.1 ≡ ran.Joined → result.0 ≡ 2 → OfInput R.given R.ends input.old input.new IsRefused }
@@ -175,6 +202,9 @@ pub fn run_words<R: Source, W: Sink, E: Sink, P: Files + Threads + Wait + Sync>(
             };
             audit_paths(rt, alloc, (trace, evidence), sharing, out, err)
         }
+        Ok(Answer::Asks(Request::Make { trace, list })) => {
+            make_for_path(rt, alloc, trace, list, out, err)
+        }
         Ok(Answer::Asks(Request::History { trace, tuple })) => {
             history_in_path(rt, alloc, trace, tuple, out, err)
         }
@@ -206,8 +236,8 @@ pub fn run_on<R: Read, W: Write, E: Write, P: Files + Threads + Wait + Sync>(
     // All that was read, to its end, is a trace and evidence for it, all that was written is the report on them, and the trace is right
     // and fresh.
     ensures clean { result.0 ≡ 0 → OfRun result.1 (IsCleanRun result.2.0 result.2.1) (λ t e. IsCleanAudit t e [] (moved_by result.2.1))
-        (λ t. (tuple : TupleValue) × IsToldHistory tuple t [] (moved_by result.2.1)) ⊤ }
-    ensures dirty { result.0 ≡ 1 → OfRun result.1 (IsDirtyRun result.2.0 result.2.1) (λ t e. IsDirtyAudit t e [] (moved_by result.2.1)) (λ t. ⊥) ⊥ }
+        (λ t. IsMadeEvidence t [] (moved_by result.2.1)) (λ t. (tuple : TupleValue) × IsToldHistory tuple t [] (moved_by result.2.1)) ⊤ }
+    ensures dirty { result.0 ≡ 1 → OfRun result.1 (IsDirtyRun result.2.0 result.2.1) (λ t e. IsDirtyAudit t e [] (moved_by result.2.1)) (λ t. ⊥) (λ t. ⊥) ⊥ }
     ensures refused { result.1 ≡ ran.Joined → result.0 ≡ 2 → (rest : List ℕ) → (0 < stops_of result.2.0 → rest ≡ []) → IsRefused (moved_by result.2.0 ++ rest) }
     ensures used { result.1 ≡ ran.Joined → result.0 ≢ 3 }
     ensures device { result.1 ≡ ran.Joined → result.0 ≡ 5 → 0 < failures_of result.2.0 + failures_of result.2.1 + stops_of result.2.1 }

@@ -78,3 +78,23 @@ pub fn tell_path<E: Sink>(err: &mut E, path: &str) {
     let _ = send(err, path.as_bytes());
     let _ = send(err, b"\n");
 }
+
+/// Writes how many entries have no evidence, where there are any, and with `list` before it the line of each. A failure of the writer
+/// changes nothing else.
+pub fn tell_given_up<E: Sink>(err: &mut E, lines: &[u64], list: bool) {
+    if list {
+        for line in lines {
+            tell_number(err, "gave up line ", *line);
+        }
+    }
+    if !lines.is_empty() {
+        tell_number(err, "gave up ", lines.len() as u64);
+    }
+}
+
+/// Writes a line that ends in a number.
+fn tell_number<E: Sink>(err: &mut E, what: &str, number: u64) {
+    let mut line = ArrayString::<LINE>::new();
+    let _ = writeln!(line, "{what}{number}");
+    let _ = send(err, line.as_str().as_bytes());
+}

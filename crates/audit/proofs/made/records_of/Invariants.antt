@@ -1,0 +1,8 @@
+use Rattle.std.proofs.Common.{take}
+use Rattle.std.specs.Prelude.{string_bytes}
+use Rattle.audit.proofs.MadeRecords.{IsMadeSoFar}
+use Rattle.audit.proofs.made.records_of.Given as goal
+
+-- what was made for the entries so far
+abbrev pub invariant-loop-i : goal.invariant-loop-i
+invariant-loop-i l = IsMadeSoFar l.trace (take l.i l.trace.entries) (string_bytes l.text) l.given_up.items

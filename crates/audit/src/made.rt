@@ -1,0 +1,166 @@
+//! Evidence for a whole trace, as text.
+
+ghost use Rattle.std.specs.Prelude.{◌≡◌, ◌⊎◌, ℕ, ◌+◌, ◌<◌, ◌≤◌, ◌^◌, ◌++◌, List, length, true, false, Ok, Err, Some, IfOk, IfErr, OnOk, IfSome, option_map, slice_get, string_bytes};
+ghost use Rattle.json_lines.specs.Given.{OfBytes, OfWhole, OfInput, AreNext, StandBehind};
+ghost use Rattle.json_lines.specs.declared.lines.TheConstants.{CHUNK};
+ghost use Rattle.json_lines.specs.declared.reading.TheConstants.{MAX_INPUT};
+ghost use Rattle.trace_lines.specs.declared.cause.Cause.TheVariants as causes;
+ghost use Rattle.trace_lines.specs.declared.cause.TraceFault.{TraceFault};
+ghost use Rattle.trace_lines.specs.Traces.{trace_of};
+ghost use Rattle.trace_lines.specs.Values.{EntryValue};
+ghost use Rattle.evidence_check.specs.Steps.{step_values};
+ghost use Rattle.record_text.specs.ReadBack.{IsTaken};
+ghost use Rattle.audit.specs.Audit.{RefusesTrace, HasRisen, IsOfDevices, IsOfNoDevice, IsWrite, IsUnwritten, FailsWriting};
+ghost use Rattle.audit.specs.History.{IsOfHistory};
+ghost use Rattle.audit.specs.Made.{IsMade, record_line, line_without, AreRecords, MakesRecords, BreaksMaking};
+ghost use Rattle.audit.specs.declared.plain.AuditFault.TheVariants as faults;
+
+use crate::plain::{AuditFault, trace_from};
+use evidence_check::Steps;
+use evidence_maker::{MakeFault, make};
+use json_lines::{Sink, Source, send};
+use record_text::write_record;
+use std::alloc::{AllocError, Global};
+use trace_lines::Trace;
+
+/// The steps that are made for entry `i`, or none where the maker gave up.
+fn steps_for(alloc: Global, trace: &Trace, i: usize) -> Result<Option<Steps>, AllocError>
+    requires { i < length trace.now.entries }
+    ensures { IfOk result (λ o. (e : EntryValue) → slice_get trace.now.entries i ≡ Some e → IsMade trace.now e (option_map (λ v. step_values v.items) o)) }
+{
+    match make(alloc, trace, i) {
+        Ok(steps) => Ok(Some(steps)),
+        Err(MakeFault::GaveUp) => Ok(None),
+        Err(MakeFault::OutOfMemory) => Err(AllocError),
+    }
+}
+
+/// Appends the record of the steps for the entry on a line, or the line to those of entries that have no steps.
+fn push_record(
+    line: u64,
+    steps: Option<Steps>,
+    text: &mut String,
+    given_up: &mut Vec<u64>,
+) -> Result<(), AllocError>
+    ensures text { OnOk result (string_bytes text.new ≡ string_bytes text.old ++ record_line line (option_map (λ v. step_values v.items) steps)) }
+    ensures given_up { OnOk result (given_up.new.items ≡ given_up.old.items ++ line_without line (option_map (λ v. step_values v.items) steps)) }
+    // As a line of evidence it says the same steps.
+    ensures taken { OnOk result (IfSome steps (λ v. IsTaken line (step_values v.items))) }
+    ensures fits { line < 2 ^ 64 }
+{
+    match steps {
+        Some(steps) => {
+            write_record(line, &steps, text)?;
+            Ok(())
+        }
+        None => {
+            given_up.push(line)?;
+            Ok(())
+        }
+    }
+}
+
+/// The text of the records for a trace, and the lines of the entries that the maker gave up.
+fn records_of(alloc: Global, trace: &Trace) -> Result<(String, Vec<u64>), AllocError>
+    ensures { IfOk result (λ r. AreRecords trace.now (string_bytes r.0) r.1.items) }
+{
+    let mut text = String::new(alloc);
+    let mut given_up = Vec::new(alloc);
+    for i in 0..trace.len() {
+        let steps = steps_for(alloc, trace, i)?;
+        push_record(trace.entry(i).line, steps, &mut text, &mut given_up)?;
+    }
+    Ok((text, given_up))
+}
+
+/// Writes the records for a trace, and answers the lines of the entries that the maker gave up.
+fn tell_records<W: Sink>(alloc: Global, trace: &Trace, out: &mut W) -> Result<Vec<u64>, AuditFault>
+    ensures told { IfOk result (λ v. (text : List ℕ) × AreRecords trace.now text v.items × (W.taken out.new ≡ W.taken out.old ++ text)) }
+    ensures flushed { OnOk result (W.flushes out.new ≡ W.flushes out.old + 1) }
+    ensures write { (n : ℕ) → result ≡ Err (faults.Write n) →
+        (text : List ℕ) × (lines : List ℕ) × AreRecords trace.now text lines × FailsWriting (W.taken out.old) (W.taken out.new) n text }
+    ensures device { IfErr result (λ e. IsWrite e → HasRisen (W.failures out.old) (W.failures out.new) ⊎ HasRisen (W.idle out.old) (W.idle out.new)) }
+    ensures kept { OnOk result (W.failures out.new ≡ W.failures out.old) }
+    ensures faults { IfErr result (λ e. (e ≡ faults.OutOfMemory) ⊎ IsWrite e) }
+    ensures unwritten { IfErr result (λ e. IsUnwritten e → W.taken out.new ≡ W.taken out.old) }
+    ensures unfailed { IfErr result (λ e. IsUnwritten e → W.failures out.new ≡ W.failures out.old) }
+    ensures held { StandBehind W.taken W.contents out.old out.new }
+{
+    let (text, given_up) = records_of(alloc, trace)?;
+    match send(out, text.as_bytes()) {
+        Ok(()) => Ok(given_up),
+        Err(unsent) => Err(AuditFault::Write {
+            written: unsent.written,
+        }),
+    }
+}
+
+/// Writes evidence for a trace as [`make_records`] does, and answers the lines of the entries that the maker gave up.
+pub fn make_records_listing<A: Source, W: Sink>(
+    alloc: Global,
+    trace: &mut A,
+    out: &mut W,
+) -> Result<Vec<u64>, AuditFault>
+    // The records for the trace that the reader gave, to its end, went out whole.
+    ensures told { IfOk result (λ v. OfWhole A.given A.ends trace.old trace.new (λ a. MakesRecords a (W.taken out.old) (W.taken out.new) v.items)) }
+    ensures flushed { OnOk result (W.flushes out.new ≡ W.flushes out.old + 1) }
+    // A refusal holds of every input that begins with the bytes that came.
+    ensures trace { (f : TraceFault) → result ≡ Err (faults.Trace f) → OfInput A.given A.ends trace.old trace.new (λ a. RefusesTrace a f) }
+    ensures trace_cut { (f : TraceFault) → result ≡ Err (faults.Trace f) → f.cause ≡ causes.Read → OfBytes A.given trace.old trace.new (λ a. trace_of false a ≡ Err f) }
+    // The first n bytes went out, and no others.
+    ensures write { (n : ℕ) → result ≡ Err (faults.Write n) → OfWhole A.given A.ends trace.old trace.new (λ a. BreaksMaking a (W.taken out.old) (W.taken out.new) n) }
+    ensures unwritten { IfErr result (λ e. IsUnwritten e → W.taken out.new ≡ W.taken out.old) }
+    // Also of a reader that never ends.
+    ensures most { OfBytes A.given trace.old trace.new (λ a. length a ≤ MAX_INPUT + CHUNK) }
+    // Of devices in memory: what came is what the reader had left, and what went out stands behind what the writer held.
+    ensures known { AreNext A.given A.ends A.remaining trace.old trace.new }
+    ensures held { StandBehind W.taken W.contents out.old out.new }
+    ensures devices { IfErr result (IsOfDevices ⊥ (HasRisen (A.failures trace.old) (A.failures trace.new)) ⊥
+        (HasRisen (W.failures out.old) (W.failures out.new) ⊎ HasRisen (W.idle out.old) (W.idle out.new))) }
+    // Any other answer comes only where no device failed.
+    ensures kept { OnOk result ((A.failures trace.new ≡ A.failures trace.old) × (W.failures out.new ≡ W.failures out.old)) }
+    ensures unfailed { IfErr result (λ e. IsOfNoDevice e → (A.failures trace.new ≡ A.failures trace.old) × (W.failures out.new ≡ W.failures out.old)) }
+    ensures faults { IfErr result IsOfHistory }
+{
+    let trace = trace_from(alloc, trace)?;
+    tell_records(alloc, &trace, out)
+}
+
+/// Writes evidence for a trace: a record for each entry in order, a line each. An entry that the maker gave up has none, and how many these are
+/// is the answer.
+///
+/// By its record each entry is supported or contradicted, so that an audit with this evidence finds `F7` on the entries that were given up, and `F8`
+/// and `F9` nowhere. The text is whole before its first byte is written, and a flush is asked for behind its last; nothing is written where
+/// the trace is refused or memory runs out. A trace is refused as by an audit.
+pub fn make_records<A: Source, W: Sink>(
+    alloc: Global,
+    trace: &mut A,
+    out: &mut W,
+) -> Result<u64, AuditFault>
+    // The records for the trace that the reader gave, to its end, went out whole.
+    ensures told { IfOk result (λ n. OfWhole A.given A.ends trace.old trace.new (λ a.
+        (lines : List ℕ) × MakesRecords a (W.taken out.old) (W.taken out.new) lines × (n ≡ length lines))) }
+    ensures flushed { OnOk result (W.flushes out.new ≡ W.flushes out.old + 1) }
+    // A refusal holds of every input that begins with the bytes that came.
+    ensures trace { (f : TraceFault) → result ≡ Err (faults.Trace f) → OfInput A.given A.ends trace.old trace.new (λ a. RefusesTrace a f) }
+    ensures trace_cut { (f : TraceFault) → result ≡ Err (faults.Trace f) → f.cause ≡ causes.Read → OfBytes A.given trace.old trace.new (λ a. trace_of false a ≡ Err f) }
+    // The first n bytes went out, and no others.
+    ensures write { (n : ℕ) → result ≡ Err (faults.Write n) → OfWhole A.given A.ends trace.old trace.new (λ a. BreaksMaking a (W.taken out.old) (W.taken out.new) n) }
+    ensures unwritten { IfErr result (λ e. IsUnwritten e → W.taken out.new ≡ W.taken out.old) }
+    // Also of a reader that never ends.
+    ensures most { OfBytes A.given trace.old trace.new (λ a. length a ≤ MAX_INPUT + CHUNK) }
+    // Of devices in memory: what came is what the reader had left, and what went out stands behind what the writer held.
+    ensures known { AreNext A.given A.ends A.remaining trace.old trace.new }
+    ensures held { StandBehind W.taken W.contents out.old out.new }
+    ensures devices { IfErr result (IsOfDevices ⊥ (HasRisen (A.failures trace.old) (A.failures trace.new)) ⊥
+        (HasRisen (W.failures out.old) (W.failures out.new) ⊎ HasRisen (W.idle out.old) (W.idle out.new))) }
+    // Any other answer comes only where no device failed.
+    ensures kept { OnOk result ((A.failures trace.new ≡ A.failures trace.old) × (W.failures out.new ≡ W.failures out.old)) }
+    ensures unfailed { IfErr result (λ e. IsOfNoDevice e → (A.failures trace.new ≡ A.failures trace.old) × (W.failures out.new ≡ W.failures out.old)) }
+    ensures faults { IfErr result IsOfHistory }
+{
+    match make_records_listing(alloc, trace, out) {
+        Ok(given_up) => Ok(given_up.len() as u64),
+        Err(fault) => Err(fault),
+    }
+}
