@@ -1,3 +1,4 @@
 pub mod Headline
 pub mod OneMore
+pub mod PartLemmas
 pub mod WrongReplies

@@ -1,4 +1,5 @@
 pub mod Findings
 pub mod Headline
+pub mod Parts
 pub mod Report
 pub mod WrongReplies

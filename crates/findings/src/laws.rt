@@ -1,9 +1,11 @@
 //! What the findings on a trace say of its replies. Each function computes nothing: what it ensures is the law.
 
-ghost use Rattle.std.specs.Prelude.{◌≡◌, List, [], Option};
+ghost use Rattle.std.specs.Prelude.{◌≡◌, ℕ, Bool, List, [], Option};
+ghost use Rattle.trace_lines.specs.Values.{TraceValue};
 ghost use Rattle.evidence_check.specs.Steps.{StepValue};
 ghost use Rattle.findings.specs.Findings.{findings_of};
 ghost use Rattle.findings.specs.Headline.{IsRightAndFresh};
+ghost use Rattle.findings.specs.Parts.{part_of, evidence_of_part, findings_on_part, IsCleanInParts};
 ghost use Rattle.findings.specs.WrongReplies.{HasOnlyWrongRepliesNamed};
 
 use token_order::laws::fresh_without_findings;
@@ -25,4 +27,19 @@ pub fn wrong_replies_are_wrong(trace: &Trace)
 {
     valid_strata(trace);
     entries_rise(trace);
+}
+
+/// A trace that is cut by object: what is found on the part with the entries of some objects alone, and all rules and commits, is exactly
+/// what is found in the whole on those entries.
+pub fn findings_of_part()
+    ensures { (objects : List ℕ → List ℕ → Bool) (t : TraceValue) (evidence : List (Option (List StepValue)))
+        → findings_of (part_of objects t) (evidence_of_part objects t evidence) ≡ findings_on_part objects t evidence }
+{}
+
+/// Where nothing is found in any part of a trace, however its objects were dealt to parts, each reply of the whole is what the rules mean,
+/// and no check is older than its zookie or than its version's content check.
+pub fn right_and_fresh_in_parts(trace: &Trace)
+    ensures { (part : List ℕ → List ℕ → ℕ) (evidence : List (Option (List StepValue))) → IsCleanInParts part trace.now evidence → IsRightAndFresh trace.now }
+{
+    right_and_fresh_without_findings(trace);
 }
