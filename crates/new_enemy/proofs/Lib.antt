@@ -1,1 +1,2 @@
+pub mod MadeEvidence
 pub mod Statuses
