@@ -1,2 +1,3 @@
 pub mod MadeEvidence
+pub mod Runs
 pub mod Statuses
