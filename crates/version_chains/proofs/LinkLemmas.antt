@@ -1,17 +1,12 @@
 -- One more link, and one less.
-use Rattle.std.proofs.Common.{◌≡◌, ◌≢◌, ℕ, suc, ◌+◌, ◌≤◌, Bool, true, false, cond, List, [], ◌∷◌, ◌++◌, length, map, refl, sym, ◌∙◌, ap, subst, Option, None, Some, ◌⊎◌, inl, inr, arith, nat_eq}
-use Rattle.std.specs.Prelude.{slice_get, unwrap_or}
-use Rattle.std.specs.Ordering.{nat_cmp}
-use Rattle.std.specs.BTreeMap.{BTreeMap, get, Updates, is_at}
+use Rattle.std.proofs.Common.{◌≡◌, ◌≢◌, ℕ, suc, ◌+◌, ◌≤◌, Bool, true, false, cond, List, [], ◌∷◌, ◌++◌, length, map, refl, sym, ◌∙◌, ap, subst, Option, Some, ◌⊎◌, inl, inr, arith, nat_eq}
+use Rattle.std.specs.Prelude.{slice_get, option_map}
+use Rattle.std.specs.BTreeMap.{BTreeMap}
 use Rattle.std.proofs.lemmas.List.{map-append}
-use Rattle.std.proofs.lemmas.Option.{slice_get_within}
-use Rattle.std.proofs.lemmas.Map.Lookups.{exact_unsigned}
+use Rattle.std.proofs.lemmas.Option.{slice_get_within, slice_get-map}
 use Rattle.std.proofs.lemmas.Bool.{eqb-true, eq-eqb}
-use Rattle.std.proofs.lemmas.Map.Views.{tells_apart}
-use Rattle.std.specs.Cmp.{eq_by_cmp_equiv, nat_cmp_total}
-use Rattle.std.specs.Ordering.{eq_by_cmp}
 use Rattle.version_chains.specs.Placed.{last_place}
-use Rattle.version_chains.specs.Links.{AreLinked}
+use Rattle.version_chains.specs.Links.{newest_in, AreLinked}
 use Rattle.version_chains.specs.declared.places.Link.{Link}
 use Rattle.version_chains.proofs.PlacedLemmas.{slice_get-cases, slice_get-kept, slice_get-next, last_place-front, last_place-more}
 
@@ -21,25 +16,6 @@ marks_of links = map (λ l. l.mark) links
 length-marks : (links : List Link) → length (marks_of links) ≡ length links
 length-marks [] = refl
 length-marks (l ∷ links) = ap suc (length-marks links)
-
--- the table finds a mark by the order of marks
-pub at_mark : (a b : ℕ) → is_at (nat_cmp a) b ≡ nat_eq b a
-at_mark a b = by_tests (is_at (nat_cmp a) b) (nat_eq b a) refl refl
-  where
-    by_tests : (p q : Bool) → is_at (nat_cmp a) b ≡ p → nat_eq b a ≡ q → p ≡ q
-    by_tests true true t u = refl
-    by_tests false false t u = refl
-    by_tests true false t u = sym (eq-eqb b a (sym (tells_apart exact_unsigned a b t))) ∙ u
-    by_tests false true t u = sym t ∙ subst (λ (m : ℕ). eq_by_cmp nat_cmp a m ≡ true) (sym (eqb-true b a u)) ((eq_by_cmp_equiv nat_cmp_total).refl a)
-
-set_at : (newest new : BTreeMap ℕ ℕ) (mark place : ℕ) → Updates nat_cmp newest new mark (Some place) → (m : ℕ) → unwrap_or (get nat_cmp new m) 0 ≡ cond (nat_eq m mark) place (unwrap_or (get nat_cmp newest m) 0)
-set_at newest new mark place updates m =
-    ap (λ (o : Option ℕ). unwrap_or o 0) (updates.0 m ∙ ap (λ (b : Bool). cond b (Some place) (get nat_cmp newest m)) (at_mark mark m))
-    ∙ by_test (nat_eq m mark)
-  where
-    by_test : (b : Bool) → unwrap_or (cond b (Some place) (get nat_cmp newest m)) 0 ≡ cond b place (unwrap_or (get nat_cmp newest m) 0)
-    by_test true = refl
-    by_test false = refl
 
 marks-more : (links : List Link) (link : Link) → marks_of (links ++ link ∷ []) ≡ marks_of links ++ link.mark ∷ []
 marks-more links link = map-append (λ (l : Link). l.mark) links (link ∷ [])
@@ -57,10 +33,18 @@ with_link links link mark =
     ∙ last_place-more (nat_eq mark) (marks_of links) link.mark
     ∙ ap (λ (n : ℕ). cond (nat_eq mark link.mark) (suc n) (last_place (nat_eq mark) (marks_of links) n)) (length-marks links)
 
+-- the last place of a mark, one link further
+pub one_further : (links : List Link) (i : ℕ) (link : Link) (mark new old : ℕ) → new ≡ cond (nat_eq mark link.mark) (i + 1) old → old ≡ last_place (nat_eq mark) (marks_of links) i
+    → slice_get links i ≡ Some link → new ≡ last_place (nat_eq mark) (marks_of links) (i + 1)
+one_further links i link mark new old is before at =
+    let next : i + 1 ≡ suc i = omega arith in
+    let here : slice_get (marks_of links) i ≡ Some link.mark = slice_get-map (λ (l : Link). l.mark) links i ∙ ap (λ (o : Option Link). option_map (λ (l : Link). l.mark) o) at in
+    is ∙ ap (λ (n : ℕ). cond (nat_eq mark link.mark) (i + 1) n) before ∙ rw (next, here) refl
+
 -- one more link
-module _ (links : List Link) (newest new : BTreeMap ℕ ℕ) (link : Link) (are : AreLinked links newest)
+module _ (links : List Link) (trees new : List (BTreeMap ℕ ℕ)) (link : Link) (are : AreLinked links trees)
     (newest_is : link.older ≡ last_place (nat_eq link.mark) (marks_of links) (length (marks_of links)))
-    (updates : Updates nat_cmp newest new link.mark (Some (length links + 1))) where
+    (sets : (m : ℕ) → newest_in new m ≡ cond (nat_eq m link.mark) (length links + 1) (newest_in trees m)) where
   earlier : (i : ℕ) (l : Link) → (slice_get links i ≡ Some l) ⊎ ((i ≡ length links) × (link ≡ l)) → l.older ≡ last_place (nat_eq l.mark) (marks_of (links ++ link ∷ [])) i
   earlier i l (inl h) = let within = slice_get_within links i l h in are.earlier i l h ∙ sym (before_link links link l.mark i (omega (arith, within)))
   earlier i l (inr h) =
@@ -72,28 +56,29 @@ module _ (links : List Link) (newest new : BTreeMap ℕ ℕ) (link : Link) (are 
   more_links = record {
     earlier = λ i l h. earlier i l (slice_get-cases links link i l h);
     latest = λ mark.
-        set_at newest new link.mark (length links + 1) updates mark
+        sets mark
         ∙ ap (λ (n : ℕ). cond (nat_eq mark link.mark) (length links + 1) n) (are.latest mark)
         ∙ ap (λ (n : ℕ). cond (nat_eq mark link.mark) n (last_place (nat_eq mark) (marks_of links) (length links))) (let e : length links + 1 ≡ suc (length links) = omega arith in e)
         ∙ sym (with_link links link mark);
   }
 
 -- one link less
-module _ (links : List Link) (link : Link) (newest : BTreeMap ℕ ℕ) (are : AreLinked (links ++ link ∷ []) newest) where
-  pub last_is_there : get nat_cmp newest link.mark ≢ None
-  last_is_there none =
-      let e : 0 ≡ suc (length links) =
-      ap (λ (o : Option ℕ). unwrap_or o 0) (sym none) ∙ are.latest link.mark ∙ with_link links link link.mark
-      ∙ ap (λ (b : Bool). cond b (suc (length links)) (last_place (nat_eq link.mark) (marks_of links) (length links))) (eq-eqb link.mark link.mark refl) in
-      omega (arith, e)
+module _ (links : List Link) (link : Link) (trees : List (BTreeMap ℕ ℕ)) (are : AreLinked (links ++ link ∷ []) trees) where
+  newest_of_last : newest_in trees link.mark ≡ suc (length links)
+  newest_of_last =
+      are.latest link.mark ∙ with_link links link link.mark
+      ∙ ap (λ (b : Bool). cond b (suc (length links)) (last_place (nat_eq link.mark) (marks_of links) (length links))) (eq-eqb link.mark link.mark refl)
 
-  pub less_links : (new : BTreeMap ℕ ℕ) → Updates nat_cmp newest new link.mark (Some link.older) → AreLinked links new
-  less_links new updates = record {
+  pub last_is_there : newest_in trees link.mark ≢ 0
+  last_is_there none = let e : 0 ≡ suc (length links) = sym none ∙ newest_of_last in omega (arith, e)
+
+  pub less_links : (new : List (BTreeMap ℕ ℕ)) → ((m : ℕ) → newest_in new m ≡ cond (nat_eq m link.mark) link.older (newest_in trees m)) → AreLinked links new
+  less_links new sets = record {
     earlier = λ i l h. let within = slice_get_within links i l h in are.earlier i l (slice_get-kept links (link ∷ []) i l h) ∙ before_link links link l.mark i (omega (arith, within));
-    latest = λ mark. set_at newest new link.mark link.older updates mark ∙ by_test mark (nat_eq mark link.mark) refl;
+    latest = λ mark. sets mark ∙ by_test mark (nat_eq mark link.mark) refl;
   }
     where
-      by_test : (mark : ℕ) (b : Bool) → nat_eq mark link.mark ≡ b → cond b link.older (unwrap_or (get nat_cmp newest mark) 0) ≡ last_place (nat_eq mark) (marks_of links) (length links)
+      by_test : (mark : ℕ) (b : Bool) → nat_eq mark link.mark ≡ b → cond b link.older (newest_in trees mark) ≡ last_place (nat_eq mark) (marks_of links) (length links)
       by_test mark true t =
           are.earlier (length links) link (slice_get-next links link) ∙ before_link links link link.mark (length links) (omega arith)
           ∙ ap (λ (m : ℕ). last_place (nat_eq m) (marks_of links) (length links)) (sym (eqb-true mark link.mark t))

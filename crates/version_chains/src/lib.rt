@@ -27,6 +27,7 @@ mod places;
 mod repeats;
 #[cfg(test)]
 mod tests;
+mod trees;
 mod users;
 
 pub use chains::Chains;

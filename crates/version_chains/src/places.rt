@@ -3,8 +3,8 @@
 ghost use Rattle.std.specs.Prelude.{◌≡◌, ℕ, ◌∷◌, ◌++◌, [], Some, length, slice_get, nat_eq, OnOk, OnErr, List};
 ghost use Rattle.version_chains.specs.Placed.{last_place};
 
+use crate::trees::Trees;
 use std::alloc::{AllocError, Global};
-use std::collections::BTreeMap;
 use std::marker::Model;
 
 /// A place's mark, and the place before it with the same mark.
@@ -17,12 +17,12 @@ pub struct Link {
 /// A list of marks, from each of which a walk leads back over the places with this mark. Places count from 1, and 0
 /// is no place.
 ///
-/// The newest places are kept in a tree and not hashed: marks come from texts that a stranger chose, and with a hash
-/// whose seed is fixed he could choose them for one bucket.
+/// The newest places are kept in a table of small search trees. Marks come from texts that a stranger chose, so he can choose
+/// them for one tree of the table; that tree still finds each in the logarithm of their number.
 #[derive(Drop)]
 pub struct Places {
     links: Vec<Link>,
-    newest: BTreeMap<u64, usize>,
+    newest: Trees,
 }
 
 impl Model for Places {
@@ -34,7 +34,7 @@ impl Model for Places {
 
     ghost view = { λ p. map (λ l. l.mark) p.links.items };
 
-    ghost invariant = { λ p. AreLinked p.links.items p.newest };
+    ghost invariant = { λ p. AreLinked p.links.items p.newest.trees.items };
 }
 
 impl Places {
@@ -43,7 +43,7 @@ impl Places {
     {
         Places {
             links: Vec::new(alloc),
-            newest: BTreeMap::new(alloc),
+            newest: Trees::new(alloc),
         }
     }
 
@@ -51,7 +51,7 @@ impl Places {
     pub fn newest(&self, mark: u64) -> usize
         ensures { result ≡ last_place (nat_eq mark) self.now (length self.now) }
     {
-        self.newest.get(&mark).copied().unwrap_or(0)
+        self.newest.newest(mark)
     }
 
     /// The place before the one at this index, with the same mark.
@@ -71,7 +71,9 @@ impl Places {
     {
         let older = self.newest(mark);
         self.links.reserve(1)?;
-        self.newest.insert(mark, self.links.len() + 1)?;
+        self.newest
+            .spread(*self.links.allocator(), self.links.as_slice())?;
+        self.newest.set(mark, self.links.len() + 1)?;
         if self.links.push(Link { mark, older }).is_err() {
             unreachable!();
         }
@@ -83,7 +85,7 @@ impl Places {
         ensures { (marks : List ℕ) (mark : ℕ) → self.old ≡ marks ++ mark ∷ [] → self.new ≡ marks }
     {
         if let Some(link) = self.links.pop() {
-            if self.newest.insert(link.mark, link.older).is_err() {
+            if self.newest.set(link.mark, link.older).is_err() {
                 unreachable!();
             }
         }

@@ -1,5 +1,5 @@
-use Rattle.std.proofs.Common.{rules, ◌≡◌, ◌++◌, ◌∷◌, [], subst, sym, List}
-use Rattle.version_chains.specs.Links.{AreLinked}
+use Rattle.std.proofs.Common.{rules, ◌≡◌, ◌++◌, ◌∷◌, ◌+◌, ◌∙◌, ℕ, [], ap, cond, length, nat_eq, subst, sym, List}
+use Rattle.version_chains.specs.Links.{AreLinked, newest_in}
 use Rattle.version_chains.specs.declared.places.Link.{Link}
 use Rattle.version_chains.proofs.LinkLemmas.{more_links}
 use Rattle.version_chains.proofs.places.Places.push.Goals as goal
@@ -7,5 +7,10 @@ use Rattle.version_chains.proofs.places.Places.push.Goals as goal
 pub invariant_of-self-2 : goal.invariant_of-self-2
 invariant_of-self-2 c =
     let items : c.push.new.self.items ≡ c.self.inside.links.items ++ record { mark = c.args.mark; older = c.newest-older.result } ∷ [] = search rules in
-    subst (λ (links : List Link). AreLinked links c.insert.new.self) (sym items)
-    (more_links c.self.inside.links.items c.self.inside.newest c.insert.new.self (record { mark = c.args.mark; older = c.newest-older.result }) c.self.invariant (search rules) (search rules))
+    let len : c.len.result ≡ length c.self.inside.links.items = search rules in
+    let sets : (m : ℕ) → newest_in c.set.new.self.trees.items m ≡ cond (nat_eq m c.args.mark) (length c.self.inside.links.items + 1) (newest_in c.self.inside.newest.trees.items m) =
+    λ m.
+    c.in_ok-set.ensures.ok m ∙ ap (λ (n : ℕ). cond (nat_eq m c.args.mark) (c.len.result + 1) n) (c.spread.ensures.same m)
+    ∙ ap (λ (n : ℕ). cond (nat_eq m c.args.mark) (n + 1) (newest_in c.self.inside.newest.trees.items m)) len in
+    subst (λ (links : List Link). AreLinked links c.set.new.self.trees.items) (sym items)
+    (more_links c.self.inside.links.items c.self.inside.newest.trees.items c.set.new.self.trees.items (record { mark = c.args.mark; older = c.newest-older.result }) c.self.invariant (search rules) sets)
