@@ -78,8 +78,8 @@ fn history<'a>(alloc: Global) -> Result<Command<'a>, AllocError> {
         ))
 }
 
-/// The program with its commands.
-pub fn program<'a>(alloc: Global) -> Result<Command<'a>, AllocError> {
+/// The program with its commands. Which words it takes the program's tests alone say.
+pub(crate) fn program<'a>(alloc: Global) -> Result<Command<'a>, AllocError> {
     Command::new(alloc, "new_enemy")
         .version("0.1.0 (rattle-kit-13b)")
         .about(

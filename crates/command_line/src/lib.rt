@@ -4,7 +4,8 @@
 //! [`read_words`] reads them by `clap`. Without words the request is the audit of joined input; a request for help or for the
 //! version, and words that ask for nothing, have a text for the user.
 //!
-//! Callers may rely on this: only where there is no word is joined input asked for.
+//! Callers may rely on this: where there is no word, and only there, joined input is asked for. Which words ask for which command, and what
+//! the texts say, no contract tells: the program's tests do.
 #![tactic(auto)]
 
 mod commands;

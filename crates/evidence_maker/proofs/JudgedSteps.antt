@@ -1,7 +1,5 @@
 -- When steps settle an entry.
-use Rattle.std.proofs.Common.{◌≡◌, ℕ, ◌+◌, ◌-◌, ◌^◌, ◌≤◌, min, Bool, true, false, not, IsTrue, ◌↔◌, List, [], ◌∷◌, Option, None, Some, ◌⊎◌, inl, inr, refl, sym, ◌∙◌, arith}
-use Rattle.std.specs.Prelude.{nat_lt}
-use Rattle.std.proofs.lemmas.Bool.{le-ltb, ltb-false}
+use Rattle.std.proofs.Common.{◌≡◌, ℕ, ◌+◌, Bool, true, false, not, List, [], ◌∷◌, Option, None, Some, ◌⊎◌, inl, inr, refl}
 use Rattle.tuple_text.specs.Tuples.{TupleValue, FactValue}
 use Rattle.namespaces.specs.Lookup.{Lookup, rule_at}
 use Rattle.version_chains.specs.Commits.{store_at}
@@ -9,13 +7,11 @@ use Rattle.trace_lines.specs.Values.{TraceValue, EntryValue}
 use Rattle.judgement.specs.Judgement.{KnownValue}
 use Rattle.evidence_check.specs.Accepted.{nothing_known, AreAccepted, after_step, after_steps}
 use Rattle.evidence_check.specs.Judged.{is_accepted, first_bad, is_among, by_reply, by_goal, by_steps, judged}
-use Rattle.evidence_check.specs.Reading.{fact_count}
 use Rattle.evidence_check.specs.Steps.{StepValue}
 use Rattle.evidence_check.specs.declared.judged.Judged.{Judged}
 use Rattle.evidence_check.specs.declared.judged.Judged.TheVariants.{Supported, Contradicted}
 use Rattle.evidence_check.proofs.JudgedLemmas.{accepted_iff, among_iff, none_bad, by_yes, by_no, by_none}
-use Rattle.record_text.specs.Record.{record_length}
-use Rattle.evidence_maker.specs.Made.{Settles, Fits}
+use Rattle.evidence_maker.specs.Made.{Settles}
 use Rattle.evidence_maker.specs.Making.{IsKnown}
 
 -- the judgement settles the entry
@@ -68,13 +64,3 @@ module _ (t : TraceValue) (e : EntryValue) (ss : List StepValue) where
   judged_if_settles h =
       rw (all_good (rule_at t.declarations e.snapshot) (store_at t.commits e.snapshot) nothing_known 1 ss h.accepted)
       (goal_settles (after_steps nothing_known ss) e.goal e.reply h.known)
-
--- ---- whether a record may hold steps
-
-pub too_many : (line : ℕ) (ss : List StepValue) (b : Bool) → b ≡ nat_lt 100000 (fact_count ss) → b ≡ true → IsTrue false ↔ Fits line ss
-too_many line ss b e t = (λ no. absurd (cc), λ h. absurd (let f = le-ltb 100000 (fact_count ss) h.0 in cc))
-
-pub few_fit : (line bytes : ℕ) (ss : List StepValue) (b : Bool) → b ≡ nat_lt 100000 (fact_count ss) → b ≡ false
-    → bytes ≡ min (record_length line ss) (2 ^ 64 - 1) → (bytes ≤ 2 ^ 20) ↔ Fits line ss
-few_fit line bytes ss b e few m =
-    (λ le. (ltb-false 100000 (fact_count ss) (sym e ∙ few), omega (arith, le, m)), λ h. let le : record_length line ss ≤ 2 ^ 20 = h.1 in omega (arith, le, m))

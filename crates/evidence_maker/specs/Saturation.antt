@@ -6,7 +6,7 @@ use Rattle.strata.specs.Strata.{EachPremise, IsAtMost, IsLower}
 use Rattle.judgement.specs.Judgement.{KnownValue}
 use Rattle.evidence_check.specs.Accepted.{nothing_known, after_steps, AreAccepted, IsProved}
 use Rattle.evidence_check.specs.Steps.{StepValue, yes_step, no_step}
-use Rattle.goal_cone.specs.Cone.{AreDistinct, IsPremise}
+use Rattle.goal_cone.specs.Cone.{AreDistinct}
 use Rattle.evidence_maker.specs.Settled.{IsSettled}
 
 -- no fact of R is settled or proved, and their premises are settled or facts of R, settled under a subtracted side
@@ -42,13 +42,3 @@ facts_of (no_step fs ∷ ss) = fs ++ facts_of ss
 pub record IsSparing (C : List FactValue) (steps : List StepValue) : Type 0 where
   pub inside : (f : FactValue) → Contains (facts_of steps) f → Contains C f
   pub distinct : AreDistinct (facts_of steps)
-
--- the facts of C of the strata up to k that are proved and not settled wait
-abbrev pub IsWaiting : Lookup → List TupleValue → List FactValue → ℕ → KnownValue → List FactValue → Type 0
-IsWaiting rules store C k known todo =
-    (f : FactValue) → Contains C f → IsAtMost rules k f → ¬ IsSettled rules known f → IsProved rules store known f → Contains todo f
-
--- the facts of C of the strata up to k whose rules read f wait
-abbrev pub HasReaders : Lookup → List TupleValue → List FactValue → ℕ → FactValue → List FactValue → Type 0
-HasReaders rules store C k f todo =
-    (g : FactValue) → Contains C g → IsAtMost rules k g → IsPremise rules store g f → Contains todo g

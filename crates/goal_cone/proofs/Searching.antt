@@ -1,5 +1,5 @@
 -- A search for the cone, fact by fact.
-use Rattle.std.proofs.Common.{◌≡◌, ℕ, zero, suc, ◌+◌, ◌≤◌, ◌<◌, List, [], ◌∷◌, ◌++◌, length, take, drop, slice_get, None, Some, ◌⊎◌, inl, inr, subst, sym, ◌∙◌, ap, length-append, arith}
+use Rattle.std.proofs.Common.{◌≡◌, ℕ, zero, suc, ◌+◌, ◌≤◌, ◌<◌, List, [], ◌∷◌, ◌++◌, length, take, drop, slice_get, None, Some, ◌⊎◌, inl, inr, refl, subst, sym, ◌∙◌, ap, length-append, arith}
 use Rattle.std.specs.Prelude.{Contains, sum_by}
 use Rattle.std.proofs.lemmas.List.{drop-append-le, drop_all, take-append-le}
 use Rattle.std.proofs.lemmas.List.Elements.{Contains-append_left, Contains-append_right}
@@ -46,6 +46,10 @@ none_left [] i h = drop_all i [] (omega arith)
 none_left (y ∷ ys) zero h = absurd (cc)
 none_left (y ∷ ys) (suc i) h = none_left ys i h
 
+first_stays : (xs more : List FactValue) (x : FactValue) → slice_get xs 0 ≡ Some x → slice_get (xs ++ more) 0 ≡ Some x
+first_stays [] more x h = absurd (cc)
+first_stays (y ∷ ys) more x h = h
+
 module _ (rules : Lookup) (store : List TupleValue) where
   -- a rule whose premises are all seen
   met_premises : (f : FactValue) (old new : List FactValue) → Sees rules (IsRead rules store f) old new → HasPremisesOf rules store new f
@@ -63,6 +67,7 @@ module _ (rules : Lookup) (store : List TupleValue) where
     pub searching_start : IsSearching most_links rules store goal (goal ∷ []) 0 most_links
     searching_start = record {
       exploring = exploring_start rules store goal;
+      first = refl;
       distinct = (not_in_nil goal, tt);
       within = omega arith;
       links = omega arith;
@@ -106,6 +111,7 @@ module _ (rules : Lookup) (store : List TupleValue) where
                   (exploring_step rules store goal seen (drop next seen) h.exploring f at.inside sees.more (drop (suc next) seen ++ sees.more)
                   (λ p c. (sees.each p c, Contains-append_right (drop (suc next) seen) sees.more p c))
                   (subst (λ (xs : List FactValue). HasPremisesOf rules store xs f) sees.split (met_premises f seen new sees)) loses);
+              first = first_stays seen sees.more goal h.first;
               distinct = subst (λ (xs : List FactValue). AreDistinct xs) sees.split (sees.distinct h.distinct);
               within = (let long = length-append seen sees.more in let w = at.within in omega arith);
               links = links_kept;

@@ -1,5 +1,5 @@
 -- What is left of a pass over premises. No public clause cites this module.
-use Rattle.std.specs.Prelude.{◌≡◌, ℕ, ◌+◌, ◌≤◌, List, [], ◌∷◌, Option, Some, ◌⊎◌, length, take, drop, sum_by}
+use Rattle.std.specs.Prelude.{◌≡◌, ℕ, ◌+◌, ◌≤◌, List, [], ◌∷◌, Option, Some, ◌⊎◌, length, slice_get, take, drop, sum_by}
 use Rattle.tuple_text.specs.Sets.{SetValue}
 use Rattle.tuple_text.specs.Tuples.{TupleValue, FactValue, fact_of}
 use Rattle.tuple_text.specs.declared.users.User.TheVariants.{Set}
@@ -32,9 +32,10 @@ pub record IsUnderWay (most_facts most_links : ℕ) (rules : Lookup) (store : Li
   pub stuck : IsStuck most_facts most_links rules store S now → IsStuck most_facts most_links rules store R old
   pub links : had + left ≤ room + all
 
--- The search has looked at the first `next` facts that it saw, whose rules read what is gone of the room for links.
+-- The search saw the goal first, and has looked at the first `next` facts that it saw, whose rules read what is gone of the room for links.
 pub record IsSearching (most_links : ℕ) (rules : Lookup) (store : List TupleValue) (goal : FactValue) (seen : List FactValue) (next room : ℕ) : Type 0 where
   pub exploring : IsExploring rules store goal seen (drop next seen)
+  pub first : slice_get seen 0 ≡ Some goal
   pub distinct : AreDistinct seen
   pub within : next ≤ length seen
   pub links : most_links ≤ room + sum_by (links_of rules store) (take next seen)

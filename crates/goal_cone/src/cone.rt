@@ -1,6 +1,6 @@
 //! The cone of a goal.
 
-ghost use Rattle.std.specs.Prelude.{◌≡◌, IfOk, Err};
+ghost use Rattle.std.specs.Prelude.{◌≡◌, IfOk, Err, Some, slice_get};
 ghost use Rattle.namespaces.specs.Lookup.{rule_at};
 ghost use Rattle.version_chains.specs.Commits.{store_at};
 ghost use Rattle.goal_cone.specs.Bounds.{IsOutgrown};
@@ -13,10 +13,14 @@ use std::alloc::Global;
 use trace_lines::Trace;
 use tuple_text::Fact;
 
-/// The cone of a goal, each fact once, the goal first and no premise before some reader of it.
+/// The cone of a goal, each fact once, and the goal first.
+///
+/// Refusals: Outgrown, only where every list of facts that holds the goal and its own premises has more than [`MAX_USERSETS`] facts or reads
+/// more than [`MAX_LINKS`] stored usersets; OutOfMemory.
 pub fn explore(alloc: Global, trace: &Trace, at: u64, goal: &Fact) -> Result<Vec<Fact>, ConeFault>
     ensures cone { IfOk result (λ v. IsCone (rule_at trace.now.declarations at) (store_at trace.now.commits at) goal.now v.items) }
     ensures distinct { IfOk result (λ v. AreDistinct v.items) }
+    ensures first { IfOk result (λ v. slice_get v.items 0 ≡ Some goal.now) }
     ensures outgrown { result ≡ Err ConeFault.Outgrown →
         IsOutgrown MAX_USERSETS MAX_LINKS (rule_at trace.now.declarations at) (store_at trace.now.commits at) goal.now }
 {

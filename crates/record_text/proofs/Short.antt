@@ -1,12 +1,10 @@
 -- The text of a fact is short, and so is the record of one.
-use Rattle.std.proofs.Common.{◌≡◌, ℕ, ◌+◌, ◌*◌, ◌≤◌, ◌<◌, ◌^◌, ◌&&◌, ◌==◌, not, Bool, true, false, nat_lt, nat_le, List, [], ◌∷◌, ◌++◌, length, length-append, decimal, refl, sym, ◌∙◌, subst, cond, arith, inl, inr, ◌⊎◌}
-use Rattle.std.specs.Prelude.{codes, bytes_eq}
-use Rattle.std.specs.List.{list_all}
+use Rattle.std.proofs.Common.{◌≡◌, ℕ, ◌*◌, ◌≤◌, ◌<◌, ◌^◌, Bool, true, false, nat_lt, nat_le, List, [], ◌∷◌, length, length-append, decimal, refl, cond, arith}
 use Rattle.std.proofs.lemmas.Bool.{ltb-true, leb-true}
 use Rattle.std.proofs.lemmas.Fmt.{length-decimal-le}
 use Rattle.json.specs.Print.{escape_letter, escape_byte, escape}
 use Rattle.serde_json.specs.Written.{compact_text}
-use Rattle.tuple_text.specs.Forms.{is_name, is_name_byte, is_object_id, is_id_byte}
+use Rattle.tuple_text.specs.Forms.{is_name, is_object_id}
 use Rattle.tuple_text.specs.Grammar.{IsFact}
 use Rattle.tuple_text.specs.Tuples.{FactValue}
 use Rattle.evidence_check.specs.Steps.{yes_step, no_step}

@@ -15,6 +15,9 @@ returns-in_default-clause-cone c =
     (searching_done (rule_at c.args.trace.now.declarations c.args.at) (store_at c.args.trace.now.commits c.args.at) 4194304 c.args.goal.now
     c.loop-next.seen c.loop-next.next c.loop-next.room c.loop-next.invariant none)
 
+pub returns-in_default-clause-first : goal.returns-in_default-clause-first
+returns-in_default-clause-first c = rw c.into_facts.ensures c.loop-next.invariant.first
+
 pub returns-in_err-see_read-clause-outgrown : goal.returns-in_err-see_read-clause-outgrown
 returns-in_err-see_read-clause-outgrown c = λ e.
     searching_stuck (rule_at c.args.trace.now.declarations c.args.at) (store_at c.args.trace.now.commits c.args.at) 4194304 c.args.goal.now
