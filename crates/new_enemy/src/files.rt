@@ -1,10 +1,10 @@
 //! The commands that read files, by what these gave.
 
-ghost use Rattle.std.specs.Prelude.{◌≡◌, ◌≢◌, ◌↔◌, ◌+◌, ◌<◌, ◌≤◌, [], false, length};
+ghost use Rattle.std.specs.Prelude.{◌≡◌, ◌≢◌, ◌↔◌, ◌+◌, ◌≤◌, false, IfErr, OnOk};
 ghost use Rattle.json_lines.specs.Devices.{moved_by, failures_of, stops_of};
 ghost use Rattle.json_lines.specs.Given.{StandBehind};
 ghost use Rattle.audit.specs.Shared.{are_within_limits};
-ghost use Rattle.new_enemy.specs.Run.{IsStatusOf};
+ghost use Rattle.new_enemy.specs.Run.{IsStatus, IsStatusOf};
 ghost use Rattle.new_enemy.specs.Files.{IsCleanAudit, IsDirtyAudit, IsMadeEvidence, IsToldHistory};
 
 use crate::status::{status_of, tell, tell_given_up};
@@ -84,6 +84,25 @@ pub fn run_audit<F: Read, W: Sink, E: Sink, P: Threads + Wait + Sync>(
     (status_with(answer, err), trace, evidence)
 }
 
+/// The status of the answer of `make`. How many entries have no evidence is told to `err`, and with `list` before it the line of each; a fault
+/// is told there in one line.
+fn status_made<E: Sink>(answer: Result<Vec<u64>, AuditFault>, list: bool, err: &mut E) -> u8
+    ensures done { OnOk answer (result ≡ 0) }
+    ensures fault { IfErr answer (λ e. IsStatus e result) }
+    ensures failure { IfErr answer (λ _. 2 ≤ result) }
+{
+    match answer {
+        Ok(given_up) => {
+            tell_given_up(err, &given_up, list);
+            0
+        }
+        Err(fault) => {
+            tell(err, &fault);
+            status_of(&fault)
+        }
+    }
+}
+
 /// Writes evidence for a trace to `out`, and hands the trace's file back with what it gave. How many entries have none is told to `err`, and with
 /// `list` before it the line of each; a fault is told there in one line.
 pub fn run_make<F: Read, W: Sink, E: Sink>(
@@ -102,17 +121,8 @@ pub fn run_make<F: Read, W: Sink, E: Sink>(
     ensures statuses { (result.0 ≤ 5) × (result.0 ≢ 1) × (result.0 ≢ 3) }
 {
     let mut trace = Counted::new(trace);
-    let status = match make_records_listing(alloc, &mut trace, out) {
-        Ok(given_up) => {
-            tell_given_up(err, &given_up, list);
-            0
-        }
-        Err(fault) => {
-            tell(err, &fault);
-            status_of(&fault)
-        }
-    };
-    (status, trace)
+    let answer = make_records_listing(alloc, &mut trace, out);
+    (status_made(answer, list, err), trace)
 }
 
 /// Writes a tuple's history in a trace to `out`, and hands the trace's file back with what it gave. A fault is told to `err` in one line.
