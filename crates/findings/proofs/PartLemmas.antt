@@ -1,5 +1,5 @@
 -- The findings of a part are the whole's on its entries.
-use Rattle.std.proofs.Common.{◌≡◌, ℕ, zero, suc, ◌+◌, Bool, true, false, cond, List, [], ◌∷◌, ◌++◌, length, take, refl, sym, ◌∙◌, ap, subst, Option, None, Some, arith, append-nil, length-append}
+use Rattle.std.proofs.Common.{◌≡◌, ℕ, suc, ◌+◌, Bool, true, false, cond, List, [], ◌∷◌, ◌++◌, length, take, refl, sym, ◌∙◌, ap, subst, Option, None, Some, arith, append-nil, length-append}
 use Rattle.std.specs.Prelude.{slice_get, filter, is_none, is_some, ◌&&◌, option_map, option_and_then, nat_eq, unwrap_or}
 use Rattle.std.specs.Cmp.{first_so, second_so}
 use Rattle.std.specs.List.{position_from}
@@ -11,13 +11,12 @@ use Rattle.trace_lines.specs.Values.{TraceValue, EntryValue}
 use Rattle.trace_lines.specs.Versions.{Version, version_eq, version_of, is_version, version_issued, version_named, entry_version, issues, content_among, content_of}
 use Rattle.trace_lines.specs.declared.entry.EntryKind.{EntryKind}
 use Rattle.trace_lines.specs.declared.entry.EntryKind.TheVariants.{Check, Content}
-use Rattle.token_order.specs.Found.{order_of, line_if_short, is_stale, not_latest, open_snapshot, is_wrong_token, is_unknown_version}
+use Rattle.token_order.specs.Found.{order_of, line_if_short, is_stale, not_latest, open_snapshot, is_wrong_token}
 use Rattle.token_order.specs.declared.findings.OrderFindings.{OrderFindings}
 use Rattle.evidence_check.specs.Evidences.{steps_of}
 use Rattle.evidence_check.specs.Judged.{judged}
 use Rattle.evidence_check.specs.Steps.{StepValue}
 use Rattle.findings.specs.Findings.{found_on, found_by, found_on_tokens, on_line, findings_from, findings_of}
-use Rattle.findings.specs.declared.finding.Finding.{Finding}
 use Rattle.findings.specs.Parts.{is_of, part_of, evidence_from, evidence_of_part, findings_on_part_from, findings_on_part, IsCleanInParts}
 
 -- ---- the first item that passes a test
