@@ -48,7 +48,7 @@ written_if t e None made fits taken = tt
 
 -- ---- one entry more
 
-made_more : (t : TraceValue) (es : List EntryValue) (os : List (Option (List StepValue))) (e : EntryValue) (o : Option (List StepValue)) → AreMade t es os → IsMade t e o
+pub made_more : (t : TraceValue) (es : List EntryValue) (os : List (Option (List StepValue))) (e : EntryValue) (o : Option (List StepValue)) → AreMade t es os → IsMade t e o
     → AreMade t (es ++ e ∷ []) (os ++ o ∷ [])
 made_more t [] [] e o h m = (m, tt)
 made_more t [] (p ∷ os) e o h m = absurd h

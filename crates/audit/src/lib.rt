@@ -2,7 +2,8 @@
 //!
 //! [`audit_plain`] reads a trace and evidence for it from two readers, and writes the report to a writer: a line for each decision that
 //! ignored a newer access change or is wrong, and the verdict. [`audit`] does the same on 1 to 16 workers, and its contract is the same,
-//! clause by clause; [`audit_early`] also tells of findings while it runs. [`audit_joined`] takes one reader that gives both parts, and
+//! clause by clause; [`audit_early`] also tells of findings while it runs, and [`audit_made`] makes the
+//! evidence itself. [`audit_joined`] takes one reader that gives both parts, and
 //! [`audit_values`] a trace and evidence that are read already. [`make_records`] writes evidence for a trace, and [`history`] a tuple's touches in
 //! it, the newest first. Contracts see a reader and a writer as the bytes that they gave and took, and counts of failures, ends and flushes. What
 //! is found, and its text, are of the crate `findings`, which this one passes on.
@@ -21,6 +22,7 @@ mod early;
 mod finder;
 mod joined;
 mod made;
+mod made_audit;
 mod plain;
 mod shared;
 mod touches;
@@ -29,6 +31,7 @@ pub use early::audit_early;
 pub use findings::{Finding, What, findings_of, report_line, report_of};
 pub use joined::audit_joined;
 pub use made::{make_records, make_records_listing};
+pub use made_audit::audit_made;
 pub use plain::{AuditFault, Verdict, audit_plain, audit_values};
 pub use shared::{LARGEST_SLICE, audit};
 pub use touches::history;

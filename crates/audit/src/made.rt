@@ -24,7 +24,7 @@ use std::alloc::{AllocError, Global};
 use trace_lines::Trace;
 
 /// The steps that are made for entry `i`, or none where the maker gave up.
-fn steps_for(alloc: Global, trace: &Trace, i: usize) -> Result<Option<Steps>, AllocError>
+pub(crate) fn steps_for(alloc: Global, trace: &Trace, i: usize) -> Result<Option<Steps>, AllocError>
     requires { i < length trace.now.entries }
     ensures { IfOk result (λ o. (e : EntryValue) → slice_get trace.now.entries i ≡ Some e → IsMade trace.now e (option_map (λ v. step_values v.items) o)) }
 {

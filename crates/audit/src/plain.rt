@@ -97,7 +97,7 @@ fn report_on<F: Finder>(
 }
 
 /// Writes the report on a trace by its evidence, of what this finder finds.
-fn audit_values_by<W: Sink, F: Finder>(
+pub(crate) fn audit_values_by<W: Sink, F: Finder>(
     alloc: Global,
     trace: &Trace,
     evidence: &Evidence,

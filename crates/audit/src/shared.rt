@@ -178,10 +178,10 @@ fn findings_by<R: Threads + Wait + Sync>(
 
 /// Workers who share the entries, in slices of one size.
 #[derive(Drop)]
-struct Workers<'r, R: Threads + Wait + Sync> {
-    rt: &'r R,
-    workers: usize,
-    size: usize,
+pub(crate) struct Workers<'r, R: Threads + Wait + Sync> {
+    pub(crate) rt: &'r R,
+    pub(crate) workers: usize,
+    pub(crate) size: usize,
     ghost some: { 0 < workers },
     ghost few: { workers ≤ 16 },
     ghost filled: { 0 < size },

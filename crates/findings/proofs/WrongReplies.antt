@@ -29,7 +29,7 @@ use Rattle.findings.specs.declared.finding.What.TheVariants.{Stale, OldToken, No
 -- ---- what is told of an entry
 
 -- what holds of whatever is found on a line holds of each finding there
-all_on_line : (P : Finding → Type 0) (line : ℕ) (found : List (Option What)) → AllByRecursion (λ o. IfSome o (λ what. P (record { line = line; what = what }))) found → All P (on_line line found)
+pub all_on_line : (P : Finding → Type 0) (line : ℕ) (found : List (Option What)) → AllByRecursion (λ o. IfSome o (λ what. P (record { line = line; what = what }))) found → All P (on_line line found)
 all_on_line P line [] h = All-nil P
 all_on_line P line (None ∷ found) h = all_on_line P line found h.1
 all_on_line P line (Some what ∷ found) h = All-cons P (record { line = line; what = what }) (on_line line found) h.0 (all_on_line P line found h.1)

@@ -1,0 +1,47 @@
+-- What an audit says on evidence that is made for its trace.
+use Rattle.std.specs.Prelude.{◌≡◌, ℕ, true, List, ◌++◌, Option, Some, Ok, slice_get, All, ⊤}
+use Rattle.trace_lines.specs.Values.{TraceValue, EntryValue}
+use Rattle.trace_lines.specs.Traces.{trace_of}
+use Rattle.evidence_check.specs.Steps.{StepValue}
+use Rattle.findings.specs.Findings.{findings_of}
+use Rattle.findings.specs.declared.finding.Finding.{Finding}
+use Rattle.findings.specs.declared.finding.What.{What}
+use Rattle.findings.specs.declared.finding.What.TheVariants.{NoEvidence, BadEvidence, Silent}
+use Rattle.audit.specs.Audit.{report_on, verdict_of, FailsWriting}
+use Rattle.audit.specs.Made.{AreMade, IsOutOfReach}
+use Rattle.audit.specs.declared.plain.Verdict.{Verdict}
+
+-- the bytes say a trace, and P holds of it and of evidence that is made for it
+abbrev pub OfMade : (TraceValue → List (Option (List StepValue)) → Type 0) → List ℕ → Type 0
+OfMade P a = (t : TraceValue) × (given : List (Option (List StepValue))) × (trace_of true a ≡ Ok t) × AreMade t t.entries given × P t given
+
+-- the report on it went out, and the verdict is its last line
+abbrev pub AuditsMade : List ℕ → List ℕ → List ℕ → Verdict → Type 0
+AuditsMade a old new v = OfMade (λ t given. (new ≡ old ++ report_on t given) × (v ≡ verdict_of (findings_of t given))) a
+
+-- the report on it went out up to its first n bytes
+abbrev pub BreaksMade : List ℕ → List ℕ → List ℕ → ℕ → Type 0
+BreaksMade a old new n = OfMade (λ t given. FailsWriting old new n (report_on t given)) a
+
+-- the bytes say a trace, and whatever evidence is made for it, P holds of the findings
+abbrev pub WhateverIsMade : (TraceValue → List Finding → Type 0) → List ℕ → Type 0
+WhateverIsMade P a = (t : TraceValue) × (trace_of true a ≡ Ok t) × ((given : List (Option (List StepValue))) → AreMade t t.entries given → P t (findings_of t given))
+
+-- an entry that the maker gave up stands on the line
+pub record IsGivenUp (t : TraceValue) (line : ℕ) : Type 0 where
+  pub place : ℕ
+  pub entry : EntryValue
+  pub at : slice_get t.entries place ≡ Some entry
+  pub same : entry.line ≡ line
+  pub given_up : IsOutOfReach t entry
+
+-- evidence is missing only for an entry that the maker gave up, and none is bad or silent
+abbrev pub IsOfMaker : TraceValue → ℕ → What → Type 0
+IsOfMaker t line NoEvidence = IsGivenUp t line
+IsOfMaker t line (BadEvidence k) = ⊥
+IsOfMaker t line Silent = ⊥
+IsOfMaker t line _ = ⊤
+
+-- so it is with each finding
+abbrev pub AreOfMaker : TraceValue → List Finding → Type 0
+AreOfMaker t findings = All (λ f. IsOfMaker t f.line f.what) findings
