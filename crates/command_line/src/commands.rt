@@ -19,11 +19,15 @@ fn number<'a>(alloc: Global, name: &'a str, usual: &'a str, help: &'a str) -> Ar
 
 fn audit<'a>(alloc: Global) -> Result<Command<'a>, AllocError> {
     let trace = file(alloc, "TRACE", "The trace, JSON lines");
-    let evidence = file(
-        alloc,
-        "EVIDENCE",
-        "The evidence for its replies, JSON lines",
-    );
+    let evidence = Arg::new(alloc, "EVIDENCE")
+        .required_unless_present("make")?
+        .help("The evidence for its replies, JSON lines");
+    let make = Arg::new(alloc, "make")
+        .long("make")
+        .action(ArgAction::SetTrue)
+        .conflicts_with("EVIDENCE")?
+        .conflicts_with("early")?
+        .help("Make the evidence, and keep it in memory");
     let workers = number(
         alloc,
         "workers",
@@ -41,12 +45,13 @@ fn audit<'a>(alloc: Global) -> Result<Command<'a>, AllocError> {
         .action(ArgAction::SetTrue)
         .help("Tell an entry's first finding on standard error as soon as it is seen");
     Command::new(alloc, "audit")
-        .about("Audits a trace by evidence for its replies, and writes a report")
+        .about("Audits a trace by evidence for its replies, read or made, and writes a report")
         .after_help(
             "Example: new_enemy audit trace.jsonl evidence.jsonl --workers 4\n\nA file that comes by a pipe is named /dev/stdin. Exit status: 0 clean, 1 dirty.",
         )
         .arg(trace)?
         .arg(evidence)?
+        .arg(make)?
         .arg(workers)?
         .arg(slice)?
         .arg(early)

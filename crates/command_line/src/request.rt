@@ -14,10 +14,10 @@ pub enum Request<'a> {
     /// The audit of joined input on standard input.
     Joined,
     /// The audit of a trace by evidence, both files, on some workers that take slices of so many entries; early
-    /// alerts go to standard error where they are asked for.
+    /// alerts go to standard error where they are asked for. Without a file of evidence it is made.
     Audit {
         trace: &'a str,
-        evidence: &'a str,
+        evidence: Option<&'a str>,
         workers: u64,
         slice: u64,
         early: bool,
@@ -49,7 +49,7 @@ fn audit_of<'a>(matches: &ArgMatches<'a>) -> Option<Request<'a>>
 {
     Some(Request::Audit {
         trace: matches.get_str("TRACE")?,
-        evidence: matches.get_str("EVIDENCE")?,
+        evidence: matches.get_str("EVIDENCE"),
         workers: matches.get_one::<u64>("workers")?,
         slice: matches.get_one::<u64>("slice")?,
         early: matches.get_flag("early"),

@@ -7,6 +7,7 @@ use Rattle.audit.specs.Audit.{Audits}
 use Rattle.findings.specs.Headline.{IsTraceRightAndFresh}
 use Rattle.audit.specs.History.{TellsHistory}
 use Rattle.audit.specs.Made.{MakesRecords}
+use Rattle.audit.specs.MadeAudit.{AuditsMade}
 use Rattle.audit.specs.declared.plain.Verdict.{Verdict}
 use Rattle.audit.specs.declared.plain.Verdict.TheVariants.{Clean, Dirty}
 use Rattle.new_enemy.specs.declared.run.Ran.{Ran}
@@ -24,6 +25,17 @@ IsCleanAudit trace evidence old new = IsAudit Clean IsTraceRightAndFresh trace e
 abbrev pub IsDirtyAudit : {F : Type 0} → Counted F → Counted F → List ℕ → List ℕ → Type 0
 IsDirtyAudit trace evidence old new = IsAudit Dirty (λ a. ⊤) trace evidence old new
 
+-- All that the file gave, to its end, is a trace, and what a writer took is the report on it and on evidence that was made for it, with this verdict.
+abbrev pub IsAuditMade : {F : Type 0} → Verdict → (List ℕ → Type 0) → Counted F → List ℕ → List ℕ → Type 0
+IsAuditMade v OfTrace trace old new = (stops_of trace ≡ 1) × AuditsMade (moved_by trace) old new v × OfTrace (moved_by trace)
+
+-- and the trace is right and fresh
+abbrev pub IsCleanAuditMade : {F : Type 0} → Counted F → List ℕ → List ℕ → Type 0
+IsCleanAuditMade trace old new = IsAuditMade Clean IsTraceRightAndFresh trace old new
+
+abbrev pub IsDirtyAuditMade : {F : Type 0} → Counted F → List ℕ → List ℕ → Type 0
+IsDirtyAuditMade trace old new = IsAuditMade Dirty (λ a. ⊤) trace old new
+
 -- all that the file gave, to its end, is a trace, and what a writer took is the tuple's history in it
 abbrev pub IsToldHistory : {F : Type 0} → TupleValue → Counted F → List ℕ → List ℕ → Type 0
 IsToldHistory tuple trace old new = (stops_of trace ≡ 1) × ((n : ℕ) × TellsHistory (moved_by trace) tuple old new n)
@@ -32,10 +44,12 @@ IsToldHistory tuple trace old new = (stops_of trace ≡ 1) × ((n : ℕ) × Tell
 abbrev pub IsMadeEvidence : {F : Type 0} → Counted F → List ℕ → List ℕ → Type 0
 IsMadeEvidence trace old new = (stops_of trace ≡ 1) × ((lines : List ℕ) × MakesRecords (moved_by trace) old new lines)
 
--- what holds of a run by what it read: joined input, the files of an audit, the file that evidence was made for, the file of a history, or no file
-abbrev pub OfRun : {F : Type 0} → Ran F → Type 0 → (Counted F → Counted F → Type 0) → (Counted F → Type 0) → (Counted F → Type 0) → Type 0 → Type 0
-OfRun ran.Joined joined audited made told nothing = joined
-OfRun (ran.Audited trace evidence) joined audited made told nothing = audited trace evidence
-OfRun (ran.Made trace) joined audited made told nothing = made trace
-OfRun (ran.Told trace) joined audited made told nothing = told trace
-OfRun ran.Nothing joined audited made told nothing = nothing
+-- what holds of a run by what it read: joined input, the files of an audit, the file of one that made its evidence, the file that evidence was made
+-- for, the file of a history, or no file
+abbrev pub OfRun : {F : Type 0} → Ran F → Type 0 → (Counted F → Counted F → Type 0) → (alone made told : Counted F → Type 0) → Type 0 → Type 0
+OfRun ran.Joined joined audited alone made told nothing = joined
+OfRun (ran.Audited trace evidence) joined audited alone made told nothing = audited trace evidence
+OfRun (ran.AuditedAlone trace) joined audited alone made told nothing = alone trace
+OfRun (ran.Made trace) joined audited alone made told nothing = made trace
+OfRun (ran.Told trace) joined audited alone made told nothing = told trace
+OfRun ran.Nothing joined audited alone made told nothing = nothing

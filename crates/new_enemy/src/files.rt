@@ -5,10 +5,10 @@ ghost use Rattle.json_lines.specs.Devices.{moved_by, failures_of, stops_of};
 ghost use Rattle.json_lines.specs.Given.{StandBehind};
 ghost use Rattle.audit.specs.Shared.{are_within_limits};
 ghost use Rattle.new_enemy.specs.Run.{IsStatus, IsStatusOf};
-ghost use Rattle.new_enemy.specs.Files.{IsCleanAudit, IsDirtyAudit, IsMadeEvidence, IsToldHistory};
+ghost use Rattle.new_enemy.specs.Files.{IsCleanAudit, IsDirtyAudit, IsCleanAuditMade, IsDirtyAuditMade, IsMadeEvidence, IsToldHistory};
 
 use crate::status::{status_of, tell, tell_given_up};
-use audit::{AuditFault, Verdict, audit, audit_early, history, make_records_listing};
+use audit::{AuditFault, Verdict, audit, audit_early, audit_made, history, make_records_listing};
 use json_lines::{Counted, Sink};
 use std::alloc::Global;
 use std::io::Read;
@@ -101,6 +101,32 @@ fn status_made<E: Sink>(answer: Result<Vec<u64>, AuditFault>, list: bool, err: &
             status_of(&fault)
         }
     }
+}
+
+/// Audits a trace by evidence that is made for it, writes the report to `out`, and hands the trace's file back with what it gave. A fault is told to
+/// `err` in one line; there are no early alerts.
+pub fn run_audit_made<F: Read, W: Sink, E: Sink, P: Threads + Wait + Sync>(
+    rt: &P,
+    alloc: Global,
+    trace: F,
+    sharing: Sharing,
+    out: &mut W,
+    err: &mut E,
+) -> (u8, Counted<F>)
+    // All that the trace's file gave, to its end, is a trace that is right and fresh, and the report on it and on evidence that was made for it went
+    // out whole.
+    ensures clean { result.0 ≡ 0 → IsCleanAuditMade result.1 (W.taken out.old) (W.taken out.new) }
+    ensures dirty { result.0 ≡ 1 → IsDirtyAuditMade result.1 (W.taken out.old) (W.taken out.new) }
+    ensures flushed { result.0 ≤ 1 → W.flushes out.new ≡ W.flushes out.old + 1 }
+    ensures limits { result.0 ≡ 3 ↔ (are_within_limits sharing.workers sharing.slice ≡ false) }
+    ensures kept { result.0 ≢ 5 → (failures_of result.1 ≡ 0) × (W.failures out.new ≡ W.failures out.old) }
+    ensures unwritten { 2 ≤ result.0 → result.0 ≤ 4 → W.taken out.new ≡ W.taken out.old }
+    ensures held { StandBehind W.taken W.contents out.old out.new }
+    ensures statuses { result.0 ≤ 5 }
+{
+    let mut trace = Counted::new(trace);
+    let answer = audit_made(rt, alloc, &mut trace, out, sharing.workers, sharing.slice);
+    (status_with(answer, err), trace)
 }
 
 /// Writes evidence for a trace to `out`, and hands the trace's file back with what it gave. How many entries have none is told to `err`, and with

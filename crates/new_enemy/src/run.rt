@@ -9,12 +9,12 @@ ghost use Rattle.tuple_text.specs.Tuples.{TupleValue};
 ghost use Rattle.audit.specs.Audit.{Audits, HasRisen};
 ghost use Rattle.findings.specs.Headline.{IsTraceRightAndFresh};
 ghost use Rattle.audit.specs.Joined.{OfParts};
-ghost use Rattle.new_enemy.specs.Files.{IsCleanAudit, IsDirtyAudit, IsMadeEvidence, IsToldHistory, OfRun};
+ghost use Rattle.new_enemy.specs.Files.{IsCleanAudit, IsDirtyAudit, IsCleanAuditMade, IsDirtyAuditMade, IsMadeEvidence, IsToldHistory, OfRun};
 ghost use Rattle.new_enemy.specs.Run.{IsRefused, IsCleanRun, IsDirtyRun};
 ghost use Rattle.new_enemy.specs.declared.run.Ran.TheVariants as ran;
 ghost use Rattle.audit.specs.declared.plain.Verdict.TheVariants.{Clean, Dirty};
 
-use crate::files::{Sharing, run_audit, run_history, run_make};
+use crate::files::{Sharing, run_audit, run_audit_made, run_history, run_make};
 use crate::joined::run_joined;
 use crate::status::{tell, tell_path, tell_tuple};
 use audit::AuditFault;
@@ -35,6 +35,8 @@ pub enum Ran<F> {
     Joined,
     /// The trace and the evidence of an audit.
     Audited(Counted<F>, Counted<F>),
+    /// The trace of an audit by evidence that was made for it.
+    AuditedAlone(Counted<F>),
     /// The trace that evidence was made for.
     Made(Counted<F>),
     /// The trace of a tuple's history.
@@ -54,18 +56,20 @@ fn opened<P: Files, E: Sink>(rt: &P, path: &str, err: &mut E) -> Option<P::File>
     }
 }
 
-/// The audit of the files of two paths.
+/// The audit of the files of two paths, or of the first by evidence that is made.
 fn audit_paths<W: Sink, E: Sink, P: Files + Threads + Wait + Sync>(
     rt: &P,
     alloc: Global,
-    paths: (&str, &str),
+    paths: (&str, Option<&str>),
     sharing: Sharing,
     out: &mut W,
     err: &mut E,
 ) -> (u8, Ran<P::File>)
-    ensures clean { result.0 ≡ 0 → OfRun result.1 ⊥ (λ t e. IsCleanAudit t e (W.taken out.old) (W.taken out.new)) (λ t. ⊥) (λ t. ⊥) ⊥ }
-    ensures dirty { result.0 ≡ 1 → OfRun result.1 ⊥ (λ t e. IsDirtyAudit t e (W.taken out.old) (W.taken out.new)) (λ t. ⊥) (λ t. ⊥) ⊥ }
-    ensures files { OfRun result.1 ⊥ (λ t e. ⊤) (λ t. ⊥) (λ t. ⊥) ⊤ }
+    ensures clean { result.0 ≡ 0 → OfRun result.1 ⊥ (λ t e. IsCleanAudit t e (W.taken out.old) (W.taken out.new))
+        (λ t. IsCleanAuditMade t (W.taken out.old) (W.taken out.new)) (λ t. ⊥) (λ t. ⊥) ⊥ }
+    ensures dirty { result.0 ≡ 1 → OfRun result.1 ⊥ (λ t e. IsDirtyAudit t e (W.taken out.old) (W.taken out.new))
+        (λ t. IsDirtyAuditMade t (W.taken out.old) (W.taken out.new)) (λ t. ⊥) (λ t. ⊥) ⊥ }
+    ensures files { OfRun result.1 ⊥ (λ t e. ⊤) (λ t. ⊤) (λ t. ⊥) (λ t. ⊥) ⊤ }
     ensures flushed { result.0 ≤ 1 → W.flushes out.new ≡ W.flushes out.old + 1 }
     ensures kept { result.0 ≢ 5 → W.failures out.new ≡ W.failures out.old }
     ensures unwritten { 2 ≤ result.0 → result.0 ≤ 4 → W.taken out.new ≡ W.taken out.old }
@@ -75,6 +79,10 @@ fn audit_paths<W: Sink, E: Sink, P: Files + Threads + Wait + Sync>(
     let (trace, evidence) = paths;
     let Some(trace) = opened(rt, trace, err) else {
         return (5, Ran::Nothing);
+    };
+    let Some(evidence) = evidence else {
+        let (status, trace) = run_audit_made(rt, alloc, trace, sharing, out, err);
+        return (status, Ran::AuditedAlone(trace));
     };
     let Some(evidence) = opened(rt, evidence, err) else {
         return (5, Ran::Nothing);
@@ -92,8 +100,8 @@ fn make_for_path<W: Sink, E: Sink, P: Files>(
     out: &mut W,
     err: &mut E,
 ) -> (u8, Ran<P::File>)
-    ensures made { result.0 ≡ 0 → OfRun result.1 ⊥ (λ t e. ⊥) (λ t. IsMadeEvidence t (W.taken out.old) (W.taken out.new)) (λ t. ⊥) ⊥ }
-    ensures files { OfRun result.1 ⊥ (λ t e. ⊥) (λ t. ⊤) (λ t. ⊥) ⊤ }
+    ensures made { result.0 ≡ 0 → OfRun result.1 ⊥ (λ t e. ⊥) (λ t. ⊥) (λ t. IsMadeEvidence t (W.taken out.old) (W.taken out.new)) (λ t. ⊥) ⊥ }
+    ensures files { OfRun result.1 ⊥ (λ t e. ⊥) (λ t. ⊥) (λ t. ⊤) (λ t. ⊥) ⊤ }
     ensures flushed { result.0 ≤ 1 → W.flushes out.new ≡ W.flushes out.old + 1 }
     ensures kept { result.0 ≢ 5 → W.failures out.new ≡ W.failures out.old }
     ensures unwritten { 2 ≤ result.0 → result.0 ≤ 4 → W.taken out.new ≡ W.taken out.old }
@@ -116,8 +124,8 @@ fn history_in_path<W: Sink, E: Sink, P: Files>(
     out: &mut W,
     err: &mut E,
 ) -> (u8, Ran<P::File>)
-    ensures told { result.0 ≡ 0 → OfRun result.1 ⊥ (λ t e. ⊥) (λ t. ⊥) (λ t. (tuple : TupleValue) × IsToldHistory tuple t (W.taken out.old) (W.taken out.new)) ⊥ }
-    ensures files { OfRun result.1 ⊥ (λ t e. ⊥) (λ t. ⊥) (λ t. ⊤) ⊤ }
+    ensures told { result.0 ≡ 0 → OfRun result.1 ⊥ (λ t e. ⊥) (λ t. ⊥) (λ t. ⊥) (λ t. (tuple : TupleValue) × IsToldHistory tuple t (W.taken out.old) (W.taken out.new)) ⊥ }
+    ensures files { OfRun result.1 ⊥ (λ t e. ⊥) (λ t. ⊥) (λ t. ⊥) (λ t. ⊤) ⊤ }
     ensures flushed { result.0 ≤ 1 → W.flushes out.new ≡ W.flushes out.old + 1 }
     ensures kept { result.0 ≢ 5 → W.failures out.new ≡ W.failures out.old }
     ensures unwritten { 2 ≤ result.0 → result.0 ≤ 4 → W.taken out.new ≡ W.taken out.old }
@@ -161,11 +169,12 @@ pub fn run_words<R: Source, W: Sink, E: Sink, P: Files + Threads + Wait + Sync>(
         (OfWhole R.given R.ends input.old input.new (OfParts (λ a b. Audits a b (W.taken out.old) (W.taken out.new) Clean))
         × OfWhole R.given R.ends input.old input.new (OfParts (λ a b. IsTraceRightAndFresh a)))
         (λ t e. IsCleanAudit t e (W.taken out.old) (W.taken out.new))
+        (λ t. IsCleanAuditMade t (W.taken out.old) (W.taken out.new))
         (λ t. IsMadeEvidence t (W.taken out.old) (W.taken out.new))
         (λ t. (tuple : TupleValue) × IsToldHistory tuple t (W.taken out.old) (W.taken out.new)) ⊤ }
     ensures dirty { result.0 ≡ 1 → OfRun result.1
         (OfWhole R.given R.ends input.old input.new (OfParts (λ a b. Audits a b (W.taken out.old) (W.taken out.new) Dirty)))
-        (λ t e. IsDirtyAudit t e (W.taken out.old) (W.taken out.new)) (λ t. ⊥) (λ t. ⊥) ⊥ }
+        (λ t e. IsDirtyAudit t e (W.taken out.old) (W.taken out.new)) (λ t. IsDirtyAuditMade t (W.taken out.old) (W.taken out.new)) (λ t. ⊥) (λ t. ⊥) ⊥ }
     ensures flushed { result.0 ≤ 1 → result.1 ≢ ran.Nothing → W.flushes out.new ≡ W.flushes out.old + 1 }
     // Of every input that begins with the bytes that came.
     ensures refused { result.1 ≡ ran.Joined → result.0 ≡ 2 → OfInput R.given R.ends input.old input.new IsRefused }
@@ -236,8 +245,10 @@ pub fn run_on<R: Read, W: Write, E: Write, P: Files + Threads + Wait + Sync>(
     // All that was read, to its end, is a trace and evidence for it, all that was written is the report on them, and the trace is right
     // and fresh.
     ensures clean { result.0 ≡ 0 → OfRun result.1 (IsCleanRun result.2.0 result.2.1) (λ t e. IsCleanAudit t e [] (moved_by result.2.1))
+        (λ t. IsCleanAuditMade t [] (moved_by result.2.1))
         (λ t. IsMadeEvidence t [] (moved_by result.2.1)) (λ t. (tuple : TupleValue) × IsToldHistory tuple t [] (moved_by result.2.1)) ⊤ }
-    ensures dirty { result.0 ≡ 1 → OfRun result.1 (IsDirtyRun result.2.0 result.2.1) (λ t e. IsDirtyAudit t e [] (moved_by result.2.1)) (λ t. ⊥) (λ t. ⊥) ⊥ }
+    ensures dirty { result.0 ≡ 1 → OfRun result.1 (IsDirtyRun result.2.0 result.2.1) (λ t e. IsDirtyAudit t e [] (moved_by result.2.1))
+        (λ t. IsDirtyAuditMade t [] (moved_by result.2.1)) (λ t. ⊥) (λ t. ⊥) ⊥ }
     ensures refused { result.1 ≡ ran.Joined → result.0 ≡ 2 → (rest : List ℕ) → (0 < stops_of result.2.0 → rest ≡ []) → IsRefused (moved_by result.2.0 ++ rest) }
     ensures used { result.1 ≡ ran.Joined → result.0 ≢ 3 }
     ensures device { result.1 ≡ ran.Joined → result.0 ≡ 5 → 0 < failures_of result.2.0 + failures_of result.2.1 + stops_of result.2.1 }
