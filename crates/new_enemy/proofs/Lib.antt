@@ -1,1 +1,3 @@
+pub mod MadeEvidence
+pub mod Runs
 pub mod Statuses
