@@ -1,7 +1,6 @@
 """The commands that documents show, run as they stand there, give what they say."""
-import glob
 import os
-import shlex
+import re
 import subprocess
 
 from tests.support import TOP, Case
@@ -12,55 +11,62 @@ def read(*names):
         return file.read()
 
 
-class Commands(Case):
-    def setUp(self):
-        super().setUp()
-        self.text = read("docs", "IMPORTING.md")
-        os.symlink(os.path.join(TOP, "examples"), self.path("examples"))
-
-    def commands(self, service):
-        """The words of each command that imports an example of a service."""
-        text = self.text.replace("\\\n", " ")
-        return [shlex.split(line)[1:] for line in text.splitlines()
-                if line.startswith("    tools/import_trace %s" % service) and "examples/" in line]
-
-    def blocks(self):
-        return [block for block in self.text.split("\n\n") if block.endswith("verdict dirty")]
-
-    def test_the_examples(self):
-        for service, block in zip(("openfga", "spicedb"), self.blocks()):
-            (words,) = self.commands(service)
-            self.imported(*words)
-            self.assertTrue(self.audited().endswith("findings 0\nverdict clean\n"))
-            self.imported(*[word.replace("/log.jsonl", "/stale_log.jsonl") for word in words])
-            self.assertEqual(self.audited().splitlines(), [line.strip() for line in block.splitlines()])
-
+class Events(Case):
     def test_the_neutral_events(self):
-        block = next(block for block in self.text.split("\n\n") if block.startswith('    {"event":"rules"'))
+        block = next(block for block in read("docs", "IMPORTING.md").split("\n\n") if block.startswith('    {"event":"rules"'))
         self.put("log", "".join(line.strip() + "\n" for line in block.splitlines()))
         self.assertIn("commits 2, checks 2, content checks 1\n", self.imported("events", "log"))
         self.assertEqual(self.audited(), "entries 3\nfindings 0\nverdict clean\n")
 
 
 def transcripts(text):
-    """The lines of each block that begins with a command of the program behind a dollar sign: that command, and what it prints."""
-    blocks = [[line[4:] for line in block.splitlines()] for block in text.split("\n\n") if block.startswith("    $ ./new_enemy")]
-    return [(block[0][2:], block[1:]) for block in blocks]
+    """The commands behind a dollar sign in a document's indented blocks, in order, each with the lines that it prints."""
+    shown, within = [], False
+    for line in re.sub(r"\\\n *", "", text).splitlines():
+        if line.startswith("    $ "):
+            shown.append((line[6:], []))
+        elif within and (not line or line.startswith("    ")):
+            shown[-1][1].append(line[4:])
+        within = line.startswith("    $ ") or within and (not line or line.startswith("    "))
+    return [(command, "\n".join(lines).rstrip("\n").splitlines()) for command, lines in shown]
 
 
 class Transcripts(Case):
-    def printed(self, command):
-        """What the shell prints for a command, with the built program in the place of the script that builds it."""
-        program = os.environ["NEW_ENEMY"]
-        return subprocess.run(command.replace("./new_enemy", shlex.quote(program), 1), shell=True, cwd=TOP, capture_output=True, text=True, timeout=60).stdout
+    def setUp(self):
+        super().setUp()
+        for name in "examples", "tools", "bench":
+            os.symlink(os.path.join(TOP, name), self.path(name))
+        os.symlink(os.path.abspath(os.environ["NEW_ENEMY"]), self.path("new_enemy"))
 
-    def test_what_documents_show(self):
-        shown = ""
-        for path in [os.path.join(TOP, "README.md"), *sorted(glob.glob(os.path.join(TOP, "docs", "*.md")))]:
-            for command, lines in transcripts(read(path)):
-                with self.subTest(document=os.path.basename(path), command=command):
-                    self.assertEqual(self.printed(command).splitlines(), lines)
-                shown += command
+    def printed(self, command):
+        """What the shell prints for a command in the folder, on both of its outputs."""
+        return subprocess.run(command, shell=True, cwd=self.room, stdin=subprocess.DEVNULL, stdout=subprocess.PIPE,
+                              stderr=subprocess.STDOUT, text=True, timeout=60).stdout
+
+    def show(self, *names):
+        """Runs the commands that a document shows, in order, in one folder. The commands."""
+        shown = transcripts(read(*names))
+        for command, lines in shown:
+            with self.subTest(command=command):
+                self.assertEqual(self.printed(command).splitlines(), lines)
+        return [command for command, _ in shown]
+
+    def test_the_readme(self):
+        self.show("README.md")
+
+    def test_formats(self):
+        self.show("docs", "FORMATS.md")
+
+    def test_importing(self):
+        self.show("docs", "IMPORTING.md")
+
+    def test_scale(self):
+        self.show("docs", "SCALE.md")
+
+    def test_every_example_and_document(self):
+        documents = [["README.md"], *(["docs", name] for name in sorted(os.listdir(os.path.join(TOP, "docs"))))]
+        commands = {names[-1]: [command for command, _ in transcripts(read(*names))] for names in documents}
+        self.assertEqual([name for name in commands if commands[name]], ["README.md", "FORMATS.md", "IMPORTING.md", "SCALE.md"])
+        shown = " ".join(command for each in commands.values() for command in each)
         for example in os.listdir(os.path.join(TOP, "examples")):
-            if os.path.isfile(os.path.join(TOP, "examples", example)):
-                self.assertIn("examples/" + example, shown)
+            self.assertIn("examples/" + example, shown)
