@@ -4,7 +4,7 @@ ghost use Rattle.std.specs.Prelude.{◌≡◌, ◌∷◌, ◌++◌, [], List, Ok
 ghost use Rattle.strata.specs.Edges as edges;
 ghost use Rattle.namespaces.specs.Declaration.{Declaration};
 ghost use Rattle.namespaces.specs.WellFormed.{IsWellFormed};
-ghost use Rattle.strata.specs.Edges.{edges_of_namespace, first_broken, read_by_rule, rule_edges, tuple_edges};
+ghost use Rattle.strata.specs.Edges.{first_broken, read_by_rule, rule_edges, tuple_edges};
 ghost use Rattle.strata.specs.Sights.{last_edges, reads};
 ghost use Rattle.tuple_text.specs.Refs.{set_value};
 
@@ -44,21 +44,6 @@ pub fn check_rules(rules: &Rules) -> Result<(), Edge>
     Ok(())
 }
 
-/// Looks at the edges of every rule that the namespace with this name ever had, in the order of [`check_rules`].
-///
-/// Where the last declaration is of this namespace, and the rules before it had no broken edge, no rule of another namespace has one now, and so the
-/// answer is that of [`check_rules`].
-pub fn check_declared(rules: &Rules, namespace: &str) -> Result<(), Edge>
-    ensures exact { result ≡ first_broken rules.now (edges_of_namespace rules.now namespace.now) }
-    ensures first { (ds : List Declaration) (d : Declaration) → rules.now ≡ ds ++ d ∷ [] → d.name ≡ namespace.now
-        → first_broken ds (rule_edges ds) ≡ Ok (tt {0}) → result ≡ first_broken rules.now (rule_edges rules.now) }
-{
-    match rules.namespace_number(namespace) {
-        Some(number) => check_namespace(rules, number, Sight::Rule(namespace)),
-        None => Ok(()),
-    }
-}
-
 /// The first broken edge of the rules that the last declaration gives the namespace with this number and name.
 fn check_last_rules(rules: &Rules, namespace: u16, name: &str) -> Result<(), Edge>
     ensures edges { result ≡ first_broken rules.now (last_edges rules.now (read_by_rule name.now) namespace) }
@@ -75,11 +60,11 @@ fn check_last_rules(rules: &Rules, namespace: u16, name: &str) -> Result<(), Edg
     Ok(())
 }
 
-/// Looks at the edges of the last declaration's rules alone, where it is of the namespace with this name, and the rules before it had no broken edge.
+/// Looks at the edges of the rules of this namespace's last declaration alone, in the order of [`check_rules`].
 ///
-/// The answer is that of [`check_rules`]. A rule that was declared before reads relations of its own declaration, which later ones keep with their
-/// strata, and so none of its edges has changed.
-pub fn check_last_declared(rules: &Rules, namespace: &str) -> Result<(), Edge>
+/// Where that is the last declaration of all, and the rules before it had no broken edge, the answer is that of [`check_rules`]: a rule that was declared
+/// before reads relations that later declarations keep with their strata, so none of its edges has changed.
+pub fn check_declared(rules: &Rules, namespace: &str) -> Result<(), Edge>
     ensures { (ds : List Declaration) (d : Declaration) → rules.now ≡ ds ++ d ∷ [] → d.name ≡ namespace.now
         → first_broken ds (rule_edges ds) ≡ Ok (tt {0}) → result ≡ first_broken rules.now (rule_edges rules.now) }
 {

@@ -17,5 +17,5 @@ pub mod laws;
 mod walk;
 
 pub use change::{ChangeFault, check_change};
-pub use check::{check_declared, check_last_declared, check_rules, check_tuple};
+pub use check::{check_declared, check_rules, check_tuple};
 pub use edge::Edge;

@@ -13,7 +13,7 @@ use json_lines::fields::text_at;
 use namespaces::{Rules, RulesFault};
 use serde_json::Value;
 use std::alloc::Global;
-use strata::{ChangeFault, check_change, check_last_declared};
+use strata::{ChangeFault, check_change, check_declared};
 use version_chains::AppendFault;
 
 /// The first broken edge of the rules, after a value declared a namespace: it is one of that namespace.
@@ -22,7 +22,7 @@ fn check(rules: &Rules, value: &Value) -> Result<(), Cause>
     ensures { result ≡ rules_checked rules.now }
 {
     match text_at(value, "name") {
-        Some(namespace) => check_last_declared(rules, namespace).map_err(Cause::Strata),
+        Some(namespace) => check_declared(rules, namespace).map_err(Cause::Strata),
         None => unreachable!(),
     }
 }
