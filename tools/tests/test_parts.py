@@ -61,10 +61,10 @@ class PartsCase(Case):
         self.addCleanup(room.cleanup)
         self.room = room.name
 
-    def cut(self, count, joined, name="cut"):
+    def cut(self, count, joined, name="cut", jobs=1):
         """Cuts joined input; its folder."""
         folder = self.path(name)
-        self.assertEqual(cut_command(count, self.put(name + ".joined", joined), None, folder), 0)
+        self.assertEqual(cut_command(count, self.put(name + ".joined", joined), None, folder, jobs), 0)
         return folder
 
     def audited_parts(self, folder):

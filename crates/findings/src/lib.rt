@@ -7,6 +7,7 @@
 //! Callers may rely on this: what is found on an entry is said by its tokens and its own record of evidence alone, and the text by the findings
 //! and the number of entries. By the law [`laws::right_and_fresh_without_findings`] a trace without findings has replies that are right and
 //! fresh, whoever made the evidence; by [`laws::wrong_replies_are_wrong`] a reply that a finding F10 calls wrong is wrong, whatever else is found.
+//! By [`laws::bytes_of_part`] and [`laws::findings_of_part`] a trace may be cut by object, and what is found in the parts is what is found in the whole.
 //!
 //! ```text
 //! let text = report_of(alloc, &findings_of(alloc, &trace, &evidence)?, trace.len())?;
