@@ -92,7 +92,7 @@ pub(crate) fn program<'a>(alloc: Global) -> Result<Command<'a>, AllocError> {
             "Audits recorded authorization decisions for ignored access changes and wrong replies",
         )
         .after_help(
-            "Without a command it audits joined input: the trace, a line ---, and the evidence.",
+            "Without a command it audits what standard input gives until its end: the trace, a line ---, and the evidence.",
         )
         .no_binary_name(true)
         .subcommand(audit(alloc)?)?
