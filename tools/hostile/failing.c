@@ -1,5 +1,6 @@
 /* Preloaded into a program, this makes some of its calls fail: growths with "growth" in FAIL_WHAT, reads with "read", writes with
-   "write", each from number FAIL_FROM to number FAIL_TO, counted from 1 where main begins. One byte to the file FAIL_TOLD tells each. */
+   "write", each from number FAIL_FROM to number FAIL_TO, counted from 1 where main begins; with "take" these writes take no byte.
+   One byte to the file FAIL_TOLD tells each. */
 #define _GNU_SOURCE
 #include <errno.h>
 #include <stdatomic.h>
@@ -43,4 +44,8 @@ int posix_memalign(void **out, size_t line, size_t size) {
 }
 
 ssize_t read(int file, void *to_here, size_t size) { return fails("read", EIO) ? -1 : syscall(SYS_read, file, to_here, size); }
-ssize_t write(int file, const void *bytes, size_t size) { return fails("write", EIO) ? -1 : syscall(SYS_write, file, bytes, size); }
+
+ssize_t write(int file, const void *bytes, size_t size) {
+    if (fails("take", 0)) return 0;
+    return fails("write", EIO) ? -1 : syscall(SYS_write, file, bytes, size);
+}

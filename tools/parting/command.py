@@ -1,6 +1,7 @@
 """An audit in parts, for a trace that is too large or too slow for one process (docs/SCALE.md).
 
-    parts cut N TRACE [EVIDENCE] FOLDER        cuts into N parts by object
+    parts cut N TRACE [EVIDENCE] FOLDER [--jobs N]
+                                               cuts into N parts by object
     parts run PROGRAM FOLDER [--jobs N]        audits each part here, and merges
     parts one PROGRAM FOLDER PART              audits one part, for engines that run commands on many machines
     parts merge REPORT ..                      the whole's report and status, from the reports of all parts
@@ -28,6 +29,7 @@ def words(arguments: list[str]):
     cut.add_argument("trace", metavar="TRACE", help="a trace, or joined input")
     cut.add_argument("evidence", nargs="?", metavar="EVIDENCE")
     cut.add_argument("folder", metavar="FOLDER", help="a folder that is empty or not there yet")
+    cut.add_argument("--jobs", type=int, default=os.cpu_count(), metavar="N", help="how many processes place lines")
     for name, told in (("run", "audits each part here, and merges"), ("one", "audits one part")):
         command = commands.add_parser(name, help=told)
         command.add_argument("program", metavar="PROGRAM", help="the built auditor")
@@ -41,7 +43,7 @@ def words(arguments: list[str]):
     given = parser.parse_args(arguments)
     if given.command == "cut" and not 1 <= given.parts <= MOST_PARTS:
         parser.error("N is from 1 to %d" % MOST_PARTS)
-    if given.command == "run" and given.jobs < 1:
+    if given.command in ("cut", "run") and given.jobs < 1:
         parser.error("--jobs is below 1")
     return given
 
@@ -52,25 +54,25 @@ def _empty(folder: str) -> None:
         raise PartsFault("%s is not empty" % folder)
 
 
-def _cut_files(parts: int, trace: BinaryIO, evidence: Optional[BinaryIO], folder: str) -> None:
+def _cut_files(parts: int, trace: BinaryIO, evidence: Optional[BinaryIO], folder: str, jobs: int) -> None:
     """Cuts, and takes away what it wrote where it fails."""
     try:
-        Cut(parts, folder).cut(trace, evidence).write(folder)
+        Cut(parts, folder, jobs).cut(trace, evidence).write(folder)
     except BaseException:
         for name in os.listdir(folder):
             os.remove(os.path.join(folder, name))
         raise
 
 
-def cut_command(parts: int, trace_path: str, evidence_path: Optional[str], folder: str) -> int:
+def cut_command(parts: int, trace_path: str, evidence_path: Optional[str], folder: str, jobs: int) -> int:
     with open(trace_path, "rb") as trace:
         if evidence_path is None:
             _empty(folder)
-            _cut_files(parts, trace, None, folder)
+            _cut_files(parts, trace, None, folder, jobs)
             return 0
         with open(evidence_path, "rb") as evidence:
             _empty(folder)
-            _cut_files(parts, trace, evidence, folder)
+            _cut_files(parts, trace, evidence, folder, jobs)
     return 0
 
 
@@ -99,7 +101,7 @@ def main(arguments: list[str]) -> int:
     given = words(arguments)
     try:
         if given.command == "cut":
-            return cut_command(given.parts, given.trace, given.evidence, given.folder)
+            return cut_command(given.parts, given.trace, given.evidence, given.folder, given.jobs)
         if given.command == "one":
             return one_command(given.program, given.folder, given.part)
         return merge_command(run_all(given.program, given.folder, given.jobs) if given.command == "run" else given.reports)

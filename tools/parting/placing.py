@@ -24,13 +24,15 @@ _FACT = rb'"(' + _OBJECT + rb")#[a-z][a-z0-9_]{0,63}+@" + _NUMBER + rb'"'
 _MEMBER = rb', ?(?!"kind"|"goal")' + _TEXT + rb": ?(?:" + _TEXT + rb"|" + _NUMBER + rb"|true|false|null)"
 _STEP = rb'\{(?:"yes": ?' + _TEXT + rb'|"no": ?\[(?:' + _TEXT + rb"(?:, ?" + _TEXT + rb")*+)?+\])\}"
 _END = rb"\}[ \t\r]*+\n"
+# Whatever else stands on the line, it is no entry: no other key of it is `kind`.
+_COMMIT = rb'\{"kind": ?"(?:commit|namespace)"[^\n\\k]*+(?:k(?!ind")[^\n\\k]*+)*+\n'
 
-# Each line is the first group, with the object or the line in the second, or else the third. That one is never empty, so it
-# alone is looked at where it is there.
+# Each match is a line in the first group, with its object or its entry's line in the second; or there lines that stand
+# everywhere, with nothing in the second; or else a line in the third.
 ENTRIES = re.compile(rb'(\{"kind": ?"(?:check|content)", ?"goal": ?' + _FACT + rb"(?:" + _MEMBER + rb")*+" + _END
-                     + rb")|([^\n]*+\n)")
+                     + rb"|(?:\n|" + _COMMIT + rb")++)|([^\n]*+\n)")
 RECORDS = re.compile(rb'(\{"line": ?(' + _NUMBER + rb'), ?"steps": ?\[(?:' + _STEP + rb"(?:, ?" + _STEP + rb")*+)?+\]" + _END
-                     + rb")|([^\n]*+\n)")
+                     + rb"|\n++)|([^\n]*+\n)")
 
 
 def part_of(thing: bytes, parts: int) -> int:
@@ -67,15 +69,15 @@ def _value_of(line: bytes) -> dict:
     return value if isinstance(value, dict) else {}
 
 
-class Objects:
+class Objects(dict):
     """The parts of objects; those last asked for are kept."""
 
     def __init__(self, parts: int):
+        super().__init__()
         self.parts = parts
-        self.known: dict[bytes, int] = {}
 
-    def __getitem__(self, thing: bytes) -> int:
-        if len(self.known) >= KNOWN:
-            self.known.clear()
-        part = self.known[thing] = part_of(thing, self.parts)
+    def __missing__(self, thing: bytes) -> int:
+        if len(self) >= KNOWN:
+            self.clear()
+        part = self[thing] = part_of(thing, self.parts)
         return part

@@ -1,52 +1,92 @@
-"""Lines to many files, at their places."""
-from typing import Sequence
+"""Spreads a block of lines over the parts."""
+from array import array
+from typing import NamedTuple, Sequence
 
-from parting.placing import EVERYWHERE
+from parting.placing import ENTRIES, EVERYWHERE, RECORDS, Objects, line_of, object_of
 
-BUFFER = 1 << 16
+JOINED = 1 << 22
 
 
-class Spread:
-    """A file for each part. Each line stands in its part or everywhere, and is blank elsewhere."""
+class Spread(NamedTuple):
+    """A block of lines, as it stands in the parts."""
 
-    def __init__(self, paths: Sequence[str]):
-        self.files = []
-        self.pieces: list[list[bytes]] = [[] for _ in range(len(paths) + 1)]
-        # how many lines each part has; that of no part is there for the numbers' sake
-        self.lines = [0] * (len(paths) + 1)
-        try:
-            for path in paths:
-                self.files.append(open(path, "xb", buffering=BUFFER))
-        except OSError:
-            self.abandon()
-            raise
+    # of each part, pieces of bytes that have, one behind the other, as many lines as the block
+    pieces: list[list[bytes]]
+    # of a trace, the part of each line
+    table: array
 
-    def put(self, number: int, part: int, line: bytes) -> None:
-        """Puts line `number`, which is behind all that were put."""
-        for one in range(1, len(self.pieces)) if part == EVERYWHERE else (part,):
-            self.pieces[one].append(b"\n" * (number - 1 - self.lines[one]))
-            self.pieces[one].append(line)
-            self.lines[one] = number
 
-    def flush(self, lines: int) -> None:
-        """Writes what was put, and brings each part to so many lines."""
-        for part, file in enumerate(self.files, 1):
-            self.pieces[part].append(b"\n" * (lines - self.lines[part]))
-            self.lines[part] = lines
-            file.write(b"".join(self.pieces[part]))
-            self.pieces[part].clear()
+class Spreader:
+    """The lines of a block, put one behind the other. Each stands in its part or everywhere, and is blank elsewhere."""
 
-    def close(self) -> list[int]:
-        """How many bytes each file has."""
-        sizes = []
-        for file in self.files:
-            sizes.append(file.tell())
-            file.close()
-        return sizes
+    def __init__(self, parts: int):
+        # those of no part are there for the numbers' sake
+        self.pieces: list[list[bytes]] = [[] for _ in range(parts + 1)]
+        # how many lines each part has
+        self.lines = [0] * (parts + 1)
+        # how many bytes stand everywhere
+        self.shared = 0
 
-    def abandon(self) -> None:
-        for file in self.files:
-            try:
-                file.close()
-            except OSError:
-                pass
+    def put(self, before: int, part: int, line: bytes) -> None:
+        """Puts a line of one part, behind so many lines."""
+        self.pieces[part] += b"\n" * (before - self.lines[part]), line
+        self.lines[part] = before + 1
+
+    def put_everywhere(self, before: int, lines: bytes, count: int = 1) -> None:
+        """Puts so many lines of every part, behind so many."""
+        self.shared += len(lines)
+        for part in range(1, len(self.pieces)):
+            self.pieces[part] += b"\n" * (before - self.lines[part]), lines
+            self.lines[part] = before + count
+
+    def spread(self, lines: int, table: array) -> Spread:
+        """What the parts have, each of so many lines; joined, but for much that stands everywhere, which is kept once."""
+        pieces = self.pieces[1:]
+        for part, blank in zip(pieces, self.lines[1:]):
+            part.append(b"\n" * (lines - blank))
+        is_little = self.shared * len(pieces) <= JOINED
+        return Spread([[b"".join(part)] for part in pieces] if is_little else pieces, table)
+
+
+def spread_trace(parts: int, objects: Objects, block: bytes) -> Spread:
+    spreader, table, number = Spreader(parts), array("H"), 0
+    pieces, ends = spreader.pieces, spreader.lines
+    for line, thing, other in ENTRIES.findall(block):
+        if thing:
+            # as `put`, without a call
+            part = objects[thing]
+            pieces[part] += b"\n" * (number - ends[part]), line
+            table.append(part)
+            number += 1
+            ends[part] = number
+            continue
+        count = line.count(b"\n") or 1
+        found = object_of(other)
+        part = EVERYWHERE if found is None else objects[found]
+        if part == EVERYWHERE:
+            spreader.put_everywhere(number, line or other, count)
+        else:
+            spreader.put(number, part, other)
+        table.extend([part] * count)
+        number += count
+    return spreader.spread(number, table)
+
+
+def spread_evidence(parts: int, table: Sequence[int], block: bytes) -> Spread:
+    """Spreads records, by a table of the part of each line of the trace."""
+    spreader, number, count = Spreader(parts), 0, len(table)
+    pieces, ends = spreader.pieces, spreader.lines
+    for record, text, other in RECORDS.findall(block):
+        if not text and record:
+            number += record.count(b"\n")
+            continue
+        line = line_of(other) if other else int(text)
+        part = table[line] if line is not None and line < count else EVERYWHERE
+        if part == EVERYWHERE:
+            spreader.put_everywhere(number, record or other)
+        else:
+            # as `put`, without a call
+            pieces[part] += b"\n" * (number - ends[part]), record or other
+            ends[part] = number + 1
+        number += 1
+    return spreader.spread(number, array("H"))

@@ -5,6 +5,7 @@ import os
 import re
 import signal
 from random import Random
+from unittest import mock
 
 from lib import limits
 from parting.blocks import Blocks
@@ -29,10 +30,12 @@ class Placing(PartsCase):
             for form, block, read in ((ENTRIES, trace, object_of), (RECORDS, evidence + b"\n", line_of)):
                 found = form.findall(block)
                 self.assertEqual(b"".join(line or other for line, _, other in found), block)
-                for line, said, other in found:
+                for lines, said, other in found:
                     quick += not other
-                    if not other:
-                        self.assertEqual(read(line), said if form is ENTRIES else int(said), line)
+                    if said:
+                        self.assertEqual(read(lines), said if form is ENTRIES else int(said), lines)
+                    elif lines:
+                        self.assertEqual([read(line) for line in lines.splitlines()], [None] * lines.count(b"\n"), lines)
         self.assertGreater(quick, 1000)
 
     def test_lines_that_have_no_quick_form(self):
@@ -47,6 +50,13 @@ class Placing(PartsCase):
         for line in (record[:-1] + b',"line":4}', record[:-2], record.replace(b"3", b"03"), record.replace(b"},{", b"}{"),
                      record.replace(b"a", b"\\u0061"), record.replace(b"3", b"3.0")):
             self.assertEqual(RECORDS.findall(line + b"\n"), [(b"", b"", line + b"\n")], line)
+
+    def test_lines_that_stand_everywhere_are_taken_together(self):
+        commit = b'{"kind":"commit","at":1,"add":["doc:kind#viewer@1"]}'
+        lines = b"%s\n\n\n%s\n%s\n" % (RULES, commit, commit[:20])
+        self.assertEqual(ENTRIES.findall(lines), [(lines, b"", b"")])
+        for line in (commit[:-1] + b',"kind":"check"}', commit[:-1] + b',"\\u006bind":"check"}', b" " + commit, b'{"at":1,"kind":"commit"}'):
+            self.assertEqual(ENTRIES.findall(line + b"\n"), [(b"", b"", line + b"\n")], line)
 
     def test_what_counts_is_what_json_says(self):
         for line, thing in ((b'{"kind":"commit","goal":"doc:b#v@1","kind":"check","goal":"doc:a#v@1"}', b"doc:a"),
@@ -74,10 +84,29 @@ class Placing(PartsCase):
         trace, evidence = joined.split(b"---\n", 1)
         one, two = self.cut(3, joined), self.path("two")
         self.assertEqual(parts("cut", 3, self.put("trace", trace), self.put("evidence", evidence), two).returncode, 0)
+        self.assert_alike(one, two)
+
+    def assert_alike(self, one, two):
+        """Two folders of the same files."""
         self.assertEqual(sorted(os.listdir(one)), sorted(os.listdir(two)))
         for name in os.listdir(one):
             with open(os.path.join(one, name), "rb") as left, open(os.path.join(two, name), "rb") as right:
                 self.assertEqual(left.read(), right.read(), name)
+
+    def test_any_number_of_processes_cuts_alike(self):
+        """Blocks that are small, and much or little of them that is joined in the processes."""
+        joined = b"".join(RandomInput(Random("shared %d" % number)).refused() for number in range(12))
+        one = self.cut(5, joined, "one")
+        for number, (jobs, block, most) in enumerate(((1, 300, 1 << 22), (2, 300, 1 << 22), (3, 2000, 0), (4, 10_000, 2000))):
+            with mock.patch("parting.blocks.BLOCK", block), mock.patch("parting.spread.JOINED", most):
+                self.assert_alike(one, self.cut(5, joined, "cut%d" % number, jobs))
+
+    def test_a_process_that_is_killed(self):
+        folder, joined = self.path("killed"), self.put("joined", RandomInput(Random(1)).joined())
+        with mock.patch("parting.blocks.BLOCK", 300), mock.patch("parting.spread.object_of", lambda line: os.kill(os.getpid(), 9)):
+            run = parts("cut", 3, joined, folder, "--jobs", 2)
+        self.assertEqual(run, (2, "", "parts: a process that places lines was killed\n"))
+        self.assertEqual(os.listdir(folder), [])
 
     def test_lines_across_blocks(self):
         for text in (b"a\n" * 300_000, b"a" * limits.LINE_BYTES + b"\nb", b"x\n" + b"a" * limits.LINE_BYTES + b"\n\n"):

@@ -9,6 +9,8 @@ from tests.support import EXAMPLES, Case
 
 CLEAN = b"entries 1\nfindings 0\nverdict clean\n"
 UNREAD = Answer(5, b"", b"read fault\n")
+COMMANDS = (("audit", "t", "e"), ("audit", "t", "e", "--workers", "4"), ("audit", "t", "e", "--early"), ("audit", "t", "--make"),
+            ("make", "t"), ("history", "t", "doc:readme#viewer@10"))
 UNWRITTEN = Answer(5, b"", b"write fault after 0 bytes\n")
 REFUSED = b"\xff\n---\n"
 ENTRIES = 4000
@@ -64,6 +66,48 @@ class Devices(Case):
         writer = self.nobody_reads()
         for restore in (True, False):
             self.assertEqual(self.answer(self.proved, stdout=writer, restore_signals=restore), UNWRITTEN)
+
+    def commanded(self, words, redirected=""):
+        """A run of a command on files, of which the shell redirects the standard ones."""
+        trace, evidence = self.proved.split(b"---\n", 1)
+        self.put("t", trace)
+        self.put("e", evidence)
+        run = subprocess.run(["sh", "-c", 'exec "$@" ' + redirected, "sh", self.program, *words], cwd=self.room, stdin=subprocess.DEVNULL,
+                             capture_output=True, timeout=60)
+        return Answer(run.returncode, run.stdout, run.stderr)
+
+    def test_commands_whose_output_takes_nothing(self):
+        for words in COMMANDS:
+            for redirected in (">&-", ">/dev/full", "<&- >&-"):
+                self.assertEqual(self.commanded(words, redirected), UNWRITTEN, (words, redirected))
+
+    def test_commands_without_standard_input_or_error(self):
+        for words in COMMANDS:
+            whole = self.commanded(words)
+            self.assertEqual((whole.status, whole.err), (0, b""), words)
+            self.assertNotEqual(whole.out, b"", words)
+            for redirected in ("<&-", "2>&-", "2>/dev/full"):
+                self.assertEqual(self.commanded(words, redirected), whole, (words, redirected))
+
+    def test_standard_input_that_fails_behind_the_marker(self):
+        reader, writer = os.pipe()
+        os.set_blocking(reader, False)
+        os.write(writer, self.proved[:self.proved.index(b"---\n") + 4])
+        self.assertEqual(self.answer(stdin=reader), UNREAD)
+        os.close(reader)
+        os.close(writer)
+
+    def test_spaces_without_end(self):
+        """A trace, and evidence, that a pipe gives for as long as it is read."""
+        trace, evidence = self.proved.split(b"---\n", 1)
+        self.put("t", trace)
+        self.put("e", evidence)
+        for words, told in ((("audit", "/dev/stdin", "e"), b"trace line 1: too long\n"), (("audit", "t", "/dev/stdin"), b"evidence line 1: too long\n"),
+                            (("make", "/dev/stdin"), b"trace line 1: too long\n"), (("history", "/dev/stdin", "doc:a#viewer@1"), b"trace line 1: too long\n")):
+            with open("/dev/zero", "rb") as zeros, subprocess.Popen(["tr", "\\0", " "], stdin=zeros, stdout=subprocess.PIPE) as spaces:
+                run = subprocess.run([self.program, *words], cwd=self.room, stdin=spaces.stdout, capture_output=True, timeout=60)
+                spaces.stdout.close()
+            self.assertEqual((run.returncode, run.stdout, run.stderr), (2, b"", told), words)
 
     def test_no_file_at_all(self):
         self.assertEqual(self.closed("<&- >&- 2>&-"), Answer(5, b"", b""))

@@ -7,7 +7,8 @@ from hostile.inputs import worked_cases, worked_inputs
 from hostile.mutations import SIZE, mutant
 from hostile.reading import denied
 from lib.files import split_joined
-from tests.support import Case
+from lib.programs import loaded_file
+from tests.support import TOOLS, Case
 
 CLEAN = b"entries 1\nfindings 0\nverdict clean\n"
 DIRTY = b"line 3: F10 wrong reply\nentries 1\nfindings 1\nverdict dirty\n"
@@ -104,6 +105,24 @@ class RefuseGrowth(Case):
         self.assertEqual(lines[1], "empty_trace_is_clean, growth 1: status 2, b'', b'out of memory\\n'")
         self.assertEqual(lines[-2].split(), ["empty_trace_is_clean", "2", "6", "4"])
         self.assertEqual((run.returncode, lines[-1]), (1, "0 passed, 1 failed"))
+
+    def test_answers_that_may_be_given(self):
+        """Of a run that tells two lines early, and of one that says something behind its output."""
+        is_right = loaded_file(os.path.join(TOOLS, "refuse_growth")).is_right
+        early = Answer(1, DIRTY, b"early line 3: F10 wrong reply\nearly line 4: F7 no evidence\n")
+        gave_up = Answer(0, b"", b"gave up 1\n")
+        out_of_memory, written = Answer(4, b"", b"out of memory\n"), Answer(5, DIRTY[:10], b"write fault after 10 bytes\n")
+        for calls, wanted, got, may_be in (
+                ("growth", early, out_of_memory, True), ("growth", early, out_of_memory._replace(err=early.err + out_of_memory.err), True),
+                ("growth", early, early._replace(err=b"".join(reversed(early.err.splitlines(True)))), True), ("growth", early, early._replace(err=b""), True),
+                ("growth", early, early._replace(err=early.err * 2), False), ("growth", early, early._replace(status=0), False),
+                ("growth", early, out_of_memory._replace(out=DIRTY), False), ("growth", early, early._replace(err=b"early line 5: F7 no evidence\n"), False),
+                ("growth", gave_up, gave_up._replace(err=b""), False), ("read", early, early._replace(err=b""), False),
+                ("read", early, Answer(5, b"", b"evidence line 2: read fault\n"), True), ("read", early, Answer(5, DIRTY, b"read fault\n"), False),
+                ("take", early, written, True), ("take", early, written._replace(err=early.err + written.err), True),
+                ("take", early, written._replace(out=DIRTY[:9]), False), ("take", early, written._replace(out=CLEAN[:10]), False),
+                ("write", gave_up, gave_up._replace(err=b""), True), ("write", gave_up, Answer(5, b"", b""), False)):
+            self.assertEqual(is_right(calls, wanted, got, True), may_be, (calls, wanted, got))
 
     def test_a_program_that_cannot_be_reached(self):
         """One that is linked whole takes no notice, and that is no pass."""

@@ -1,4 +1,7 @@
-"""Audits in parts answer what an audit of the whole answers, byte for byte."""
+"""Audits in parts answer what an audit of the whole answers, byte for byte.
+
+RANDOM_TRACES and BENCH_BYTES in the environment say how many random traces there are and how large each kind of bench/trace.py is.
+"""
 import contextlib
 import functools
 import io
@@ -21,6 +24,9 @@ from tests.support import EXAMPLES, TOP, Case, Run, loaded_file
 
 PARTS = (1, 2, 7, 16)
 RANDOM_TRACES = int(os.environ.get("RANDOM_TRACES", "60"))
+BENCH_BYTES = int(os.environ.get("BENCH_BYTES", "20000"))
+# These begin with megabytes of commits, however small they are.
+LARGE_KINDS = {"toggled", "wide"}
 MOST_BYTES = 1_000_000
 
 
@@ -61,10 +67,10 @@ class PartsCase(Case):
         self.addCleanup(room.cleanup)
         self.room = room.name
 
-    def cut(self, count, joined, name="cut"):
+    def cut(self, count, joined, name="cut", jobs=1):
         """Cuts joined input; its folder."""
         folder = self.path(name)
-        self.assertEqual(cut_command(count, self.put(name + ".joined", joined), None, folder), 0)
+        self.assertEqual(cut_command(count, self.put(name + ".joined", joined), None, folder, jobs), 0)
         return folder
 
     def audited_parts(self, folder):
@@ -87,9 +93,18 @@ class PartsCase(Case):
 
 class Wholes(PartsCase):
     def test_the_examples(self):
-        for name in ("one_proved_check", "each_finding"):
+        names = [one.name for one in os.scandir(EXAMPLES) if one.is_file()]
+        self.assertIn("each_finding", names)
+        for name in names:
             with open(os.path.join(EXAMPLES, name), "rb") as file:
                 self.compare(file.read(), name)
+
+    def test_the_kinds_of_the_benchmark(self):
+        for name, made in loaded_file(os.path.join(TOP, "bench", "trace.py")).KINDS.items():
+            if name not in LARGE_KINDS or BENCH_BYTES >= MOST_BYTES:
+                given = made(BENCH_BYTES)
+                status, _, error = self.compare("\n".join([*given.lines, "---", *given.records, ""]).encode(), name)
+                self.assertEqual((status, error), (0, ""), name)
 
     def test_the_worked_cases(self):
         given = loaded_file(os.path.join(TOP, "rows", "run")).given

@@ -52,22 +52,22 @@ goes_on P old mid new line n given_up is part all risen e =
     rises a b (inl h) = inl (h ∙ ap (λ (k : ℕ). k + 1) a)
     rises a b (inr h) = inr (h ∙ ap (λ (k : ℕ). k + 1) b)
 
-module _ (named : ℕ → Found) (alerts : Found → Bool) (old mid new : WriterState) (i : ℕ) (found : Found) (line : List ℕ) where
-  line_is : found ≡ named i → alerts found ≡ true → line ≡ line_for found → IsLineOf named alerts line
-  line_is at raised is = (i, ap alerts (sym at) ∙ raised, is ∙ ap line_for at)
+module _ (gives : ℕ → Found → Type 0) (alerts : Found → Bool) (old mid new : WriterState) (i : ℕ) (found : Found) (line : List ℕ) where
+  line_is : gives i found → alerts found ≡ true → line ≡ line_for found → IsLineOf gives alerts line
+  line_is at raised is = (i, found, at, raised, is)
 
-  pub tells : (b : Bool) → b ≡ false → (found ≡ named i) × (alerts found ≡ true) → line ≡ line_for found → new.taken ≡ mid.taken ++ line → (new.failures ≡ mid.failures) × (new.idle ≡ mid.idle)
-      → ∥ WentOut (IsLineOf named alerts) old mid b ∥₁ → ∥ WentOut (IsLineOf named alerts) old new b ∥₁
+  pub tells : (b : Bool) → b ≡ false → gives i found × (alerts found ≡ true) → line ≡ line_for found → new.taken ≡ mid.taken ++ line → (new.failures ≡ mid.failures) × (new.idle ≡ mid.idle)
+      → ∥ WentOut (IsLineOf gives alerts) old mid b ∥₁ → ∥ WentOut (IsLineOf gives alerts) old new b ∥₁
   tells b keeps at is out kept told =
-      let P : List ℕ → Type 0 = IsLineOf named alerts in
+      let P : List ℕ → Type 0 = IsLineOf gives alerts in
       let before : ∥ WentOut P old mid false ∥₁ = subst (λ (b : Bool). ∥ WentOut P old mid b ∥₁) keeps told in
       subst (λ (b : Bool). ∥ WentOut P old new b ∥₁) (sym keeps)
       (∥∥₁_map before (goes_on P old mid new line (length line) false (line_is at.0 at.1 is) (out ∙ ap (λ (l : List ℕ). mid.taken ++ l) (sym (take-length line))) (λ _. (refl, kept.0, kept.1)) (λ e. absurd cc)))
 
-  pub tells_part : (n : ℕ) (b : Bool) → b ≡ false → (found ≡ named i) × (alerts found ≡ true) → line ≡ line_for found → new.taken ≡ mid.taken ++ take n line
-      → HasRisen mid.failures new.failures ⊎ (HasRisen mid.idle new.idle × (n < length line)) → ∥ WentOut (IsLineOf named alerts) old mid b ∥₁ → ∥ WentOut (IsLineOf named alerts) old new true ∥₁
+  pub tells_part : (n : ℕ) (b : Bool) → b ≡ false → gives i found × (alerts found ≡ true) → line ≡ line_for found → new.taken ≡ mid.taken ++ take n line
+      → HasRisen mid.failures new.failures ⊎ (HasRisen mid.idle new.idle × (n < length line)) → ∥ WentOut (IsLineOf gives alerts) old mid b ∥₁ → ∥ WentOut (IsLineOf gives alerts) old new true ∥₁
   tells_part n b keeps at is out risen told =
-      let P : List ℕ → Type 0 = IsLineOf named alerts in
+      let P : List ℕ → Type 0 = IsLineOf gives alerts in
       let before : ∥ WentOut P old mid false ∥₁ = subst (λ (b : Bool). ∥ WentOut P old mid b ∥₁) keeps told in
       ∥∥₁_map before (goes_on P old mid new line n true (line_is at.0 at.1 is) out (λ e. absurd cc) (λ _. either risen))
     where
@@ -104,14 +104,16 @@ module _ (t : TraceValue) (evidence : List (Option (List StepValue))) (l : List 
   unfolding found_in
   is_early_line h is = of_entry (slice_get t.entries i) refl h is
 
-pub of_entries : (t : TraceValue) (evidence : List (Option (List StepValue))) (old new : WriterState) (given_up : Bool) → ∥ WentOut (IsLineOf (found_at t evidence) has_finding) old new given_up ∥₁
+pub of_entries : (t : TraceValue) (evidence : List (Option (List StepValue))) (old new : WriterState) (given_up : Bool)
+    → ∥ WentOut (IsLineOf (λ i found. found ≡ found_at t evidence i) has_finding) old new given_up ∥₁
     → TellsEarly t evidence old new
 of_entries t evidence old new given_up h =
-    ∥∥₁_map h (λ (w : WentOut (IsLineOf (found_at t evidence) has_finding) old new given_up). (
+    ∥∥₁_map h (λ (w : WentOut (IsLineOf (λ i found. found ≡ found_at t evidence i) has_finding) old new given_up). (
       given_up,
       record {
         lines = w.lines;
-        each = All-weaker (IsLineOf (found_at t evidence) has_finding) (IsEarlyLine t evidence) (λ l is. is_early_line t evidence l is.0 is.1 is.2) w.lines w.each;
+        each = All-weaker (IsLineOf (λ i found. found ≡ found_at t evidence i) has_finding) (IsEarlyLine t evidence)
+            (λ l is. is_early_line t evidence l is.0 (ap has_finding (sym is.2) ∙ is.3) (is.4 ∙ ap line_for is.2)) w.lines w.each;
         written = w.written;
         goes = w.goes;
         whole = w.whole;

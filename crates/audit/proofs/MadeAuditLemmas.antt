@@ -1,29 +1,29 @@
 -- What is found on evidence that is made for a trace.
-use Rattle.std.proofs.Common.{◌≡◌, inl, inr, ℕ, zero, suc, ◌+◌, ◌<◌, List, [], ◌∷◌, ◌++◌, length, take, true, Option, None, Some, Result, Ok, Err, refl, sym, ap, subst, ◌∙◌, arith}
+use Rattle.std.proofs.Common.{◌≡◌, inl, inr, ℕ, zero, suc, ◌+◌, List, [], ◌∷◌, ◌++◌, length, true, Option, None, Some, Result, Ok, Err, refl, sym, ap, subst, ◌∙◌, arith, length-append, append_assoc}
 use Rattle.std.specs.Prelude.{IfSome, IfOk, OnOk, slice_get}
-use Rattle.std.proofs.lemmas.List.{map-append}
-use Rattle.std.proofs.Math.Seq.{take-length}
-use Rattle.std.specs.declared.alloc.Global.{Global}
-use Rattle.std.specs.declared.vec.Vec.{Vec}
-use Rattle.version_chains.proofs.NewestLemmas.{take-next}
+use Rattle.std.specs.List.{AllZip, range_with_len}
 use Rattle.json_lines.specs.Given.{OfWhole}
 use Rattle.json_lines.proofs.Given.{of_whole-map}
 use Rattle.trace_lines.specs.Traces.{trace_of}
 use Rattle.trace_lines.specs.Values.{TraceValue, EntryValue}
-use Rattle.evidence_check.specs.Evidences.{all_shown, shown_steps, steps_of}
+use Rattle.evidence_check.specs.Evidences.{steps_of}
 use Rattle.evidence_check.specs.Judged.{judged}
 use Rattle.evidence_check.specs.Steps.{StepValue}
-use Rattle.evidence_check.specs.declared.step.Step.{Step}
 use Rattle.evidence_check.specs.declared.judged.Judged.{Judged}
-use Rattle.findings.specs.Findings.{found_by, findings_of}
+use Rattle.findings.specs.Findings.{found_by, found_where, found_on, on_line, findings_from, findings_of}
 use Rattle.findings.specs.declared.finding.Finding.{Finding}
+use Rattle.findings.specs.Headline.{IsRightAndFresh, IsTraceRightAndFresh}
+use Rattle.findings.specs.Report.{report_text}
 use Rattle.findings.proofs.EachFinding.{HoldsOfTokens, each_finding}
 use Rattle.audit.specs.Audit.{FailsWriting, report_on, verdict_of}
 use Rattle.audit.specs.Made.{IsMade, AreMade}
-use Rattle.audit.specs.MadeAudit.{AuditsMade, BreaksMade, WhateverIsMade, IsOfMaker, AreOfMaker}
-use Rattle.audit.proofs.MadeRecords.{made_more}
+use Rattle.audit.specs.MadeAudit.{AuditsMade, BreaksMade, WhateverIsMade, IsOfMaker, AreOfMaker, IsFoundMade}
+use Rattle.audit.specs.Shared.{found_lines}
+use Rattle.audit.specs.declared.shared.Found.{Found}
 use Rattle.audit.specs.declared.plain.AuditFault.{AuditFault}
 use Rattle.audit.specs.declared.plain.Verdict.{Verdict}
+use Rattle.audit.specs.declared.plain.Verdict.TheVariants.{Clean}
+use Rattle.audit.proofs.Readers.{answered_clean}
 
 -- ---- what is found
 
@@ -50,42 +50,70 @@ of_maker t given made = each_finding (IsOfMaker t) t given 0 t.entries (on_token
     subst (λ (k : ℕ). IfSome (found_by (judged t e (steps_of given k))) (IsOfMaker t e.line)) (let z : i ≡ 0 + i = omega arith in z)
     (by_made t i e (steps_of given i) at (made_at t t.entries given i e made at)))
 
--- ---- the steps of one entry more
+-- ---- what each worker finds by what it made
 
-of_entry : (P : Type 0) (es : List EntryValue) (i : ℕ) → i < length es → ((e : EntryValue) → slice_get es i ≡ Some e → P) → P
-of_entry P [] i lt h = absurd (omega (arith, lt))
-of_entry P (x ∷ es) zero lt h = h x refl
-of_entry P (x ∷ es) (suc i) lt h = of_entry P es i (omega (arith, lt)) h
+-- the steps behind those for the entries before
+steps_at : (before after : List (Option (List StepValue))) (o : Option (List StepValue)) (i : ℕ) → length before ≡ i → steps_of (before ++ o ∷ after) i ≡ o
+steps_at [] after o zero e = refl
+steps_at [] after o (suc i) e = absurd (omega (arith, e))
+steps_at (x ∷ before) after o zero e = absurd (omega (arith, e))
+steps_at (x ∷ before) after o (suc i) e = steps_at before after o i (omega (arith, e))
 
-pub one_made_more : (t : TraceValue) (i : ℕ) (made now : List (Option (Vec Step Global))) (o : Option (Vec Step Global)) → i < length t.entries
-    → AreMade t (take i t.entries) (all_shown made) → ((e : EntryValue) → slice_get t.entries i ≡ Some e → IsMade t e (shown_steps o)) → now ≡ made ++ o ∷ []
-    → AreMade t (take (i + 1) t.entries) (all_shown now)
-one_made_more t i made now o lt far one is =
-    of_entry (AreMade t (take (i + 1) t.entries) (all_shown now)) t.entries i lt (λ e at.
-    let longer = made_more t (take i t.entries) (all_shown made) e (shown_steps o) far (one e at) in
-    let next : i + 1 ≡ suc i = omega arith in
-    let entries : take (i + 1) t.entries ≡ take i t.entries ++ e ∷ [] = ap (λ (n : ℕ). take n t.entries) next ∙ take-next t.entries i e at in
-    let steps : all_shown now ≡ all_shown made ++ shown_steps o ∷ [] = ap all_shown is ∙ map-append shown_steps made (o ∷ []) in
-    subst (λ (es : List EntryValue). AreMade t es (all_shown now)) (sym entries)
-    (subst (λ (os : List (Option (List StepValue))). AreMade t (take i t.entries ++ e ∷ []) os) (sym steps) longer))
+made_from : (t : TraceValue) (i : ℕ) (before : List (Option (List StepValue))) (es : List EntryValue) (found : List Found) → length before ≡ i
+    → ((k : ℕ) → slice_get t.entries (i + k) ≡ slice_get es k) → AllZip (IsFoundMade t) (range_with_len i (length es)) found
+    → (given : List (Option (List StepValue))) × AreMade t es given × (found_lines found ≡ findings_from t (before ++ given) i es)
+made_from t i before [] [] count at each = ([], tt, refl)
+made_from t i before [] (f ∷ fs) count at each = absurd each
+made_from t i before (e ∷ es) [] count at each = absurd each
+made_from t i before (e ∷ es) (f ∷ fs) count at each =
+    let here : slice_get t.entries i ≡ Some e = ap (slice_get t.entries) (let z : i ≡ i + 0 = omega arith in z) ∙ at 0 in
+    let one = each.0 e here in
+    let o : Option (List StepValue) = one.1.0 in
+    let more : length (before ++ o ∷ []) ≡ i + 1 = length-append before (o ∷ []) ∙ ap (λ (n : ℕ). n + 1) count in
+    let rest = made_from t (i + 1) (before ++ o ∷ []) es fs more (λ k. ap (slice_get t.entries) (let z : (i + 1) + k ≡ i + suc k = omega arith in z) ∙ at (suc k)) each.1 in
+    let whole : (before ++ o ∷ []) ++ rest.0 ≡ before ++ o ∷ rest.0 = append_assoc before (o ∷ []) rest.0 in
+    let by : one.0 ≡ judged t e (steps_of (before ++ o ∷ rest.0) i) = one.1.2 ∙ ap (judged t e) (sym (steps_at before rest.0 o i count)) in (
+      o ∷ rest.0,
+      (one.1.1, rest.1),
+      ap (λ (x : Found). on_line x.line x.what ++ found_lines fs) one.2
+          ∙ ap (λ (j : Judged). on_line e.line (found_where t j i e) ++ found_lines fs) by
+          ∙ ap (λ (ls : List Finding). on_line e.line (found_on t (before ++ o ∷ rest.0) i e) ++ ls) (rest.2 ∙ ap (λ (os : List (Option (List StepValue))). findings_from t os (i + 1) es) whole),
+    )
 
-pub all_made : (t : TraceValue) (i : ℕ) (given : List (Option (List StepValue))) → i ≡ length t.entries → AreMade t (take i t.entries) given → AreMade t t.entries given
-all_made t i given e far = subst (λ (es : List EntryValue). AreMade t es given) (ap (λ (n : ℕ). take n t.entries) e ∙ take-length t.entries) far
+-- they are the findings by evidence that is made for the trace
+pub made_findings : (t : TraceValue) (found : List Found) (findings : List Finding) → findings ≡ found_lines found
+    → AllZip (IsFoundMade t) (range_with_len 0 (length t.entries)) found
+    → (given : List (Option (List StepValue))) × AreMade t t.entries given × (findings ≡ findings_of t given)
+made_findings t found findings is each =
+    let all = made_from t 0 [] t.entries found refl (λ k. ap (slice_get t.entries) (let z : 0 + k ≡ k = omega arith in z)) each in
+    (all.0, all.1, is ∙ all.2)
 
 -- ---- what a reader says
 
-module _ {A : Type 0} (given_a : A → List ℕ) (ends_a : A → ℕ) (a0 a1 : A) (t : TraceValue) (says : OfWhole given_a ends_a a0 a1 (λ a. trace_of true a ≡ Ok t)) where
-  pub audited_made : (r : Result Verdict AuditFault) (old new : List ℕ) (given : List (Option (List StepValue))) → AreMade t t.entries given
-      → OnOk r (new ≡ old ++ report_on t given) → IfOk r (λ v. v ≡ verdict_of (findings_of t given))
-      → IfOk r (λ v. OfWhole given_a ends_a a0 a1 (λ a. AuditsMade a old new v))
-  audited_made (Ok v) old new given made w e =
-      of_whole-map given_a ends_a a0 a1 (λ a. trace_of true a ≡ Ok t) (λ a. AuditsMade a old new v) (λ a is. (t, given, is, made, (w, e))) says
-  audited_made (Err f) old new given made w e = tt
+text_made : (t : TraceValue) (fs : List Finding) (n : ℕ) (given : List (Option (List StepValue))) → fs ≡ findings_of t given → n ≡ length t.entries → report_text fs n ≡ report_on t given
+text_made t fs n given same count = ap (λ (l : List Finding). report_text l n) same ∙ ap (report_text (findings_of t given)) count
 
-  pub broken_made : (old new : List ℕ) (n : ℕ) (given : List (Option (List StepValue))) → AreMade t t.entries given → FailsWriting old new n (report_on t given)
-      → OfWhole given_a ends_a a0 a1 (λ a. BreaksMade a old new n)
-  broken_made old new n given made w =
-      of_whole-map given_a ends_a a0 a1 (λ a. trace_of true a ≡ Ok t) (λ a. BreaksMade a old new n) (λ a is. (t, given, is, made, w)) says
+module _ {A : Type 0} (given_a : A → List ℕ) (ends_a : A → ℕ) (a0 a1 : A) (t : TraceValue) (says : OfWhole given_a ends_a a0 a1 (λ a. trace_of true a ≡ Ok t)) where
+  pub audited_made : (r : Result Verdict AuditFault) (old new : List ℕ) (fs : List Finding) (n : ℕ) (given : List (Option (List StepValue))) → AreMade t t.entries given
+      → fs ≡ findings_of t given → n ≡ length t.entries → OnOk r (new ≡ old ++ report_text fs n) → IfOk r (λ v. v ≡ verdict_of fs)
+      → IfOk r (λ v. OfWhole given_a ends_a a0 a1 (λ a. AuditsMade a old new v))
+  audited_made (Ok v) old new fs n given made same count w e =
+      of_whole-map given_a ends_a a0 a1 (λ a. trace_of true a ≡ Ok t) (λ a. AuditsMade a old new v)
+      (λ a is. (t, given, is, made, (w ∙ ap (λ (l : List ℕ). old ++ l) (text_made t fs n given same count), e ∙ ap verdict_of same))) says
+  audited_made (Err f) old new fs n given made same count w e = tt
+
+  pub broken_made : (old new : List ℕ) (k : ℕ) (fs : List Finding) (n : ℕ) (given : List (Option (List StepValue))) → AreMade t t.entries given → fs ≡ findings_of t given → n ≡ length t.entries
+      → FailsWriting old new k (report_text fs n) → OfWhole given_a ends_a a0 a1 (λ a. BreaksMade a old new k)
+  broken_made old new k fs n given made same count w =
+      of_whole-map given_a ends_a a0 a1 (λ a. trace_of true a ≡ Ok t) (λ a. BreaksMade a old new k)
+      (λ a is. (t, given, is, made, subst (λ (l : List ℕ). FailsWriting old new k l) (text_made t fs n given same count) w)) says
+
+  pub clean_made : (r : Result Verdict AuditFault) (fs : List Finding) (given : List (Option (List StepValue))) → fs ≡ findings_of t given
+      → ((evidence : List (Option (List StepValue))) → findings_of t evidence ≡ [] → IsRightAndFresh t) → IfOk r (λ v. v ≡ verdict_of fs) → r ≡ Ok Clean
+      → OfWhole given_a ends_a a0 a1 IsTraceRightAndFresh
+  clean_made (Ok v) fs given same law e clean =
+      of_whole-map given_a ends_a a0 a1 (λ a. trace_of true a ≡ Ok t) IsTraceRightAndFresh (λ a is. (t, is, law given (sym same ∙ answered_clean v fs e clean))) says
+  clean_made (Err f) fs given same law e clean = absurd cc
 
   pub whatever_made : (r : Result Verdict AuditFault) (P : TraceValue → List Finding → Type 0)
       → ((a : List ℕ) (given : List (Option (List StepValue))) → trace_of true a ≡ Ok t → AreMade t t.entries given → P t (findings_of t given))

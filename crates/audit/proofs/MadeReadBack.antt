@@ -1,17 +1,14 @@
 -- Records that are made for the entries of a trace are read back as evidence for it.
-use Rattle.std.proofs.Common.{◌≡◌, ℕ, zero, suc, ◌+◌, ◌-◌, ◌<◌, ◌≤◌, ◌^◌, eqb, true, false, List, [], ◌∷◌, ◌++◌, length, map, replicate, Option, None, Some, Result, Ok, refl, sym, ap, subst, ◌∙◌, arith, append_assoc, append-nil, length-append}
+use Rattle.std.proofs.Common.{◌≡◌, ℕ, suc, ◌+◌, ◌-◌, ◌<◌, ◌≤◌, ◌^◌, true, false, List, [], ◌∷◌, ◌++◌, length, replicate, Option, None, Some, Result, Ok, refl, sym, ap, subst, ◌∙◌, arith, append_assoc, append-nil, length-append}
 use Rattle.std.specs.Prelude.{slice_get, slice_set}
 use Rattle.std.specs.List.Sorted.{IsStrictlyIncreasing}
 use Rattle.std.proofs.Math.Seq.{get_or-append_seam}
 use Rattle.std.proofs.lemmas.Bool.{le-ltb, ne_eqb}
-use Rattle.refusals.specs.Refusals.{◌>>=◌, needed}
 use Rattle.json_lines.specs.Json.{taken_line}
 use Rattle.json_lines.specs.Reading.{parts, read_from, read_all}
-use Rattle.json_lines.specs.declared.reading.LineFault.{LineFault}
 use Rattle.json_lines.proofs.Folds.{GoesFrom, goes_first, goes_on, within_from}
 use Rattle.trace_lines.specs.Values.{TraceValue, EntryValue, entry_lines}
 use Rattle.evidence_check.specs.Reading.{fact_count, place_of, put_steps, record_line, no_records, faulted, evidence_of}
-use Rattle.evidence_check.specs.Reading as records
 use Rattle.evidence_check.specs.Records.{Records}
 use Rattle.evidence_check.specs.Steps.{StepValue}
 use Rattle.evidence_check.specs.declared.cause.EvidenceCause.{EvidenceCause}

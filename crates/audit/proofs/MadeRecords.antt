@@ -6,7 +6,7 @@ use Rattle.version_chains.proofs.NewestLemmas.{take-next}
 use Rattle.trace_lines.specs.Values.{TraceValue, EntryValue}
 use Rattle.evidence_check.specs.Reading.{fact_count}
 use Rattle.evidence_check.specs.Steps.{StepValue}
-use Rattle.record_text.specs.Record.{record_text, record_length}
+use Rattle.record_text.specs.Record.{record_length}
 use Rattle.record_text.specs.ReadBack.{IsTaken}
 use Rattle.evidence_maker.specs.Made.{Settles}
 use Rattle.evidence_maker.proofs.JudgedSteps.{judged_if_settles}

@@ -1,7 +1,8 @@
 -- What several workers find is what is found.
 use Rattle.std.proofs.Common.{◌≡◌, ℕ, suc, ◌+◌, List, [], ◌∷◌, ◌++◌, Option, Some, refl, ap, ◌∙◌, arith, length, map}
 use Rattle.std.specs.Prelude.{slice_get}
-use Rattle.std.specs.List.{range_with_len}
+use Rattle.std.specs.List.{AllZip, range_with_len}
+use Rattle.std.proofs.lemmas.Slice.Zip.{AllZip-map}
 use Rattle.std.specs.Option.{option_map_or}
 use Rattle.trace_lines.specs.Values.{TraceValue, EntryValue}
 use Rattle.evidence_check.specs.Steps.{StepValue}
@@ -25,6 +26,11 @@ found_from t evidence i (e ∷ es) h =
 -- what is found on each entry, in order, holds the findings
 pub found_is_findings : (t : TraceValue) (evidence : List (Option (List StepValue))) → found_lines (all_found t evidence) ≡ findings_of t evidence
 found_is_findings t evidence = found_from t evidence 0 t.entries (λ k. ap (slice_get t.entries) (let z : 0 + k ≡ k = omega arith in z))
+
+-- where each entry's report is what is found on it
+pub all_are_found : (t : TraceValue) (evidence : List (Option (List StepValue))) (entries : List ℕ) (found : List Found) → entries ≡ range_with_len 0 (length t.entries)
+    → AllZip (λ i f. f ≡ found_at t evidence i) entries found → found ≡ all_found t evidence
+all_are_found t evidence entries found are each = AllZip-map (found_at t evidence) entries found each ∙ ap (map (found_at t evidence)) are
 
 pub found_are_findings : (t : TraceValue) (evidence : List (Option (List StepValue))) (found : List Found) (findings : List Finding)
     → findings ≡ found_lines found → found ≡ all_found t evidence → findings ≡ findings_of t evidence

@@ -2,14 +2,26 @@
 use Rattle.std.specs.Prelude.{◌≡◌, ℕ, true, List, ◌++◌, Option, Some, Ok, slice_get, All, ⊤}
 use Rattle.trace_lines.specs.Values.{TraceValue, EntryValue}
 use Rattle.trace_lines.specs.Traces.{trace_of}
+use Rattle.evidence_check.specs.Judged.{judged}
 use Rattle.evidence_check.specs.Steps.{StepValue}
-use Rattle.findings.specs.Findings.{findings_of}
+use Rattle.evidence_check.specs.declared.judged.Judged.{Judged}
+use Rattle.findings.specs.Findings.{found_where, findings_of}
 use Rattle.findings.specs.declared.finding.Finding.{Finding}
 use Rattle.findings.specs.declared.finding.What.{What}
 use Rattle.findings.specs.declared.finding.What.TheVariants.{NoEvidence, BadEvidence, Silent}
 use Rattle.audit.specs.Audit.{report_on, verdict_of, FailsWriting}
-use Rattle.audit.specs.Made.{AreMade, IsOutOfReach}
+use Rattle.audit.specs.Made.{IsMade, AreMade, IsOutOfReach}
+use Rattle.audit.specs.declared.shared.Found.{Found}
 use Rattle.audit.specs.declared.plain.Verdict.{Verdict}
+
+-- the judgement of an entry by steps that are made for it, or none where the maker gave up
+abbrev pub IsJudgedMade : TraceValue → EntryValue → Judged → Type 0
+IsJudgedMade t e j = (steps : Option (List StepValue)) × IsMade t e steps × (j ≡ judged t e steps)
+
+-- what is found on entry i by steps that are made for it, or none where the maker gave up, and its line
+abbrev pub IsFoundMade : TraceValue → ℕ → Found → Type 0
+IsFoundMade t i found = (e : EntryValue) → slice_get t.entries i ≡ Some e
+    → (j : Judged) × IsJudgedMade t e j × (found ≡ record { line = e.line; what = found_where t j i e })
 
 -- the bytes say a trace, and P holds of it and of evidence that is made for it
 abbrev pub OfMade : (TraceValue → List (Option (List StepValue)) → Type 0) → List ℕ → Type 0

@@ -8,6 +8,6 @@ use Rattle.audit.specs.declared.shared.Found.{Found}
 abbrev pub line_for : Found → List ℕ
 line_for f = early_text (on_line f.line f.what)
 
--- the line is that of a report which is named, and raises an alert
-abbrev pub IsLineOf : (ℕ → Found) → (Found → Bool) → List ℕ → Type 0
-IsLineOf named alerts l = (i : ℕ) × (alerts (named i) ≡ true) × (l ≡ line_for (named i))
+-- the line is that of a report which may be given to an entry, and raises an alert
+abbrev pub IsLineOf : (ℕ → Found → Type 0) → (Found → Bool) → List ℕ → Type 0
+IsLineOf gives alerts l = (i : ℕ) × (found : Found) × gives i found × (alerts found ≡ true) × (l ≡ line_for found)

@@ -2,7 +2,7 @@
 
 ghost use Rattle.std.specs.Prelude.{◌≡◌, ◌⊎◌, ◌↔◌, ◌<◌, ◌≤◌, ◌+◌, ◌++◌, ℕ, Bool, List, Option, slice_get, true, false, length, Ok, Err, IfOk, IfErr, OnOk, string_bytes};
 ghost use Rattle.std.specs.List.{flat_map};
-ghost use Rattle.audit_slices.specs.Board.{SameNames};
+ghost use Rattle.audit_slices.specs.Board.{IsNamedBy};
 ghost use Rattle.audit_slices.specs.Reports.{report_items};
 ghost use Rattle.json_lines.specs.Given.{OfBytes, OfWhole, OfInput, AreNext, StandBehind};
 ghost use Rattle.json_lines.specs.declared.lines.TheConstants.{CHUNK};
@@ -54,7 +54,7 @@ struct Teller<'e, E: Sink, N: Names<Found> + Begun> {
     alloc: Global,
     given_up: bool,
     names: PhantomData<N>,
-    ghost told: { ∥ WentOut (IsLineOf N.named N.alerts) N.begun (state_of E.taken E.failures E.idle early.now) given_up ∥₁ },
+    ghost told: { ∥ WentOut (IsLineOf N.gives N.alerts) N.begun (state_of E.taken E.failures E.idle early.now) given_up ∥₁ },
 }
 
 fn first_of(found: &Found) -> Option<Finding>
@@ -111,7 +111,7 @@ fn found_watched<N: Names<Found> + Sync, W: Watch<Found, N>, R: Threads + Wait +
 ) -> Result<Vec<SliceReport<Found>>, AllocError>
     requires workers { (0 < workers) × (workers ≤ 16) }
     requires size { 0 < size }
-    requires names { SameNames (found_at trace.now (evidence_value evidence.now)) has_finding N.named N.alerts }
+    requires names { IsNamedBy (λ entry found. found ≡ found_at trace.now (evidence_value evidence.now) entry) has_finding N.gives N.alerts }
     ensures found { IfOk result (λ v. flat_map report_items v.items ≡ all_found trace.now (evidence_value evidence.now)) }
     ensures mark { W.mark watch.new ≡ W.mark watch.old }
 {
@@ -146,10 +146,10 @@ fn found_early<N: Names<Found> + Begun + Sync, E: Sink, R: Threads + Wait + Sync
 ) -> Result<Vec<SliceReport<Found>>, AllocError>
     requires workers { (0 < workers) × (workers ≤ 16) }
     requires size { 0 < size }
-    requires names { SameNames (found_at trace.now (evidence_value evidence.now)) has_finding N.named N.alerts }
+    requires names { IsNamedBy (λ entry found. found ≡ found_at trace.now (evidence_value evidence.now) entry) has_finding N.gives N.alerts }
     requires begun { N.begun ≡ state_of E.taken E.failures E.idle early.old }
     ensures found { IfOk result (λ v. flat_map report_items v.items ≡ all_found trace.now (evidence_value evidence.now)) }
-    ensures early { (given_up : Bool) × ∥ WentOut (IsLineOf N.named N.alerts) N.begun (state_of E.taken E.failures E.idle early.new) given_up ∥₁ }
+    ensures early { (given_up : Bool) × ∥ WentOut (IsLineOf N.gives N.alerts) N.begun (state_of E.taken E.failures E.idle early.new) given_up ∥₁ }
 {
     let mut teller: Teller<'_, E, N> = Teller {
         early,

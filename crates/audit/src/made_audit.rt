@@ -1,53 +1,158 @@
 //! The audit on evidence that is made for its trace.
 
-ghost use Rattle.std.specs.Prelude.{◌≡◌, ◌⊎◌, ◌↔◌, ℕ, ◌+◌, ◌≤◌, length, true, false, Ok, Err, IfOk, IfErr, OnOk};
+ghost use Rattle.std.specs.Prelude.{◌≡◌, ◌⊎◌, ◌↔◌, ℕ, ◌+◌, ◌<◌, ◌≤◌, ◌^◌, List, Option, Some, length, slice_get, true, false, Ok, Err, IfOk, IfErr, OnOk};
+ghost use Rattle.std.specs.List.{AllZip, flat_map, range_with_len};
 ghost use Rattle.json_lines.specs.Given.{OfBytes, OfWhole, OfInput, AreNext, StandBehind};
 ghost use Rattle.json_lines.specs.declared.lines.TheConstants.{CHUNK};
 ghost use Rattle.json_lines.specs.declared.reading.TheConstants.{MAX_INPUT};
 ghost use Rattle.trace_lines.specs.declared.cause.Cause.TheVariants as causes;
 ghost use Rattle.trace_lines.specs.declared.cause.TraceFault.{TraceFault};
 ghost use Rattle.trace_lines.specs.Traces.{trace_of};
-ghost use Rattle.evidence_check.specs.Evidences.{evidence_value};
+ghost use Rattle.trace_lines.specs.Values.{EntryValue};
+ghost use Rattle.audit_slices.specs.Board.{IsNamedBy};
+ghost use Rattle.audit_slices.specs.Reports.{report_items};
+ghost use Rattle.evidence_check.specs.Steps.{StepValue};
+ghost use Rattle.findings.specs.Findings.{findings_of};
 ghost use Rattle.findings.specs.Headline.{IsTraceRightAndFresh};
 ghost use Rattle.findings.specs.WrongReplies.{HasOnlyWrongRepliesNamed};
 ghost use Rattle.audit.specs.Audit.{RefusesTrace, HasRisen, IsOfDevices, IsOfNoDevice, IsUnwritten};
 ghost use Rattle.audit.specs.History.{IsOfHistory};
 ghost use Rattle.audit.specs.Made.{AreMade};
-ghost use Rattle.audit.specs.MadeAudit.{AuditsMade, BreaksMade, WhateverIsMade, AreOfMaker};
-ghost use Rattle.audit.specs.Shared.{are_within_limits};
+ghost use Rattle.audit.specs.MadeAudit.{AuditsMade, BreaksMade, WhateverIsMade, AreOfMaker, IsJudgedMade, IsFoundMade};
+ghost use Rattle.audit.specs.Shared.{has_finding, are_within_limits};
 ghost use Rattle.audit.specs.declared.plain.AuditFault.TheVariants as faults;
 ghost use Rattle.audit.specs.declared.plain.Verdict.TheVariants.{Clean};
 
-use crate::finder::Finder;
 use crate::made::steps_for;
-use crate::plain::{AuditFault, Verdict, audit_values_by, trace_from};
-use crate::shared::{Workers, are_within_limits};
-use evidence_check::Evidence;
+use crate::plain::{AuditFault, Verdict, tell_findings, trace_from};
+use crate::shared::{Found, are_within_limits, gathered, is_any};
+use audit_slices::{Blind, Board, Check, Free, Names, SliceReport, cut, run_pool};
+use evidence_check::{Judged, judge_steps};
+use findings::laws::right_and_fresh_without_findings;
+use findings::{Finding, found_where};
 use json_lines::{Sink, Source};
 use std::alloc::{AllocError, Global};
+use std::marker::Brand;
 use std::sync::Wait;
 use std::thread::Threads;
 use trace_lines::Trace;
 
-/// The evidence that is made for a trace.
-fn evidence_made(alloc: Global, trace: &Trace) -> Result<Evidence, AllocError>
-    ensures { IfOk result (λ e. AreMade trace.now trace.now.entries (evidence_value e)) }
-{
-    let mut made = Vec::new(alloc);
-    for i in 0..trace.len() {
-        made.push(steps_for(alloc, trace, i)?)?;
-    }
-    Ok(Evidence::of_steps(made))
+/// It makes evidence for the decisions of a trace, finds what is wrong with each by its own, and lets that go.
+#[derive(Drop)]
+struct MakingCheck<'t, 'a> {
+    trace: &'t Trace,
+    // Lent, since the borrow checker takes no check with one lifetime alone to a pool.
+    alloc: &'a Global,
+    entries: usize,
+    ghost fits: { entries < 2 ^ 64 },
+    ghost all: { entries ≡ length trace.now.entries },
 }
 
-/// Audits a trace by evidence that is made for it, and writes the report of what this finder finds.
-fn audit_made_by<A: Source, W: Sink, F: Finder>(
+impl<'t, 'a> Check for MakingCheck<'t, 'a> {
+    type Report = Found;
+
+    ghost use Rattle.std.proofs.Common.{rules};
+    ghost use Rattle.audit.specs.MadeAudit.{IsFoundMade};
+    ghost use Rattle.audit.specs.Shared.{has_finding};
+
+    ghost entries = { λ c. c.entries };
+
+    ghost gives = { λ c entry found. IsFoundMade c.trace.now entry found };
+
+    ghost raises = { λ _ found. has_finding found };
+
+    ghost entries_fit = { Prim.search rules };
+
+    fn check(&self, entry: usize) -> Result<Found, AllocError> {
+        found_making(*self.alloc, self.trace, entry)
+    }
+
+    fn alerts(&self, found: &Found) -> bool {
+        is_any(&found.what)
+    }
+}
+
+/// What is found on entry `i` by evidence that is made for it.
+fn found_making(alloc: Global, trace: &Trace, i: usize) -> Result<Found, AllocError>
+    requires { i < length trace.now.entries }
+    ensures { IfOk result (IsFoundMade trace.now i) }
+{
+    let judged = judgement_made(alloc, trace, i)?;
+    let what = found_where(trace, i, judged);
+    let line = trace.entry(i).line;
+    Ok(Found { line, what })
+}
+
+/// How evidence that is made for entry `i` judges it.
+fn judgement_made(alloc: Global, trace: &Trace, i: usize) -> Result<Judged, AllocError>
+    requires { i < length trace.now.entries }
+    ensures { IfOk result (λ j. (e : EntryValue) → slice_get trace.now.entries i ≡ Some e → IsJudgedMade trace.now e j) }
+{
+    match steps_for(alloc, trace, i)? {
+        Some(steps) => judge_steps(trace, trace.entry(i), &steps),
+        None => Ok(Judged::Missing),
+    }
+}
+
+/// What is found on each entry by evidence that is made for it, in slices.
+fn found_made<N: Names<Found> + Sync, R: Threads + Wait + Sync>(
+    rt: &R,
+    alloc: Global,
+    trace: &Trace,
+    workers: usize,
+    size: usize,
+) -> Result<Vec<SliceReport<Found>>, AllocError>
+    requires workers { (0 < workers) × (workers ≤ 16) }
+    requires size { 0 < size }
+    requires names { IsNamedBy (IsFoundMade trace.now) has_finding N.gives N.alerts }
+    ensures { IfOk result (λ v. AllZip (IsFoundMade trace.now) (range_with_len 0 (length trace.now.entries)) (flat_map report_items v.items)) }
+{
+    let entries = trace.len();
+    let check = MakingCheck {
+        trace,
+        alloc: &alloc,
+        entries,
+    };
+    let slices = cut(alloc, entries, size)?;
+    run_pool(
+        rt,
+        alloc,
+        &check,
+        &Free,
+        None::<&Board<Found, N>>,
+        &mut Blind,
+        slices,
+        workers,
+    )
+}
+
+/// The findings on each entry by evidence that is made for it, in line order and by their numbers, by several workers.
+fn findings_made<R: Threads + Wait + Sync>(
+    rt: &R,
+    alloc: Global,
+    trace: &Trace,
+    workers: usize,
+    size: usize,
+) -> Result<Vec<Finding>, AllocError>
+    requires workers { (0 < workers) × (workers ≤ 16) }
+    requires size { 0 < size }
+    ensures { IfOk result (λ v. (given : List (Option (List StepValue))) × AreMade trace.now trace.now.entries given × (v.items ≡ findings_of trace.now given)) }
+{
+    let reports = found_made::<Brand, R>(rt, alloc, trace, workers, size)?;
+    gathered(alloc, reports.as_slice())
+}
+
+/// Audits a trace by evidence that is made for it, and writes the report of what several workers find.
+fn audit_made_by<A: Source, W: Sink, R: Threads + Wait + Sync>(
+    rt: &R,
     alloc: Global,
     trace: &mut A,
     out: &mut W,
-    finder: &mut F,
+    workers: usize,
+    size: usize,
 ) -> Result<Verdict, AuditFault>
-    requires { F.asks finder.old }
+    requires workers { (0 < workers) × (workers ≤ 16) }
+    requires size { 0 < size }
     // The report on the trace that the reader gave, to its end, and on evidence that was made for it, went out whole, and the verdict is its last line.
     ensures audits { IfOk result (λ v. OfWhole A.given A.ends trace.old trace.new (λ a. AuditsMade a (W.taken out.old) (W.taken out.new) v)) }
     ensures flushed { OnOk result (W.flushes out.new ≡ W.flushes out.old + 1) }
@@ -77,15 +182,16 @@ fn audit_made_by<A: Source, W: Sink, F: Finder>(
     ensures faults { IfErr result IsOfHistory }
 {
     let trace = trace_from(alloc, trace)?;
-    let evidence = evidence_made(alloc, &trace)?;
-    audit_values_by(alloc, &trace, &evidence, out, finder)
+    right_and_fresh_without_findings(&trace);
+    let findings = findings_made(rt, alloc, &trace, workers, size)?;
+    tell_findings(alloc, &findings, trace.len(), out)
 }
 
 /// Audits a trace by evidence that is made for it in place, and never written. The report is that of [`audit`](crate::audit) on such evidence: `F7`
 /// is found only on the line of an entry that the maker gave up, and `F8` and `F9` nowhere.
 ///
-/// The calling thread makes the evidence, entry by entry; then 1 to 16 workers, it among them, share the judging, in slices of 1 to 4,096
-/// entries. As much memory is taken as for evidence that is read.
+/// 1 to 16 workers, the calling thread among them, share the entries, in slices of 1 to 4,096. Each makes the evidence for an entry, judges
+/// the entry by it and lets it go, so that no more of it stands in memory than one entry's for each worker.
 ///
 /// `Limits` is answered where there are other numbers of workers or entries in a slice, and then nothing is read or written. A trace is refused
 /// as by [`audit`](crate::audit), and nothing is written where it is or memory runs out.
@@ -130,10 +236,5 @@ pub fn audit_made<A: Source, W: Sink, R: Threads + Wait + Sync>(
     if !are_within_limits(workers, slice) {
         return Err(AuditFault::Limits);
     }
-    let mut finder = Workers {
-        rt,
-        workers,
-        size: slice,
-    };
-    audit_made_by(alloc, trace, out, &mut finder)
+    audit_made_by(rt, alloc, trace, out, workers, slice)
 }

@@ -78,22 +78,33 @@ fn verdict_of(findings: &[Finding]) -> Verdict
     }
 }
 
-/// The report on a trace by its evidence, and the verdict.
-fn report_on<F: Finder>(
+/// Writes the report of findings on a trace with so many entries.
+pub(crate) fn tell_findings<W: Sink>(
     alloc: Global,
-    trace: &Trace,
-    evidence: &Evidence,
-    finder: &mut F,
-) -> Result<(String, Verdict), AllocError>
-    requires { F.asks finder.old }
-    ensures report { IfOk result (λ r. (string_bytes r.0 ≡ report_on trace.now (evidence_value evidence.now))
-        × (r.1 ≡ verdict_of (findings_of trace.now (evidence_value evidence.now)))) }
-    ensures mark { F.mark finder.new ≡ F.mark finder.old }
-    ensures tells { F.tells trace.now (evidence_value evidence.now) finder.old finder.new }
+    findings: &[Finding],
+    entries: usize,
+    out: &mut W,
+) -> Result<Verdict, AuditFault>
+    ensures verdict { IfOk result (λ v. v ≡ verdict_of findings.now) }
+    ensures report { OnOk result (W.taken out.new ≡ W.taken out.old ++ report_text findings.now entries) }
+    ensures flushed { OnOk result (W.flushes out.new ≡ W.flushes out.old + 1) }
+    // The first n bytes went out, and the writer failed or took none of some.
+    ensures write { (n : ℕ) → result ≡ Err (faults.Write n) → FailsWriting (W.taken out.old) (W.taken out.new) n (report_text findings.now entries) }
+    ensures device { IfErr result (λ e. IsWrite e → HasRisen (W.failures out.old) (W.failures out.new) ⊎ HasRisen (W.idle out.old) (W.idle out.new)) }
+    ensures kept { OnOk result (W.failures out.new ≡ W.failures out.old) }
+    // Of memory alone nothing is written.
+    ensures faults { IfErr result (λ e. (e ≡ faults.OutOfMemory) ⊎ IsWrite e) }
+    ensures unwritten { IfErr result (λ e. IsUnwritten e → W.taken out.new ≡ W.taken out.old) }
+    ensures unfailed { IfErr result (λ e. IsUnwritten e → W.failures out.new ≡ W.failures out.old) }
+    ensures held { StandBehind W.taken W.contents out.old out.new }
 {
-    let findings = finder.findings(alloc, trace, evidence)?;
-    let text = report_of(alloc, &findings, trace.len())?;
-    Ok((text, verdict_of(&findings)))
+    let text = report_of(alloc, findings, entries)?;
+    match send(out, text.as_bytes()) {
+        Ok(()) => Ok(verdict_of(findings)),
+        Err(unsent) => Err(AuditFault::Write {
+            written: unsent.written,
+        }),
+    }
 }
 
 /// Writes the report on a trace by its evidence, of what this finder finds.
@@ -126,13 +137,8 @@ pub(crate) fn audit_values_by<W: Sink, F: Finder>(
 {
     right_and_fresh_without_findings(trace);
     wrong_replies_are_wrong(trace);
-    let (text, verdict) = report_on(alloc, trace, evidence, finder)?;
-    match send(out, text.as_bytes()) {
-        Ok(()) => Ok(verdict),
-        Err(unsent) => Err(AuditFault::Write {
-            written: unsent.written,
-        }),
-    }
+    let findings = finder.findings(alloc, trace, evidence)?;
+    tell_findings(alloc, &findings, trace.len(), out)
 }
 
 /// Writes the report on a trace by its evidence.

@@ -2,7 +2,7 @@
 
 ghost use Rattle.std.specs.Prelude.{◌≡◌, ◌⊎◌, ◌↔◌, ◌<◌, ◌≤◌, ◌^◌, ◌+◌, ◌++◌, ℕ, List, Option, length, true, false, Ok, Err, IfOk, IfErr, OnOk, is_some};
 ghost use Rattle.std.specs.List.{flat_map, list_any};
-ghost use Rattle.audit_slices.specs.Board.{SameNames};
+ghost use Rattle.audit_slices.specs.Board.{IsNamedBy};
 ghost use Rattle.audit_slices.specs.Reports.{report_items};
 ghost use Rattle.json_lines.specs.Given.{OfBytes, OfWhole, OfInput, AreNext, StandBehind};
 ghost use Rattle.json_lines.specs.declared.lines.TheConstants.{CHUNK};
@@ -65,13 +65,13 @@ pub(crate) struct EntryCheck<'t, 'e> {
 impl<'t, 'e> Check for EntryCheck<'t, 'e> {
     type Report = Found;
 
-    ghost use Rattle.std.proofs.Common.{rules};
+    ghost use Rattle.std.proofs.Common.{◌≡◌, rules};
     ghost use Rattle.evidence_check.specs.Evidences.{evidence_value};
     ghost use Rattle.audit.specs.Shared.{found_at, has_finding};
 
     ghost entries = { λ c. c.entries };
 
-    ghost named = { λ c entry. found_at c.trace.now (evidence_value c.evidence.now) entry };
+    ghost gives = { λ c entry found. found ≡ found_at c.trace.now (evidence_value c.evidence.now) entry };
 
     ghost raises = { λ _ found. has_finding found };
 
@@ -88,7 +88,7 @@ impl<'t, 'e> Check for EntryCheck<'t, 'e> {
     }
 }
 
-fn is_any(found: &[Option<What>]) -> bool
+pub(crate) fn is_any(found: &[Option<What>]) -> bool
     ensures { result ≡ list_any is_some found.now }
 {
     found.iter().any(|what| what.is_some())
@@ -96,9 +96,9 @@ fn is_any(found: &[Option<What>]) -> bool
 
 // The call of a pool picks the names, which are those of its trace and evidence.
 impl Names<Found> for Brand {
-    ghost use Rattle.std.specs.Prelude.{[], false};
+    ghost use Rattle.std.specs.Prelude.{⊤, false};
 
-    ghost named = { λ _. record { line = 0; what = [] } };
+    ghost gives = { λ _ _. ⊤ };
 
     ghost alerts = { λ _. false };
 }
@@ -114,7 +114,7 @@ fn found_by<N: Names<Found> + Sync, R: Threads + Wait + Sync>(
 ) -> Result<Vec<SliceReport<Found>>, AllocError>
     requires workers { (0 < workers) × (workers ≤ 16) }
     requires size { 0 < size }
-    requires names { SameNames (found_at trace.now (evidence_value evidence.now)) has_finding N.named N.alerts }
+    requires names { IsNamedBy (λ entry found. found ≡ found_at trace.now (evidence_value evidence.now) entry) has_finding N.gives N.alerts }
     ensures { IfOk result (λ v. flat_map report_items v.items ≡ all_found trace.now (evidence_value evidence.now)) }
 {
     let entries = trace.len();
@@ -178,10 +178,10 @@ fn findings_by<R: Threads + Wait + Sync>(
 
 /// Workers who share the entries, in slices of one size.
 #[derive(Drop)]
-pub(crate) struct Workers<'r, R: Threads + Wait + Sync> {
-    pub(crate) rt: &'r R,
-    pub(crate) workers: usize,
-    pub(crate) size: usize,
+struct Workers<'r, R: Threads + Wait + Sync> {
+    rt: &'r R,
+    workers: usize,
+    size: usize,
     ghost some: { 0 < workers },
     ghost few: { workers ≤ 16 },
     ghost filled: { 0 < size },

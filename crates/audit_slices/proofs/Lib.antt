@@ -1,3 +1,4 @@
+pub mod ReportLemmas
 pub mod ThiefLemmas
 pub mod MemberLemmas
 pub mod RunLemmas

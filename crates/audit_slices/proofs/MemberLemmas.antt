@@ -3,7 +3,8 @@ use Rattle.std.specs.Prelude.{sum_by, All, slice_index_or}
 use Rattle.std.proofs.lemmas.List.Elements.{All-contains}
 use Rattle.slice_yard.specs.declared.slices.Slice.{Slice}
 use Rattle.audit_slices.specs.declared.members.Member.{Member}
-use Rattle.audit_slices.specs.Members.{member_sum, member_places, IsNamed, IsSettled, IsOneShort, IsIn, AreBelow, Places, openings}
+use Rattle.audit_slices.specs.Reports.{IsReported}
+use Rattle.audit_slices.specs.Members.{member_sum, member_places, IsSettled, IsOneShort, IsIn, AreBelow, Places, openings}
 
 -- a slice that was put in has its entries below n, where all have
 pub below : (n : ℕ) (before places : Places) (x : Slice) → places ≡ before → AreBelow n before → IsIn (openings places) x → x.from + x.count ≤ n
@@ -12,9 +13,9 @@ below n before places x e all c =
     All-contains (λ (x : Slice). x.from + x.count ≤ n) c.0 x (All-contains (λ (l : List Slice). All (λ (x : Slice). x.from + x.count ≤ n) l) (openings places) c.0 a.each c.1) c.2
 
 -- a worker that was handed x is short of its reports
-pub short : {X : Type 0} (f : ℕ → X) (old new : Member X) (x : Slice) → IsSettled f old → (new.done ≡ old.done) × (new.lost ≡ old.lost) → ((h : Slice → ℕ) → member_sum h new ≡ member_sum h old + h x) → IsOneShort f x new
-short f old new x settled same more = record {
-  named = subst (λ d. All (IsNamed f) d.items) (sym same.0) settled.named;
+pub short : {X : Type 0} (P : ℕ → X → Type 0) (old new : Member X) (x : Slice) → IsSettled P old → (new.done ≡ old.done) × (new.lost ≡ old.lost) → ((h : Slice → ℕ) → member_sum h new ≡ member_sum h old + h x) → IsOneShort P x new
+short P old new x settled same more = record {
+  given = subst (λ d. All (IsReported P) d.items) (sym same.0) settled.given;
   each = λ kept h. let a = settled.each (sym same.1 ∙ kept) h in let b = more h in let e = ap (λ d. sum_by (λ r. h r.slice) d.items) same.0 in omega arith;
 }
 

@@ -1,25 +1,26 @@
 -- The pool's reports are those of its slices, in order.
 use Rattle.std.proofs.Common.{◌≡◌, ℕ, ◌+◌, ◌%◌, ◌<◌, ◌≤◌, ◌==◌, false, List, [], ◌∷◌, ◌++◌, length, get_or, map, All, sym, refl, ap, ◌∙◌, subst, arith}
 use Rattle.std.specs.Prelude.{sum_by, slice_index_or}
-use Rattle.std.specs.List.{flat_map, range_with_len}
+use Rattle.std.specs.List.{AllZip, flat_map, range_with_len}
 use Rattle.slice_yard.specs.Cut.{entries_of}
 use Rattle.std.specs.List.Sorted.{IsPermutation, IsNonDecreasingBy}
-use Rattle.std.proofs.lemmas.List.{map-append}
 use Rattle.std.proofs.lemmas.List.Sums.{sum_by-cons, sum_by-append}
 use Rattle.std.proofs.lemmas.List.Sorted.{sum_by-IsPermutation}
-use Rattle.std.proofs.lemmas.List.Elements.{All-nil, All-cons, All-head, All-tail, All-append, All-filter}
+use Rattle.std.proofs.lemmas.List.Elements.{All-nil, All-weaker, All-cons, All-head, All-tail, All-append, All-filter}
 use Rattle.slice_yard.specs.declared.slices.Slice.{Slice}
 use Rattle.slice_yard.specs.declared.rule.Hand.{Hand}
 use Rattle.audit_slices.specs.declared.checks.SliceReport.{SliceReport}
 use Rattle.audit_slices.specs.declared.members.Member.{Member}
 use Rattle.slice_yard.specs.Lane.{LanePlace, ThiefPlace}
-use Rattle.audit_slices.specs.Members.{Places, member_places, member_sum, thief_openings, IsSettled, IsNamed, AreBelow}
+use Rattle.audit_slices.specs.Members.{Places, member_places, member_sum, thief_openings, IsNew, IsSettled, AreBelow}
 use Rattle.slice_core.specs.Named.{named_from}
+use Rattle.audit_slices.specs.Reports.{IsReported}
 use Rattle.audit_slices.specs.Run.{IsWhole, IsFinished, unspent, rest_sum}
 use Rattle.slice_yard.specs.Shared.{lists_sum, IsSpent}
 use Rattle.slice_yard.specs.Yard.{filled, seated, dealt, seat_of, thief_lanes}
 use Rattle.slice_yard.proofs.Orders.{same_list, counts, rises}
 use Rattle.slice_yard.proofs.Shares.{shared_sum}
+use Rattle.audit_slices.proofs.ReportLemmas.{given_both}
 use Rattle.slice_core.proofs.SumLemmas.{sum_by-mapped, sum_all, sum_none}
 use Rattle.slice_yard.proofs.DealLemmas.{dealt_sum}
 use Rattle.slice_core.proofs.Tables.{table_all, map_map, All_map, All_unmap, All_along}
@@ -62,30 +63,37 @@ module _ {X : Type 0} where
   covered_left n xs ms hands reports fin below =
       All_unmap (Below n) (λ (v : Hand). v.opening) hands (subst (All (Below n)) (sym fin.openings) (table_all (Below n) (dealt xs fin.count) fin.count (λ l lt. All-filter (λ (x : Slice). x.number % fin.count == l) (λ (x : Slice). x.from + x.count ≤ n) xs below)))
 
-  pub named_all : (f : ℕ → X) (ms : List (Member X)) → All (IsSettled f) ms → All (IsNamed f) (flat_map (λ m. m.done.items) ms)
-  named_all f [] h = All-nil (IsNamed f)
-  named_all f (m ∷ ms) h = All-append (IsNamed f) m.done.items _ (All-head (IsSettled f) m ms h).named (named_all f ms (All-tail (IsSettled f) m ms h))
+  -- a new worker's reports, of which there are none, may be given
+  pub settled_new : (P : ℕ → X → Type 0) (ms : List (Member X)) → All IsNew ms → All (IsSettled P) ms
+  settled_new P ms new = All-weaker IsNew (IsSettled P) (λ m n. record {
+    given = subst (All (IsReported P)) (sym n.done) (All-nil (IsReported P));
+    each = λ kept h. ap (sum_by (λ r. h r.slice)) n.done ∙ sym (n.handed h);
+  }) ms new
 
-  done_sum : (f : ℕ → X) (ms : List (Member X)) → All (IsSettled f) ms → All (λ m. m.lost ≡ false) ms → (h : Slice → ℕ) → sum_by (λ r. h r.slice) (flat_map (λ m. m.done.items) ms) ≡ sum_by (member_sum h) ms
-  done_sum f [] s kept h = refl
-  done_sum f (m ∷ ms) s kept h =
+  pub given_all : (P : ℕ → X → Type 0) (ms : List (Member X)) → All (IsSettled P) ms → All (IsReported P) (flat_map (λ m. m.done.items) ms)
+  given_all P [] h = All-nil (IsReported P)
+  given_all P (m ∷ ms) h = All-append (IsReported P) m.done.items _ (All-head (IsSettled P) m ms h).given (given_all P ms (All-tail (IsSettled P) m ms h))
+
+  done_sum : (P : ℕ → X → Type 0) (ms : List (Member X)) → All (IsSettled P) ms → All (λ m. m.lost ≡ false) ms → (h : Slice → ℕ) → sum_by (λ r. h r.slice) (flat_map (λ m. m.done.items) ms) ≡ sum_by (member_sum h) ms
+  done_sum P [] s kept h = refl
+  done_sum P (m ∷ ms) s kept h =
       let K : Member X → Type 0 = λ m. m.lost ≡ false in
       let r : SliceReport X → ℕ = λ r. h r.slice in
-      let a = (All-head (IsSettled f) m ms s).each (All-head K m ms kept) h in
-      let b = done_sum f ms (All-tail (IsSettled f) m ms s) (All-tail K m ms kept) h in
+      let a = (All-head (IsSettled P) m ms s).each (All-head K m ms kept) h in
+      let b = done_sum P ms (All-tail (IsSettled P) m ms s) (All-tail K m ms kept) h in
       let c = sum_by-append r m.done.items (flat_map (λ (m : Member X). m.done.items) ms) in
       let d = sum_by-cons (member_sum h) m ms in
       omega arith
 
   -- all reports together are of just the slices
-  pub all_slices : (f : ℕ → X) (xs : List Slice) (ms : List (Member X)) (before after : List Hand) (first done : List (SliceReport X)) → IsFinished xs ms before first → All (IsSettled f) ms → map unspent after ≡ map unspent before → All IsSpent after
+  pub all_slices : (P : ℕ → X → Type 0) (xs : List Slice) (ms : List (Member X)) (before after : List Hand) (first done : List (SliceReport X)) → IsFinished xs ms before first → All (IsSettled P) ms → map unspent after ≡ map unspent before → All IsSpent after
       → ((h : Slice → ℕ) → sum_by (λ r. h r.slice) done + rest_sum h before ≡ sum_by (λ r. h r.slice) first + rest_sum h after) → (h : Slice → ℕ) → sum_by h xs ≡ sum_by (λ r. h r.slice) done
-  all_slices f xs ms before after first done fin settled same spent sums h =
+  all_slices P xs ms before after first done fin settled same spent sums h =
       let r : SliceReport X → ℕ = λ r. h r.slice in
       let lists : Hand → ℕ = lists_sum h in
       let rest : Hand → ℕ = λ v. sum_by h v.rest in
       let opening : Hand → ℕ = λ v. sum_by h v.opening in
-      let a = done_sum f ms settled fin.kept h in
+      let a = done_sum P ms settled fin.kept h in
       let b : sum_by r first ≡ sum_by r (flat_map (λ m. m.done.items) ms) = ap (sum_by r) fin.done in
       let c = fin.sums h in
       let d : sum_by lists after ≡ sum_by lists before = sym (sum_by-mapped lists unspent after) ∙ ap (sum_by lists) same ∙ sum_by-mapped lists unspent before in
@@ -107,10 +115,11 @@ module _ {X : Type 0} where
       (λ h. let a = sums h in let b = sum_by-IsPermutation (λ (r : SliceReport X). h r.slice) done sorted moved in let c = sum_by-mapped h s sorted in omega arith)
 
   -- entry by entry
-  pub all_reports : (f : ℕ → X) (xs : List Slice) (rs : List (SliceReport X)) → map (λ r. r.slice) rs ≡ xs → All (IsNamed f) rs → flat_map (λ r. r.reports.items) rs ≡ map f (entries_of xs)
-  all_reports f xs [] e named = ap (λ l. map f (entries_of l)) e
-  all_reports f xs (r ∷ rs) e named =
+  pub all_reports : (P : ℕ → X → Type 0) (xs : List Slice) (rs : List (SliceReport X)) → map (λ r. r.slice) rs ≡ xs → All (IsReported P) rs → AllZip P (entries_of xs) (flat_map (λ r. r.reports.items) rs)
+  all_reports P xs [] e given = subst (λ (l : List Slice). AllZip P (entries_of l) []) e tt
+  all_reports P xs (r ∷ rs) e given =
       let s : SliceReport X → Slice = λ r. r.slice in
-      let here : r.reports.items ≡ named_from f r.slice.from r.slice.count = All-head (IsNamed f) r rs named in
-      let rest = all_reports f (map s rs) rs refl (All-tail (IsNamed f) r rs named) in
-      (λ i. here i ++ rest i) ∙ sym (map-append f (range_with_len r.slice.from r.slice.count) (entries_of (map s rs))) ∙ ap (λ l. map f (entries_of l)) e
+      let items : List X = flat_map (λ (r : SliceReport X). r.reports.items) rs in
+      subst (λ (l : List Slice). AllZip P (entries_of l) (r.reports.items ++ items)) e
+      (given_both P (range_with_len r.slice.from r.slice.count) (entries_of (map s rs)) r.reports.items items (All-head (IsReported P) r rs given)
+      (all_reports P (map s rs) rs refl (All-tail (IsReported P) r rs given)))

@@ -16,7 +16,7 @@ use Rattle.audit_slices.specs.declared.checks.SliceReport.{SliceReport}
 use Rattle.audit_slices.specs.declared.members.Member.{Member}
 use Rattle.slice_yard.specs.Hands.{owner_hand, handed_rest}
 use Rattle.slice_yard.specs.Lane.{thief_place, thief_hand_of}
-use Rattle.audit_slices.specs.Members.{member_places, IsSettled}
+use Rattle.audit_slices.specs.Members.{member_places, IsNew}
 use Rattle.audit_slices.specs.Run.{unspent, rest_sum}
 use Rattle.slice_core.proofs.Tables.{All_along, empty}
 use Rattle.slice_yard.specs.Shared.{handed_sum, thieves_sum, HandedLeft}
@@ -71,8 +71,8 @@ module _ {X : Type 0} (ms new : List (Member X)) (m : Member X) (e : new ≡ ms 
   pub staffed_more : {Y : Type 0} (g : Member X → Y) (before : List Y) (y : Y) → map g ms ≡ before → g m ≡ y → map g new ≡ before ++ y ∷ []
   staffed_more g before y so_far is = ap (map g) e ∙ map-append g ms (m ∷ []) ∙ ap (λ l. l ++ g m ∷ []) so_far ∙ ap (λ z. before ++ z ∷ []) is
 
-  pub settled_more : ((f : ℕ → X) → All (IsSettled f) ms) → ((f : ℕ → X) → IsSettled f m) → (f : ℕ → X) → All (IsSettled f) new
-  settled_more all one f = subst (All (IsSettled f)) (sym e) (All-push (IsSettled f) ms m (all f) (one f))
+  pub new_more : All IsNew ms → IsNew m → All IsNew new
+  new_more all one = subst (All IsNew) (sym e) (All-push IsNew ms m all one)
 
 -- all thieves were given to the workers
 pub all_taken : {X : Type 0} (ms : List (Member X)) (thieves taken rest : List (Vec Thief Global)) → thieves ≡ taken ++ rest → map (λ m. (member_places m).1) ms ≡ map (λ v. map thief_place v.items) taken → length ms ≡ length thieves

@@ -8,13 +8,13 @@ use Rattle.audit_slices.specs.declared.board.Board.{Board}
 use Rattle.audit_slices.specs.declared.board.Posted.{Posted}
 
 module _ {X : Type 0} where
-  -- its report is the one that is named for its entry, and raises an alert
-  abbrev pub IsTrueAlert : (ℕ → X) → (X → Bool) → Alert X → Type 0
-  IsTrueAlert named alerts a = (a.report ≡ named a.entry) × (alerts a.report ≡ true)
+  -- its report may be given to its entry, and raises an alert
+  abbrev pub IsTrueAlert : (ℕ → X → Type 0) → (X → Bool) → Alert X → Type 0
+  IsTrueAlert gives alerts a = gives a.entry a.report × (alerts a.report ≡ true)
 
-  -- these name the same reports, and the same of them raise an alert
-  pub record SameNames (f : ℕ → X) (p : X → Bool) (g : ℕ → X) (q : X → Bool) : Type 0 where
-    pub named : (entry : ℕ) → f entry ≡ g entry
+  -- what the first may give the second may, and the same reports raise an alert
+  pub record IsNamedBy (f : ℕ → X → Type 0) (p : X → Bool) (g : ℕ → X → Type 0) (q : X → Bool) : Type 0 where
+    pub reports : (entry : ℕ) (report : X) → f entry report → g entry report
     pub alerts : (report : X) → p report ≡ q report
 
 module _ {X N : Type 0} where
@@ -39,8 +39,8 @@ module _ {X N : Type 0} where
   end_of alerts = alerts.inner.end
 
   -- one step: an alert that is true, of a place further on, or none where all places were gone through
-  pub record GivesAlert (named : ℕ → X) (alerts : X → Bool) (old : Alerts X N) (given : Option (Bor (Alert X))) (new : Alerts X N) : Type 0 where
-    pub raised : IfSome given (λ a. IsTrueAlert named alerts a.now)
+  pub record GivesAlert (gives : ℕ → X → Type 0) (alerts : X → Bool) (old : Alerts X N) (given : Option (Bor (Alert X))) (new : Alerts X N) : Type 0 where
+    pub raised : IfSome given (λ a. IsTrueAlert gives alerts a.now)
     pub board : (board : Board X N) → IsOver board old → IsOver board new
     pub onward : OnSome given (place_of old < place_of new)
     pub end : end_of new ≡ end_of old

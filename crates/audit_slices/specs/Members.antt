@@ -1,11 +1,10 @@
 -- What a clause says of a worker: its places in the lanes, and what it was handed there.
-use Rattle.std.specs.Prelude.{◌≡◌, ℕ, ◌+◌, false, List, ◌∷◌, map, sum_by, All, Contains}
+use Rattle.std.specs.Prelude.{◌≡◌, ℕ, ◌+◌, false, List, [], ◌∷◌, map, sum_by, All, Contains}
 use Rattle.slice_yard.specs.declared.slices.Slice.{Slice}
-use Rattle.audit_slices.specs.declared.checks.SliceReport.{SliceReport}
 use Rattle.audit_slices.specs.declared.members.Member.{Member}
-use Rattle.slice_yard.specs.Cut.{first_entry, slice_len, IsWithin}
+use Rattle.slice_yard.specs.Cut.{IsWithin}
 use Rattle.slice_yard.specs.Lane.{LanePlace, ThiefPlace, lane_place, thief_place, lane_hand}
-use Rattle.slice_core.specs.Named.{named_from}
+use Rattle.audit_slices.specs.Reports.{IsReported}
 use Rattle.slice_yard.specs.Shared.{handed_sum, thieves_sum}
 
 -- a worker's places: in its own lane, and as a thief
@@ -27,18 +26,19 @@ module _ {X : Type 0} where
   abbrev pub member_places : Member X → Places
   member_places m = (lane_place m.lane, map thief_place m.thieves.items)
 
-  -- the reports are those that f names for the slice's entries, in order
-  abbrev pub IsNamed : (ℕ → X) → SliceReport X → Type 0
-  IsNamed f r = r.reports.items ≡ named_from f (first_entry r.slice) (slice_len r.slice)
+  -- it was handed no slice, and has no report
+  pub record IsNew (m : Member X) : Type 0 where
+    pub done : m.done.items ≡ []
+    pub handed : (h : Slice → ℕ) → member_sum h m ≡ 0
 
-  -- its reports are right, and unless it lost a slice, they are of just the slices that it was handed
-  pub record IsSettled (f : ℕ → X) (m : Member X) : Type 0 where
-    pub named : All (IsNamed f) m.done.items
+  -- its reports may be given, and unless it lost a slice, they are of just the slices that it was handed
+  pub record IsSettled (gives : ℕ → X → Type 0) (m : Member X) : Type 0 where
+    pub given : All (IsReported gives) m.done.items
     pub each : m.lost ≡ false → (h : Slice → ℕ) → sum_by (λ r. h r.slice) m.done.items ≡ member_sum h m
 
   -- the same, but for the slice x, which it holds
-  pub record IsOneShort (f : ℕ → X) (x : Slice) (m : Member X) : Type 0 where
-    pub named : All (IsNamed f) m.done.items
+  pub record IsOneShort (gives : ℕ → X → Type 0) (x : Slice) (m : Member X) : Type 0 where
+    pub given : All (IsReported gives) m.done.items
     pub each : m.lost ≡ false → (h : Slice → ℕ) → sum_by (λ r. h r.slice) m.done.items + h x ≡ member_sum h m
 
 -- x is a slice that was put into one of these lanes

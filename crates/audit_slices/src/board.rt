@@ -9,9 +9,9 @@ use std::alloc::{AllocError, Global};
 use std::marker::PhantomData;
 use std::sync::Wait;
 
-/// Which reports are named, and which of them raise an alert. Each call of a program picks it.
+/// Which reports may be given to an entry, and which reports raise an alert. Each call of a program picks it.
 pub trait Names<X> {
-    ghost named: { ℕ → X };
+    ghost gives: { ℕ → X → Type 0 };
 
     ghost alerts: { X → Bool };
 }
@@ -29,7 +29,7 @@ pub struct True<N> {
 }
 
 impl<X, N: Names<X>> Keeps<Alert<X>> for True<N> {
-    ghost holds = { λ _ _ a. IsTrueAlert N.named N.alerts a };
+    ghost holds = { λ _ _ a. IsTrueAlert N.gives N.alerts a };
 }
 
 /// It shows where on a board an alert stands.
@@ -54,7 +54,7 @@ impl<X: Drop, N: Names<X>> Board<X, N> {
 
     /// Puts up an alert, which has to be true. It comes back for want of memory.
     pub fn post<R: Wait>(&self, rt: &R, alert: Alert<X>) -> Result<Posted<X, N>, Alert<X>>
-        requires { IsTrueAlert N.named N.alerts alert }
+        requires { IsTrueAlert N.gives N.alerts alert }
         ensures posted { IfOk result (λ p. IsPostedOn self.now p × (posted_alert p ≡ alert)) }
         ensures back { IfErr result (λ a. a ≡ alert) }
     {
@@ -92,7 +92,7 @@ pub struct Alerts<'a, X, N: Names<X>> {
 impl<'a, X, N: Names<X>> Iterator for Alerts<'a, X, N> {
     type Item = &'a Alert<X>;
 
-    ghost next_gives = { GivesAlert N.named N.alerts };
+    ghost next_gives = { GivesAlert N.gives N.alerts };
 
     ghost remaining = { λ it. at_most (end_of it - place_of it) };
 
@@ -109,7 +109,7 @@ pub trait Watch<X, N: Names<X>> {
     ghost mark: { Self → ℕ };
 
     fn seen(&mut self, alert: &Alert<X>)
-        requires { IsTrueAlert N.named N.alerts alert.now }
+        requires { IsTrueAlert N.gives N.alerts alert.now }
         ensures { mark self.new ≡ mark self.old };
 }
 
@@ -129,7 +129,7 @@ pub(crate) trait Desk<X, N: Names<X>> {
 
     // Puts up an alert, or drops it for want of memory.
     fn put<R: Wait>(&self, rt: &R, alert: Alert<X>)
-        requires { IsTrueAlert N.named N.alerts alert };
+        requires { IsTrueAlert N.gives N.alerts alert };
 
     // Shows a watch the alerts from this place on, up to the first place that is still empty, which it answers.
     fn show_new<W: Watch<X, N>>(&self, from: usize, watch: &mut W) -> usize
@@ -146,7 +146,7 @@ impl<X: Drop, N: Names<X>> Desk<X, N> for Board<X, N> {
     }
 
     fn put<R: Wait>(&self, rt: &R, alert: Alert<X>)
-        requires { IsTrueAlert N.named N.alerts alert }
+        requires { IsTrueAlert N.gives N.alerts alert }
     {
         drop(self.post(rt, alert));
     }
@@ -180,7 +180,7 @@ impl<X: Drop, N: Names<X>> Desk<X, N> for Nowhere {
     }
 
     fn put<R: Wait>(&self, _rt: &R, _alert: Alert<X>)
-        requires { IsTrueAlert N.named N.alerts _alert }
+        requires { IsTrueAlert N.gives N.alerts _alert }
     {}
 
     fn show_new<W: Watch<X, N>>(&self, from: usize, _watch: &mut W) -> usize {

@@ -1,29 +1,29 @@
 //! What a check of an entry gives, and a check of a slice.
 ghost use Rattle.std.specs.Prelude.{◌≡◌, ◌+◌, ◌<◌, ◌≤◌, ◌^◌, ℕ, Bool, IfOk, IfErr};
-ghost use Rattle.slice_core.specs.Named.{named_from};
-ghost use Rattle.slice_yard.specs.Cut.{slice_number, slice_len, first_entry, IsWithin};
-ghost use Rattle.audit_slices.specs.Reports.{report_slice, report_items};
+ghost use Rattle.std.specs.List.{AllZip, range_with_len};
+ghost use Rattle.slice_yard.specs.Cut.{slice_number, IsWithin};
+ghost use Rattle.audit_slices.specs.Reports.{report_slice, report_items, IsReported};
 
 use slice_yard::Slice;
 use std::alloc::{AllocError, Global};
 
-/// It names one report for each of its entries, and says which reports raise an alert.
+/// It gives each of its entries a report, and says which reports raise an alert.
 pub trait Check {
     type Report;
 
     // How many entries it covers.
     ghost entries: { Self → ℕ };
 
-    // The report of an entry.
-    ghost named: { Self → ℕ → Self.Report };
+    // Whether it may give an entry this report.
+    ghost gives: { Self → ℕ → Self.Report → Type 0 };
 
     // Whether a report raises an alert.
     ghost raises: { Self → Self.Report → Bool };
 
-    /// The report of the entry. Refused for want of memory alone.
+    /// A report of the entry. Refused for want of memory alone.
     fn check(&self, entry: usize) -> Result<Self::Report, AllocError>
         requires { entry < entries self.now }
-        ensures { IfOk result (λ r. r ≡ named self.now entry) };
+        ensures { IfOk result (gives self.now entry) };
 
     /// Whether the report raises an alert.
     fn alerts(&self, report: &Self::Report) -> bool
@@ -69,7 +69,6 @@ impl<X> SliceReport<X> {
     }
 }
 
-#[tactic(auto, using(slice_core::proofs::NamedLemmas::named_from_more))]
 fn reports_from<C: Check>(
     alloc: Global,
     check: &C,
@@ -80,7 +79,7 @@ where
     C::Report: Drop,
     requires fits { from + count < 2 ^ 64 }
     requires covered { from + count ≤ C.entries check.now }
-    ensures { IfOk result (λ v. v.items ≡ named_from (C.named check.now) from count) }
+    ensures { IfOk result (λ v. AllZip (C.gives check.now) (range_with_len from count) v.items) }
 {
     let mut reports = Vec::new(alloc);
     for k in 0..count {
@@ -89,7 +88,7 @@ where
     Ok(reports)
 }
 
-/// The reports of the slice's entries, in order, or the slice back where memory ran out.
+/// Reports of the slice's entries, in order, or the slice back where memory ran out.
 pub fn check_slice<C: Check>(
     alloc: Global,
     check: &C,
@@ -99,8 +98,7 @@ where
     C::Report: Drop,
     requires { IsWithin (C.entries check.now) slice }
     ensures slice { IfOk result (λ r. report_slice r ≡ slice) }
-    ensures reports { IfOk result (λ r. report_items r
-        ≡ named_from (C.named check.now) (first_entry slice) (slice_len slice)) }
+    ensures reports { IfOk result (IsReported (C.gives check.now)) }
     ensures back { IfErr result (λ s. s ≡ slice) }
 {
     match reports_from(alloc, check, slice.first(), slice.len()) {

@@ -5,9 +5,9 @@
 //! on, and shows the watch the alerts that the checks raise on a shared [`Board`]. The yards below are those of `slice_yard`, and
 //! their core that of `slice_core`; both are passed on here.
 //!
-//! The model of a [`Check`] is the report that it names for each entry, and that of a [`Names`] which reports raise an alert. Callers
-//! may rely on this, over every schedule: the reports of [`run_pool`] are those named for entry 0, 1 and so on, each once, and each
-//! alert on a board is true.
+//! The model of a [`Check`] is which reports it may give to an entry; where that is one, its reports are known. Callers
+//! may rely on this, over every schedule: the reports of [`run_pool`] are one for entry 0, 1 and so on, each one that the check may
+//! give to that entry, and each alert on a board is true.
 //!
 //! No progress and no fairness is promised, and not which worker checks what. So a `Thief::steal` that always answers
 //! `None`, a pool in one thread and a pool whose workers never steal would be proved: in the crate `tests_of_slices`

@@ -22,8 +22,9 @@ pub struct Member<X> {
 ghost use Rattle.slice_yard.specs.Cut.{first_entry, slice_len, IsWithin};
 ghost use Rattle.slice_yard.specs.Lane.{thief_place};
 ghost use Rattle.slice_yard.specs.Shared.{thieves_sum};
-ghost use Rattle.audit_slices.specs.Members.{IsIn, member_places, openings, thief_openings, IsNamed, IsSettled, IsOneShort, AreBelow};
-ghost use Rattle.audit_slices.specs.Board.{SameNames};
+ghost use Rattle.audit_slices.specs.Members.{IsIn, member_places, openings, thief_openings, IsSettled, IsOneShort, AreBelow};
+ghost use Rattle.audit_slices.specs.Board.{IsNamedBy};
+ghost use Rattle.audit_slices.specs.Reports.{IsReported};
 
 // A slice by the first thief that finds one.
 fn steal_from(thieves: &mut [Thief]) -> Option<Slice>
@@ -61,37 +62,33 @@ impl<X> Member<X> {
     }
 }
 
-// Puts up an alert if the report of the entry raises one. The alert's report comes from a second call.
-fn raise_one<X: Drop, C: Check<Report = X>, N: Names<X>, B: Desk<X, N>, R: Wait>(
+// Puts up an alert if the report of the entry raises one.
+fn raise_one<X: Copy, C: Check<Report = X>, N: Names<X>, B: Desk<X, N>, R: Wait>(
     rt: &R,
     check: &C,
     board: &B,
     entry: usize,
     report: &X,
 )
-    requires entry { entry < C.entries check.now }
-    requires report { report.now ≡ C.named check.now entry }
-    requires names { SameNames (C.named check.now) (C.raises check.now) N.named N.alerts }
+    requires report { C.gives check.now entry report.now }
+    requires names { IsNamedBy (C.gives check.now) (C.raises check.now) N.gives N.alerts }
 {
-    if !check.alerts(report) {
-        return;
-    }
-    if let Ok(report) = check.check(entry) {
+    if check.alerts(report) {
+        let report = *report;
         board.put(rt, Alert { entry, report });
     }
 }
 
 // Puts up an alert for each report of the slice that raises one.
-fn raise<X: Drop, C: Check<Report = X>, N: Names<X>, B: Desk<X, N>, R: Wait>(
+fn raise<X: Copy, C: Check<Report = X>, N: Names<X>, B: Desk<X, N>, R: Wait>(
     rt: &R,
     check: &C,
     board: &B,
     report: &SliceReport<X>,
 )
     requires fits { first_entry report.now.slice + slice_len report.now.slice < 2 ^ 64 }
-    requires slice { IsWithin (C.entries check.now) report.now.slice }
-    requires reports { IsNamed (C.named check.now) report.now }
-    requires names { SameNames (C.named check.now) (C.raises check.now) N.named N.alerts }
+    requires reports { IsReported (C.gives check.now) report.now }
+    requires names { IsNamedBy (C.gives check.now) (C.raises check.now) N.gives N.alerts }
 {
     for k in 0..report.reports.len() {
         raise_one(
@@ -105,7 +102,7 @@ fn raise<X: Drop, C: Check<Report = X>, N: Names<X>, B: Desk<X, N>, R: Wait>(
 }
 
 // Checks one slice, and keeps its reports, or marks that it was lost.
-fn settle<X: Drop, C: Check<Report = X>, N: Names<X>, B: Desk<X, N>, R: Wait>(
+fn settle<X: Copy, C: Check<Report = X>, N: Names<X>, B: Desk<X, N>, R: Wait>(
     rt: &R,
     alloc: Global,
     check: &C,
@@ -114,9 +111,9 @@ fn settle<X: Drop, C: Check<Report = X>, N: Names<X>, B: Desk<X, N>, R: Wait>(
     member: &mut Member<X>,
 )
     requires slice { IsWithin (C.entries check.now) slice }
-    requires names { SameNames (C.named check.now) (C.raises check.now) N.named N.alerts }
-    requires before { IsOneShort (C.named check.now) slice member.old }
-    ensures after { IsSettled (C.named check.now) member.new }
+    requires names { IsNamedBy (C.gives check.now) (C.raises check.now) N.gives N.alerts }
+    requires before { IsOneShort (C.gives check.now) slice member.old }
+    ensures after { IsSettled (C.gives check.now) member.new }
     ensures places { member_places member.new ≡ member_places member.old }
 {
     match check_slice(alloc, check, slice) {
@@ -133,7 +130,7 @@ fn settle<X: Drop, C: Check<Report = X>, N: Names<X>, B: Desk<X, N>, R: Wait>(
 }
 
 // Takes a slice and checks it. False where none of its lanes gave one, and where a slice was lost.
-fn step<X: Drop, C: Check<Report = X>, N: Names<X>, B: Desk<X, N>, G: Gate, R: Wait>(
+fn step<X: Copy, C: Check<Report = X>, N: Names<X>, B: Desk<X, N>, G: Gate, R: Wait>(
     rt: &R,
     alloc: Global,
     check: &C,
@@ -142,9 +139,9 @@ fn step<X: Drop, C: Check<Report = X>, N: Names<X>, B: Desk<X, N>, G: Gate, R: W
     member: &mut Member<X>,
 ) -> bool
     requires covered { AreBelow (C.entries check.now) (member_places member.old) }
-    requires names { SameNames (C.named check.now) (C.raises check.now) N.named N.alerts }
-    requires before { IsSettled (C.named check.now) member.old }
-    ensures after { IsSettled (C.named check.now) member.new }
+    requires names { IsNamedBy (C.gives check.now) (C.raises check.now) N.gives N.alerts }
+    requires before { IsSettled (C.gives check.now) member.old }
+    ensures after { IsSettled (C.gives check.now) member.new }
     ensures places { member_places member.new ≡ member_places member.old }
 {
     let Some(slice) = member.take() else {
@@ -156,7 +153,7 @@ fn step<X: Drop, C: Check<Report = X>, N: Names<X>, B: Desk<X, N>, G: Gate, R: W
 }
 
 /// Takes slices and checks them until none of its lanes gives one.
-pub(crate) fn work<X: Drop, C: Check<Report = X>, N: Names<X>, B: Desk<X, N>, G: Gate, R: Wait>(
+pub(crate) fn work<X: Copy, C: Check<Report = X>, N: Names<X>, B: Desk<X, N>, G: Gate, R: Wait>(
     rt: &R,
     alloc: Global,
     check: &C,
@@ -165,9 +162,9 @@ pub(crate) fn work<X: Drop, C: Check<Report = X>, N: Names<X>, B: Desk<X, N>, G:
     member: &mut Member<X>,
 )
     requires covered { AreBelow (C.entries check.now) (member_places member.old) }
-    requires names { SameNames (C.named check.now) (C.raises check.now) N.named N.alerts }
-    requires before { IsSettled (C.named check.now) member.old }
-    ensures after { IsSettled (C.named check.now) member.new }
+    requires names { IsNamedBy (C.gives check.now) (C.raises check.now) N.gives N.alerts }
+    requires before { IsSettled (C.gives check.now) member.old }
+    ensures after { IsSettled (C.gives check.now) member.new }
     ensures places { member_places member.new ≡ member_places member.old }
 {
     for _ in rt.forever() {
@@ -179,7 +176,7 @@ pub(crate) fn work<X: Drop, C: Check<Report = X>, N: Names<X>, B: Desk<X, N>, G:
 
 /// The same, and shows the watch the new alerts after each slice.
 pub(crate) fn work_watched<
-    X: Drop,
+    X: Copy,
     C: Check<Report = X>,
     N: Names<X>,
     B: Desk<X, N>,
@@ -188,9 +185,9 @@ pub(crate) fn work_watched<
     R: Wait,
 >(rt: &R, alloc: Global, check: &C, gate: &G, board: &B, watch: &mut W, member: &mut Member<X>)
     requires covered { AreBelow (C.entries check.now) (member_places member.old) }
-    requires names { SameNames (C.named check.now) (C.raises check.now) N.named N.alerts }
-    requires before { IsSettled (C.named check.now) member.old }
-    ensures after { IsSettled (C.named check.now) member.new }
+    requires names { IsNamedBy (C.gives check.now) (C.raises check.now) N.gives N.alerts }
+    requires before { IsSettled (C.gives check.now) member.old }
+    ensures after { IsSettled (C.gives check.now) member.new }
     ensures places { member_places member.new ≡ member_places member.old }
     ensures mark { W.mark watch.new ≡ W.mark watch.old }
 {

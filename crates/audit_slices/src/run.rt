@@ -1,12 +1,12 @@
 //! The pool from its slices to its reports.
 ghost use Rattle.std.specs.Prelude.{◌≡◌, ◌+◌, ◌<◌, ◌≤◌, ◌∷◌, [], ℕ, List, false, All, IfOk, OnOk, ◌++◌, map, length, sum_by};
-ghost use Rattle.std.specs.List.{flat_map};
-ghost use Rattle.audit_slices.specs.Board.{SameNames};
+ghost use Rattle.std.specs.List.{flat_map, AllZip};
+ghost use Rattle.audit_slices.specs.Board.{IsNamedBy};
 ghost use Rattle.slice_yard.specs.Cut.{IsNumbered, IsWithin, entries_of};
 ghost use Rattle.slice_yard.specs.Lane.{lane_hand, lane_place, thief_place, thief_hand_of};
-ghost use Rattle.audit_slices.specs.Members.{member_places, IsSettled, AreBelow, IsNamed};
+ghost use Rattle.audit_slices.specs.Members.{member_places, IsNew, IsSettled, AreBelow};
 ghost use Rattle.slice_yard.specs.Receipts.{receipt_hands};
-ghost use Rattle.audit_slices.specs.Reports.{report_slice, report_items};
+ghost use Rattle.audit_slices.specs.Reports.{report_slice, report_items, IsReported};
 ghost use Rattle.audit_slices.specs.Run.{IsWhole, IsFinished, unspent, rest_sum};
 ghost use Rattle.slice_yard.specs.Shared.{IsSpent};
 
@@ -24,7 +24,7 @@ fn member<X: Drop>(alloc: Global, number: usize, lane: Lane, thieves: Vec<Thief>
     requires lane { (lane_hand lane).handed ≡ [] }
     requires thieves { All (λ t. (thief_hand_of t).handed ≡ []) thieves.items }
     ensures places { member_places result ≡ (lane_place lane, map thief_place thieves.items) }
-    ensures settled { (f : ℕ → X) → IsSettled f result }
+    ensures new { IsNew result }
 {
     Member {
         number,
@@ -47,7 +47,7 @@ fn staff<X: Drop>(
     ensures lanes { IfOk result (λ v. map (λ m. (member_places m).0) v.items ≡ map lane_place lanes.items) }
     ensures thieves { IfOk result (λ v. map (λ m. (member_places m).1) v.items
         ≡ map (λ v. map thief_place v.items) thieves.items) }
-    ensures settled { IfOk result (λ v. (f : ℕ → X) → All (IsSettled f) v.items) }
+    ensures new { IfOk result (λ v. All IsNew v.items) }
 {
     let mut members = Vec::new(alloc);
     let mut others = thieves.into_iter();
@@ -68,7 +68,7 @@ fn hire<X: Drop>(
     workers: usize,
 ) -> Result<Vec<Member<X>>, AllocError>
     requires { IsNumbered slices.items }
-    ensures settled { IfOk result (λ v. (f : ℕ → X) → All (IsSettled f) v.items) }
+    ensures new { IfOk result (λ v. All IsNew v.items) }
     ensures whole { IfOk result (λ v. IsWhole slices.items v.items) }
 {
     match Yard::open(alloc, slices, workers, workers) {
@@ -130,10 +130,10 @@ fn drain<X: Drop, C: Check<Report = X>, R: Wait>(
 ) -> Result<(Receipts, Vec<SliceReport<X>>), AllocError>
     requires covered { All (λ v. All (IsWithin (C.entries check.now)) v.opening)
         (receipt_hands receipts) }
-    requires named { All (IsNamed (C.named check.now)) done.items }
+    requires given { All (IsReported (C.gives check.now)) done.items }
     ensures same { IfOk result (λ r. map unspent (receipt_hands r.0) ≡ map unspent (receipt_hands receipts)) }
     ensures all { IfOk result (λ r. All IsSpent (receipt_hands r.0)) }
-    ensures named { IfOk result (λ r. All (IsNamed (C.named check.now)) r.1.items) }
+    ensures given { IfOk result (λ r. All (IsReported (C.gives check.now)) r.1.items) }
     ensures sums { IfOk result (λ r. (h : Slice → ℕ)
         → sum_by (λ r. h r.slice) r.1.items + rest_sum h (receipt_hands receipts)
         ≡ sum_by (λ r. h r.slice) done.items + rest_sum h (receipt_hands r.0)) }
@@ -150,12 +150,12 @@ fn drain<X: Drop, C: Check<Report = X>, R: Wait>(
     Ok((receipts, done))
 }
 
-/// The reports of the slices of one `cut`, in their order, by 1 to 16 workers with a lane for each. Worker 0 is the
+/// A report for each entry of the slices of one `cut`, in their order, by 1 to 16 workers with a lane for each. Worker 0 is the
 /// calling thread: after each of its slices and after the join it shows the watch the alerts that are new on the board.
 /// An alert that finds no memory is dropped. Refused for want of memory, whatever the others did, where a slice could
 /// not be checked.
 pub fn run_pool<
-    X: Send + Sync + Drop,
+    X: Send + Sync + Copy,
     C: Check<Report = X> + Sync,
     N: Names<X> + Sync,
     G: Gate + Sync,
@@ -174,11 +174,10 @@ pub fn run_pool<
     requires workers { (0 < workers) × (workers ≤ 16) }
     requires numbered { IsNumbered slices.items }
     requires covered { All (IsWithin (C.entries check.now)) slices.items }
-    requires names { SameNames (C.named check.now) (C.raises check.now) N.named N.alerts }
+    requires names { IsNamedBy (C.gives check.now) (C.raises check.now) N.gives N.alerts }
     ensures slices { IfOk result (λ v. map report_slice v.items ≡ slices.items) }
-    ensures named { IfOk result (λ v. All (IsNamed (C.named check.now)) v.items) }
-    ensures all { IfOk result (λ v. flat_map report_items v.items
-        ≡ map (C.named check.now) (entries_of slices.items)) }
+    ensures given { IfOk result (λ v. All (IsReported (C.gives check.now)) v.items) }
+    ensures all { IfOk result (λ v. AllZip (C.gives check.now) (entries_of slices.items) (flat_map report_items v.items)) }
     ensures mark { W.mark watch.new ≡ W.mark watch.old }
 {
     let members = hire(alloc, slices, workers)?;
@@ -190,7 +189,7 @@ pub fn run_pool<
 }
 
 fn run_members<
-    X: Send + Sync + Drop,
+    X: Send + Sync + Copy,
     C: Check<Report = X> + Sync,
     N: Names<X> + Sync,
     G: Gate + Sync,
@@ -206,9 +205,9 @@ fn run_members<
     members: Vec<Member<X>>,
 ) -> Vec<Member<X>>
     requires covered { All (λ m. AreBelow (C.entries check.now) (member_places m)) members.items }
-    requires names { SameNames (C.named check.now) (C.raises check.now) N.named N.alerts }
-    requires before { All (IsSettled (C.named check.now)) members.items }
-    ensures after { All (IsSettled (C.named check.now)) result.items }
+    requires names { IsNamedBy (C.gives check.now) (C.raises check.now) N.gives N.alerts }
+    requires before { All (IsSettled (C.gives check.now)) members.items }
+    ensures after { All (IsSettled (C.gives check.now)) result.items }
     ensures places { map member_places result.items ≡ map member_places members.items }
     ensures mark { W.mark watch.new ≡ W.mark watch.old }
 {
@@ -219,7 +218,7 @@ fn run_members<
 }
 
 fn run_at_desk<
-    X: Send + Sync + Drop,
+    X: Send + Sync + Copy,
     C: Check<Report = X> + Sync,
     N: Names<X> + Sync,
     B: Desk<X, N> + Sync,
@@ -236,9 +235,9 @@ fn run_at_desk<
     mut members: Vec<Member<X>>,
 ) -> Vec<Member<X>>
     requires covered { All (λ m. AreBelow (C.entries check.now) (member_places m)) members.items }
-    requires names { SameNames (C.named check.now) (C.raises check.now) N.named N.alerts }
-    requires before { All (IsSettled (C.named check.now)) members.items }
-    ensures after { All (IsSettled (C.named check.now)) result.items }
+    requires names { IsNamedBy (C.gives check.now) (C.raises check.now) N.gives N.alerts }
+    requires before { All (IsSettled (C.gives check.now)) members.items }
+    ensures after { All (IsSettled (C.gives check.now)) result.items }
     ensures places { map member_places result.items ≡ map member_places members.items }
     ensures mark { W.mark watch.new ≡ W.mark watch.old }
 {

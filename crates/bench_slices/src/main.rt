@@ -28,12 +28,12 @@ struct Turner {
 impl Check for Turner {
     type Report = u64;
 
-    ghost use Rattle.std.proofs.Common.{false, rules};
+    ghost use Rattle.std.proofs.Common.{◌≡◌, false, rules};
     ghost use Rattle.bench_slices.specs.declared.TheConstants.{TURNS};
 
     ghost entries = { λ t. t.entries };
 
-    ghost named = { λ _ entry. after_turns TURNS entry };
+    ghost gives = { λ _ entry report. report ≡ after_turns TURNS entry };
 
     ghost raises = { λ _ _. false };
 
@@ -51,10 +51,10 @@ impl Check for Turner {
 struct TurnNames;
 
 impl Names<u64> for TurnNames {
-    ghost use Rattle.std.specs.Prelude.{false};
+    ghost use Rattle.std.specs.Prelude.{◌≡◌, false};
     ghost use Rattle.bench_slices.specs.declared.TheConstants.{TURNS};
 
-    ghost named = { λ entry. after_turns TURNS entry };
+    ghost gives = { λ entry report. report ≡ after_turns TURNS entry };
 
     ghost alerts = { λ _. false };
 }

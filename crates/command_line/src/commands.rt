@@ -27,7 +27,7 @@ fn audit<'a>(alloc: Global) -> Result<Command<'a>, AllocError> {
         .action(ArgAction::SetTrue)
         .conflicts_with("EVIDENCE")?
         .conflicts_with("early")?
-        .help("Make the evidence, and keep it in memory");
+        .help("Make the evidence for each entry as it is checked");
     let workers = number(
         alloc,
         "workers",
@@ -86,12 +86,13 @@ fn history<'a>(alloc: Global) -> Result<Command<'a>, AllocError> {
 /// The program with its commands. Which words it takes the program's tests alone say.
 pub(crate) fn program<'a>(alloc: Global) -> Result<Command<'a>, AllocError> {
     Command::new(alloc, "new_enemy")
+        .bin_name("new_enemy")?
         .version("0.1.0 (rattle-kit-13b)")
         .about(
             "Audits recorded authorization decisions for ignored access changes and wrong replies",
         )
         .after_help(
-            "Without a command it audits joined input: the trace, a line ---, and the evidence.",
+            "Without a command it audits what standard input gives until its end: the trace, a line ---, and the evidence.",
         )
         .no_binary_name(true)
         .subcommand(audit(alloc)?)?

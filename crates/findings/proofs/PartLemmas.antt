@@ -21,7 +21,7 @@ use Rattle.findings.specs.Parts.{is_of, part_of, evidence_from, evidence_of_part
 
 -- ---- the first item that passes a test
 
-abbrev first_that : {X : Type 0} → (X → Bool) → List X → Option X
+abbrev pub first_that : {X : Type 0} → (X → Bool) → List X → Option X
 first_that test [] = None
 first_that test (x ∷ xs) = cond (test x) (Some x) (first_that test xs)
 
@@ -45,7 +45,7 @@ at_place {X} test before (x ∷ xs) after = by_test (at_place test (before ++ x 
         ∙ ap (λ n. option_and_then (slice_get ((before ++ x ∷ []) ++ (xs ++ after))) (position_from test n xs)) (sym (length-append before (x ∷ [])))
         ∙ rest
 
-found_alike : {X : Type 0} (test : X → Bool) (n : ℕ) (xs : List X) → is_none (position_from test n xs) ≡ is_none (first_that test xs)
+pub found_alike : {X : Type 0} (test : X → Bool) (n : ℕ) (xs : List X) → is_none (position_from test n xs) ≡ is_none (first_that test xs)
 found_alike test n [] = refl
 found_alike test n (x ∷ xs) = by_test (found_alike test (n + 1) xs) (test x)
   where
@@ -54,7 +54,7 @@ found_alike test n (x ∷ xs) = by_test (found_alike test (n + 1) xs) (test x)
     by_test rest false = rest
 
 -- what passes the test is kept
-first_kept : {X : Type 0} (keep test : X → Bool) → ((x : X) → test x ≡ true → keep x ≡ true) → (xs : List X) → first_that test (filter keep xs) ≡ first_that test xs
+pub first_kept : {X : Type 0} (keep test : X → Bool) → ((x : X) → test x ≡ true → keep x ≡ true) → (xs : List X) → first_that test (filter keep xs) ≡ first_that test xs
 first_kept keep test kept [] = refl
 first_kept keep test kept (x ∷ xs) = by_tests (first_kept keep test kept xs) (keep x) refl (test x) refl
   where
@@ -69,7 +69,7 @@ first_kept keep test kept (x ∷ xs) = by_tests (first_kept keep test kept xs) (
 version_object : (v w : Version) → version_eq v w ≡ true → (v.namespace ≡ w.namespace) × (v.id ≡ w.id)
 version_object v w h = ((bytes_eq-Decides v.namespace w.namespace).0 (first_so _ _ h), (bytes_eq-Decides v.id w.id).0 (first_so _ _ (second_so _ _ h)))
 
-issued_object : (k : EntryKind) (label : Option (List ℕ)) (s : SetValue) (v : Version) → is_version v (version_issued k (option_map (version_of s) label)) ≡ true → (v.namespace ≡ s.namespace) × (v.id ≡ s.id)
+pub issued_object : (k : EntryKind) (label : Option (List ℕ)) (s : SetValue) (v : Version) → is_version v (version_issued k (option_map (version_of s) label)) ≡ true → (v.namespace ≡ s.namespace) × (v.id ≡ s.id)
 issued_object Check label s v h = let e : false ≡ true = h in cc
 issued_object Content None s v h = let e : false ≡ true = h in cc
 issued_object Content (Some l) s v h = version_object v (version_of s l) h
@@ -192,7 +192,7 @@ module _ (objects : List ℕ → List ℕ → Bool) (t : TraceValue) (evidence :
   one_more [] e es = refl
   one_more (x ∷ xs) e es = ap (λ r. x ∷ r) (one_more xs e es)
 
-  next_kept : (before : List EntryValue) (e : EntryValue) (b : Bool) → is_of objects e ≡ b → filter (is_of objects) (before ++ e ∷ []) ≡ filter (is_of objects) before ++ cond b (e ∷ []) []
+  pub next_kept : (before : List EntryValue) (e : EntryValue) (b : Bool) → is_of objects e ≡ b → filter (is_of objects) (before ++ e ∷ []) ≡ filter (is_of objects) before ++ cond b (e ∷ []) []
   next_kept before e b h = filter-append (is_of objects) before (e ∷ []) ∙ ap (λ c. filter (is_of objects) before ++ cond c (e ∷ []) []) h
 
   part_from : (before after : List EntryValue) → t.entries ≡ before ++ after → FindsAlike (length (filter (is_of objects) before)) (length before) after

@@ -30,9 +30,13 @@ found_on_tokens f =
     if_told Stale f.stale ∷ option_map OldToken f.old_token ∷ option_map NotLatest f.not_latest ∷ option_map OpenSnapshot f.open_snapshot
     ∷ if_told WrongToken f.wrong_token ∷ if_told UnknownVersion f.unknown_version ∷ []
 
+-- what is found on entry i, which is e, where its evidence judges it so: on its tokens, and by that
+abbrev pub found_where : TraceValue → Judged → ℕ → EntryValue → List (Option What)
+found_where t j i e = found_on_tokens (order_of t i e) ++ found_by j ∷ []
+
 -- what is found on entry i, which is e: on its tokens, and by its evidence
 abbrev pub found_on : TraceValue → List (Option (List StepValue)) → ℕ → EntryValue → List (Option What)
-found_on t evidence i e = found_on_tokens (order_of t i e) ++ found_by (judged t e (steps_of evidence i)) ∷ []
+found_on t evidence i e = found_where t (judged t e (steps_of evidence i)) i e
 
 abbrev pub on_line : ℕ → List (Option What) → List Finding
 on_line line [] = []

@@ -5,7 +5,7 @@ ghost use Rattle.std.specs.List.{flat_map};
 ghost use Rattle.trace_lines.specs.Values.{TraceValue, EntryValue};
 ghost use Rattle.evidence_check.specs.Evidences.{evidence_value};
 ghost use Rattle.evidence_check.specs.Steps.{StepValue};
-ghost use Rattle.findings.specs.Findings.{found_by, if_told, found_on, on_line, findings_of};
+ghost use Rattle.findings.specs.Findings.{found_by, if_told, found_where, found_on, on_line, findings_of};
 ghost use Rattle.findings.specs.Report.{line_text, last_lines, verdict_text, report_text};
 
 use crate::finding::{Finding, What, report_line};
@@ -32,8 +32,25 @@ fn if_told(what: What, told: bool) -> Option<What>
     if told { Some(what) } else { None }
 }
 
-/// What is found on entry `i`, from 0: a place for each finding on tokens, by the findings' numbers, and then what its evidence says. It is
-/// refused for want of memory alone.
+/// What is found on entry `i`, from 0, where its evidence judges it so: a place for each finding on tokens, by the findings' numbers, and then
+/// what the judgement says.
+pub fn found_where(trace: &Trace, i: usize, judged: Judged) -> [Option<What>; 7]
+    requires { i < length trace.now.entries }
+    ensures { (e : EntryValue) → slice_get trace.now.entries i ≡ Some e → result ≡ found_where trace.now judged i e }
+{
+    let order = order_of(trace, i);
+    [
+        if_told(What::Stale, order.stale),
+        order.old_token.map(What::OldToken),
+        order.not_latest.map(What::NotLatest),
+        order.open_snapshot.map(What::OpenSnapshot),
+        if_told(What::WrongToken, order.wrong_token),
+        if_told(What::UnknownVersion, order.unknown_version),
+        found_by(judged),
+    ]
+}
+
+/// What is found on entry `i`, from 0: on its tokens, and by what its evidence says. It is refused for want of memory alone.
 pub fn found_on(
     trace: &Trace,
     evidence: &Evidence,
@@ -43,16 +60,7 @@ pub fn found_on(
     ensures { IfOk result (λ found. (e : EntryValue) → slice_get trace.now.entries i ≡ Some e → found ≡ found_on trace.now (evidence_value evidence.now) i e) }
 {
     let judged = judge_entry(trace, evidence, i)?;
-    let order = order_of(trace, i);
-    Ok([
-        if_told(What::Stale, order.stale),
-        order.old_token.map(What::OldToken),
-        order.not_latest.map(What::NotLatest),
-        order.open_snapshot.map(What::OpenSnapshot),
-        if_told(What::WrongToken, order.wrong_token),
-        if_told(What::UnknownVersion, order.unknown_version),
-        found_by(judged),
-    ])
+    Ok(found_where(trace, i, judged))
 }
 
 /// Appends a finding on this line for each thing that was found, in their order. For want of memory some of them may stand there already.

@@ -1,10 +1,12 @@
 //! What the findings on a trace say of its replies. Each function computes nothing: what it ensures is the law.
 
-ghost use Rattle.std.specs.Prelude.{◌≡◌, ℕ, Bool, List, [], Option};
+ghost use Rattle.std.specs.Prelude.{◌≡◌, ℕ, Bool, true, List, [], Option, Ok};
+ghost use Rattle.trace_lines.specs.Traces.{trace_of};
 ghost use Rattle.trace_lines.specs.Values.{TraceValue};
 ghost use Rattle.evidence_check.specs.Steps.{StepValue};
 ghost use Rattle.findings.specs.Findings.{findings_of};
 ghost use Rattle.findings.specs.Headline.{IsRightAndFresh};
+ghost use Rattle.findings.specs.PartBytes.{IsPartOfBytes};
 ghost use Rattle.findings.specs.Parts.{part_of, evidence_of_part, findings_on_part, IsCleanInParts};
 ghost use Rattle.findings.specs.WrongReplies.{HasOnlyWrongRepliesNamed};
 
@@ -43,3 +45,10 @@ pub fn right_and_fresh_in_parts(trace: &Trace)
 {
     right_and_fresh_without_findings(trace);
 }
+
+/// A trace that is cut by object, as bytes: where some bytes say a trace, those that have the same lines, but blank ones for the entries of
+/// other objects, say the part with the entries of these objects alone, on the same lines.
+pub fn bytes_of_part()
+    ensures { (objects : List ℕ → List ℕ → Bool) (bytes part : List ℕ) (t : TraceValue) → trace_of true bytes ≡ Ok t
+        → IsPartOfBytes objects part bytes → trace_of true part ≡ Ok (part_of objects t) }
+{}

@@ -1,3 +1,3 @@
 pub mod AmongLemmas
-pub mod NumberingLemmas
+pub mod MarkedLemmas
 pub mod PassLemmas

@@ -1,5 +1,4 @@
 pub mod Decided
 pub mod Judgement
 pub mod KnownCode
-pub mod Numbering
 pub mod Passes

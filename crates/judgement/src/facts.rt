@@ -6,7 +6,7 @@ ghost use Rattle.tuple_text.specs.Order.{fact_eq};
 ghost use Rattle.tuple_text.specs.Refs.{set_value};
 ghost use Rattle.tuple_text.specs.Tuples.{fact_of};
 
-use crate::indexed::Indexed;
+use crate::indexed::{Indexed, is_same};
 use std::alloc::{AllocError, Global};
 use std::marker::Model;
 use tuple_text::{Fact, SetRef};
@@ -34,12 +34,6 @@ impl Model for Facts {
     ghost view = { λ s. s.first.items ++ s.rest };
 
     ghost invariant = { λ s. vec_len s.first < 8 → s.rest ≡ [] };
-}
-
-fn is_same(fact: &Fact, set: SetRef<'_>, user: u64) -> bool
-    ensures { result ≡ fact_eq (fact_of (set_value set.entry) user) fact.now }
-{
-    set == fact.set() && user == fact.user()
 }
 
 fn is_among(facts: &[Fact], set: SetRef<'_>, user: u64) -> bool

@@ -12,7 +12,7 @@ use tuple_text::{Fact, SetRef};
 /// The facts that are known to hold, and those that are known not to. Contracts see the two lists, in the order in which facts
 /// were added.
 ///
-/// A look-up takes no memory, and its comparisons are few against what is known, whatever the texts are.
+/// A look-up takes no memory, and its comparisons are few against what is known.
 #[derive(Drop)]
 pub struct Known {
     yes: Facts,

@@ -30,7 +30,7 @@ fn target<'a>(set: SetRef<'a>, relation: Option<&'a str>) -> SetRef<'a>
 fn is_out(rules: &Rules, at: u64, known: &Known, set: SetRef<'_>, id: u64) -> bool
     ensures { IsTrue result ↔ IsOut (rule_at rules.now at) known.now (fact_of (set_value set.entry) id) }
 {
-    rules.body(set, at).is_none() || known.no(set, id)
+    known.no(set, id) || rules.body(set, at).is_none()
 }
 
 fn gives_some(known: &Known, relation: Option<&str>, id: u64, sets: Usersets<'_>) -> bool

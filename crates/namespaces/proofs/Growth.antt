@@ -14,7 +14,8 @@ use Rattle.refusals.specs.Refusals.{◌>>=◌}
 use Rattle.namespaces.specs.Declaration.{Relation, Namespace, Declaration, addition, change}
 use Rattle.namespaces.specs.Lookup.{relations_of, relation_names, with_name, names_after, namespace_names}
 use Rattle.namespaces.specs.Expression.{counts_fit}
-use Rattle.namespaces.specs.Adding.{namespace, is_name, is_well_named, has_repeats, reads_declared, is_too_deep, is_over_limits, tested, is_declared, is_full, checked_addition, added, rules_add}
+use Rattle.namespaces.specs.Adding.{namespace, is_well_named, has_repeats, reads_declared, is_too_deep, is_over_limits, tested, is_declared, is_full, checked_addition, added, rules_add}
+use Rattle.tuple_text.specs.Forms.{is_name}
 use Rattle.namespaces.specs.Changing.{keeps_names, keeps_strata, continued, change_count, is_full_for, checked_change, changed, rules_change, IsLater}
 use Rattle.namespaces.specs.WellFormed.{Continues, AreContinued, IsFit, IsWellFormed}
 use Rattle.namespaces.proofs.Names.{by_bool, clash, same_name, one_name, list_any-append, has_repeats-with_name}

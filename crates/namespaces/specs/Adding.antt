@@ -1,7 +1,6 @@
 -- What `add` makes of a JSON value: the shape first, over the whole value, and then each other test in its turn.
-use Rattle.std.specs.Prelude.{ℕ, nat_le, nat_lt, not, ◌&&◌, ◌||◌, if◌then◌else◌, ◌==◌, Bool, false, List, [], ◌∷◌, ◌++◌, length, codes, Option, Some, None, is_some, option_and_then, Result, Ok, Err}
+use Rattle.std.specs.Prelude.{ℕ, nat_le, nat_lt, not, ◌&&◌, ◌||◌, if◌then◌else◌, Bool, false, List, [], ◌∷◌, ◌++◌, length, codes, Option, Some, None, is_some, option_and_then, Result, Ok, Err}
 use Rattle.std.specs.Str.{bytes_eq}
-use Rattle.std.specs.Char.{is_ascii_lowercase, is_ascii_digit}
 use Rattle.std.specs.List.{list_any, list_all}
 use Rattle.serde_json.specs.Data.{Data, null, boolean, number, string, array, object, Items, no_items, item}
 use Rattle.serde_json.specs.Find.{get, as_number, as_u64, as_array}
@@ -9,6 +8,7 @@ use Rattle.namespaces.specs.declared.fault.RulesFault.{RulesFault}
 use Rattle.namespaces.specs.declared.fault.RulesFault.TheVariants.{Shape, Name, RepeatedNamespace, RepeatedRelation, UndeclaredRelation, TooDeep, TooMany}
 use Rattle.namespaces.specs.Fault.{needed}
 use Rattle.refusals.specs.Refusals.{◌>>=◌}
+use Rattle.tuple_text.specs.Forms.{is_name}
 use Rattle.namespaces.specs.Expression.{Expression, this, depth, names_in, own_relations, counts_fit}
 use Rattle.namespaces.specs.Declaration.{Relation, Namespace, Declaration, addition}
 use Rattle.namespaces.specs.Lookup.{relations_of, relation_names, namespace_names}
@@ -66,14 +66,6 @@ namespace d = do
   Ok (record { name = name; relations = rs })
 
 -- ---- the tests
-
-abbrev pub is_name_byte : ℕ → Bool
-is_name_byte b = is_ascii_lowercase b || is_ascii_digit b || b == 95
-
--- 1 to 64 bytes, of which the first is a letter
-abbrev pub is_name : List ℕ → Bool
-is_name [] = false
-is_name (b ∷ bs) = is_ascii_lowercase b && nat_lt (length bs) 64 && list_all is_name_byte bs
 
 -- the relation's own name is one, and so are those in its rule
 abbrev pub is_well_named : Relation → Bool

@@ -14,7 +14,6 @@
 
 mod fault;
 mod index;
-mod name;
 mod number;
 mod reading;
 mod rewrite;

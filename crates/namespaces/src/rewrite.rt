@@ -1,13 +1,13 @@
 //! The rules for the members of a relation.
 ghost use Rattle.std.specs.Prelude.{◌≡◌, nat_lt};
 ghost use Rattle.std.specs.List.{list_all};
-ghost use Rattle.namespaces.specs.Adding.{is_name};
+ghost use Rattle.tuple_text.specs.Forms.{is_name};
 ghost use Rattle.namespaces.specs.Fault.{Gives};
 ghost use Rattle.namespaces.specs.Expression as expression;
 ghost use Rattle.namespaces.specs.View.{expression_of, expressions_of};
 
 use crate::fault::RulesFault;
-use crate::name::is_name;
+use tuple_text::is_name;
 use std::alloc::Global;
 
 /// How many children a union or an intersection may have.

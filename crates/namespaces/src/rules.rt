@@ -70,7 +70,7 @@ impl Rules {
     ghost use Rattle.namespaces.specs.Changing as changing;
     ghost use Rattle.namespaces.specs.Changing.{rules_change, change_answer, IsLater};
     ghost use Rattle.namespaces.specs.Fault.{Gives};
-    ghost use Rattle.namespaces.specs.Shown.{show_namespace, show_relations};
+    ghost use Rattle.namespaces.specs.Shown.{show_relation, show_namespace, show_relations};
     ghost use Rattle.namespaces.specs.Index.{revisions_of, relations_at};
 
     /// No namespaces. Nothing is allocated before the first is declared.
@@ -214,11 +214,17 @@ impl Rules {
         ensures value { option_map (λ s. s.now) result ≡ option_map (λ r. r.name) (relation_numbered number self.now) }
         ensures well_formed { IsWellFormed self.now }
     {
-        let (_, revisions) = self.numbered(number.namespace)?;
-        let index = number.relation.checked_sub(1)?;
-        let newest = revisions.last().copied()?;
-        let (name, _) = self.relations_in(newest)?.get_index(index as usize)?;
+        let (name, _) = self.last_numbered(number)?;
         Some(name.as_str())
+    }
+
+    /// The rule of the relation that has this number, by the last declaration of its namespace, or `None` where there is none.
+    pub fn last_rule(&self, number: RelNo) -> Option<&Rewrite>
+        ensures value { option_map (λ r. expression_of r.now) result ≡ option_map (λ r. r.expression) (relation_numbered number self.now) }
+        ensures well_formed { IsWellFormed self.now }
+    {
+        let (_, relation) = self.last_numbered(number)?;
+        Some(&relation.rewrite)
     }
 
     /// A copy of the rules.
@@ -243,6 +249,17 @@ impl Rules {
         let index = number.checked_sub(1)?;
         let (name, revisions) = namespaces.get_index(index as usize)?;
         Some((name.as_str(), revisions))
+    }
+
+    /// The relation that has this number, by the last declaration of its namespace.
+    fn last_numbered(&self, number: RelNo) -> Option<(&String, &Relation)>
+        ensures relation { option_map (λ p. show_relation (p.0.now, p.1.now)) result ≡ relation_numbered number self.now }
+        ensures well_formed { IsWellFormed self.now }
+    {
+        let (_, revisions) = self.numbered(number.namespace)?;
+        let index = number.relation.checked_sub(1)?;
+        let newest = revisions.last().copied()?;
+        self.relations_in(newest)?.get_index(index as usize)
     }
 
     /// The relations of the declaration that a revision stands for.

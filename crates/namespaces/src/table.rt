@@ -13,7 +13,7 @@ ghost use Rattle.namespaces.specs.Shown.{show_relation, show_relations, show_nam
 ghost use Rattle.namespaces.specs.View.{expression_of};
 
 use crate::fault::RulesFault;
-use crate::name::is_name;
+use tuple_text::is_name;
 use crate::reading::{Draft, reads_declared};
 use crate::rewrite::{Rewrite, copied, counts_fit, has_good_names, is_deeper};
 use indexmap::IndexMap;

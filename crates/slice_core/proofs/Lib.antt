@@ -1,4 +1,3 @@
-pub mod NamedLemmas
 pub mod Tables
 pub mod SumLemmas
 pub mod Steps

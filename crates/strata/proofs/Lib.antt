@@ -1,5 +1,6 @@
 pub mod Decided
 pub mod DeclaredNames
+pub mod LastDeclared
 pub mod LeastRelation
 pub mod LeastRound
 pub mod Lists

@@ -16,7 +16,7 @@ use Rattle.strata.proofs.Walks.{both, edges_joined}
 
 -- ---- places in lists
 
-position_cons : {X : Type 0} (p : X → Bool) (x : X) (xs : List X) → position p (x ∷ xs) ≡ cond (p x) (Some 0) (option_map suc (position p xs))
+pub position_cons : {X : Type 0} (p : X → Bool) (x : X) (xs : List X) → position p (x ∷ xs) ≡ cond (p x) (Some 0) (option_map suc (position p xs))
 position_cons p x xs = by_bool (p x) (λ t. let some : nat_lt 0 (suc (length xs)) ≡ true = grind (arith, nat_tests) in rw (t, some) refl) (λ f. rw f (further (position_or_len p xs) (length xs)))
   where
     further : (i n : ℕ) → cond (nat_lt (1 + i) (suc n)) (Some (1 + i)) None ≡ option_map suc (cond (nat_lt i n) (Some i) None)
@@ -31,7 +31,7 @@ module _ {X : Type 0} (p : X → Bool) where
   position_more (x ∷ xs) y f = position_cons p x (xs ++ y ∷ []) ∙ rw (position_more xs y f) (sym (position_cons p x xs))
 
   -- what stands at a position
-  position_item : (xs : List X) (i : ℕ) → position p xs ≡ Some i → (x : X) × (slice_get xs i ≡ Some x) × (p x ≡ true)
+  pub position_item : (xs : List X) (i : ℕ) → position p xs ≡ Some i → (x : X) × (slice_get xs i ≡ Some x) × (p x ≡ true)
   position_item [] i h = cc
   position_item (x ∷ xs) i h = by_test (position_item xs)
     where
@@ -48,7 +48,7 @@ module _ {X : Type 0} (p : X → Bool) where
           (λ f. let e : option_map suc (position p xs) ≡ Some i = rw (position_cons p x xs, f) at h in later further (position p xs) refl e)
 
   -- where there is none, nothing passes
-  position_none : (xs : List X) → position p xs ≡ None → (k : ℕ) (x : X) → slice_get xs k ≡ Some x → p x ≡ false
+  pub position_none : (xs : List X) → position p xs ≡ None → (k : ℕ) (x : X) → slice_get xs k ≡ Some x → p x ≡ false
   position_none [] h k x at = cc
   position_none (y ∷ ys) h k x at = by_bool (p y)
       (λ t. let e : Some 0 ≡ None = rw (position_cons p y ys, t) at h in cc)
@@ -76,7 +76,7 @@ has_name q [] k h = cc
 has_name q (n ∷ ns) zero h = let same : n ≡ q = (let s : Some n ≡ Some q = h in cc) in rw (same, same_name q) refl
 has_name q (n ∷ ns) (suc k) h = by_bool (bytes_eq q n) (λ t. rw t refl) (λ f. rw f (has_name q ns k h))
 
-one_place : (q : List ℕ) (ns : List (List ℕ)) → has_repeats ns ≡ false → (i k : ℕ) → slice_get ns i ≡ Some q → slice_get ns k ≡ Some q → i ≡ k
+pub one_place : (q : List ℕ) (ns : List (List ℕ)) → has_repeats ns ≡ false → (i k : ℕ) → slice_get ns i ≡ Some q → slice_get ns k ≡ Some q → i ≡ k
 one_place q [] distinct i k h g = cc
 one_place q (n ∷ ns) distinct zero zero h g = refl
 one_place q (n ∷ ns) distinct (suc i) (suc k) h g = ap suc (one_place q ns (or_false (list_any (bytes_eq n) ns) (has_repeats ns) distinct).1 i k h g)
@@ -89,7 +89,7 @@ one_place q (n ∷ ns) distinct (suc i) zero h g =
 
 -- ---- the first broken edge of several lists
 
-both_ok : (r s : Result (Unit {0}) Edge) → both r s ≡ Ok (tt {0}) → (r ≡ Ok (tt {0})) × (s ≡ Ok (tt {0}))
+pub both_ok : (r s : Result (Unit {0}) Edge) → both r s ≡ Ok (tt {0}) → (r ≡ Ok (tt {0})) × (s ≡ Ok (tt {0}))
 both_ok (Ok u) s h = (refl, h)
 both_ok (Err e) s h = cc
 
@@ -147,7 +147,7 @@ one_answer ds h r a xs each i k x is at here = by (either_answer ds h r a xs eac
     by (inr e) = e ∙ sym (each_unbroken ds h a xs e i k x is at) ∙ here
 
 -- lists that agree item by item, over two lists of declarations
-flat_same : {X : Type 0} (es ds : List Declaration) (f g : X → List Edge) → ((x : X) → first_broken es (f x) ≡ first_broken ds (g x)) → (xs : List X) → first_broken es (flat_map f xs) ≡ first_broken ds (flat_map g xs)
+pub flat_same : {X : Type 0} (es ds : List Declaration) (f g : X → List Edge) → ((x : X) → first_broken es (f x) ≡ first_broken ds (g x)) → (xs : List X) → first_broken es (flat_map f xs) ≡ first_broken ds (flat_map g xs)
 flat_same es ds f g same [] = refl
 flat_same es ds f g same (x ∷ xs) =
     edges_joined es (f x) (flat_map f xs) ∙ (λ i. both (same x i) (flat_same es ds f g same xs i)) ∙ sym (edges_joined ds (g x) (flat_map g xs))
@@ -158,14 +158,14 @@ module _ (ds : List Declaration) (d : Declaration) where
   abbrev more : List Declaration
   more = ds ++ d ∷ []
 
-  names_more : namespace_names more ≡ with_name (namespace_names ds) d.name
+  pub names_more : namespace_names more ≡ with_name (namespace_names ds) d.name
   names_more = names_after-push [] ds d
 
   get_named : (k : ℕ) (q : List ℕ) → slice_get (namespace_names ds) k ≡ Some q → slice_get (namespace_names more) k ≡ Some q
   get_named k q h = rw names_more (by_bool (list_any (bytes_eq d.name) (namespace_names ds)) (λ t. rw t h) (λ f. rw f (get_kept (namespace_names ds) (d.name ∷ []) k q h)))
 
   -- a namespace keeps its number
-  name_kept : (n : ℕ) (q : List ℕ) → namespace_numbered n ds ≡ Some q → namespace_numbered n more ≡ Some q
+  pub name_kept : (n : ℕ) (q : List ℕ) → namespace_numbered n ds ≡ Some q → namespace_numbered n more ≡ Some q
   name_kept zero q h = cc
   name_kept (suc n) q h =
       let least : 1 ≤ suc n = omega arith in
@@ -295,7 +295,7 @@ module _ (ds : List Declaration) (d : Declaration) where
             (λ f. inr (other_unbroken i k q f e at)))
             (j + 1) j d.name (omega arith) there refl)
 
-distinct_after : (names : List (List ℕ)) (cs : List Declaration) → has_repeats names ≡ false → has_repeats (names_after names cs) ≡ false
+pub distinct_after : (names : List (List ℕ)) (cs : List Declaration) → has_repeats names ≡ false → has_repeats (names_after names cs) ≡ false
 distinct_after names [] h = h
 distinct_after names (c ∷ cs) h = distinct_after (with_name names c.name) cs (has_repeats-with_name names c.name h)
 

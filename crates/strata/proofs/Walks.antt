@@ -19,7 +19,8 @@ use Rattle.std.proofs.lemmas.Option.{slice_get_within}
 use Rattle.namespaces.proofs.Walks as below
 use Rattle.strata.proofs.Unbroken.{item_least, item_there}
 use Rattle.strata.specs.declared.edge.Edge.{Edge}
-use Rattle.strata.specs.Edges.{RelationName, Place, edge_at, edges_in, relation_edges, relations_in, namespace_edges, read_by_rule, stratum_numbered, is_broken, refused, first_broken}
+use Rattle.strata.specs.Edges.{RelationName, Place, edge_at, edges_in, relations_in, namespace_edges, read_by_rule, stratum_numbered, is_broken, refused, first_broken}
+use Rattle.strata.specs.Sights.{last_relation_edges}
 
 -- the first refusal of two
 abbrev pub both : Result (Unit {0}) Edge → Result (Unit {0}) Edge → Result (Unit {0}) Edge
@@ -119,6 +120,15 @@ module _ (ds : List Declaration) (reads : Place → Option RelationName) (reader
   pub edges_past : first_broken ds (edges_from (length ds)) ≡ Ok (tt {0})
   edges_past = rw (drop_long (history_numbered reader ds) (length ds) (numbered_length ds reader)) refl
 
+-- the edges of its last rule
+pub last_rule_edges : (ds : List Declaration) (reads : Place → Option RelationName) (reader : RelNo) (e : Expression)
+    → Some e ≡ option_map (λ (r : Relation). r.expression) (relation_numbered reader ds) → last_relation_edges ds reads reader ≡ edges_in ds reader reads e
+last_rule_edges ds reads reader e h = by (relation_numbered reader ds) h
+  where
+    by : (o : Option Relation) → Some e ≡ option_map (λ (r : Relation). r.expression) o → unwrap_or (option_map (λ (r : Relation). edges_in ds reader reads r.expression) o) [] ≡ edges_in ds reader reads e
+    by None h = cc
+    by (Some r) h = let same : r.expression ≡ e = cc in ap (edges_in ds reader reads) same
+
 -- ---- relations and namespaces, number by number
 
 -- the stratum of a relation that has a number, by the names of both
@@ -142,10 +152,10 @@ stratum_by_names ds number q r w named is = by (relations_of q ds) refl
     by (Some rs) all =
         rw (← named, all) (by_place rs all (item_at number.relation rs) refl (rw (← named, all) at is))
 
-module _ (ds : List Declaration) (reads : Place → Option RelationName) (n : ℕ) where
+module _ (ds : List Declaration) (edges : RelNo → List Edge) (n : ℕ) where
   -- the edges of the relations from number r on
   abbrev pub relations_from : ℕ → List Edge
-  relations_from r = flat_map (λ k. relation_edges ds reads (record { namespace = n; relation = k })) (range_with_len r (suc (length (relations_in ds n)) - r))
+  relations_from r = flat_map (λ k. edges (record { namespace = n; relation = k })) (range_with_len r (suc (length (relations_in ds n)) - r))
 
   abbrev relation_number : ℕ → RelNo
   relation_number r = record { namespace = n; relation = r }
@@ -190,11 +200,11 @@ module _ (ds : List Declaration) (reads : Place → Option RelationName) (n : �
       by_namespace (Some q) h = by_relations (relations_of q ds) h
 
   relations_left : (r : ℕ) → is_some (relation_numbered (relation_number r) ds) ≡ true
-      → first_broken ds (relations_from r) ≡ both (first_broken ds (relation_edges ds reads (relation_number r))) (first_broken ds (relations_from (r + 1)))
+      → first_broken ds (relations_from r) ≡ both (first_broken ds (edges (relation_number r))) (first_broken ds (relations_from (r + 1)))
   relations_left r is =
       let within = numbered_within r is in
       let left : suc (length (relations_in ds n)) - r ≡ suc (suc (length (relations_in ds n)) - (r + 1)) = omega (arith, within.1) in
-      rw left (edges_joined ds (relation_edges ds reads (relation_number r)) (relations_from (r + 1)))
+      rw left (edges_joined ds (edges (relation_number r)) (relations_from (r + 1)))
 
   relations_none : (r : ℕ) → 1 ≤ r → is_some (relation_numbered (relation_number r) ds) ≡ false → first_broken ds (relations_from r) ≡ Ok (tt {0})
   relations_none r least is =
@@ -202,28 +212,28 @@ module _ (ds : List Declaration) (reads : Place → Option RelationName) (n : �
       let none : suc (length (relations_in ds n)) - r ≡ 0 = omega (arith, past) in
       rw none refl
 
--- a relation number is asked for by name, and its namespace is that of the walk
-module _ {A : Type 0} (text : A → List ℕ) (ds : List Declaration) (reads : Place → Option RelationName) (number : RelNo) (n : ℕ) (here : number.namespace ≡ n)
-    (name : Option A) (shown : option_map text name ≡ option_map (λ (x : Relation). x.name) (relation_numbered number ds)) where
+-- a relation number is asked for by something of the relation, and its namespace is that of the walk
+module _ {A B : Type 0} (text : A → B) (part : Relation → B) (ds : List Declaration) (edges : RelNo → List Edge) (number : RelNo) (n : ℕ) (here : number.namespace ≡ n)
+    (name : Option A) (shown : option_map text name ≡ option_map part (relation_numbered number ds)) where
   is_there : is_some name ≡ is_some (relation_numbered number ds)
   is_there = by name (relation_numbered number ds) shown
     where
-      by : (o : Option A) (p : Option Relation) → option_map text o ≡ option_map (λ (x : Relation). x.name) p → is_some o ≡ is_some p
+      by : (o : Option A) (p : Option Relation) → option_map text o ≡ option_map part p → is_some o ≡ is_some p
       by None None h = refl
       by None (Some x) h = cc
       by (Some s) None h = cc
       by (Some s) (Some x) h = refl
 
   pub relations_next : is_some name ≡ true
-      → first_broken ds (relations_from ds reads n number.relation)
-      ≡ both (first_broken ds (relation_edges ds reads number)) (first_broken ds (relations_from ds reads n (number.relation + 1)))
-  relations_next h = rw (← here) (relations_left ds reads number.namespace number.relation (sym is_there ∙ h))
+      → first_broken ds (relations_from ds edges n number.relation)
+      ≡ both (first_broken ds (edges number)) (first_broken ds (relations_from ds edges n (number.relation + 1)))
+  relations_next h = rw (← here) (relations_left ds edges number.namespace number.relation (sym is_there ∙ h))
 
-  pub relations_end : 1 ≤ number.relation → is_some name ≡ false → first_broken ds (relations_from ds reads n number.relation) ≡ Ok (tt {0})
-  relations_end least h = rw (← here) (relations_none ds reads number.namespace number.relation least (sym is_there ∙ h))
+  pub relations_end : 1 ≤ number.relation → is_some name ≡ false → first_broken ds (relations_from ds edges n number.relation) ≡ Ok (tt {0})
+  relations_end least h = rw (← here) (relations_none ds edges number.namespace number.relation least (sym is_there ∙ h))
 
   pub relation_within : is_some name ≡ true → number.relation ≤ length (relations_in ds n)
-  relation_within h = rw (← here) (numbered_within ds reads number.namespace number.relation (sym is_there ∙ h)).1
+  relation_within h = rw (← here) (numbered_within ds edges number.namespace number.relation (sym is_there ∙ h)).1
 
 pub few_relations : (ds : List Declaration) (n : ℕ) → IsWellFormed ds → length (relations_in ds n) ≤ 256
 few_relations ds n w = by_namespace (namespace_numbered n ds)

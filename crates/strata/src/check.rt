@@ -3,12 +3,13 @@
 ghost use Rattle.std.specs.Prelude.{◌≡◌, ◌∷◌, ◌++◌, [], List, Ok};
 ghost use Rattle.strata.specs.Edges as edges;
 ghost use Rattle.namespaces.specs.Declaration.{Declaration};
-ghost use Rattle.strata.specs.Edges.{edges_of_namespace, first_broken, rule_edges, tuple_edges};
-ghost use Rattle.strata.specs.Sights.{reads};
+ghost use Rattle.namespaces.specs.WellFormed.{IsWellFormed};
+ghost use Rattle.strata.specs.Edges.{first_broken, read_by_rule, rule_edges, tuple_edges};
+ghost use Rattle.strata.specs.Sights.{last_edges, reads};
 ghost use Rattle.tuple_text.specs.Refs.{set_value};
 
 use crate::edge::Edge;
-use crate::walk::{Sight, check_relation};
+use crate::walk::{Sight, check_relation, check_rewrite};
 use namespaces::{RelNo, Rules};
 use tuple_text::{SetRef, Tuple, UserRef};
 
@@ -43,17 +44,32 @@ pub fn check_rules(rules: &Rules) -> Result<(), Edge>
     Ok(())
 }
 
-/// Looks at the edges of every rule that the namespace with this name ever had, in the order of [`check_rules`].
+/// The first broken edge of the rules that the last declaration gives the namespace with this number and name.
+fn check_last_rules(rules: &Rules, namespace: u16, name: &str) -> Result<(), Edge>
+    ensures edges { result ≡ first_broken rules.now (last_edges rules.now (read_by_rule name.now) namespace) }
+    ensures well_formed { IsWellFormed rules.now }
+{
+    let mut number = RelNo {
+        namespace,
+        relation: 1,
+    };
+    while let Some(rewrite) = rules.last_rule(number) {
+        check_rewrite(rules, number, Sight::Rule(name), rewrite, false)?;
+        number.relation += 1;
+    }
+    Ok(())
+}
+
+/// Looks at the edges of the rules of this namespace's last declaration alone, in the order of [`check_rules`].
 ///
-/// Where the last declaration is of this namespace, and the rules before it had no broken edge, no rule of another namespace has one now, and so the
-/// answer is that of [`check_rules`].
+/// Where that is the last declaration of all, and the rules before it had no broken edge, the answer is that of [`check_rules`]: a rule that was declared
+/// before reads relations that later declarations keep with their strata, so none of its edges has changed.
 pub fn check_declared(rules: &Rules, namespace: &str) -> Result<(), Edge>
-    ensures exact { result ≡ first_broken rules.now (edges_of_namespace rules.now namespace.now) }
-    ensures first { (ds : List Declaration) (d : Declaration) → rules.now ≡ ds ++ d ∷ [] → d.name ≡ namespace.now
+    ensures { (ds : List Declaration) (d : Declaration) → rules.now ≡ ds ++ d ∷ [] → d.name ≡ namespace.now
         → first_broken ds (rule_edges ds) ≡ Ok (tt {0}) → result ≡ first_broken rules.now (rule_edges rules.now) }
 {
     match rules.namespace_number(namespace) {
-        Some(number) => check_namespace(rules, number, Sight::Rule(namespace)),
+        Some(number) => check_last_rules(rules, number, namespace),
         None => Ok(()),
     }
 }

@@ -101,7 +101,7 @@ fn premise<'a>(sight: Sight<'a>, rewrite: &'a Rewrite) -> Option<SetRef<'a>>
 
 /// The first place, in pre-order, that has a broken edge.
 #[cycle(check_rewrite)]
-fn check_rewrite(
+pub(crate) fn check_rewrite(
     rules: &Rules,
     reader: RelNo,
     sight: Sight<'_>,

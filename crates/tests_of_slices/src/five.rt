@@ -12,11 +12,11 @@ pub(crate) struct FiveChecks;
 impl Check for FiveChecks {
     type Report = Option<u8>;
 
-    ghost use Rattle.std.specs.Prelude.{◌==◌, Some, None, if◌then◌else◌, is_some};
+    ghost use Rattle.std.specs.Prelude.{◌≡◌, ◌==◌, Some, None, if◌then◌else◌, is_some};
 
     ghost entries = { λ _. 1000 };
 
-    ghost named = { λ _ entry. if entry == 0 then Some 7 else (if entry == 4 then Some 9 else None) };
+    ghost gives = { λ _ entry report. report ≡ (if entry == 0 then Some 7 else (if entry == 4 then Some 9 else None)) };
 
     ghost raises = { λ _ report. is_some report };
 
@@ -36,9 +36,9 @@ impl Check for FiveChecks {
 pub(crate) struct FiveNamed;
 
 impl Names<Option<u8>> for FiveNamed {
-    ghost use Rattle.std.specs.Prelude.{◌==◌, Some, None, if◌then◌else◌, is_some};
+    ghost use Rattle.std.specs.Prelude.{◌≡◌, ◌==◌, Some, None, if◌then◌else◌, is_some};
 
-    ghost named = { λ entry. if entry == 0 then Some 7 else (if entry == 4 then Some 9 else None) };
+    ghost gives = { λ entry report. report ≡ (if entry == 0 then Some 7 else (if entry == 4 then Some 9 else None)) };
 
     ghost alerts = { λ report. is_some report };
 }

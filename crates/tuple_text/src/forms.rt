@@ -21,7 +21,7 @@ fn are_name_bytes(bytes: &[u8]) -> bool
     bytes.iter().all(|b| is_name_byte(*b))
 }
 
-/// A namespace or a relation.
+/// Whether a text is the name of a namespace or of a relation: 1 to 64 bytes, the first `a-z`, the others `a-z`, `0-9` or `_`.
 pub fn is_name(text: &str) -> bool
     ensures { result ≡ is_name text.now }
 {

@@ -24,6 +24,7 @@ mod writing;
 
 pub use facts::Fact;
 pub use fault::TupleFault;
+pub use forms::is_name;
 pub use reading::{parse_fact, parse_tuple, parse_userset};
 pub use sets::{SetRef, Userset};
 pub use tuples::Tuple;

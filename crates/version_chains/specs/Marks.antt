@@ -1,5 +1,4 @@
--- Marks of tuples and usersets: SipHash of their texts. Equal ones have equal marks, and no more is used. No public
--- clause cites this module.
+-- Marks of tuples and usersets: SipHash of their texts. Equal ones have equal marks, and no more is used.
 use Rattle.std.specs.Prelude.{ℕ, Bool, true, false, List, [], ◌∷◌}
 use Rattle.std.specs.Hash.DefaultHasher as sip
 use Rattle.std.specs.declared.hash.DefaultHasher.{DefaultHasher}

@@ -1,4 +1,4 @@
--- Places in a list that grows, counted from 1, and walks from the newest back. No public clause cites this module.
+-- Places in a list that grows, counted from 1, and walks from the newest back.
 use Rattle.std.specs.Prelude.{◌≡◌, ◌≤◌, ℕ, zero, suc, Bool, false, List, [], ◌∷◌, length, slice_get, Option, None, Some, cond}
 
 abbrev pub passes : {X : Type 0} → (X → Bool) → Option X → Bool

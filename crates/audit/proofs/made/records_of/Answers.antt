@@ -1,5 +1,5 @@
 use Rattle.std.proofs.Common.{◌≡◌, List, length, Option, Some, None, arith}
-use Rattle.std.specs.Prelude.{IfSome, option_map, string_bytes}
+use Rattle.std.specs.Prelude.{IfSome, string_bytes}
 use Rattle.std.specs.declared.vec.Vec.{Vec}
 use Rattle.std.specs.declared.alloc.Global.{Global}
 use Rattle.trace_lines.specs.Values.{entry_value}

@@ -4,6 +4,6 @@ use Rattle.audit_slices.proofs.members.work.Given as goal
 
 abbrev pub invariant-loop : goal.invariant-loop
 invariant-loop g l = record {
-  settled : IsSettled (g.C.Check.named l.check) l.member;
+  settled : IsSettled (g.C.Check.gives l.check) l.member;
   places : member_places l.member ≡ member_places l.initial.member;
 }

@@ -8,7 +8,7 @@ pub for_each_mut-requires-clause-accepts : goal.for_each_mut-requires-clause-acc
 for_each_mut-requires-clause-accepts g c κs within = λ i p lt is. (
   c.requires.names,
   subst (λ (m : Member g.row.X.Denot). AreBelow (g.C.Check.entries c.args.check.now) (member_places m)) (sym is) (c.requires.covered i p.now lt),
-  subst (IsSettled (g.C.Check.named c.args.check.now)) (sym is) (c.requires.before i p.now lt),
+  subst (IsSettled (g.C.Check.gives c.args.check.now)) (sym is) (c.requires.before i p.now lt),
 )
 
 pub returns-clause-places : goal.returns-clause-places

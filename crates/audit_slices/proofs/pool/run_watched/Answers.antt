@@ -11,7 +11,7 @@ work_watched-requires-clause-covered g c =
 
 pub work_watched-requires-clause-before : goal.work_watched-requires-clause-before
 work_watched-requires-clause-before g c =
-    let P : Member g.row.X.Denot → Type 0 = IsSettled (g.C.Check.named c.args.check.now) in
+    let P : Member g.row.X.Denot → Type 0 = IsSettled (g.C.Check.gives c.args.check.now) in
     All-head P c.in-Some.first.now c.in-Some.others.now (subst (All P) c.in-Some.ensures.cases.0 c.requires.before)
 
 pub run_beside-requires-clause-first_covered : goal.run_beside-requires-clause-first_covered
@@ -21,7 +21,7 @@ run_beside-requires-clause-first_covered g c κs within =
 
 pub run_beside-requires-clause-first_before : goal.run_beside-requires-clause-first_before
 run_beside-requires-clause-first_before g c κs within =
-    let P : Member g.row.X.Denot → Type 0 = IsSettled (g.C.Check.named c.args.check.now) in
+    let P : Member g.row.X.Denot → Type 0 = IsSettled (g.C.Check.gives c.args.check.now) in
     All-head P c.in-Some.first.now c.in-Some.others.now (subst (All P) c.in-Some.ensures.cases.0 c.requires.before)
 
 pub run_beside-requires-clause-covered : goal.run_beside-requires-clause-covered
@@ -31,5 +31,5 @@ run_beside-requires-clause-covered g c κs within =
 
 pub run_beside-requires-clause-before : goal.run_beside-requires-clause-before
 run_beside-requires-clause-before g c κs within =
-    let P : Member g.row.X.Denot → Type 0 = IsSettled (g.C.Check.named c.args.check.now) in
+    let P : Member g.row.X.Denot → Type 0 = IsSettled (g.C.Check.gives c.args.check.now) in
     All-tail P c.in-Some.first.now c.in-Some.others.now (subst (All P) c.in-Some.ensures.cases.0 c.requires.before)

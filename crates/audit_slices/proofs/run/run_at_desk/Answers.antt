@@ -1,4 +1,4 @@
-use Rattle.std.proofs.Common.{◌≡◌, ◌∙◌, length, map, All, sym, ap, subst, rules, arith}
+use Rattle.std.proofs.Common.{◌≡◌, ◌∙◌, length, map, All, sym, ap, subst, rules}
 use Rattle.slice_core.proofs.Tables.{written_back}
 use Rattle.audit_slices.specs.Members.{member_places, IsSettled}
 use Rattle.audit_slices.proofs.run.run_at_desk.Goals as goal
@@ -7,7 +7,7 @@ pub returns-clause-after : goal.returns-clause-after
 returns-clause-after g c =
     let old : length c.args.members.items ≡ c.args.members.len = search rules in
     let new : length c.run_watched.new.members ≡ c.args.members.len = search rules in
-    subst (All (IsSettled (g.C.Check.named c.args.check.now))) (sym (written_back c.args.members.len c.args.members.items c.run_watched.new.members new old)) c.run_watched.ensures.after
+    subst (All (IsSettled (g.C.Check.gives c.args.check.now))) (sym (written_back c.args.members.len c.args.members.items c.run_watched.new.members new old)) c.run_watched.ensures.after
 
 pub returns-clause-places : goal.returns-clause-places
 returns-clause-places g c =

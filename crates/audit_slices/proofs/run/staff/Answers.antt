@@ -1,4 +1,4 @@
-use Rattle.std.proofs.Common.{◌≡◌, ◌++◌, ◌∷◌, [], All, length, map, rules, arith, sym, ap, ◌∙◌, append_assoc, append-nil}
+use Rattle.std.proofs.Common.{◌≡◌, ◌++◌, ◌∷◌, [], All, length, map, arith, sym, ap, ◌∙◌, append_assoc, append-nil}
 use Rattle.std.specs.Vec.Iter.{into_iter_items}
 use Rattle.std.specs.declared.vec.Vec.{Vec}
 use Rattle.std.specs.declared.alloc.Global.{Global}
@@ -9,7 +9,7 @@ use Rattle.audit_slices.specs.declared.members.Member.{Member}
 use Rattle.slice_yard.specs.Lane.{lane_place, thief_place, thief_hand_of}
 use Rattle.audit_slices.specs.Members.{Places, member_places}
 use Rattle.slice_core.proofs.Tables.{All_mid}
-use Rattle.audit_slices.proofs.RunLemmas.{staffed_more, settled_more, all_taken}
+use Rattle.audit_slices.proofs.RunLemmas.{staffed_more, new_more, all_taken}
 use Rattle.audit_slices.proofs.run.staff.Goals as goal
 
 pub member-next-requires-clause-thieves : goal.member-next-requires-clause-thieves
@@ -31,7 +31,7 @@ loop-lane-preserved g c =
         staffed_more c.loop-lane.members.items c.push.new.self.items c.member-next.result c.in_ok-push.ensures.items (λ m. (member_places m).1) (map (λ (v : Vec Thief Global). map thief_place v.items) taken.0) (map thief_place c.in-Some-next.ends.items) taken.2 (ap (λ (p : Places). p.1) c.member-next.ensures.places)
             ∙ sym (map-append (λ (v : Vec Thief Global). map thief_place v.items) taken.0 (c.in-Some-next.ends ∷ [])),
       );
-      settled = settled_more c.loop-lane.members.items c.push.new.self.items c.member-next.result c.in_ok-push.ensures.items c.loop-lane.invariant.settled c.member-next.ensures.settled;
+      new = new_more c.loop-lane.members.items c.push.new.self.items c.member-next.result c.in_ok-push.ensures.items c.loop-lane.invariant.new c.member-next.ensures.new;
       all = c.loop-lane.invariant.all ∙ ap (λ l. c.loop-lane.yielded ++ l) c.in-Some.ensures.steps.0 ∙ sym (append_assoc c.loop-lane.yielded (c.in-Some.lane ∷ []) (into_iter_items c.next.new.self));
     }
 

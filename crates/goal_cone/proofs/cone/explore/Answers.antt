@@ -1,12 +1,17 @@
-use Rattle.std.proofs.Common.{rules, ◌≡◌, None, Some, slice_get, arith}
+use Rattle.std.proofs.Common.{rules, ◌≡◌, [], ◌∷◌, None, Some, slice_get, arith}
 use Rattle.namespaces.specs.Lookup.{rule_at}
 use Rattle.version_chains.specs.Commits.{store_at}
-use Rattle.goal_cone.proofs.Searching.{searching_done, searching_full, searching_stuck, searching_step}
+use Rattle.goal_cone.proofs.Searching.{searching_start, searching_done, searching_full, searching_stuck, searching_step}
 use Rattle.goal_cone.proofs.cone.explore.Goals.{In_ok-fact}
 use Rattle.goal_cone.proofs.cone.explore.Goals as goal
 
 there : (c : In_ok-fact) → slice_get c.loop-next.seen c.loop-next.next ≡ Some c.in_ok-fact.fact
 there c = let same : c.in_ok-fact.fact ≡ c.in-Some.fact.now = search rules in let at : Some c.in-Some.fact.now ≡ slice_get c.loop-next.seen c.loop-next.next = c.in-Some.ensures in cc
+
+pub loop-next-init : goal.loop-next-init
+loop-next-init c =
+    let seen : c.add.new.self ≡ c.args.goal.now ∷ [] = search rules in
+    rw seen (searching_start (rule_at c.args.trace.now.declarations c.args.at) (store_at c.args.trace.now.commits c.args.at) 4194304 c.args.goal.now)
 
 pub returns-in_default-clause-cone : goal.returns-in_default-clause-cone
 returns-in_default-clause-cone c =

@@ -1,7 +1,7 @@
 use Rattle.std.proofs.Common.{◌≡◌, drop}
 use Rattle.std.specs.List.{list_all}
 use Rattle.namespaces.specs.Expression.{names_in_all}
-use Rattle.namespaces.specs.Adding.{is_name}
+use Rattle.tuple_text.specs.Forms.{is_name}
 use Rattle.namespaces.specs.View.{expressions_of}
 use Rattle.namespaces.proofs.rewrite.+has_good_names.Given as goal
 

@@ -1,20 +1,63 @@
-use Rattle.std.proofs.Common.{IsTrue, sym, ◌∙◌, false}
-use Rattle.std.specs.BTreeMap.{get_by_text, btree_map_len}
+use Rattle.std.proofs.Common.{◌≡◌, ℕ, ◌-◌, ◌<◌, suc, List, get_or, length, map, Some, IsTrue, false, nat_eq, arith, ap, ◌∙◌, sym, subst, refl, rules}
+use Rattle.std.specs.Prelude.{Contains}
+use Rattle.std.proofs.lemmas.List.{length-map}
+use Rattle.std.proofs.lemmas.Option.{slice_get-map}
 use Rattle.tuple_text.specs.Refs.{set_value}
-use Rattle.tuple_text.specs.Tuples.{fact_of}
-use Rattle.judgement.proofs.NumberingLemmas.{found_by_key, absent_without_key, contains_key}
+use Rattle.tuple_text.specs.Tuples.{FactValue, fact_of, fact_tuple}
+use Rattle.tuple_text.proofs.ValueLemmas.{fact_eq-same}
+use Rattle.version_chains.specs.Placed.{last_place}
+use Rattle.version_chains.proofs.FindLemmas.{find_start, find_within, find_on, find_smaller, found_nowhere}
+use Rattle.version_chains.proofs.PlacedLemmas.{read_item}
+use Rattle.judgement.proofs.MarkedLemmas.{other_tuple, absent_fact}
 use Rattle.judgement.proofs.indexed.Indexed.has.Goals as goal
 
-pub returns-in-Some : goal.returns-in-Some
-returns-in-Some c =
-    let found = found_by_key (get_by_text c.self.inside.numbers) (btree_map_len c.self.inside.numbers) c.self.invariant.0 c.self.inside.keys.keys c.self.inside.facts.items c.self.invariant.1
-    (fact_of (set_value c.args.set) c.args.user) c.in-Some.key (sym c.key_of.ensures ∙ c.in-Some.is) in
-    let here = contains_key c.self.inside.keys c.in-Some.key in
-    rw (← c.self.view_is, c.contains.ensures) (λ t. found.0 (here.0 t), λ h. here.1 (found.1 h))
+pub loop-place-init : goal.loop-place-init
+loop-place-init c =
+    find_start (fact_tuple (fact_of (set_value c.args.set) c.args.user)) (map fact_tuple c.self.inside.facts.items) c.self.inside.marked c.self.invariant c.newest-place.result
+    (c.newest-place.ensures ∙ ap (λ (m : ℕ). last_place (nat_eq m) c.self.inside.marked (length c.self.inside.marked)) c.tuple_mark.ensures)
 
-pub returns-in-None : goal.returns-in-None
-returns-in-None c = (
-  λ t. absurd (let e : IsTrue false = t in cc),
-  λ h. absurd (absent_without_key (get_by_text c.self.inside.numbers) c.self.inside.keys.keys c.self.inside.facts.items c.self.invariant.1
-      (fact_of (set_value c.args.set) c.args.user) (sym c.key_of.ensures ∙ c.in-None.is) (rw c.self.view_is h)),
-)
+pub index-requires : goal.index-requires
+index-requires c =
+    let some = c.loop-place-test.true in
+    let next : c.loop-place.place ≡ suc (c.loop-place.place - 1) = omega (arith, some) in
+    let within = find_within (fact_tuple (fact_of (set_value c.args.set) c.args.user)) (map fact_tuple c.self.inside.facts.items) c.self.inside.marked c.self.invariant c.loop-place.place (c.loop-place.place - 1) next c.loop-place.invariant in
+    let there : c.loop-place.place - 1 < length c.self.inside.facts.items = rw (length-map c.self.inside.facts.items fact_tuple) at within in
+    search rules
+
+pub loop-place-smaller : goal.loop-place-smaller
+loop-place-smaller c =
+    let some = c.loop-place-test.true in
+    let next : c.loop-place.place ≡ suc (c.loop-place.place - 1) = omega (arith, some) in
+    find_smaller (fact_tuple (fact_of (set_value c.args.set) c.args.user)) (map fact_tuple c.self.inside.facts.items) c.self.inside.marked c.self.invariant c.loop-place.place (c.loop-place.place - 1) next c.loop-place.invariant c.older-place.result c.older-place.ensures
+
+pub loop-place-preserved : goal.loop-place-preserved
+loop-place-preserved c =
+    let some = c.loop-place-test.true in
+    let next : c.loop-place.place ≡ suc (c.loop-place.place - 1) = omega (arith, some) in
+    let fact = fact_of (set_value c.args.set) c.args.user in
+    let facts = c.self.inside.facts.items in
+    let within = find_within (fact_tuple fact) (map fact_tuple facts) c.self.inside.marked c.self.invariant c.loop-place.place (c.loop-place.place - 1) next c.loop-place.invariant in
+    let here = read_item facts facts (c.loop-place.place - 1) c.index.result.now (λ i. facts) (rw (length-map facts fact_tuple) at within) c.index.ensures in
+    find_on (fact_tuple fact) (map fact_tuple facts) c.self.inside.marked c.self.invariant c.loop-place.place (c.loop-place.place - 1) next c.loop-place.invariant
+    (fact_tuple c.index.result.now) (rw (slice_get-map fact_tuple facts (c.loop-place.place - 1), here) (λ i. Some (fact_tuple c.index.result.now)))
+    (other_tuple fact c.index.result.now (sym c.is_same.ensures ∙ c.if-is_same.false)) c.older-place.result c.older-place.ensures
+
+pub returns-then-is_same : goal.returns-then-is_same
+returns-then-is_same c =
+    let some = c.loop-place-test.true in
+    let next : c.loop-place.place ≡ suc (c.loop-place.place - 1) = omega (arith, some) in
+    let fact = fact_of (set_value c.args.set) c.args.user in
+    let facts = c.self.inside.facts.items in
+    let within = find_within (fact_tuple fact) (map fact_tuple facts) c.self.inside.marked c.self.invariant c.loop-place.place (c.loop-place.place - 1) next c.loop-place.invariant in
+    let same = fact_eq-same fact c.index.result.now (sym c.is_same.ensures ∙ c.if-is_same.true) in
+    let here : Contains facts fact = (c.loop-place.place - 1, rw (length-map facts fact_tuple) at within, subst (λ (f : FactValue). get_or facts (c.loop-place.place - 1) f ≡ f) (sym same) (sym c.index.ensures)) in
+    (λ _. subst (λ (fs : List FactValue). Contains fs fact) c.self.view_is here, λ _. refl)
+
+pub returns : goal.returns
+returns c =
+    let none = c.loop-place-test.false in
+    let fact = fact_of (set_value c.args.set) c.args.user in
+    let absent = found_nowhere (fact_tuple fact) (map fact_tuple c.self.inside.facts.items) c.self.inside.marked c.self.invariant c.loop-place.place (let e : c.loop-place.place ≡ 0 = omega (arith, none) in e) c.loop-place.invariant in (
+      λ t. absurd (let e : IsTrue false = t in cc),
+      λ h. absurd (absent_fact c.self.inside.facts.items fact absent (rw c.self.view_is h)),
+    )

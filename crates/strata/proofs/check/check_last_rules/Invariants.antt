@@ -1,0 +1,17 @@
+use Rattle.std.proofs.Common.{◌≡◌, ◌-◌, ◌≤◌, suc, length}
+use Rattle.strata.specs.Edges.{relations_in, read_by_rule, first_broken}
+use Rattle.strata.specs.Sights.{last_relation_edges, last_edges}
+use Rattle.strata.proofs.Walks.{relations_from}
+use Rattle.strata.proofs.check.check_last_rules.Given as goal
+
+-- what decides are the relations that are left
+abbrev pub invariant-loop-rewrite : goal.invariant-loop-rewrite
+invariant-loop-rewrite l = record {
+  number : l.number.namespace ≡ l.namespace;
+  least : 1 ≤ l.number.relation;
+  left : first_broken l.rules (last_edges l.rules (read_by_rule l.name) l.namespace)
+      ≡ first_broken l.rules (relations_from l.rules (last_relation_edges l.rules (read_by_rule l.name)) l.namespace l.number.relation);
+}
+
+abbrev pub decreases-loop-rewrite : goal.decreases-loop-rewrite
+decreases-loop-rewrite l = suc (length (relations_in l.rules l.namespace)) - l.number.relation
