@@ -7,8 +7,8 @@ ghost use Rattle.namespaces.specs.Expression as expression;
 ghost use Rattle.namespaces.specs.View.{expression_of, expressions_of};
 
 use crate::fault::RulesFault;
-use tuple_text::is_name;
 use std::alloc::Global;
+use tuple_text::is_name;
 
 /// How many children a union or an intersection may have.
 const MAX_CHILDREN: usize = 64;

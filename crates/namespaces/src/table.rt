@@ -13,11 +13,11 @@ ghost use Rattle.namespaces.specs.Shown.{show_relation, show_relations, show_nam
 ghost use Rattle.namespaces.specs.View.{expression_of};
 
 use crate::fault::RulesFault;
-use tuple_text::is_name;
 use crate::reading::{Draft, reads_declared};
 use crate::rewrite::{Rewrite, copied, counts_fit, has_good_names, is_deeper};
 use indexmap::IndexMap;
 use std::alloc::Global;
+use tuple_text::is_name;
 
 /// How deep the rule of a relation may nest.
 const MAX_DEPTH: u8 = 32;
