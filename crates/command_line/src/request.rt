@@ -5,6 +5,7 @@ ghost use Rattle.command_line.specs.declared.request.Answer.TheVariants.{Asks};
 ghost use Rattle.command_line.specs.declared.request.Request.TheVariants.{Joined};
 
 use crate::commands::program;
+use clap::error::ErrorKind;
 use clap::{ArgMatches, Error};
 use std::alloc::{AllocError, Global};
 
@@ -105,6 +106,7 @@ pub fn read_words<'a>(alloc: Global, words: &'a [String]) -> Result<Answer<'a>, 
             Some(request) => Ok(Answer::Asks(request)),
             None => Ok(Answer::Refuses(format!(in alloc; "usage")?)),
         },
+        Err(error) if error.kind() == ErrorKind::OutOfMemory => Err(AllocError),
         Err(error) if error.use_stderr() => Ok(Answer::Refuses(told(alloc, &error)?)),
         Err(error) => Ok(Answer::Shows(told(alloc, &error)?)),
     }

@@ -105,6 +105,15 @@ struct Site<'a> {
     place: usize,
 }
 
+/// The userset of these parts, where they are in form.
+fn userset_of(alloc: Global, set: SetRef<'_>) -> Result<Option<Userset>, AllocError> {
+    match Userset::of(alloc, set) {
+        Ok(set) => Ok(Some(set)),
+        Err(TupleFault::OutOfMemory) => Err(AllocError),
+        Err(_) => Ok(None),
+    }
+}
+
 impl Gates {
     /// The gates of a cone.
     pub(crate) fn of(
@@ -133,11 +142,10 @@ impl Gates {
 
     /// The place of a userset in the cone.
     fn place_of(&self, set: SetRef<'_>) -> Result<Option<usize>, AllocError> {
-        match Userset::of(self.alloc, set) {
-            Ok(set) => Ok(self.places.get(&set).copied()),
-            Err(TupleFault::OutOfMemory) => Err(AllocError),
-            Err(_) => Ok(None),
-        }
+        let Some(set) = userset_of(self.alloc, set)? else {
+            return Ok(None);
+        };
+        Ok(self.places.get(&set).copied())
     }
 
     /// Whether the gate of a fact is among those that are kept.
@@ -150,7 +158,7 @@ impl Gates {
 
     fn number(&mut self, fact: &Fact) -> Result<(), AllocError> {
         let place = self.add(1, Wants::Some)?;
-        if let Ok(set) = Userset::of(self.alloc, fact.set()) {
+        if let Some(set) = userset_of(self.alloc, fact.set())? {
             self.places.insert(set, place)?;
         }
         Ok(())
