@@ -22,8 +22,7 @@ use Rattle.namespaces.proofs.Names.{by_bool, clash, same_name, one_name, and_tru
 use Rattle.namespaces.proofs.Numbers.{item_at-place}
 use Rattle.namespaces.proofs.Times.{IsKeptIn, from_one, newest_keeps}
 use Rattle.strata.specs.declared.edge.Edge.{Edge}
-use Rattle.strata.specs.Edges.{RelationName, Place, places, all_places, at_computed, edge_at, edges_in, relation_edges, relations_in, namespace_edges, rule_edges, read_by_rule, stratum_numbered, is_broken, first_broken}
-use Rattle.strata.specs.Sights.{last_relation_edges, last_edges}
+use Rattle.strata.specs.Edges.{RelationName, Place, places, all_places, at_computed, edge_at, edges_in, relation_edges, relations_in, namespace_edges, last_relation_edges, last_edges, rule_edges, read_by_rule, stratum_numbered, is_broken, first_broken}
 use Rattle.strata.proofs.Lists.{Contains-here, Contains-there}
 use Rattle.strata.proofs.Newest.{position_cons, position_item, position_none, one_place, both_ok, flat_same, names_more, name_kept, distinct_after, newest_decides}
 use Rattle.strata.proofs.Unbroken.{unbroken, edge_of_namespace, edge_of_rules, item_least, item_there}

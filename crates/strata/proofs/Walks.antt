@@ -19,8 +19,7 @@ use Rattle.std.proofs.lemmas.Option.{slice_get_within}
 use Rattle.namespaces.proofs.Walks as below
 use Rattle.strata.proofs.Unbroken.{item_least, item_there}
 use Rattle.strata.specs.declared.edge.Edge.{Edge}
-use Rattle.strata.specs.Edges.{RelationName, Place, edge_at, edges_in, relations_in, namespace_edges, read_by_rule, stratum_numbered, is_broken, refused, first_broken}
-use Rattle.strata.specs.Sights.{last_relation_edges}
+use Rattle.strata.specs.Edges.{RelationName, Place, edge_at, edges_in, relations_in, namespace_edges, last_relation_edges, read_by_rule, stratum_numbered, is_broken, refused, first_broken}
 
 -- the first refusal of two
 abbrev pub both : Result (Unit {0}) Edge → Result (Unit {0}) Edge → Result (Unit {0}) Edge

@@ -86,6 +86,19 @@ namespace_edges ds reads n =
 abbrev pub edges_of_namespace : List Declaration → List ℕ → List Edge
 edges_of_namespace ds q = unwrap_or (option_map (namespace_edges ds (read_by_rule q)) (place_of q (namespace_names ds))) []
 
+-- the edges of the last rule of a relation
+abbrev pub last_relation_edges : List Declaration → (Place → Option RelationName) → RelNo → List Edge
+last_relation_edges ds reads reader = unwrap_or (option_map (λ (r : Relation). edges_in ds reader reads r.expression) (relation_numbered reader ds)) []
+
+-- and of the last rules of a namespace, relation by relation
+abbrev pub last_edges : List Declaration → (Place → Option RelationName) → ℕ → List Edge
+last_edges ds reads n =
+    flat_map (λ r. last_relation_edges ds reads (record { namespace = n; relation = r })) (range_with_len 1 (length (relations_in ds n)))
+
+-- and of the last rules of the namespace that has a name
+abbrev pub last_edges_of_namespace : List Declaration → List ℕ → List Edge
+last_edges_of_namespace ds q = unwrap_or (option_map (last_edges ds (read_by_rule q)) (place_of q (namespace_names ds))) []
+
 -- the edges of the rules alone, namespace by namespace
 abbrev pub rule_edges : List Declaration → List Edge
 rule_edges ds = flat_map (λ (p : ℕ × List ℕ). namespace_edges ds (read_by_rule p.1) p.0) (enumerate_from 1 (namespace_names ds))

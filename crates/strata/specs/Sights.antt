@@ -1,13 +1,8 @@
--- What is looked for in a rule, and the edges of the last rules. No public clause cites this module.
-use Rattle.std.specs.Prelude.{ℕ, List, [], length, Option, None, option_map, unwrap_or}
-use Rattle.std.specs.List.{flat_map, range_with_len}
-use Rattle.namespaces.specs.declared.number.RelNo.{RelNo}
-use Rattle.namespaces.specs.Declaration.{Relation, Declaration}
-use Rattle.namespaces.specs.Lookup.{relation_numbered}
+-- What is looked for in a rule. No public clause cites this module.
+use Rattle.std.specs.Prelude.{Option, None}
 use Rattle.namespaces.specs.Expression.{Expression, this, computed, tuple_to, union, inter, minus}
 use Rattle.tuple_text.specs.Refs.{set_value}
-use Rattle.strata.specs.declared.edge.Edge.{Edge}
-use Rattle.strata.specs.Edges.{RelationName, Place, at_this, at_computed, at_tuple_to, read_by_rule, read_in_userset, read_through, edges_in, relations_in}
+use Rattle.strata.specs.Edges.{RelationName, Place, at_this, at_computed, at_tuple_to, read_by_rule, read_in_userset, read_through}
 use Rattle.tuple_text.specs.declared.sets.SetRef.{SetRef}
 use Rattle.strata.specs.declared.walk.Sight.{Sight}
 use Rattle.strata.specs.declared.walk.Sight.TheVariants.{Rule, Userset, Through}
@@ -28,12 +23,3 @@ leaf_read f (tuple_to q c) = f (at_tuple_to q c)
 leaf_read f (union es) = None
 leaf_read f (inter es) = None
 leaf_read f (minus a b) = None
-
--- the edges of the last rule of a relation
-abbrev pub last_relation_edges : List Declaration → (Place → Option RelationName) → RelNo → List Edge
-last_relation_edges ds reads reader = unwrap_or (option_map (λ (r : Relation). edges_in ds reader reads r.expression) (relation_numbered reader ds)) []
-
--- and of the last rules of a namespace, relation by relation
-abbrev pub last_edges : List Declaration → (Place → Option RelationName) → ℕ → List Edge
-last_edges ds reads n =
-    flat_map (λ r. last_relation_edges ds reads (record { namespace = n; relation = r })) (range_with_len 1 (length (relations_in ds n)))

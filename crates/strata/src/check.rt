@@ -4,8 +4,8 @@ ghost use Rattle.std.specs.Prelude.{◌≡◌, ◌∷◌, ◌++◌, [], List, Ok
 ghost use Rattle.strata.specs.Edges as edges;
 ghost use Rattle.namespaces.specs.Declaration.{Declaration};
 ghost use Rattle.namespaces.specs.WellFormed.{IsWellFormed};
-ghost use Rattle.strata.specs.Edges.{first_broken, read_by_rule, rule_edges, tuple_edges};
-ghost use Rattle.strata.specs.Sights.{last_edges, reads};
+ghost use Rattle.strata.specs.Edges.{first_broken, last_edges, last_edges_of_namespace, read_by_rule, rule_edges, tuple_edges};
+ghost use Rattle.strata.specs.Sights.{reads};
 ghost use Rattle.tuple_text.specs.Refs.{set_value};
 
 use crate::edge::Edge;
@@ -60,12 +60,13 @@ fn check_last_rules(rules: &Rules, namespace: u16, name: &str) -> Result<(), Edg
     Ok(())
 }
 
-/// Looks at the edges of the rules of this namespace's last declaration alone, in the order of [`check_rules`].
+/// Looks at the edges of the rules of this namespace's last declaration alone, in the order of [`check_rules`]. A namespace that is not declared has none.
 ///
 /// Where that is the last declaration of all, and the rules before it had no broken edge, the answer is that of [`check_rules`]: a rule that was declared
 /// before reads relations that later declarations keep with their strata, so none of its edges has changed.
 pub fn check_declared(rules: &Rules, namespace: &str) -> Result<(), Edge>
-    ensures { (ds : List Declaration) (d : Declaration) → rules.now ≡ ds ++ d ∷ [] → d.name ≡ namespace.now
+    ensures exact { result ≡ first_broken rules.now (last_edges_of_namespace rules.now namespace.now) }
+    ensures first { (ds : List Declaration) (d : Declaration) → rules.now ≡ ds ++ d ∷ [] → d.name ≡ namespace.now
         → first_broken ds (rule_edges ds) ≡ Ok (tt {0}) → result ≡ first_broken rules.now (rule_edges rules.now) }
 {
     match rules.namespace_number(namespace) {

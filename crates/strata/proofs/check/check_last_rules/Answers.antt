@@ -1,7 +1,6 @@
 use Rattle.std.proofs.Common.{None, Some, refl, sym, ◌∙◌, rules, arith}
 use Rattle.namespaces.specs.View.{expression_of}
-use Rattle.strata.specs.Edges.{read_by_rule}
-use Rattle.strata.specs.Sights.{last_relation_edges}
+use Rattle.strata.specs.Edges.{last_relation_edges, read_by_rule}
 use Rattle.strata.proofs.Walks.{relations_next, relations_end, relation_within, few_relations, last_rule_edges}
 use Rattle.strata.proofs.check.check_last_rules.Goals as goal
 

@@ -1,6 +1,5 @@
 use Rattle.std.proofs.Common.{◌≡◌, ◌-◌, ◌≤◌, suc, length}
-use Rattle.strata.specs.Edges.{relations_in, read_by_rule, first_broken}
-use Rattle.strata.specs.Sights.{last_relation_edges, last_edges}
+use Rattle.strata.specs.Edges.{relations_in, last_relation_edges, last_edges, read_by_rule, first_broken}
 use Rattle.strata.proofs.Walks.{relations_from}
 use Rattle.strata.proofs.check.check_last_rules.Given as goal
 
