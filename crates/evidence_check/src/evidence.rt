@@ -1,7 +1,7 @@
 //! Evidence.
 
 ghost use Rattle.std.specs.Prelude.{◌≡◌, option_map};
-ghost use Rattle.evidence_check.specs.Evidences.{all_shown, evidence_value, steps_of};
+ghost use Rattle.evidence_check.specs.Evidences.{evidence_value, steps_of};
 ghost use Rattle.evidence_check.specs.Steps.{step_values};
 
 use crate::step::Steps;
@@ -14,13 +14,6 @@ pub struct Evidence {
 }
 
 impl Evidence {
-    /// The evidence that has these steps for the entries of a trace, in their order; None where an entry has no record.
-    pub fn of_steps(steps: Vec<Option<Steps>>) -> Evidence
-        ensures value { evidence_value result ≡ all_shown steps.items }
-    {
-        Evidence { steps }
-    }
-
     /// The steps that were given for entry `i`; None where no record names it.
     pub fn steps(&self, i: usize) -> Option<&Steps>
         ensures { option_map (λ s. step_values s.now.items) result ≡ steps_of (evidence_value self.now) i }
