@@ -1,48 +1,57 @@
 #!/usr/bin/env python3
-"""How the cost of hostile input grows: each kind of bench/hostile.py at two sizes, as a table.
+"""How the cost of an input grows: kinds of a generator of this folder at two sizes, as a table.
 
-    python3 bench/growth.py PROGRAM SMALL LARGE [KIND ..] > table
+    python3 bench/growth.py PROGRAM trace|hostile SMALL LARGE [KIND ..] > table
 
-Sizes are megabytes. Of three runs each the least processor time counts. The last column is how many times more a
-megabyte costs at the large size; 1 is in proportion.
+Sizes are megabytes. Seconds are processor time, the least of three runs; memory is the most that the program held, in MB. The column behind a size
+says what a megabyte costs there; the last one how many times more a megabyte costs at the large size: 1 is in proportion.
 """
 import os
-import resource
 import subprocess
 import sys
 import tempfile
 
 import hostile
+import trace
+
+GENERATORS = {"trace": trace, "hostile": hostile}
 
 
-def seconds(program, path):
-    """The processor time of one run, which has to end clean."""
-    before = resource.getrusage(resource.RUSAGE_CHILDREN)
+def run(program, path):
+    """The processor time and the peak memory of one run, which has to end clean."""
     with open(path, "rb") as file:
-        run = subprocess.run([program], stdin=file, stdout=subprocess.PIPE, stderr=subprocess.PIPE)
-    after = resource.getrusage(resource.RUSAGE_CHILDREN)
-    if run.returncode != 0:
-        sys.exit(f"{path}: status {run.returncode}: {(run.stdout or run.stderr)[-200:]!r}")
-    return after.ru_utime + after.ru_stime - before.ru_utime - before.ru_stime
+        started = subprocess.Popen([program], stdin=file, stdout=subprocess.DEVNULL, stderr=subprocess.PIPE)
+        said = started.stderr.read()
+        _, status, used = os.wait4(started.pid, 0)
+    started.returncode = os.waitstatus_to_exitcode(status)
+    if started.returncode != 0:
+        sys.exit(f"{path}: status {started.returncode}: {said[-200:]!r}")
+    return used.ru_utime + used.ru_stime, used.ru_maxrss / 1000
 
 
-def cost(program, kind, megabytes):
-    """Megabytes of the input, and the least seconds of three runs."""
-    given = hostile.KINDS[kind](int(megabytes * 10**6))
-    with tempfile.NamedTemporaryFile("w", suffix="-" + kind) as file:
-        file.write("\n".join(given.lines + ["---"] + given.records) + "\n")
-        file.flush()
-        size = os.path.getsize(file.name) / 10**6
-        return size, min(seconds(program, file.name) for _ in range(3))
+def cost(program, generator, kind, megabytes):
+    """Megabytes of the input, the least seconds of three runs, and the most memory. A process of its own makes the input: what this one holds
+    would count as memory of the program that it starts."""
+    with tempfile.NamedTemporaryFile() as file:
+        subprocess.run([sys.executable, generator.__file__, kind, megabytes], stdout=file, check=True)
+        runs = [run(program, file.name) for _ in range(3)]
+        return os.path.getsize(file.name) / 10**6, min(seconds for seconds, _ in runs), max(memory for _, memory in runs)
+
+
+def row(kind, small, large):
+    cells, each = [], []
+    for size, seconds, memory in small, large:
+        each.append(seconds / size)
+        cells.append(f"{size:.1f} | {seconds:.2f} | {each[-1]:.3f} | {memory:,.0f}")
+    return f"| `{kind}` | {cells[0]} | {cells[1]} | {each[1] / each[0]:.2f} |"
 
 
 def main():
-    program, small, large = sys.argv[1], float(sys.argv[2]), float(sys.argv[3])
-    print("| Kind | MB | s | s per MB | MB | s | s per MB | Grows |")
-    print("|---|---|---|---|---|---|---|---|")
-    for kind in sys.argv[4:] or hostile.KINDS:
-        (a, s), (b, t) = cost(program, kind, small), cost(program, kind, large)
-        print(f"| `{kind}` | {a:.1f} | {s:.2f} | {s / a:.3f} | {b:.1f} | {t:.2f} | {t / b:.3f} | {t / b / (s / a):.2f} |", flush=True)
+    program, generator, small, large = sys.argv[1], GENERATORS[sys.argv[2]], sys.argv[3], sys.argv[4]
+    print("| Kind | MB | s | s per MB | memory | MB | s | s per MB | memory | Grows |")
+    print("|---|---|---|---|---|---|---|---|---|---|")
+    for kind in sys.argv[5:] or generator.KINDS:
+        print(row(kind, cost(program, generator, kind, small), cost(program, generator, kind, large)), flush=True)
 
 
 if __name__ == "__main__":
