@@ -25,6 +25,22 @@ int main(void) {
 }
 """
 
+# Three tests: one asks for memory once more where it gets none, one gives up, one takes none.
+TESTS = """
+#include <stdlib.h>
+#include <string.h>
+#include <unistd.h>
+#define SAY(text) (void)!write(1, text, strlen(text))
+int main(int count, char **words) {
+    if (!strcmp(words[1], "--list")) { SAY("again: test\\nonce: test\\nnone: test\\ntests: 3\\n"); return 0; }
+    void *volatile got = strcmp(words[1], "none") ? malloc(10) : words;
+    if (!got && !strcmp(words[1], "again")) got = malloc(10);
+    if (!got) return 101;
+    SAY("\\ntest result: ok\\n");
+    return 0;
+}
+"""
+
 
 class Answers(Case):
     def test_right_answers(self):
@@ -129,3 +145,26 @@ class RefuseGrowth(Case):
         run = self.table(4, "-static")
         self.assertEqual((run.returncode, run.stdout.splitlines()[-1]), (1, "0 passed, 1 failed"))
         self.assertIn("this run shows nothing", run.stdout)
+
+
+class RefuseGrowthOfCalls(Case):
+    def runs(self, *names):
+        self.put("tests.c", TESTS)
+        subprocess.run(["cc", "-o", self.path("tests"), self.path("tests.c")], check=True, capture_output=True)
+        run = self.run_tool("refuse_growth_of_calls", self.path("tests"), *names)
+        return run.returncode, run.stdout.splitlines()
+
+    def test_a_call_that_is_made_once_more(self):
+        status, lines = self.runs("again")
+        self.assertEqual((status, lines[1].split(), lines[-1]), (0, ["again", "1", "2", "0"], "2 passed, 0 failed"))
+
+    def test_a_call_that_gives_up(self):
+        status, lines = self.runs("once")
+        self.assertEqual((status, lines[1], lines[-1]), (1, "once, growth 1: status 101, b''", "1 passed, 1 failed"))
+
+    def test_a_call_without_growths_shows_nothing(self):
+        status, lines = self.runs()
+        self.assertEqual((status, lines[-2], lines[-1]), (1, "none: no growth was refused, so that this run shows nothing", "3 passed, 2 failed"))
+
+    def test_a_name_that_no_test_has(self):
+        self.assertEqual(self.runs("other")[0], 3)
