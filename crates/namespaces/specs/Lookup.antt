@@ -1,5 +1,5 @@
 -- Where rules are looked up: by name, by number, and at a timestamp.
-use Rattle.std.specs.Prelude.{ℕ, ◌+◌, ◌-◌, ◌==◌, nat_le, if◌then◌else◌, List, [], ◌∷◌, ◌++◌, map, slice_get, position, Option, None, Some, option_map, option_and_then, unwrap_or, find}
+use Rattle.std.specs.Prelude.{ℕ, ◌+◌, ◌-◌, ◌==◌, nat_le, if◌then◌else◌, List, [], ◌∷◌, ◌++◌, length, map, slice_get, position, Option, None, Some, option_map, option_and_then, unwrap_or, find}
 use Rattle.std.specs.Option.{option_or}
 use Rattle.std.specs.List.{filter_map, list_any}
 use Rattle.std.specs.Str.{bytes_eq}
@@ -37,6 +37,10 @@ history namespace relation ds = filter_map (declared_in namespace relation) ds
 abbrev pub relations_of : List ℕ → List Declaration → Option (List Relation)
 relations_of namespace [] = None
 relations_of namespace (d ∷ ds) = option_or (relations_of namespace ds) (if bytes_eq namespace d.name then Some d.relations else None)
+
+-- how many that are
+abbrev pub relation_count : List ℕ → List Declaration → ℕ
+relation_count namespace ds = length (unwrap_or (relations_of namespace ds) [])
 
 -- what is declared of a relation by the last declaration of its namespace
 abbrev pub relation_of : List ℕ → List ℕ → List Declaration → Option Relation

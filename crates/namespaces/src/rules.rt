@@ -2,7 +2,7 @@
 ghost use Rattle.std.specs.Prelude.{◌≡◌, ℕ, ◌<◌, ◌≤◌, [], ◌∷◌, ◌++◌, length, option_map, slice_get, string_bytes, IfSome, OnOk, OnErr, IfErr};
 ghost use Rattle.tuple_text.specs.Refs.{set_value};
 ghost use Rattle.namespaces.specs.Declaration.{declared};
-ghost use Rattle.namespaces.specs.Lookup.{rule_of, rule_at, relation_of, relations_of, number_of, place_of, namespace_names, namespace_numbered, relation_numbered, history_numbered};
+ghost use Rattle.namespaces.specs.Lookup.{rule_of, rule_at, relation_of, relation_count, relations_of, number_of, place_of, namespace_names, namespace_numbered, relation_numbered, history_numbered};
 ghost use Rattle.namespaces.specs.View.{expression_of};
 ghost use Rattle.namespaces.specs.WellFormed.{IsWellFormed};
 
@@ -192,6 +192,17 @@ impl Rules {
         })
     }
 
+    /// How many relations a namespace has by its last declaration, or 0 where it is not declared so far.
+    pub fn relation_count(&self, namespace: &str) -> usize
+        ensures value { result ≡ relation_count namespace.now self.now }
+        ensures well_formed { IsWellFormed self.now }
+    {
+        match self.newest(namespace) {
+            Some(relations) => relations.len(),
+            None => 0,
+        }
+    }
+
     /// The number of a namespace, counted from 1 in order of first declaration, or `None` where it is not declared so far.
     pub fn namespace_number(&self, namespace: &str) -> Option<u16>
         ensures { result ≡ place_of namespace.now (namespace_names self.now) }
@@ -275,6 +286,7 @@ impl Rules {
     fn newest(&self, namespace: &str) -> Option<&IndexMap<String, Relation>>
         ensures relations { option_map (λ m. show_relations m.now.entries) result ≡ relations_of namespace.now self.now }
         ensures limit { IfSome result (λ m. length m.now.entries ≤ 256) }
+        ensures well_formed { IsWellFormed self.now }
     {
         let newest = self.namespaces.get(namespace)?.last().copied()?;
         self.relations_in(newest)

@@ -24,7 +24,8 @@ use Rattle.namespaces.proofs.Times.{IsKeptIn, from_one, newest_keeps}
 use Rattle.strata.specs.declared.edge.Edge.{Edge}
 use Rattle.strata.specs.Edges.{RelationName, Place, places, all_places, at_computed, edge_at, edges_in, relation_edges, relations_in, namespace_edges, last_relation_edges, last_edges, rule_edges, read_by_rule, stratum_numbered, is_broken, first_broken}
 use Rattle.strata.proofs.Lists.{Contains-here, Contains-there}
-use Rattle.strata.proofs.Newest.{position_cons, position_item, position_none, one_place, both_ok, flat_same, names_more, name_kept, distinct_after, newest_decides}
+use Rattle.strata.proofs.KeptEdges.{flat_same}
+use Rattle.strata.proofs.Newest.{position_cons, position_item, position_none, one_place, both_ok, names_more, name_kept, distinct_after, newest_decides}
 use Rattle.strata.proofs.Unbroken.{unbroken, edge_of_namespace, edge_of_rules, item_least, item_there}
 use Rattle.strata.proofs.Walks.{both, edges_joined, places_joined}
 
@@ -54,7 +55,7 @@ placed_once q ns i once at = by (position (bytes_eq q) ns) refl
 -- ---- relations that are kept
 
 -- the names of the kept relations come first
-names_kept : (os ns : List Relation) → keeps_names os ns ≡ true → (rest : List (List ℕ)) × (relation_names ns ≡ relation_names os ++ rest)
+pub names_kept : (os ns : List Relation) → keeps_names os ns ≡ true → (rest : List (List ℕ)) × (relation_names ns ≡ relation_names os ++ rest)
 names_kept [] ns h = (relation_names ns, refl)
 names_kept (r ∷ rs) [] h = cc
 names_kept (r ∷ rs) (s ∷ ss) h =
@@ -157,41 +158,41 @@ front_well_formed ds d w =
       continued = continued_front ds d w.continued;
     }
 
-relations_last : (ds : List Declaration) (d : Declaration) → relations_of d.name (ds ++ d ∷ []) ≡ Some d.relations
+pub relations_last : (ds : List Declaration) (d : Declaration) → relations_of d.name (ds ++ d ∷ []) ≡ Some d.relations
 relations_last [] d = rw (same_name d.name) refl
 relations_last (c ∷ cs) d = rw (relations_last cs d) refl
 
-all_unbroken : (ds : List Declaration) (es : List Edge) → ((e : Edge) → Contains es e → is_broken ds e ≡ false) → first_broken ds es ≡ Ok (tt {0})
+pub all_unbroken : (ds : List Declaration) (es : List Edge) → ((e : Edge) → Contains es e → is_broken ds e ≡ false) → first_broken ds es ≡ Ok (tt {0})
 all_unbroken ds [] h = refl
 all_unbroken ds (e ∷ es) h = rw (h e (Contains-here e es)) (all_unbroken ds es (λ x c. h x (Contains-there e es x c)))
 
 -- ---- the edges of the rules before, after one declaration more
 
-module _ (ds : List Declaration) (d : Declaration) (w : IsWellFormed (ds ++ d ∷ [])) (none : first_broken ds (rule_edges ds) ≡ Ok (tt {0})) where
+module _ (ds : List Declaration) (d : Declaration) (w : IsWellFormed (ds ++ d ∷ [])) where
   abbrev more : List Declaration
   more = ds ++ d ∷ []
 
   abbrev q : List ℕ
   q = d.name
 
-  abbrev reads : Place → Option RelationName
-  reads = read_by_rule d.name
+  abbrev of_rule : Place → Option RelationName
+  of_rule = read_by_rule d.name
 
-  was_well_formed : IsWellFormed ds
+  pub was_well_formed : IsWellFormed ds
   was_well_formed = front_well_formed ds d w
 
-  place_kept : (i : ℕ) → position (bytes_eq q) (namespace_names ds) ≡ Some i → position (bytes_eq q) (namespace_names more) ≡ Some i
+  pub place_kept : (i : ℕ) → position (bytes_eq q) (namespace_names ds) ≡ Some i → position (bytes_eq q) (namespace_names more) ≡ Some i
   place_kept i h = rw (names_more ds d) (by_bool (list_any (bytes_eq q) (namespace_names ds)) (λ t. rw t h) (λ f. rw f (position_kept q (namespace_names ds) (q ∷ []) i h)))
 
   module _ (os : List Relation) (found : relations_of q ds ≡ Some os) where
-    kept : IsKeptIn d.relations (record d { relations = os })
+    pub kept : IsKeptIn d.relations (record d { relations = os })
     kept =
         let one = from_one (λ e. bytes_eq q e.name ≡ true → IsKeptIn d.relations e) q os ds
         (all_front (λ e. bytes_eq q e.name ≡ true → IsKeptIn d.relations e) ds d (newest_keeps q d.relations more w.continued (relations_last ds d))) found in
         let is = one.has one.named in
         record { names = rw (← one.shown) is.names; strata = rw (← one.shown) is.strata }
 
-    number_kept : (p : List ℕ) (m : RelNo) → number_of q p ds ≡ Some m → number_of q p more ≡ Some m
+    pub number_kept : (p : List ℕ) (m : RelNo) → number_of q p ds ≡ Some m → number_of q p more ≡ Some m
     number_kept p m h = by (position (bytes_eq q) (namespace_names ds)) (position (bytes_eq p) (relation_names os)) refl refl (rw found at h)
       where
         by : (o u : Option ℕ) → position (bytes_eq q) (namespace_names ds) ≡ o → position (bytes_eq p) (relation_names os) ≡ u
@@ -203,7 +204,7 @@ module _ (ds : List Declaration) (d : Declaration) (w : IsWellFormed (ds ++ d �
             let names = names_kept os d.relations kept.names in
             rw (place_kept i is, relations_last ds d, names.1, position_kept p (relation_names os) names.0 j at) e
 
-    stratum_kept : (m : RelNo) (x : Relation) → namespace_numbered m.namespace ds ≡ Some q → relation_numbered m ds ≡ Some x → stratum_numbered more m ≡ stratum_numbered ds m
+    pub stratum_kept : (m : RelNo) (x : Relation) → namespace_numbered m.namespace ds ≡ Some q → relation_numbered m ds ≡ Some x → stratum_numbered more m ≡ stratum_numbered ds m
     stratum_kept m x named is =
         let item : item_at m.relation os ≡ Some x = rw (named, found) at is in
         let z = stratum_at os d.relations (m.relation - 1) x kept.names kept.strata (item_there m.relation os x item) in
@@ -216,7 +217,7 @@ module _ (ds : List Declaration) (d : Declaration) (w : IsWellFormed (ds ++ d �
       declared_there p = list_any (λ (e : Relation). bytes_eq p e.name) os
 
       leaf_kept : (b : Bool) (p : List ℕ) → declared_there p ≡ true
-          → first_broken ds (filter_map (edge_at ds reader reads) ((b, at_computed p) ∷ [])) ≡ Ok (tt {0}) → first_broken more (filter_map (edge_at more reader reads) ((b, at_computed p) ∷ [])) ≡ Ok (tt {0})
+          → first_broken ds (filter_map (edge_at ds reader of_rule) ((b, at_computed p) ∷ [])) ≡ Ok (tt {0}) → first_broken more (filter_map (edge_at more reader of_rule) ((b, at_computed p) ∷ [])) ≡ Ok (tt {0})
       leaf_kept b p declared h =
           let x = found_among p os declared in
           let n = numbered ds q p x.0 (rw found x.1) in
@@ -228,7 +229,7 @@ module _ (ds : List Declaration) (d : Declaration) (w : IsWellFormed (ds ++ d �
 
       mutual
         expression_kept : (b : Bool) (e : Expression) → list_all declared_there (own_relations e) ≡ true
-            → first_broken ds (filter_map (edge_at ds reader reads) (places b e)) ≡ Ok (tt {0}) → first_broken more (filter_map (edge_at more reader reads) (places b e)) ≡ Ok (tt {0})
+            → first_broken ds (filter_map (edge_at ds reader of_rule) (places b e)) ≡ Ok (tt {0}) → first_broken more (filter_map (edge_at more reader of_rule) (places b e)) ≡ Ok (tt {0})
         expression_kept b this all h = refl
         expression_kept b (computed p) all h = leaf_kept b p (and_true (declared_there p) true all).0 h
         expression_kept b (tuple_to t c) all h = refl
@@ -236,114 +237,133 @@ module _ (ds : List Declaration) (d : Declaration) (w : IsWellFormed (ds ++ d �
         expression_kept b (inter es) all h = expressions_kept b es all h
         expression_kept b (minus x y) all h =
             let each = all_split declared_there (own_relations x) (own_relations y) all in
-            let parts = both_ok _ _ (sym (places_joined ds reader reads (places b x) (places true y)) ∙ h) in
-            places_joined more reader reads (places b x) (places true y) ∙ (λ i. both (expression_kept b x each.0 parts.0 i) (expression_kept true y each.1 parts.1 i))
+            let parts = both_ok _ _ (sym (places_joined ds reader of_rule (places b x) (places true y)) ∙ h) in
+            places_joined more reader of_rule (places b x) (places true y) ∙ (λ i. both (expression_kept b x each.0 parts.0 i) (expression_kept true y each.1 parts.1 i))
 
         expressions_kept : (b : Bool) (es : Expressions) → list_all declared_there (own_relations_all es) ≡ true
-            → first_broken ds (filter_map (edge_at ds reader reads) (all_places b es)) ≡ Ok (tt {0}) → first_broken more (filter_map (edge_at more reader reads) (all_places b es)) ≡ Ok (tt {0})
+            → first_broken ds (filter_map (edge_at ds reader of_rule) (all_places b es)) ≡ Ok (tt {0}) → first_broken more (filter_map (edge_at more reader of_rule) (all_places b es)) ≡ Ok (tt {0})
         expressions_kept b no_child all h = refl
         expressions_kept b (child e es) all h =
             let each = all_split declared_there (own_relations e) (own_relations_all es) all in
-            let parts = both_ok _ _ (sym (places_joined ds reader reads (places b e) (all_places b es)) ∙ h) in
-            places_joined more reader reads (places b e) (all_places b es) ∙ (λ i. both (expression_kept b e each.0 parts.0 i) (expressions_kept b es each.1 parts.1 i))
+            let parts = both_ok _ _ (sym (places_joined ds reader of_rule (places b e) (all_places b es)) ∙ h) in
+            places_joined more reader of_rule (places b e) (all_places b es) ∙ (λ i. both (expression_kept b e each.0 parts.0 i) (expressions_kept b es each.1 parts.1 i))
 
       rules_kept : (ys : List Relation) → AllByRecursion (λ (y : Relation). reads_declared os y ≡ true) ys
-          → first_broken ds (flat_map (λ (y : Relation). edges_in ds reader reads y.expression) ys) ≡ Ok (tt {0}) → first_broken more (flat_map (λ (y : Relation). edges_in more reader reads y.expression) ys) ≡ Ok (tt {0})
+          → first_broken ds (flat_map (λ (y : Relation). edges_in ds reader of_rule y.expression) ys) ≡ Ok (tt {0}) → first_broken more (flat_map (λ (y : Relation). edges_in more reader of_rule y.expression) ys) ≡ Ok (tt {0})
       rules_kept [] all h = refl
       rules_kept (y ∷ ys) all h =
-          let parts = both_ok _ _ (sym (edges_joined ds (edges_in ds reader reads y.expression) (flat_map (λ (x : Relation). edges_in ds reader reads x.expression) ys)) ∙ h) in
-          edges_joined more (edges_in more reader reads y.expression) (flat_map (λ (x : Relation). edges_in more reader reads x.expression) ys)
+          let parts = both_ok _ _ (sym (edges_joined ds (edges_in ds reader of_rule y.expression) (flat_map (λ (x : Relation). edges_in ds reader of_rule x.expression) ys)) ∙ h) in
+          edges_joined more (edges_in more reader of_rule y.expression) (flat_map (λ (x : Relation). edges_in more reader of_rule x.expression) ys)
           ∙ (λ i. both (expression_kept false y.expression all.0 parts.0 i) (rules_kept ys all.1 parts.1 i))
 
-  -- no rule that a relation had before has a broken edge
-  before_unbroken : (reader : RelNo) (r : List ℕ) → number_of q r more ≡ Some reader → (y : Relation) → IsPlaced (history q r ds) y
-      → first_broken more (flat_map (λ (x : Relation). edges_in more reader reads x.expression) (history q r ds)) ≡ Ok (tt {0})
-  before_unbroken reader r is y placed =
-      let x = stays_declared ds q r y was_well_formed placed in
-      by (relations_of q ds) refl x.0 x.1
-    where
-      by : (o : Option (List Relation)) → relations_of q ds ≡ o → (x : Relation) → option_and_then (relation_named r) o ≡ Some x
-          → first_broken more (flat_map (λ (x : Relation). edges_in more reader reads x.expression) (history q r ds)) ≡ Ok (tt {0})
-      by None found x at = cc
-      by (Some os) found x at =
-          let of : relation_of q r ds ≡ Some x = rw found at in
-          let n = numbered ds q r x of in
-          let two : Some n.number ≡ Some reader = sym (number_kept os found r n.number n.is) ∙ is in
-          let one : n.number ≡ reader = cc in
-          let edges : first_broken ds (relation_edges ds reads n.number) ≡ Ok (tt {0}) =
-          all_unbroken ds (relation_edges ds reads n.number)
-          (λ e c. unbroken ds (rule_edges ds) none e
-          (edge_of_rules ds n.number.namespace q e n.namespace (edge_of_namespace ds n.number q x n.namespace n.relation reads e c))) in
-          let old : first_broken ds (flat_map (λ (y : Relation). edges_in ds n.number reads y.expression) (history q r ds)) ≡ Ok (tt {0}) =
-          rw (history_of_number ds q r x n.number of n.namespace n.relation) at edges in
-          subst (λ (m : RelNo). first_broken more (flat_map (λ (x : Relation). edges_in more m reads x.expression) (history q r ds)) ≡ Ok (tt {0})) one
-          (rules_kept os found n.number (stratum_kept os found n.number x n.namespace n.relation) (history q r ds)
-          (reads_kept q r os ds was_well_formed.fit (newest_keeps q os ds was_well_formed.continued found)) old)
+  abbrev pub rules_edges : List Declaration → (Place → Option RelationName) → RelNo → List Relation → List Edge
+  rules_edges es reads m ys = flat_map (λ (y : Relation). edges_in es m reads y.expression) ys
 
-  module _ (n : ℕ) (place : place_of q (namespace_names more) ≡ Some n) where
-    named : namespace_numbered n more ≡ Some q
-    named = by (position (bytes_eq q) (namespace_names more)) refl place
+  -- with what is read so, rules that had no broken edge have none
+  module _ (reads : Place → Option RelationName)
+      (stays : (os : List Relation) → relations_of q ds ≡ Some os → (m : RelNo) → stratum_numbered more m ≡ stratum_numbered ds m → (r : List ℕ)
+      → first_broken ds (rules_edges ds reads m (history q r ds)) ≡ Ok (tt {0}) → first_broken more (rules_edges more reads m (history q r ds)) ≡ Ok (tt {0})) where
+    -- the relation that has this number now had no broken edge before
+    abbrev pub WereUnbroken : RelNo → Type 0
+    WereUnbroken reader = (name : List ℕ) (m : RelNo) (x : Relation) → number_of q name more ≡ Some reader → number_of q name ds ≡ Some m
+        → namespace_numbered m.namespace ds ≡ Some q → relation_numbered m ds ≡ Some x → first_broken ds (relation_edges ds reads m) ≡ Ok (tt {0})
+
+    -- no rule that a relation had before has a broken edge
+    before_unbroken : (reader : RelNo) (r : List ℕ) → WereUnbroken reader → number_of q r more ≡ Some reader → (y : Relation) → IsPlaced (history q r ds) y
+        → first_broken more (rules_edges more reads reader (history q r ds)) ≡ Ok (tt {0})
+    before_unbroken reader r were is y placed =
+        let x = stays_declared ds q r y was_well_formed placed in
+        by (relations_of q ds) refl x.0 x.1
       where
-        by : (o : Option ℕ) → position (bytes_eq q) (namespace_names more) ≡ o → option_map (λ i. i + 1) o ≡ Some n → namespace_numbered n more ≡ Some q
-        by None is e = cc
-        by (Some i) is e =
-            let z = position_item (bytes_eq q) (namespace_names more) i is in
-            let number : i + 1 ≡ n = cc in
-            let least : 1 ≤ n = omega (arith, number) in
-            let before : n - 1 ≡ i = omega (arith, number) in
-            item_at-place n i (namespace_names more) least before ∙ z.1 ∙ ap Some (sym (one_name q z.0 z.2))
+        by : (o : Option (List Relation)) → relations_of q ds ≡ o → (x : Relation) → option_and_then (relation_named r) o ≡ Some x
+            → first_broken more (rules_edges more reads reader (history q r ds)) ≡ Ok (tt {0})
+        by None found x at = cc
+        by (Some os) found x at =
+            let of : relation_of q r ds ≡ Some x = rw found at in
+            let n = numbered ds q r x of in
+            let two : Some n.number ≡ Some reader = sym (number_kept os found r n.number n.is) ∙ is in
+            let one : n.number ≡ reader = cc in
+            let old : first_broken ds (rules_edges ds reads n.number (history q r ds)) ≡ Ok (tt {0}) =
+            rw (history_of_number ds q r x n.number of n.namespace n.relation) at (were r n.number x is n.is n.namespace n.relation) in
+            subst (λ (m : RelNo). first_broken more (rules_edges more reads m (history q r ds)) ≡ Ok (tt {0})) one
+            (stays os found n.number (stratum_kept os found n.number x n.namespace n.relation) r old)
 
-    module _ (r : ℕ) where
-      abbrev reader : RelNo
-      reader = record { namespace = n; relation = r }
-
-      abbrev in_rule : Relation → List Edge
-      in_rule x = edges_in more reader reads x.expression
-
-      -- of unbroken rules and one more, that one decides
-      one_decides : (x : Relation) (hs : List Relation) → first_broken more (flat_map in_rule hs) ≡ Ok (tt {0}) → first_broken more (flat_map in_rule (hs ++ x ∷ [])) ≡ first_broken more (in_rule x)
-      one_decides x hs h =
-          rw (flat_map-append in_rule hs (x ∷ []), append-nil (in_rule x), edges_joined more (flat_map in_rule hs) (in_rule x), h) refl
-
-      number_now : (x : Relation) → position (bytes_eq x.name) (relation_names d.relations) ≡ Some (r - 1) → 1 ≤ r → number_of q x.name more ≡ Some reader
-      number_now x at least = by (position (bytes_eq q) (namespace_names more)) refl place
+    module _ (n : ℕ) (place : place_of q (namespace_names more) ≡ Some n) where
+      named : namespace_numbered n more ≡ Some q
+      named = by (position (bytes_eq q) (namespace_names more)) refl place
         where
-          by : (o : Option ℕ) → position (bytes_eq q) (namespace_names more) ≡ o → option_map (λ i. i + 1) o ≡ Some n → number_of q x.name more ≡ Some reader
+          by : (o : Option ℕ) → position (bytes_eq q) (namespace_names more) ≡ o → option_map (λ i. i + 1) o ≡ Some n → namespace_numbered n more ≡ Some q
           by None is e = cc
           by (Some i) is e =
+              let z = position_item (bytes_eq q) (namespace_names more) i is in
               let number : i + 1 ≡ n = cc in
-              let relation : r - 1 + 1 ≡ r = omega (arith, least) in
-              rw (is, relations_last ds d, at) (λ l. Some (record { namespace = number l; relation = relation l }))
+              let least : 1 ≤ n = omega (arith, number) in
+              let before : n - 1 ≡ i = omega (arith, number) in
+              item_at-place n i (namespace_names more) least before ∙ z.1 ∙ ap Some (sym (one_name q z.0 z.2))
 
-      name_at : (rs : List Relation) (i : ℕ) (x : Relation) → slice_get rs i ≡ Some x → slice_get (relation_names rs) i ≡ Some x.name
-      name_at rs i x h = rw (slice_get-map (λ (y : Relation). y.name) rs i, h) refl
+      module _ (r : ℕ) where
+        abbrev reader : RelNo
+        reader = record { namespace = n; relation = r }
 
-      relation_same : first_broken more (relation_edges more reads reader) ≡ first_broken more (last_relation_edges more reads reader)
-      relation_same = by (relation_numbered reader more) refl
-        where
-          old_ok : (x : Relation) (hs : List Relation) → history q x.name ds ≡ hs → number_of q x.name more ≡ Some reader → first_broken more (flat_map in_rule (history q x.name ds)) ≡ Ok (tt {0})
-          old_ok x [] is number = rw is refl
-          old_ok x (y ∷ ys) is number = before_unbroken reader x.name number y (record { place = 0; there = rw is refl })
+        abbrev in_rule : Relation → List Edge
+        in_rule x = edges_in more reader reads x.expression
 
-          by : (o : Option Relation) → relation_numbered reader more ≡ o → first_broken more (relation_edges more reads reader) ≡ first_broken more (unwrap_or (option_map in_rule o) [])
-          by None is =
-              let item : item_at r d.relations ≡ None = rw (named, relations_last ds d) at is in
-              rw (named, relations_last ds d, item) refl
-          by (Some x) is =
-              let item : item_at r d.relations ≡ Some x = rw (named, relations_last ds d) at is in
-              let least = item_least r d.relations x item in
-              let there = item_there r d.relations x item in
-              let once : has_repeats (relation_names d.relations) ≡ false = (all_last IsFit ds d w.fit).distinct in
-              let here : declared_in q x.name d ≡ Some x = rw (same_name q) (named_by_place x d.relations (r - 1) once there) in
-              let last : history q x.name more ≡ history q x.name ds ++ x ∷ [] = filter_map-append (declared_in q x.name) ds (d ∷ []) ∙ rw here refl in
-              let all : history_numbered reader more ≡ history q x.name ds ++ x ∷ [] = rw (named, relations_last ds d, item) last in
-              rw all (one_decides x (history q x.name ds)
-              (old_ok x (history q x.name ds) refl (number_now x (placed_once x.name (relation_names d.relations) (r - 1) once (name_at d.relations (r - 1) x there)) least)))
+        -- of unbroken rules and one more, that one decides
+        one_decides : (x : Relation) (hs : List Relation) → first_broken more (flat_map in_rule hs) ≡ Ok (tt {0}) → first_broken more (flat_map in_rule (hs ++ x ∷ [])) ≡ first_broken more (in_rule x)
+        one_decides x hs h =
+            rw (flat_map-append in_rule hs (x ∷ []), append-nil (in_rule x), edges_joined more (flat_map in_rule hs) (in_rule x), h) refl
 
-    namespace_same : first_broken more (namespace_edges more reads n) ≡ first_broken more (last_edges more reads n)
-    namespace_same =
-        flat_same more more (λ r. relation_edges more reads (record { namespace = n; relation = r })) (λ r. last_relation_edges more reads (record { namespace = n; relation = r }))
-        relation_same (range_with_len 1 (length (relations_in more n)))
+        number_now : (x : Relation) → position (bytes_eq x.name) (relation_names d.relations) ≡ Some (r - 1) → 1 ≤ r → number_of q x.name more ≡ Some reader
+        number_now x at least = by (position (bytes_eq q) (namespace_names more)) refl place
+          where
+            by : (o : Option ℕ) → position (bytes_eq q) (namespace_names more) ≡ o → option_map (λ i. i + 1) o ≡ Some n → number_of q x.name more ≡ Some reader
+            by None is e = cc
+            by (Some i) is e =
+                let number : i + 1 ≡ n = cc in
+                let relation : r - 1 + 1 ≡ r = omega (arith, least) in
+                rw (is, relations_last ds d, at) (λ l. Some (record { namespace = number l; relation = relation l }))
+
+        name_at : (rs : List Relation) (i : ℕ) (x : Relation) → slice_get rs i ≡ Some x → slice_get (relation_names rs) i ≡ Some x.name
+        name_at rs i x h = rw (slice_get-map (λ (y : Relation). y.name) rs i, h) refl
+
+        pub relation_same : WereUnbroken reader → first_broken more (relation_edges more reads reader) ≡ first_broken more (last_relation_edges more reads reader)
+        relation_same were = by (relation_numbered reader more) refl
+          where
+            old_ok : (x : Relation) (hs : List Relation) → history q x.name ds ≡ hs → number_of q x.name more ≡ Some reader → first_broken more (flat_map in_rule (history q x.name ds)) ≡ Ok (tt {0})
+            old_ok x [] is number = rw is refl
+            old_ok x (y ∷ ys) is number = before_unbroken reader x.name were number y (record { place = 0; there = rw is refl })
+
+            by : (o : Option Relation) → relation_numbered reader more ≡ o → first_broken more (relation_edges more reads reader) ≡ first_broken more (unwrap_or (option_map in_rule o) [])
+            by None is =
+                let item : item_at r d.relations ≡ None = rw (named, relations_last ds d) at is in
+                rw (named, relations_last ds d, item) refl
+            by (Some x) is =
+                let item : item_at r d.relations ≡ Some x = rw (named, relations_last ds d) at is in
+                let least = item_least r d.relations x item in
+                let there = item_there r d.relations x item in
+                let once : has_repeats (relation_names d.relations) ≡ false = (all_last IsFit ds d w.fit).distinct in
+                let here : declared_in q x.name d ≡ Some x = rw (same_name q) (named_by_place x d.relations (r - 1) once there) in
+                let last : history q x.name more ≡ history q x.name ds ++ x ∷ [] = filter_map-append (declared_in q x.name) ds (d ∷ []) ∙ rw here refl in
+                let all : history_numbered reader more ≡ history q x.name ds ++ x ∷ [] = rw (named, relations_last ds d, item) last in
+                rw all (one_decides x (history q x.name ds)
+                (old_ok x (history q x.name ds) refl (number_now x (placed_once x.name (relation_names d.relations) (r - 1) once (name_at d.relations (r - 1) x there)) least)))
+
+      pub namespace_same : ((reader : RelNo) → WereUnbroken reader) → first_broken more (namespace_edges more reads n) ≡ first_broken more (last_edges more reads n)
+      namespace_same were =
+          flat_same more more (λ r. relation_edges more reads (record { namespace = n; relation = r })) (λ r. last_relation_edges more reads (record { namespace = n; relation = r }))
+          (λ r. relation_same r (were (record { namespace = n; relation = r }))) (range_with_len 1 (length (relations_in more n)))
+
+  -- what the rules of the namespace read by themselves
+  module _ (none : first_broken ds (rule_edges ds) ≡ Ok (tt {0})) (n : ℕ) (place : place_of q (namespace_names more) ≡ Some n) where
+    rules_same : first_broken more (namespace_edges more of_rule n) ≡ first_broken more (last_edges more of_rule n)
+    rules_same =
+        namespace_same of_rule
+        (λ os found m same r h.
+        rules_kept os found m same (history q r ds) (reads_kept q r os ds was_well_formed.fit (newest_keeps q os ds was_well_formed.continued found)) h)
+        n place
+        (λ reader name m x now was named is.
+        all_unbroken ds (relation_edges ds of_rule m)
+        (λ e c. unbroken ds (rule_edges ds) none e (edge_of_rules ds m.namespace q e named (edge_of_namespace ds m q x named is of_rule e c))))
 
 -- after a declaration of a namespace the rules that it gives decide
 pub last_decides : (es ds : List Declaration) (d : Declaration) (q : List ℕ) (n : ℕ) → IsWellFormed es → place_of q (namespace_names es) ≡ Some n → es ≡ ds ++ d ∷ [] → d.name ≡ q
@@ -351,4 +371,4 @@ pub last_decides : (es ds : List Declaration) (d : Declaration) (q : List ℕ) (
 last_decides es ds d q n w place are name none =
     subst (λ (cs : List Declaration). IsWellFormed cs → place_of q (namespace_names cs) ≡ Some n → first_broken cs (last_edges cs (read_by_rule q) n) ≡ first_broken cs (rule_edges cs)) (sym are)
     (subst (λ (p : List ℕ). IsWellFormed (ds ++ d ∷ []) → place_of p (namespace_names (ds ++ d ∷ [])) ≡ Some n → first_broken (ds ++ d ∷ []) (last_edges (ds ++ d ∷ []) (read_by_rule p) n) ≡ first_broken (ds ++ d ∷ []) (rule_edges (ds ++ d ∷ []))) name
-    (λ v h. sym (namespace_same ds d v none n h) ∙ rw h at (newest_decides (ds ++ d ∷ []) ds d d.name refl refl none))) w place
+    (λ v h. sym (rules_same ds d v none n h) ∙ rw h at (newest_decides (ds ++ d ∷ []) ds d d.name refl refl none))) w place

@@ -1,6 +1,8 @@
 pub mod Decided
 pub mod DeclaredNames
+pub mod KeptEdges
 pub mod LastDeclared
+pub mod LastTuple
 pub mod LeastRelation
 pub mod LeastRound
 pub mod Lists

@@ -11,7 +11,8 @@ use Rattle.namespaces.proofs.Growth.{names_after-push}
 use Rattle.namespaces.proofs.Names.{by_bool, clash, has_repeats-with_name, same_name, one_name, other_name, or_false}
 use Rattle.namespaces.proofs.Numbers.{item_at-place}
 use Rattle.strata.specs.declared.edge.Edge.{Edge}
-use Rattle.strata.specs.Edges.{Place, at_this, at_computed, at_tuple_to, edge_at, edges_in, places, relation_edges, relations_in, namespace_edges, edges_of_namespace, rule_edges, read_by_rule, stratum_numbered, is_broken, first_broken}
+use Rattle.strata.specs.Edges.{RelationName, Place, at_this, at_computed, at_tuple_to, edge_at, edges_in, places, relation_edges, relations_in, namespace_edges, edges_of_namespace, rule_edges, read_by_rule, stratum_numbered, is_broken, first_broken}
+use Rattle.strata.proofs.KeptEdges.{IsKept, flat_same, rules_same}
 use Rattle.strata.proofs.Walks.{both, edges_joined}
 
 -- ---- places in lists
@@ -146,12 +147,6 @@ one_answer ds h r a xs each i k x is at here = by (either_answer ds h r a xs eac
     by (inl e) = e
     by (inr e) = e ∙ sym (each_unbroken ds h a xs e i k x is at) ∙ here
 
--- lists that agree item by item, over two lists of declarations
-pub flat_same : {X : Type 0} (es ds : List Declaration) (f g : X → List Edge) → ((x : X) → first_broken es (f x) ≡ first_broken ds (g x)) → (xs : List X) → first_broken es (flat_map f xs) ≡ first_broken ds (flat_map g xs)
-flat_same es ds f g same [] = refl
-flat_same es ds f g same (x ∷ xs) =
-    edges_joined es (f x) (flat_map f xs) ∙ (λ i. both (same x i) (flat_same es ds f g same xs i)) ∙ sym (edges_joined ds (g x) (flat_map g xs))
-
 -- ---- one declaration more
 
 module _ (ds : List Declaration) (d : Declaration) where
@@ -172,6 +167,27 @@ module _ (ds : List Declaration) (d : Declaration) where
       let before : suc n - 1 ≡ n = omega arith in
       item_at-place (suc n) n (namespace_names more) least before ∙ get_named n q (sym (item_at-place (suc n) n (namespace_names ds) least before) ∙ h)
 
+  -- the number of a relation has that of its namespace
+  pub premise_named : (q p : List ℕ) (m : RelNo) → number_of q p ds ≡ Some m → namespace_numbered m.namespace ds ≡ Some q
+  premise_named q p m h = by (position (bytes_eq q) (namespace_names ds)) refl h
+    where
+      by_relation : (i : ℕ) → position (bytes_eq q) (namespace_names ds) ≡ Some i → (o : Option ℕ) → option_map (λ r. record { namespace = i + 1; relation = r }) o ≡ Some m → namespace_numbered m.namespace ds ≡ Some q
+      by_relation i is None g = cc
+      by_relation i is (Some r) g =
+          let w = position_item (bytes_eq q) (namespace_names ds) i is in
+          let same : record { namespace = i + 1; relation = r } ≡ m = (let s : Some (record { namespace = i + 1; relation = r }) ≡ Some m = g in cc) in
+          let number : i + 1 ≡ m.namespace = ap (λ (x : RelNo). x.namespace) same in
+          let least : 1 ≤ i + 1 = omega arith in
+          let before : i + 1 - 1 ≡ i = omega arith in
+          subst (λ (n : ℕ). namespace_numbered n ds ≡ Some q) number
+          (item_at-place (i + 1) i (namespace_names ds) least before ∙ w.1 ∙ ap Some (sym (one_name q w.0 w.2)))
+
+      by : (o : Option ℕ) → position (bytes_eq q) (namespace_names ds) ≡ o
+          → option_and_then (λ n. option_map (λ r. record { namespace = n; relation = r }) (option_and_then (λ rs. place_of p (relation_names rs)) (relations_of q ds))) (option_map (λ i. i + 1) o) ≡ Some m
+          → namespace_numbered m.namespace ds ≡ Some q
+      by None is g = cc
+      by (Some i) is g = by_relation i is (option_and_then (λ rs. place_of p (relation_names rs)) (relations_of q ds)) g
+
   module _ (q : List ℕ) (other : bytes_eq q d.name ≡ false) where
     differs : d.name ≡ q → ⊥
     differs same = clash (bytes_eq q d.name) (rw same (same_name q)) other
@@ -181,7 +197,7 @@ module _ (ds : List Declaration) (d : Declaration) where
         (λ t. rw (names_more, t) at h)
         (λ f. let g : slice_get (namespace_names ds ++ d.name ∷ []) k ≡ Some q = rw (names_more, f) at h in get_front (namespace_names ds) d.name k q g differs)
 
-    place_same : place_of q (namespace_names more) ≡ place_of q (namespace_names ds)
+    pub place_same : place_of q (namespace_names more) ≡ place_of q (namespace_names ds)
     place_same = rw names_more (by_bool (list_any (bytes_eq d.name) (namespace_names ds)) (λ t. rw t refl) (λ f. rw (f, position_more (bytes_eq q) (namespace_names ds) d.name other) refl))
 
     relations_same_in : (cs : List Declaration) → relations_of q (cs ++ d ∷ []) ≡ relations_of q cs
@@ -192,52 +208,37 @@ module _ (ds : List Declaration) (d : Declaration) where
     history_same_in r [] = rw other refl
     history_same_in r (c ∷ cs) = rw (history_same_in r cs) refl
 
-    number_same : (p : List ℕ) → number_of q p more ≡ number_of q p ds
+    pub number_same : (p : List ℕ) → number_of q p more ≡ number_of q p ds
     number_same p = rw (place_same, relations_same_in ds) refl
 
-    stratum_same : (m : RelNo) → namespace_numbered m.namespace ds ≡ Some q → stratum_numbered more m ≡ stratum_numbered ds m
+    pub stratum_same : (m : RelNo) → namespace_numbered m.namespace ds ≡ Some q → stratum_numbered more m ≡ stratum_numbered ds m
     stratum_same m named = rw (name_kept m.namespace q named, named, relations_same_in ds) refl
 
-    -- the number of a relation has that of its namespace
-    premise_named : (p : List ℕ) (m : RelNo) → number_of q p ds ≡ Some m → namespace_numbered m.namespace ds ≡ Some q
-    premise_named p m h = by (position (bytes_eq q) (namespace_names ds)) refl h
+    -- what the rules of that namespace read of it
+    rule_kept : IsKept ds more (read_by_rule q)
+    rule_kept = record {
+      number = number_of_place;
+      stratum = λ place p m read found. stratum_of_place place p m read found;
+    }
       where
-        by_relation : (i : ℕ) → position (bytes_eq q) (namespace_names ds) ≡ Some i → (o : Option ℕ) → option_map (λ r. record { namespace = i + 1; relation = r }) o ≡ Some m → namespace_numbered m.namespace ds ≡ Some q
-        by_relation i is None g = cc
-        by_relation i is (Some r) g =
-            let w = position_item (bytes_eq q) (namespace_names ds) i is in
-            let same : record { namespace = i + 1; relation = r } ≡ m = (let s : Some (record { namespace = i + 1; relation = r }) ≡ Some m = g in cc) in
-            let number : i + 1 ≡ m.namespace = ap (λ (x : RelNo). x.namespace) same in
-            let least : 1 ≤ i + 1 = omega arith in
-            let before : i + 1 - 1 ≡ i = omega arith in
-            subst (λ (n : ℕ). namespace_numbered n ds ≡ Some q) number
-            (item_at-place (i + 1) i (namespace_names ds) least before ∙ w.1 ∙ ap Some (sym (one_name q w.0 w.2)))
+        number_of_place : (place : Place) (p : RelationName) → read_by_rule q place ≡ Some p → number_of p.namespace p.relation more ≡ number_of p.namespace p.relation ds
+        number_of_place at_this p read = cc
+        number_of_place (at_computed r) p read =
+            let same : record { namespace = q; relation = r } ≡ p = cc in
+            subst (λ (x : RelationName). number_of x.namespace x.relation more ≡ number_of x.namespace x.relation ds) same (number_same r)
+        number_of_place (at_tuple_to t c) p read = cc
 
-        by : (o : Option ℕ) → position (bytes_eq q) (namespace_names ds) ≡ o
-            → option_and_then (λ n. option_map (λ r. record { namespace = n; relation = r }) (option_and_then (λ rs. place_of p (relation_names rs)) (relations_of q ds))) (option_map (λ i. i + 1) o) ≡ Some m
-            → namespace_numbered m.namespace ds ≡ Some q
-        by None is g = cc
-        by (Some i) is g = by_relation i is (option_and_then (λ rs. place_of p (relation_names rs)) (relations_of q ds)) g
+        stratum_of_place : (place : Place) (p : RelationName) (m : RelNo) → read_by_rule q place ≡ Some p → number_of p.namespace p.relation ds ≡ Some m → stratum_numbered more m ≡ stratum_numbered ds m
+        stratum_of_place at_this p m read found = cc
+        stratum_of_place (at_computed r) p m read found =
+            let same : record { namespace = q; relation = r } ≡ p = cc in
+            stratum_same m (premise_named q r m (subst (λ (x : RelationName). number_of x.namespace x.relation ds ≡ Some m) (sym same) found))
+        stratum_of_place (at_tuple_to t c) p m read found = cc
 
-    module _ (n : ℕ) (named : namespace_numbered n ds ≡ Some q) where
+    module _ (reads : Place → Option RelationName) (kept : IsKept ds more reads) (n : ℕ) (named : namespace_numbered n ds ≡ Some q) where
       module _ (r : ℕ) where
         abbrev reader : RelNo
         reader = record { namespace = n; relation = r }
-
-        places_same : (ps : List (Bool × Place)) → first_broken more (filter_map (edge_at more reader (read_by_rule q)) ps) ≡ first_broken ds (filter_map (edge_at ds reader (read_by_rule q)) ps)
-        places_same [] = refl
-        places_same ((b, at_this) ∷ ps) = places_same ps
-        places_same ((b, at_tuple_to t c) ∷ ps) = places_same ps
-        places_same ((b, at_computed p) ∷ ps) = rw (number_same p) (by (number_of q p ds) refl (places_same ps))
-          where
-            by : (o : Option RelNo) → number_of q p ds ≡ o → first_broken more (filter_map (edge_at more reader (read_by_rule q)) ps) ≡ first_broken ds (filter_map (edge_at ds reader (read_by_rule q)) ps)
-                → first_broken more (cons_option (option_map (λ m. record { reader = reader; premise = m; strict = b }) o) (filter_map (edge_at more reader (read_by_rule q)) ps))
-                ≡ first_broken ds (cons_option (option_map (λ m. record { reader = reader; premise = m; strict = b }) o) (filter_map (edge_at ds reader (read_by_rule q)) ps))
-            by None is rest = rest
-            by (Some m) is rest =
-                let e : Edge = record { reader = reader; premise = m; strict = b } in
-                let same : is_broken more e ≡ is_broken ds e = rw (stratum_same reader named, stratum_same m (premise_named p m is)) refl in
-                by_bool (is_broken ds e) (λ t. rw (same, t) refl) (λ f. rw (same, f) rest)
 
         numbered_same : history_numbered reader more ≡ history_numbered reader ds
         numbered_same = rw (name_kept n q named, named, relations_same_in ds) (by (option_and_then (item_at r) (relations_of q ds)))
@@ -246,20 +247,17 @@ module _ (ds : List Declaration) (d : Declaration) where
             by None = refl
             by (Some x) = history_same_in x.name ds
 
-        relation_same : first_broken more (relation_edges more (read_by_rule q) reader) ≡ first_broken ds (relation_edges ds (read_by_rule q) reader)
-        relation_same =
-            rw numbered_same
-            (flat_same more ds (λ (x : Relation). edges_in more reader (read_by_rule q) x.expression) (λ (x : Relation). edges_in ds reader (read_by_rule q) x.expression)
-            (λ x. places_same (places false x.expression)) (history_numbered reader ds))
+        pub relation_same : first_broken more (relation_edges more reads reader) ≡ first_broken ds (relation_edges ds reads reader)
+        relation_same = rw numbered_same (rules_same ds more reads kept reader (stratum_same reader named) (history_numbered reader ds))
 
       in_same : relations_in more n ≡ relations_in ds n
       in_same = rw (name_kept n q named, named, relations_same_in ds) refl
 
       -- the first broken edge of another namespace stays
-      namespace_same : first_broken more (namespace_edges more (read_by_rule q) n) ≡ first_broken ds (namespace_edges ds (read_by_rule q) n)
+      pub namespace_same : first_broken more (namespace_edges more reads n) ≡ first_broken ds (namespace_edges ds reads n)
       namespace_same =
           rw in_same
-          (flat_same more ds (λ r. relation_edges more (read_by_rule q) (record { namespace = n; relation = r })) (λ r. relation_edges ds (read_by_rule q) (record { namespace = n; relation = r }))
+          (flat_same more ds (λ r. relation_edges more reads (record { namespace = n; relation = r })) (λ r. relation_edges ds reads (record { namespace = n; relation = r }))
           relation_same (range_with_len 1 (length (relations_in ds n))))
 
   module _ (distinct : has_repeats (namespace_names more) ≡ false) (none : first_broken ds (rule_edges ds) ≡ Ok (tt {0})) where
@@ -271,7 +269,7 @@ module _ (ds : List Declaration) (d : Declaration) where
         let was = name_was q other k at in
         let least : 1 ≤ i = omega (arith, is) in
         let before : i - 1 ≡ k = omega (arith, is) in
-        namespace_same q other i (item_at-place i k (namespace_names ds) least before ∙ was)
+        namespace_same q other (read_by_rule q) (rule_kept q other) i (item_at-place i k (namespace_names ds) least before ∙ was)
         ∙ each_unbroken ds (λ (p : ℕ × List ℕ). namespace_edges ds (read_by_rule p.1) p.0) 1 (namespace_names ds) none i k q is was
 
     newest_first : first_broken more (edges_of_namespace more d.name) ≡ first_broken more (rule_edges more)

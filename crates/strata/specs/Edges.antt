@@ -114,6 +114,12 @@ tuple_to_edges ds s g = unwrap_or (option_map (namespace_edges ds (read_through 
 abbrev pub userset_edges : List Declaration → SetValue → SetValue → List Edge
 userset_edges ds s g = this_edges ds s g ++ tuple_to_edges ds s g
 
+-- the same by the last rules alone
+abbrev pub last_userset_edges : List Declaration → SetValue → SetValue → List Edge
+last_userset_edges ds s g =
+    unwrap_or (option_map (last_relation_edges ds (read_in_userset g)) (number_of s.namespace s.relation ds)) []
+    ++ unwrap_or (option_map (last_edges ds (read_through s.relation g)) (place_of s.namespace (namespace_names ds))) []
+
 abbrev pub user_edges : List Declaration → SetValue → User → List Edge
 user_edges ds s (Id n) = []
 user_edges ds s (Set g) = userset_edges ds s g

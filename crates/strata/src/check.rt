@@ -1,10 +1,11 @@
 //! The first broken edge of rules and of tuples.
 
-ghost use Rattle.std.specs.Prelude.{◌≡◌, ◌∷◌, ◌++◌, [], List, Ok};
+ghost use Rattle.std.specs.Prelude.{◌≡◌, ◌∷◌, ◌++◌, [], List, Ok, false};
 ghost use Rattle.strata.specs.Edges as edges;
 ghost use Rattle.namespaces.specs.Declaration.{Declaration};
+ghost use Rattle.namespaces.specs.Lookup.{relation_count};
 ghost use Rattle.namespaces.specs.WellFormed.{IsWellFormed};
-ghost use Rattle.strata.specs.Edges.{first_broken, last_edges, last_edges_of_namespace, read_by_rule, rule_edges, tuple_edges};
+ghost use Rattle.strata.specs.Edges.{first_broken, last_edges, last_edges_of_namespace, last_relation_edges, last_userset_edges, rule_edges, tuple_edges};
 ghost use Rattle.strata.specs.Sights.{reads};
 ghost use Rattle.tuple_text.specs.Refs.{set_value};
 
@@ -44,9 +45,9 @@ pub fn check_rules(rules: &Rules) -> Result<(), Edge>
     Ok(())
 }
 
-/// The first broken edge of the rules that the last declaration gives the namespace with this number and name.
-fn check_last_rules(rules: &Rules, namespace: u16, name: &str) -> Result<(), Edge>
-    ensures edges { result ≡ first_broken rules.now (last_edges rules.now (read_by_rule name.now) namespace) }
+/// The first broken edge of the rules that the last declaration gives the namespace with this number.
+fn check_last_rules(rules: &Rules, namespace: u16, sight: Sight<'_>) -> Result<(), Edge>
+    ensures edges { result ≡ first_broken rules.now (last_edges rules.now (reads sight.entry) namespace) }
     ensures well_formed { IsWellFormed rules.now }
 {
     let mut number = RelNo {
@@ -54,7 +55,7 @@ fn check_last_rules(rules: &Rules, namespace: u16, name: &str) -> Result<(), Edg
         relation: 1,
     };
     while let Some(rewrite) = rules.last_rule(number) {
-        check_rewrite(rules, number, Sight::Rule(name), rewrite, false)?;
+        check_rewrite(rules, number, sight, rewrite, false)?;
         number.relation += 1;
     }
     Ok(())
@@ -70,7 +71,7 @@ pub fn check_declared(rules: &Rules, namespace: &str) -> Result<(), Edge>
         → first_broken ds (rule_edges ds) ≡ Ok (tt {0}) → result ≡ first_broken rules.now (rule_edges rules.now) }
 {
     match rules.namespace_number(namespace) {
-        Some(number) => check_last_rules(rules, number, namespace),
+        Some(number) => check_last_rules(rules, number, Sight::Rule(namespace)),
         None => Ok(()),
     }
 }
@@ -98,6 +99,73 @@ fn check_user(rules: &Rules, set: SetRef<'_>, user: SetRef<'_>) -> Result<(), Ed
     }
     if let Some(namespace) = rules.namespace_number(set.namespace) {
         check_namespace(rules, namespace, Sight::Through(set.relation, user))?;
+    }
+    Ok(())
+}
+
+/// The first broken edge that the rules of the last declaration of the set's namespace give.
+#[tactic(auto, using(crate::proofs::Walks::edges_joined))]
+fn check_user_last(rules: &Rules, set: SetRef<'_>, user: SetRef<'_>) -> Result<(), Edge>
+    ensures edges { result ≡ first_broken rules.now (last_userset_edges rules.now (set_value set.entry) (set_value user.entry)) }
+{
+    if let Some(number) = rules.number(set) {
+        check_last_rule(rules, number, Sight::Userset(user))?;
+    }
+    if let Some(namespace) = rules.namespace_number(set.namespace) {
+        check_last_rules(rules, namespace, Sight::Through(set.relation, user))?;
+    }
+    Ok(())
+}
+
+/// The first broken edge of the last rule of a relation.
+fn check_last_rule(rules: &Rules, reader: RelNo, sight: Sight<'_>) -> Result<(), Edge>
+    ensures { result ≡ first_broken rules.now (last_relation_edges rules.now (reads sight.entry) reader) }
+{
+    match rules.last_rule(reader) {
+        Some(rewrite) => check_rewrite(rules, reader, sight, rewrite, false),
+        None => Ok(()),
+    }
+}
+
+/// Looks at the edges of a tuple that the last declaration of all, one of this namespace, may have broken: those of its rules, where the tuple is of that
+/// namespace; and all of the tuple's, where the declaration made a relation more, and the tuple's user is a userset of that namespace.
+///
+/// Where the tuple had no broken edge before that declaration, the answer is that of [`check_tuple`].
+pub fn check_tuple_again(
+    rules: &Rules,
+    tuple: &Tuple,
+    namespace: &str,
+    has_more: bool,
+) -> Result<(), Edge>
+    requires { IsWellFormed rules.now }
+    ensures { (ds : List Declaration) (d : Declaration) → rules.now ≡ ds ++ d ∷ [] → d.name ≡ namespace.now
+        → (has_more ≡ false → relation_count namespace.now rules.now ≡ relation_count namespace.now ds)
+        → first_broken ds (tuple_edges ds tuple.now) ≡ Ok (tt {0}) → result ≡ first_broken rules.now (tuple_edges rules.now tuple.now) }
+{
+    let UserRef::Set(user) = tuple.user() else {
+        return Ok(());
+    };
+    check_user_again(rules, tuple.set(), user, namespace, has_more)
+}
+
+fn check_user_again(
+    rules: &Rules,
+    set: SetRef<'_>,
+    user: SetRef<'_>,
+    namespace: &str,
+    has_more: bool,
+) -> Result<(), Edge>
+    requires { IsWellFormed rules.now }
+    ensures { (ds : List Declaration) (d : Declaration) → rules.now ≡ ds ++ d ∷ [] → d.name ≡ namespace.now
+        → (has_more ≡ false → relation_count namespace.now rules.now ≡ relation_count namespace.now ds)
+        → first_broken ds (edges.userset_edges ds (set_value set.entry) (set_value user.entry)) ≡ Ok (tt {0})
+        → result ≡ first_broken rules.now (edges.userset_edges rules.now (set_value set.entry) (set_value user.entry)) }
+{
+    if has_more && user.namespace == namespace {
+        return check_user(rules, set, user);
+    }
+    if set.namespace == namespace {
+        return check_user_last(rules, set, user);
     }
     Ok(())
 }

@@ -1,11 +1,14 @@
 -- What a value that declared a namespace is.
-use Rattle.std.proofs.Common.{◌≡◌, ℕ, Bool, true, false, not, cond, List, [], ◌∷◌, ◌++◌, Option, None, Some, Result, Ok, Err, codes, refl, sym, ◌∙◌, ap}
+use Rattle.std.proofs.Common.{◌≡◌, ℕ, ◌==◌, arith, Bool, true, false, not, cond, List, [], ◌∷◌, ◌++◌, Option, None, Some, Result, Ok, Err, codes, option_map, unwrap_or, refl, sym, ◌∙◌, ap}
+use Rattle.std.proofs.lemmas.Bool.Decides.{nat_tests}
 use Rattle.serde_json.specs.Data.{Data}
 use Rattle.serde_json.specs.Find.{get, as_str}
+use Rattle.tuple_text.specs.Tuples.{TupleValue}
 use Rattle.namespaces.specs.declared.fault.RulesFault.{RulesFault}
 use Rattle.namespaces.specs.declared.fault.RulesFault.TheVariants.{RelationsChanged, StratumChanged}
 use Rattle.namespaces.specs.Declaration.{Relation, Namespace, Declaration, addition, change}
-use Rattle.namespaces.specs.Lookup.{relations_of}
+use Rattle.namespaces.specs.Lookup.{relation_count, relations_of}
+use Rattle.namespaces.specs.WellFormed.{IsWellFormed}
 use Rattle.namespaces.specs.Fault.{needed}
 use Rattle.namespaces.specs.Shape as shape
 use Rattle.namespaces.specs.Adding.{namespace, relations, list_at, is_declared, is_full, tested, checked_addition, added, rules_add}
@@ -13,7 +16,8 @@ use Rattle.namespaces.specs.Changing.{keeps_names, keeps_strata, is_full_for, co
 use Rattle.namespaces.proofs.Growth.{passed}
 use Rattle.refusals.specs.Refusals.{◌>>=◌}
 use Rattle.json_lines.specs.Fields.{text_at}
-use Rattle.trace_lines.specs.Declaring.{AreUnbroken, IsDeclaredLast}
+use Rattle.strata.specs.Edges.{first_broken, edges_of_tuples}
+use Rattle.trace_lines.specs.Declaring.{AreUnbroken, IsDeclaredLast, IsDeclaredOver}
 
 step : {A B : Type 0} (r : Result A RulesFault) (f : A → Result B RulesFault) (y : B) → (r >>= f) ≡ Ok y → (x : A) × (r ≡ Ok x) × (f x ≡ Ok y)
 step (Ok x) f y h = (x, refl, h)
@@ -59,17 +63,44 @@ after_add ds es d h unbroken =
       unbroken = unbroken;
     }
 
-pub after_change : (ds es : List Declaration) (at : ℕ) (d : Data) → rules_change ds at d ≡ Ok es → AreUnbroken ds → IsDeclaredLast es d
-after_change ds es at d h unbroken =
+-- what a change declares last
+change_made : (ds es : List Declaration) (at : ℕ) (d : Data) → rules_change ds at d ≡ Ok es
+    → (last : Declaration) × (es ≡ ds ++ last ∷ []) × (text_at (codes "name") d ≡ Some last.name)
+change_made ds es at d h =
     let one = step (changed ds d) (λ n. Ok (ds ++ change at n ∷ [])) es h in
     let two = step (namespace d) (checked_change ds) one.0 one.1 in
     let three = step (tested false (is_full_for two.0.name ds) two.0) (λ n. continued (relations_of n.name ds) n) one.0 two.2 in
     let first : two.0 ≡ three.0 = (passed false (is_full_for two.0.name ds) two.0 three.0 three.1).same in
     let second : three.0 ≡ one.0 = continued_same (relations_of three.0.name ds) three.0 one.0 three.2 in
+    let are : ds ++ change at one.0 ∷ [] ≡ es = (let e : Ok (ds ++ change at one.0 ∷ []) ≡ Ok es = one.2 in cc) in
+    (change at one.0, sym are, named_by d two.0 two.1 ∙ ap (λ (m : Namespace). Some m.name) (first ∙ second))
+
+pub after_change : (ds es : List Declaration) (at : ℕ) (d : Data) → rules_change ds at d ≡ Ok es → AreUnbroken ds → IsDeclaredLast es d
+after_change ds es at d h unbroken =
+    let is = change_made ds es at d h in
+    record { before = ds; last = is.0; are = is.1; named = is.2; unbroken = unbroken }
+
+-- and over the tuples before it
+pub over_change : (ds es : List Declaration) (at : ℕ) (d : Data) (ts : List TupleValue) (q : List ℕ) (has_more : Bool) → rules_change ds at d ≡ Ok es → IsWellFormed es
+    → q ≡ unwrap_or (text_at (codes "name") d) [] → (has_more ≡ false → relation_count q es ≡ relation_count q ds)
+    → first_broken ds (edges_of_tuples ds ts) ≡ Ok (tt {0}) → IsDeclaredOver es q has_more ts
+over_change ds es at d ts q has_more h w name count none =
+    let is = change_made ds es at d h in
     record {
+      well_formed = w;
       before = ds;
-      last = change at one.0;
-      are = let e : Ok (ds ++ change at one.0 ∷ []) ≡ Ok es = one.2 in let f : ds ++ change at one.0 ∷ [] ≡ es = cc in sym f;
-      named = named_by d two.0 two.1 ∙ ap (λ (m : Namespace). Some m.name) (first ∙ second);
-      unbroken = unbroken;
+      last = is.0;
+      are = is.1;
+      named = sym (name ∙ ap (λ (o : Option (List ℕ)). unwrap_or o []) is.2);
+      count = count;
+      unbroken = none;
     }
+
+-- counts that do not differ
+pub same_count : (m n now was : ℕ) → m ≡ now → n ≡ was → not (m == n) ≡ false → now ≡ was
+same_count m n now was is had h = sym is ∙ grind (arith, nat_tests) ∙ had
+
+-- what a value gives in place of nothing, shown
+pub shown_or : {A B : Type 0} (f : A → B) (o : Option A) (e : A) → f (unwrap_or o e) ≡ unwrap_or (option_map f o) (f e)
+shown_or f None e = refl
+shown_or f (Some a) e = refl

@@ -113,6 +113,18 @@ pub none_broken : (r : Result (Unit {0}) Edge) → strata_cause r ≡ Ok (tt {0}
 none_broken (Ok u) h = refl
 none_broken (Err e) h = cc
 
+-- where no edge of the tuples is broken, none is of tuple t among them
+pub unbroken_at : (ds : List Declaration) (ts : List TupleValue) (i : ℕ) (t : TupleValue) → i < length ts → t ≡ get_or ts i t → first_broken ds (edges_of_tuples ds ts) ≡ Ok (tt {0})
+    → first_broken ds (tuple_edges ds t) ≡ Ok (tt {0})
+unbroken_at ds [] i t lt is h = absurd (omega (arith, lt))
+unbroken_at ds (x ∷ xs) zero t lt is h =
+    let parts = both_ok (first_broken ds (tuple_edges ds x)) (first_broken ds (edges_of_tuples ds xs)) (sym (edges_joined ds (tuple_edges ds x) (edges_of_tuples ds xs)) ∙ h) in
+    subst (λ (y : TupleValue). first_broken ds (tuple_edges ds y) ≡ Ok (tt {0})) (sym is) parts.0
+unbroken_at ds (x ∷ xs) (suc i) t lt is h =
+    let parts = both_ok (first_broken ds (tuple_edges ds x)) (first_broken ds (edges_of_tuples ds xs)) (sym (edges_joined ds (tuple_edges ds x) (edges_of_tuples ds xs)) ∙ h) in
+    let less : i < length xs = omega (arith, lt) in
+    unbroken_at ds xs i t less is parts.1
+
 -- a walk over the tuples, at tuple t
 module _ (ds : List Declaration) (ts : List TupleValue) (i : ℕ) (t : TupleValue) (lt : i < length ts) (is : t ≡ get_or ts i t) where
   pub left_step : tuples_checked ds (drop i ts) ≡ (tuples_checked ds (t ∷ []) >>= λ u. tuples_checked ds (drop (i + 1) ts))

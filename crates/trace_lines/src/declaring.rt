@@ -1,8 +1,9 @@
 //! The rules of a trace, as its lines declare them. Where a line is refused no rule is left, for the trace is refused with it.
 
-ghost use Rattle.std.specs.Prelude.{◌≡◌, ℕ, ◌<◌, [], OnOk, OnErr};
+ghost use Rattle.std.specs.Prelude.{◌≡◌, ℕ, ◌<◌, [], Ok, OnOk, OnErr};
 ghost use Rattle.serde_json.specs.View.{view};
 ghost use Rattle.namespaces.specs.Changing.{IsLater};
+ghost use Rattle.strata.specs.Edges.{first_broken, edges_of_tuples};
 ghost use Rattle.trace_lines.specs.Causes.{Gives, Fails, namespace_cause};
 ghost use Rattle.trace_lines.specs.Declaring.{AreUnbroken, IsDeclaredLast, checked, changed_rules, refused_late};
 ghost use Rattle.trace_lines.specs.Traces.{with_namespace, rules_checked};
@@ -65,16 +66,22 @@ pub(crate) fn declare(
 fn make_change(rules: &mut Rules, sample: &Sample, at: u64, value: &Value) -> Result<(), Cause>
     requires later { IsLater at rules.old }
     requires unbroken { AreUnbroken rules.old }
+    requires tuples { first_broken rules.old (edges_of_tuples rules.old sample.now) ≡ Ok (tt {0}) }
     ensures answer { Gives (λ _. rules.new) result (changed_rules at rules.old sample.now (view value.now)) }
     ensures later { (next : ℕ) → at < next → IsLater next rules.new }
 {
+    let namespace = text_at(value, "name").unwrap_or("");
+    let known = rules.relation_count(namespace);
     match rules.change(at, value) {
         Ok(()) => {}
         Err(RulesFault::OutOfMemory) => return Err(Cause::OutOfMemory),
         Err(fault) => return Err(Cause::Namespace(fault)),
     }
     check(rules, value)?;
-    sample.check(rules).map_err(Cause::Strata)
+    let has_more = rules.relation_count(namespace) != known;
+    sample
+        .check(rules, namespace, has_more)
+        .map_err(Cause::Strata)
 }
 
 /// Declares a namespace, or gives one a new list of relations, in force from a timestamp on.
@@ -87,6 +94,7 @@ pub(crate) fn change(
 ) -> Result<(), Cause>
     requires later { IsLater at rules.old }
     requires unbroken { AreUnbroken rules.old }
+    requires tuples { first_broken rules.old (edges_of_tuples rules.old sample.now) ≡ Ok (tt {0}) }
     ensures answer { Gives (λ _. rules.new) result (changed_rules at rules.old sample.now (view value.now)) }
     ensures dropped { OnErr result (rules.new ≡ []) }
     ensures later { OnOk result ((next : ℕ) → at < next → IsLater next rules.new) }

@@ -4,6 +4,7 @@ ghost use Rattle.std.specs.Prelude.{◌≡◌, ◌≤◌, ◌∷◌, ◌++◌, [
 ghost use Rattle.tuple_text.specs.Refs.{user_value};
 ghost use Rattle.strata.specs.Edges.{first_broken, edges_of_tuples};
 ghost use Rattle.trace_lines.specs.Causes.{Gives};
+ghost use Rattle.trace_lines.specs.Declaring.{IsDeclaredOver};
 ghost use Rattle.trace_lines.specs.Traces.{tuples_checked};
 ghost use Rattle.trace_lines.specs.Tuples.{is_of_kind, is_user_of_kind, Represents, IsSomeOfKind};
 
@@ -12,7 +13,7 @@ use namespaces::{RelNo, Rules};
 use std::alloc::Global;
 use std::collections::BTreeMap;
 use std::marker::Model;
-use strata::{Edge, check_tuple};
+use strata::{Edge, check_tuple, check_tuple_again};
 use tuple_text::{SetRef, Tuple, UserRef};
 
 /// Of all tuples that were ever added the first of each kind, in order, where a kind is the relations of a tuple's userset and of its user.
@@ -137,19 +138,21 @@ impl Sample {
         Ok(())
     }
 
-    /// The first of the tuples' edges that is broken.
-    pub(crate) fn check(&self, rules: &Rules) -> Result<(), Edge>
+    /// The first of the tuples' edges that the last declaration broke, which is of this namespace.
+    pub(crate) fn check(&self, rules: &Rules, namespace: &str, has_more: bool) -> Result<(), Edge>
+        requires { IsDeclaredOver rules.now namespace.now has_more self.now }
         ensures { result ≡ first_broken rules.now (edges_of_tuples rules.now self.now) }
     {
-        check_all(rules, &self.tuples)
+        check_all(rules, namespace, has_more, &self.tuples)
     }
 }
 
-fn check_all(rules: &Rules, tuples: &[Tuple]) -> Result<(), Edge>
+fn check_all(rules: &Rules, namespace: &str, has_more: bool, tuples: &[Tuple]) -> Result<(), Edge>
+    requires { IsDeclaredOver rules.now namespace.now has_more tuples.now }
     ensures { result ≡ first_broken rules.now (edges_of_tuples rules.now tuples.now) }
 {
     for tuple in tuples {
-        check_tuple(rules, tuple)?;
+        check_tuple_again(rules, tuple, namespace, has_more)?;
     }
     Ok(())
 }

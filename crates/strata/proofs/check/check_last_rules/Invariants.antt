@@ -1,5 +1,6 @@
 use Rattle.std.proofs.Common.{◌≡◌, ◌-◌, ◌≤◌, suc, length}
-use Rattle.strata.specs.Edges.{relations_in, last_relation_edges, last_edges, read_by_rule, first_broken}
+use Rattle.strata.specs.Edges.{relations_in, last_relation_edges, last_edges, first_broken}
+use Rattle.strata.specs.Sights.{reads}
 use Rattle.strata.proofs.Walks.{relations_from}
 use Rattle.strata.proofs.check.check_last_rules.Given as goal
 
@@ -8,8 +9,8 @@ abbrev pub invariant-loop-rewrite : goal.invariant-loop-rewrite
 invariant-loop-rewrite l = record {
   number : l.number.namespace ≡ l.namespace;
   least : 1 ≤ l.number.relation;
-  left : first_broken l.rules (last_edges l.rules (read_by_rule l.name) l.namespace)
-      ≡ first_broken l.rules (relations_from l.rules (last_relation_edges l.rules (read_by_rule l.name)) l.namespace l.number.relation);
+  left : first_broken l.rules (last_edges l.rules (reads l.sight) l.namespace)
+      ≡ first_broken l.rules (relations_from l.rules (last_relation_edges l.rules (reads l.sight)) l.namespace l.number.relation);
 }
 
 abbrev pub decreases-loop-rewrite : goal.decreases-loop-rewrite

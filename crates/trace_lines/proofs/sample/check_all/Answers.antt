@@ -1,17 +1,19 @@
 use Rattle.std.proofs.Common.{◌∙◌, rules}
-use Rattle.trace_lines.proofs.Sampling.{edges_step}
+use Rattle.trace_lines.proofs.Sampling.{edges_step, unbroken_at}
 use Rattle.trace_lines.proofs.sample.check_all.Goals as goal
 
-pub returns-in_err-check_tuple : goal.returns-in_err-check_tuple
-returns-in_err-check_tuple c =
+pub returns-in_err-check_tuple_again : goal.returns-in_err-check_tuple_again
+returns-in_err-check_tuple_again c =
+    let was = unbroken_at c.requires.before c.args.tuples.now c.loop-tuple.tuple-index c.tuple-item.result c.loop-tuple-test.true c.tuple-item.is c.requires.unbroken in
     rw (
       c.loop-tuple.invariant,
       edges_step c.args.rules.now c.args.tuples.now c.loop-tuple.tuple-index c.tuple-item.result c.loop-tuple-test.true c.tuple-item.is,
-      ← c.in_err-check_tuple.ensures,
+      ← c.in_err-check_tuple_again.ensures c.requires.before c.requires.last c.requires.are c.requires.named c.requires.count was,
     ) (search rules)
 
 pub loop-tuple-preserved : goal.loop-tuple-preserved
 loop-tuple-preserved c =
+    let was = unbroken_at c.requires.before c.args.tuples.now c.loop-tuple.tuple-index c.tuple-item.result c.loop-tuple-test.true c.tuple-item.is c.requires.unbroken in
     c.loop-tuple.invariant
     ∙ edges_step c.args.rules.now c.args.tuples.now c.loop-tuple.tuple-index c.tuple-item.result c.loop-tuple-test.true c.tuple-item.is
-    ∙ rw (← c.in_ok-check_tuple.ensures) (search rules)
+    ∙ rw (← c.in_ok-check_tuple_again.ensures c.requires.before c.requires.last c.requires.are c.requires.named c.requires.count was) (search rules)

@@ -3,13 +3,14 @@ use Rattle.serde_json.specs.View.{view}
 use Rattle.namespaces.specs.Changing.{IsLater}
 use Rattle.version_chains.specs.Appends.{last_at}
 use Rattle.trace_lines.specs.Values.{TraceValue}
-use Rattle.trace_lines.proofs.Orderly.{orderly_changed}
+use Rattle.trace_lines.proofs.Orderly.{orderly_changed, sample_unbroken}
 use Rattle.trace_lines.proofs.trace.Trace.change_rules.Goals as goal
 
 pub change-requires : goal.change-requires
 change-requires c = record {
   later = subst (λ (t : TraceValue). IsLater c.args.at t.declarations) (sym c.self.view_is) c.requires.later;
   unbroken = c.self.invariant.2.unbroken.of_rules;
+  tuples = sample_unbroken c.self.inside.rules c.self.inside.chains.commits c.self.inside.sample c.self.invariant.2;
 }
 
 pub invariant_of-self : goal.invariant_of-self
