@@ -7,6 +7,8 @@ KIND is one of
   other_changes  change lines of 200 relations, each of another namespace
   same_changes   change lines of 200 relations, all of one namespace
   late_changes   half of the bytes are tuples, the other half change lines behind them
+  kinds          tuples that each store another relation of usersets, and up to 4,000 small changes of another namespace behind them
+  own_kinds      the same, and the changes are of the tuples' namespace
   toggled        one tuple added and removed in every other commit, and checks at old snapshots
   ids            one group of users alone, and checks that a stranger is not in it
   chain          records of one chain of groups each, as long as a record may be: from the last group on
@@ -68,6 +70,23 @@ def late_changes(size):
         tuples.append([f"doc:{k}/{user}#viewer@{user}" for user in range(100)])
         bytes_of += sum(len(one) + 3 for one in tuples[-1])
     return changes(size, lambda k: f"n{k}", tuples)
+
+
+def kinds(size, name):
+    """Tuples that each store another relation of usersets, and behind them changes of a namespace."""
+    small = [relation("viewer")]
+    given = Input(size, [{"name": "doc", "relations": small}, {"name": "plan", "relations": small}])
+    k = 0
+    while given.bytes < size // 2:
+        given.commit([f"doc:a#viewer@group:b#m{j}" for j in range(k, k + 100)])
+        k += 100
+    for _ in range(4000):
+        if given.is_full():
+            break
+        given.at += 1
+        given.line({"kind": "namespace", "at": given.at, "name": name, "relations": small})
+    given.check("doc:a#viewer@10", False, [{"no": ["doc:a#viewer@10"]}], snapshot=1)
+    return given
 
 
 def toggled(size):
@@ -152,6 +171,8 @@ KINDS = {
     "other_changes": lambda size: changes(size, lambda k: f"n{k}"),
     "same_changes": lambda size: changes(size, lambda k: "n"),
     "late_changes": late_changes,
+    "kinds": lambda size: kinds(size, "plan"),
+    "own_kinds": lambda size: kinds(size, "doc"),
     "toggled": toggled,
     "ids": ids,
     "chain": lambda size: rings(size, 1, False),

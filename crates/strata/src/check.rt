@@ -1,10 +1,10 @@
 //! The first broken edge of rules and of tuples.
 
-ghost use Rattle.std.specs.Prelude.{◌≡◌, ◌∷◌, ◌++◌, [], List, Ok, false};
+ghost use Rattle.std.specs.Prelude.{◌≡◌, ◌∷◌, ◌++◌, [], List, Ok};
 ghost use Rattle.strata.specs.Edges as edges;
 ghost use Rattle.namespaces.specs.Declaration.{Declaration};
-ghost use Rattle.namespaces.specs.Lookup.{relation_count};
 ghost use Rattle.namespaces.specs.WellFormed.{IsWellFormed};
+ghost use Rattle.strata.specs.Changes.{IsDeclaredAgain};
 ghost use Rattle.strata.specs.Edges.{first_broken, last_edges, last_edges_of_namespace, last_relation_edges, last_userset_edges, rule_edges, tuple_edges};
 ghost use Rattle.strata.specs.Sights.{reads};
 ghost use Rattle.tuple_text.specs.Refs.{set_value};
@@ -138,9 +138,8 @@ pub fn check_tuple_again(
     has_more: bool,
 ) -> Result<(), Edge>
     requires { IsWellFormed rules.now }
-    ensures { (ds : List Declaration) (d : Declaration) → rules.now ≡ ds ++ d ∷ [] → d.name ≡ namespace.now
-        → (has_more ≡ false → relation_count namespace.now rules.now ≡ relation_count namespace.now ds)
-        → first_broken ds (tuple_edges ds tuple.now) ≡ Ok (tt {0}) → result ≡ first_broken rules.now (tuple_edges rules.now tuple.now) }
+    ensures { (before : List Declaration) → IsDeclaredAgain before rules.now namespace.now has_more
+        → first_broken before (tuple_edges before tuple.now) ≡ Ok (tt {0}) → result ≡ first_broken rules.now (tuple_edges rules.now tuple.now) }
 {
     let UserRef::Set(user) = tuple.user() else {
         return Ok(());
@@ -156,9 +155,8 @@ fn check_user_again(
     has_more: bool,
 ) -> Result<(), Edge>
     requires { IsWellFormed rules.now }
-    ensures { (ds : List Declaration) (d : Declaration) → rules.now ≡ ds ++ d ∷ [] → d.name ≡ namespace.now
-        → (has_more ≡ false → relation_count namespace.now rules.now ≡ relation_count namespace.now ds)
-        → first_broken ds (edges.userset_edges ds (set_value set.entry) (set_value user.entry)) ≡ Ok (tt {0})
+    ensures { (before : List Declaration) → IsDeclaredAgain before rules.now namespace.now has_more
+        → first_broken before (edges.userset_edges before (set_value set.entry) (set_value user.entry)) ≡ Ok (tt {0})
         → result ≡ first_broken rules.now (edges.userset_edges rules.now (set_value set.entry) (set_value user.entry)) }
 {
     if has_more && user.namespace == namespace {

@@ -89,10 +89,7 @@ over_change ds es at d ts q has_more h w name count none =
     record {
       well_formed = w;
       before = ds;
-      last = is.0;
-      are = is.1;
-      named = sym (name ∙ ap (λ (o : Option (List ℕ)). unwrap_or o []) is.2);
-      count = count;
+      again = record { last = is.0; are = is.1; named = sym (name ∙ ap (λ (o : Option (List ℕ)). unwrap_or o []) is.2); count = count };
       unbroken = none;
     }
 

@@ -10,20 +10,20 @@ differs : {A : Type 0} (x y : List ℕ) (b : Bool) → b ≡ bytes_eq x y → b 
 differs x y b is apart same = clash (bytes_eq x y) (rw same (same_name y)) (sym is ∙ apart)
 
 pub returns-then-eq-2 : goal.returns-then-eq-2
-returns-then-eq-2 c ds d are name count none =
+returns-then-eq-2 c before again none =
     c.check_user_last.ensures.edges
-    ∙ last_rules_decide c.args.rules.now ds d c.args.namespace.now (set_value c.args.set) (set_value c.args.user) c.requires are name
+    ∙ last_rules_decide c.args.rules.now before again.last c.args.namespace.now (set_value c.args.set) (set_value c.args.user) c.requires again.are again.named
     (λ same. elim c.else-has_more.branch [
       | else-has_more-via-then-has_more+else-eq w ↦ differs c.args.user.namespace.now c.args.namespace.now w.eq.result w.eq.ensures w.if-eq.false same
-      | else-has_more-via-else-has_more w ↦ count w.if-has_more.false
+      | else-has_more-via-else-has_more w ↦ again.count w.if-has_more.false
     ])
     none (sym c.eq-2.ensures ∙ c.if-eq-2.true)
 
 pub returns : goal.returns
-returns c ds d are name count none =
-    others_unbroken c.args.rules.now ds d c.args.namespace.now (set_value c.args.set) (set_value c.args.user) c.requires are name
+returns c before again none =
+    others_unbroken c.args.rules.now before again.last c.args.namespace.now (set_value c.args.set) (set_value c.args.user) c.requires again.are again.named
     (λ same. elim c.else-has_more.branch [
       | else-has_more-via-then-has_more+else-eq w ↦ differs c.args.user.namespace.now c.args.namespace.now w.eq.result w.eq.ensures w.if-eq.false same
-      | else-has_more-via-else-has_more w ↦ count w.if-has_more.false
+      | else-has_more-via-else-has_more w ↦ again.count w.if-has_more.false
     ])
     none (sym c.eq-2.ensures ∙ c.if-eq-2.false)

@@ -8,7 +8,7 @@ returns-in_err-check_tuple_again c =
     rw (
       c.loop-tuple.invariant,
       edges_step c.args.rules.now c.args.tuples.now c.loop-tuple.tuple-index c.tuple-item.result c.loop-tuple-test.true c.tuple-item.is,
-      ← c.in_err-check_tuple_again.ensures c.requires.before c.requires.last c.requires.are c.requires.named c.requires.count was,
+      ← c.in_err-check_tuple_again.ensures c.requires.before c.requires.again was,
     ) (search rules)
 
 pub loop-tuple-preserved : goal.loop-tuple-preserved
@@ -16,4 +16,4 @@ loop-tuple-preserved c =
     let was = unbroken_at c.requires.before c.args.tuples.now c.loop-tuple.tuple-index c.tuple-item.result c.loop-tuple-test.true c.tuple-item.is c.requires.unbroken in
     c.loop-tuple.invariant
     ∙ edges_step c.args.rules.now c.args.tuples.now c.loop-tuple.tuple-index c.tuple-item.result c.loop-tuple-test.true c.tuple-item.is
-    ∙ rw (← c.in_ok-check_tuple_again.ensures c.requires.before c.requires.last c.requires.are c.requires.named c.requires.count was) (search rules)
+    ∙ rw (← c.in_ok-check_tuple_again.ensures c.requires.before c.requires.again was) (search rules)
