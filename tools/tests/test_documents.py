@@ -113,13 +113,13 @@ class Names(Case):
                     self.assertIn(link.removeprefix("#"), headings)
 
     def test_definitions(self):
-        for row in rows_of(read("docs", "MEANING.md")):
-            for part in row[-1].split("; "):
-                crate, *definitions = words_of(part) or [""]
-                named = names_in(sources(crate, "specs"), r"\w+")
-                for word in definitions:
-                    with self.subTest(crate=crate, word=word):
-                        self.assertTrue(set(word.split(".")) <= named)
+        text = read("docs", "MEANING.md")
+        for part in re.findall(r"^\d+\. .*", text, re.MULTILINE) + [part for row in rows_of(text) for part in row[-1].split("; ")]:
+            crate, *definitions = words_of(part) or [""]
+            named = names_in(sources(crate, "specs"), r"\w+")
+            for word in definitions:
+                with self.subTest(crate=crate, word=word):
+                    self.assertTrue(set(word.split(".")) <= named)
 
     def test_calls(self):
         for row in rows_of(read("docs", "PROMISES.md")):
