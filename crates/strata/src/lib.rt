@@ -5,10 +5,10 @@
 //! valid, over the rules in force at one timestamp, given as a look-up, and one store, given as a list of tuples. `Edges` lists what
 //! the rules ever declared, and the tuples ever added, read.
 //!
-//! Callers may rely on this: [`check_rules`], [`check_declared`], [`check_tuple`] and [`check_change`] answer the first broken edge of
-//! those lists, or that there is none. Where there is none, strata are valid at each timestamp. For valid strata the laws in [`laws`]
-//! hold: a settled fact stays settled at higher strata; members are a fixed point of the rules, and the least one (stratum by stratum
-//! where rules have exclusions); a member has a least round; renumbering the strata changes no member.
+//! Callers may rely on this: [`check_rules`], [`check_declared`], [`check_tuple`] and [`check_change`] answer the first broken edge of those lists, or
+//! that there is none; where there is none, strata are valid at each timestamp; and the laws in [`laws`] hold for valid
+//! strata: a settled fact stays settled at higher strata, members are a fixed point of the rules, and the least one (stratum by stratum
+//! where rules have exclusions), a member has a least round, and renumbering the strata changes no member.
 //!
 //! ```text
 //! check_rules(&rules)?;
