@@ -6,6 +6,7 @@
 Sizes are megabytes. Seconds are processor time, the least of three runs; memory is the most that the program held, in MB. The column behind a size
 says what a megabyte costs there; the last one how many times more a megabyte costs at the large size: 1 is in proportion.
 """
+import argparse
 import os
 import subprocess
 import sys
@@ -47,11 +48,18 @@ def row(kind, small, large):
 
 
 def main():
-    program, generator, small, large = sys.argv[1], GENERATORS[sys.argv[2]], sys.argv[3], sys.argv[4]
+    parser = argparse.ArgumentParser(description=__doc__, formatter_class=argparse.RawDescriptionHelpFormatter)
+    parser.add_argument("program", metavar="PROGRAM")
+    parser.add_argument("generator", choices=GENERATORS)
+    parser.add_argument("small", metavar="SMALL")
+    parser.add_argument("large", metavar="LARGE")
+    parser.add_argument("kinds", metavar="KIND", nargs="*")
+    given = parser.parse_args()
+    generator = GENERATORS[given.generator]
     print("| Kind | MB | s | s per MB | memory | MB | s | s per MB | memory | Grows |")
     print("|---|---|---|---|---|---|---|---|---|---|")
-    for kind in sys.argv[5:] or generator.KINDS:
-        print(row(kind, cost(program, generator, kind, small), cost(program, generator, kind, large)), flush=True)
+    for kind in given.kinds or generator.KINDS:
+        print(row(kind, cost(given.program, generator, kind, given.small), cost(given.program, generator, kind, given.large)), flush=True)
 
 
 if __name__ == "__main__":

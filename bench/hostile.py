@@ -22,9 +22,8 @@ KIND is one of
   long_ids       ids of 128 bytes
 """
 import json
-import sys
 
-from trace import THIS, Input, relation, text
+from trace import THIS, Input, asked, relation, text
 
 LINE = 1 << 20
 
@@ -188,8 +187,8 @@ KINDS = {
 
 
 def main():
-    kind, megabytes = sys.argv[1], float(sys.argv[2])
-    given = KINDS[kind](int(megabytes * 10**6))
+    kind, size = asked(__doc__, KINDS)
+    given = KINDS[kind](size)
     print("\n".join(given.lines + ["---"] + given.records))
 
 

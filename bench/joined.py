@@ -1,7 +1,14 @@
 #!/usr/bin/env python3
-"""Writes joined input of about N megabytes: checks of stored tuples, each with one step of evidence."""
+"""Joined input of about so many megabytes: checks of one stored tuple, each with one step of evidence.
+
+    python3 bench/joined.py MEGABYTES > joined
+"""
+import argparse
 import sys
-size = int(sys.argv[1]) * 1000000
+
+parser = argparse.ArgumentParser(description=__doc__, formatter_class=argparse.RawDescriptionHelpFormatter)
+parser.add_argument("megabytes", metavar="MEGABYTES", type=float)
+size = int(parser.parse_args().megabytes * 10**6)
 out = sys.stdout
 out.write('{"kind":"namespace","name":"doc","relations":[{"name":"viewer"}]}\n')
 out.write('{"kind":"commit","at":5,"add":["doc:readme#viewer@10"]}\n')

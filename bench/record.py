@@ -6,6 +6,7 @@
 KIND is `wide` (one group that stores the other usersets), `circle` (each stores the next, the last the first)
 or `undeclared` (nothing is stored, and no relation but the goal's is declared).
 """
+import argparse
 import json
 import string
 import sys
@@ -29,8 +30,11 @@ def usersets(count):
 
 
 def main():
-    kind, count = sys.argv[1], int(sys.argv[2])
-    sets = list(usersets(count))
+    parser = argparse.ArgumentParser(description=__doc__, formatter_class=argparse.RawDescriptionHelpFormatter)
+    parser.add_argument("kind", metavar="KIND", choices=("wide", "circle", "undeclared"))
+    parser.add_argument("count", metavar="COUNT", type=int)
+    given = parser.parse_args()
+    kind, sets = given.kind, list(usersets(given.count))
     declared = LETTERS if kind != "undeclared" else LETTERS[:1]
     lines = [{"kind": "namespace", "name": n, "relations": [{"name": r} for r in declared]} for n in declared]
     tuples = []

@@ -13,8 +13,8 @@ KIND is one of
   commits     commits of four tuples each, and one check
   service     documents of which each gets one viewer, and a hundred checks for each commit
 """
+import argparse
 import json
-import sys
 
 
 def text(value):
@@ -150,8 +150,18 @@ def service(size):
 KINDS = {f.__name__: f for f in (checks, folders, circles, toggled, wide, exclusions, commits, service)}
 
 
+def asked(told, kinds):
+    """The kind and the bytes that the command line asks for."""
+    parser = argparse.ArgumentParser(description=told, formatter_class=argparse.RawDescriptionHelpFormatter)
+    parser.add_argument("kind", metavar="KIND", choices=kinds)
+    parser.add_argument("megabytes", metavar="MEGABYTES", type=float)
+    given = parser.parse_args()
+    return given.kind, int(given.megabytes * 10**6)
+
+
 def main():
-    given = KINDS[sys.argv[1]](int(sys.argv[2]) * 1000000)
+    kind, size = asked(__doc__, KINDS)
+    given = KINDS[kind](size)
     print("\n".join(given.lines))
     print("---")
     print("\n".join(given.records))

@@ -24,18 +24,21 @@ def words(arguments):
     """The words of the command line, and the parser that tells faults of usage."""
     parser = Parser(prog="import_trace", description="Makes a trace of the logs of a service.")
     services = parser.add_subparsers(dest="service", required=True)
-    for name in ("openfga", "spicedb", "events"):
-        service = services.add_parser(name)
+    for name, told in (("openfga", "of OpenFGA"), ("spicedb", "of SpiceDB"), ("events", "of events in a form of no service")):
+        service = services.add_parser(name, help="logs " + told, description="Makes a trace of logs " + told + " (docs/IMPORTING.md).")
+        if name == "openfga":
+            service.add_argument("--model", required=True, dest="rules", metavar="FILE", help="the authorization model, as JSON")
+        elif name == "spicedb":
+            service.add_argument("--schema", required=True, dest="rules", metavar="FILE", help="the text of the schema")
         if name != "events":
-            service.add_argument("--model" if name == "openfga" else "--schema", required=True, dest="rules", metavar="FILE")
             service.add_argument("--base", action="append", default=[], metavar="FILE", help="the tuples stored at --base-at")
             service.add_argument("--base-at", metavar="REVISION", help="the revision of the base state")
         service.add_argument("--from-empty", action="store_true", help="the store was empty before the first write")
-        service.add_argument("--skew", type=int, metavar="MS", help="order by time, and refuse what is as near as this")
+        service.add_argument("--skew", type=int, metavar="MS", help="order events by time, and refuse two of different clocks within MS milliseconds if their order could change a finding")
         service.add_argument("--skip-unmapped", action="store_true", help="count and leave out what a trace cannot say")
         service.add_argument("--trace", default="trace.jsonl", metavar="FILE", help="the trace to write (trace.jsonl)")
         service.add_argument("--ids", default="ids.jsonl", metavar="FILE", help="the table of ids to add to (ids.jsonl)")
-        service.add_argument("logs", nargs="+", metavar="LOG")
+        service.add_argument("logs", nargs="+", metavar="LOG", help="a file of writes and checks, JSON lines")
     given = parser.parse_args(arguments)
     if given.skew is not None and given.skew < 0:
         parser.error("--skew is below 0")

@@ -1,6 +1,6 @@
 """A plain maker of evidence, which settles every userset that a goal leads to.
 
-The program's own `make` is to take its place.
+Tests compare it with the evidence that the program's own `make` finds.
 """
 import json
 

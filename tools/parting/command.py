@@ -22,14 +22,14 @@ from parting.running import run_all, run_part
 
 
 def words(arguments: list[str]):
-    parser = Parser(prog="parts", description="An audit in parts.")
+    parser = Parser(prog="parts", description="An audit in parts: a trace is cut by object, each part is audited by itself, and the reports are merged.")
     commands = parser.add_subparsers(dest="command", required=True)
     cut = commands.add_parser("cut", help="cuts a trace, and evidence for it, into parts by object")
-    cut.add_argument("parts", type=int, metavar="N")
+    cut.add_argument("parts", type=int, metavar="N", help="how many parts")
     cut.add_argument("trace", metavar="TRACE", help="a trace, or joined input")
-    cut.add_argument("evidence", nargs="?", metavar="EVIDENCE")
+    cut.add_argument("evidence", nargs="?", metavar="EVIDENCE", help="the evidence for the trace")
     cut.add_argument("folder", metavar="FOLDER", help="a folder that is empty or not there yet")
-    cut.add_argument("--jobs", type=int, default=os.cpu_count(), metavar="N", help="how many processes place lines")
+    cut.add_argument("--jobs", type=int, default=os.cpu_count(), metavar="N", help="how many processes cut (one a core)")
     for name, told in (("run", "audits each part here, and merges"), ("one", "audits one part")):
         command = commands.add_parser(name, help=told)
         command.add_argument("program", metavar="PROGRAM", help="the built auditor")
@@ -37,9 +37,9 @@ def words(arguments: list[str]):
         if name == "one":
             command.add_argument("part", type=int, metavar="PART", help="its number, from 1")
         else:
-            command.add_argument("--jobs", type=int, default=os.cpu_count(), metavar="N", help="how many at a time")
+            command.add_argument("--jobs", type=int, default=os.cpu_count(), metavar="N", help="how many parts at a time (one a core)")
     merge = commands.add_parser("merge", help="the whole's report, from the reports of all parts")
-    merge.add_argument("reports", nargs="+", metavar="REPORT")
+    merge.add_argument("reports", nargs="+", metavar="REPORT", help="the reports of all parts, in any order")
     given = parser.parse_args(arguments)
     if given.command == "cut" and not 1 <= given.parts <= MOST_PARTS:
         parser.error("N is from 1 to %d" % MOST_PARTS)

@@ -1,4 +1,5 @@
-"""The commands that documents show, run as they stand there, give what they say."""
+"""The commands that documents show, run as they stand there, give what they say; and what documents name is there."""
+import glob
 import os
 import re
 import subprocess
@@ -70,3 +71,66 @@ class Transcripts(Case):
         shown = " ".join(command for each in commands.values() for command in each)
         for example in os.listdir(os.path.join(TOP, "examples")):
             self.assertIn("examples/" + example, shown)
+
+
+DOCUMENTS = [["README.md"], ["ARCHITECTURE.md"], *(["docs", name] for name in sorted(os.listdir(os.path.join(TOP, "docs"))))]
+
+
+def rows_of(text):
+    """The cells of each row of a document's tables."""
+    return [[cell.strip() for cell in line.strip("|").split(" | ")] for line in text.splitlines() if line.startswith("| ")]
+
+
+def words_of(text):
+    """The words of code in a line or a cell."""
+    return re.findall(r"`([^`\n]+)`", text)
+
+
+def sources(crate, kind):
+    return glob.glob(os.path.join(TOP, "crates", crate, kind, "*"))
+
+
+def names_in(paths, form):
+    """The names of some files, without their ends, and those of a form in their texts."""
+    return {os.path.basename(path).split(".")[0] for path in paths} | {name for path in paths for name in re.findall(form, read(path))}
+
+
+class Names(Case):
+    def test_paths(self):
+        for names in DOCUMENTS:
+            for word in words_of(read(*names)):
+                path = word.split()[0].removeprefix("./")
+                if path.split("/")[0] in os.listdir(TOP) and "/out/" not in path:
+                    with self.subTest(document=names[-1], path=path):
+                        self.assertTrue(os.path.exists(os.path.join(TOP, path)))
+
+    def test_links(self):
+        for names in DOCUMENTS:
+            text = read(*names)
+            headings = [re.sub(r"[^a-z0-9 -]", "", line.lstrip("# ").lower()).replace(" ", "-") for line in text.splitlines() if line.startswith("#")]
+            for link in re.findall(r"\]\(([^)]+)\)", text):
+                with self.subTest(document=names[-1], link=link):
+                    self.assertIn(link.removeprefix("#"), headings)
+
+    def test_definitions(self):
+        text = read("docs", "MEANING.md")
+        for part in re.findall(r"^\d+\. .*", text, re.MULTILINE) + [part for row in rows_of(text) for part in row[-1].split("; ")]:
+            crate, *definitions = words_of(part) or [""]
+            named = names_in(sources(crate, "specs"), r"\w+")
+            for word in definitions:
+                with self.subTest(crate=crate, word=word):
+                    self.assertTrue(set(word.split(".")) <= named)
+
+    def test_calls(self):
+        for row in rows_of(read("docs", "PROMISES.md")):
+            if len(row) == 4 and words_of(row[1]):
+                crates = words_of(row[1]) + re.findall(r"`(\w+)::", row[2])
+                named = names_in([source for crate in crates for source in sources(crate, "src")], r"(?:fn|ensures|struct) (\w+)")
+                for word in words_of(row[2]):
+                    with self.subTest(promise=row[0][:60], word=word):
+                        self.assertTrue(word.split("::")[-1] in named)
+
+    def test_crates(self):
+        listed = re.findall(r"^(\w+)", read("crates.txt"), re.MULTILINE)
+        layers = read("ARCHITECTURE.md").split("## The way of a line")[0]
+        self.assertEqual([word for row in rows_of(layers) if len(row) == 3 for word in words_of(row[1])], listed)

@@ -2,11 +2,10 @@
 //!
 //! [`audit_plain`] reads a trace and evidence for it from two readers, and writes the report to a writer: a line for each decision that
 //! ignored a newer access change or is wrong, and the verdict. [`audit`] does the same on 1 to 16 workers, and its contract is the same,
-//! clause by clause; [`audit_early`] also tells of findings while it runs, and [`audit_made`] makes the
-//! evidence itself. [`audit_joined`] takes one reader that gives both parts, and
-//! [`audit_values`] a trace and evidence that are read already. [`make_records`] writes evidence for a trace, and [`history`] a tuple's touches in
-//! it, the newest first. Contracts see a reader and a writer as the bytes that they gave and took, and counts of failures, ends and flushes. What
-//! is found, and its text, are of the crate `findings`, which this one passes on.
+//! clause by clause. [`audit_early`] also tells of findings while it runs, [`audit_made`] makes the evidence itself, [`audit_joined`] takes
+//! one reader that gives both parts, and [`audit_values`] a trace and evidence that are read already. [`make_records`] writes evidence for
+//! a trace, and [`history`] a tuple's touches in it, the newest first. What is found, and its text, are of the crate `findings`, which this
+//! one passes on. Contracts see a reader and a writer as the bytes that they gave and took, and counts of failures, ends and flushes.
 //!
 //! Callers may rely on this: what is written is the report text of the findings of the values read, and nothing else; the verdict is clean
 //! exactly where there is none; nothing is written where input is refused. Where it is clean, each reply is what the rules mean over the tuples

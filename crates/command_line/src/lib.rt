@@ -6,6 +6,10 @@
 //!
 //! Callers may rely on this: where there is no word, and only there, joined input is asked for. Which words ask for which command, and what
 //! the texts say, no contract tells: the program's tests do.
+//!
+//! ```text
+//! let answer = read_words(alloc, &words)?;
+//! ```
 #![tactic(auto)]
 
 mod commands;

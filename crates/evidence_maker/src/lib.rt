@@ -7,10 +7,10 @@
 //!
 //! Callers may rely on this: steps that are given are accepted in order, they settle the goal, and a record may hold them, with at most
 //! 100,000 facts and 2^20 bytes; so the entry is supported or contradicted by them. `make` gives up only where one step is not enough,
-//! and every list of facts that holds the goal and its own premises has more than 100,000 facts or reads more than [`MAX_LINKS`] stored
-//! usersets, or the record of the whole cone has more than 2^20 bytes. The counters are not trusted: what they find is judged by
-//! `judge_steps`, and what they miss is looked at again. How few the steps are is not promised: longer evidence that
-//! fits would meet the contract too. [`laws`] say why there is evidence to find.
+//! and one of these holds: every list of facts that holds the goal and its own premises has more than 100,000 facts or reads more than
+//! [`MAX_LINKS`] stored usersets, or the record of the whole cone has more than 2^20 bytes. The counters are not trusted: what they find
+//! is judged by `judge_steps`, and what they miss is looked at again. How few the steps are is not promised: longer evidence that fits
+//! would meet the contract too. [`laws`] say why there is evidence to find.
 //!
 //! ```text
 //! let steps = make(alloc, &trace, 0)?;

@@ -1,14 +1,14 @@
 //! Lines of JSON out of any reader, and texts into any writer.
 //!
-//! [`Source`] and [`Sink`] are a reader and a writer of which contracts name all bytes that they gave or took, and count the failures;
+//! [`Source`] and [`Sink`] are a reader and a writer whose contracts name all bytes that they gave or took, and count the failures.
 //! [`Counted`] makes one of any reader or writer, at no cost when the program runs, and [`Held`] a source of bytes in memory.
 //! [`read_lines`] hands each line of a source, as a JSON value, to a [`TakeJson`], up to the first line that is refused, and [`send`]
 //! writes a whole text. [`fields`] has the fields of an object by their types.
 //!
 //! Callers may rely on this: what is read is `read_all` of the bytes that the reader gave, to its end or to the first fault with its line,
-//! also of a reader that fails; a refusal holds of every input that begins with them; a line has at most 2^20 bytes and the input 2^30, so
-//! that input that never ends is refused; lines of spaces, tabs and carriage returns alone are skipped and counted. One pass over the
-//! input, one JSON value at a time.
+//! also of a reader that fails. A refusal holds of every input that begins with these bytes. A line has at most 2^20 bytes and the input
+//! 2^30, so that input that never ends is refused. Lines of spaces, tabs and carriage returns alone are skipped and counted. There is one
+//! pass over the input, with one JSON value at a time.
 //!
 //! ```text
 //! let mut trace = Trace::new(alloc);

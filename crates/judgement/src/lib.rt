@@ -8,6 +8,11 @@
 //! another relation's rule; neither takes memory. A userset that is undeclared at the timestamp counts as refuted where it is stored, in a
 //! tupleset too, and a user id in a tupleset contributes nobody. A look-up among known facts goes by their marks in a table of small search
 //! trees, so that a choice of texts makes it no slower than the logarithm of their number, as long as few texts have one mark.
+//!
+//! ```text
+//! known.add_yes(fact)?;
+//! let is_given = established(rewrite, set, user, &trace, at, &known);
+//! ```
 #![tactic(auto)]
 
 mod facts;

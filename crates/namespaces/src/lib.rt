@@ -10,6 +10,11 @@
 //! a clause of `namespace` and `relation`, says what holds of that list at any time: names that are distinct, the limits, and that a later
 //! declaration of a namespace begins with the relations of the earlier ones, each with its stratum. A look-up takes no memory, and none
 //! goes through the declarations one by one. A table has 256 names at most, so the choice of names cannot make it slow.
+//!
+//! ```text
+//! rules.add(&value)?;
+//! let rewrite = rules.body(tuple.set(), 12);
+//! ```
 #![tactic(auto)]
 
 mod fault;

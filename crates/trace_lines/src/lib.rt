@@ -3,10 +3,10 @@
 //! [`read_trace`] makes a [`Trace`] of the lines of a source. Contracts see a trace as `TraceValue`: its declarations, its commits with
 //! the lines that they stand on, and its entries.
 //!
-//! Callers may rely on this: what is read is `trace_of` the bytes, value or first fault, with its line, also of a
-//! reader that fails; input that never ends is refused at the limits; commits and entries stand on lines that rise; no
-//! look-up takes memory; strata are valid at each timestamp, over what is stored then, as [`laws`] say of `trace_of` any bytes too.
-//! One pass over the input, one JSON value at a time.
+//! Callers may rely on this: what is read is `trace_of` the bytes, value or first fault, with its line, also of a reader that fails. Input
+//! that never ends is refused at the limits. Commits and entries stand on lines that rise. No look-up takes memory. Strata are valid at
+//! each timestamp, over what is stored then, as [`laws`] say of `trace_of` any bytes too. There is one pass over the input, with one JSON
+//! value at a time.
 //!
 //! ```text
 //! let trace = read_trace(alloc, &mut reader)?;

@@ -11,6 +11,11 @@
 //! and writing appends the text or changes nothing. Equality is equality of values. The order goes by the
 //! bytes of namespace, object id and relation, and then by the user, ids first and as numbers.
 //! Memory is asked for by reading, `of`, clones and writing alone.
+//!
+//! ```text
+//! let tuple = parse_tuple(alloc, "doc:plan#viewer@20")?;
+//! write_tuple(&tuple, &mut text)?;
+//! ```
 #![tactic(auto)]
 
 mod facts;

@@ -15,6 +15,11 @@
 //! Each tuple is kept once, and touches are linked, so that a question walks back over the touches, the users or the
 //! usersets that it is about and no others; nothing of that shows in a contract. Why such a walk may jump is the law
 //! [`laws::jump_is_walk`].
+//!
+//! ```text
+//! chains.append(10, &adds, &removes)?;
+//! let is_viewer = chains.has(&tuple, 12);
+//! ```
 #![tactic(auto)]
 
 pub mod among;

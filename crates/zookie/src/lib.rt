@@ -6,6 +6,10 @@
 //!
 //! Callers may rely on this: a zookie is read exactly from its text, each zookie has one text, and a refusal
 //! is the least-numbered fault that applies. Nothing here takes memory.
+//!
+//! ```text
+//! let zookie = Zookie::parse("z1-000000000000000c")?; // zookie.at() is 12
+//! ```
 #![tactic(auto)]
 
 mod fault;
