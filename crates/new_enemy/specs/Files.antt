@@ -71,3 +71,12 @@ file_failures (ran.AuditedAlone trace) = failures_of trace
 file_failures (ran.Made trace) = failures_of trace
 file_failures (ran.Told trace) = failures_of trace
 file_failures ran.Nothing = 0
+
+-- what holds of each file of a run
+abbrev pub OfFiles : {F : Type 0} → Ran F → (Counted F → Type 0) → Type 0
+OfFiles ran.Joined P = ⊤
+OfFiles (ran.Audited trace evidence) P = P trace × P evidence
+OfFiles (ran.AuditedAlone trace) P = P trace
+OfFiles (ran.Made trace) P = P trace
+OfFiles (ran.Told trace) P = P trace
+OfFiles ran.Nothing P = ⊤

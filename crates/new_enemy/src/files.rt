@@ -1,8 +1,10 @@
 //! The commands that read files, by what these gave.
 
-ghost use Rattle.std.specs.Prelude.{◌≡◌, ◌≢◌, ◌↔◌, ◌+◌, ◌<◌, ◌≤◌, ◌⊎◌, [], false, IfErr, OnOk};
+ghost use Rattle.std.specs.Prelude.{◌≡◌, ◌≢◌, ◌↔◌, ◌+◌, ◌<◌, ◌≤◌, ◌⊎◌, [], length, false, IfErr, OnOk};
 ghost use Rattle.json_lines.specs.Devices.{moved_by, failures_of, stops_of};
 ghost use Rattle.json_lines.specs.Given.{StandBehind};
+ghost use Rattle.json_lines.specs.declared.lines.TheConstants.{CHUNK};
+ghost use Rattle.json_lines.specs.declared.reading.TheConstants.{MAX_INPUT};
 ghost use Rattle.audit.specs.Audit.{HasRisen};
 ghost use Rattle.audit.specs.Shared.{are_within_limits};
 ghost use Rattle.new_enemy.specs.Run.{IsStatus, IsStatusOf};
@@ -62,6 +64,8 @@ pub fn run_audit<F: Read, W: Sink, E: Sink, P: Threads + Wait + Sync>(
     // Any other status comes only where none failed.
     ensures kept { result.0 ≢ 5 → (failures_of result.1 ≡ 0) × (failures_of result.2 ≡ 0) × (W.failures out.new ≡ W.failures out.old) }
     ensures unwritten { 2 ≤ result.0 → result.0 ≤ 4 → W.taken out.new ≡ W.taken out.old }
+    // Also of files that never end.
+    ensures most { (length (moved_by result.1) ≤ MAX_INPUT + CHUNK) × (length (moved_by result.2) ≤ MAX_INPUT + CHUNK) }
     ensures held { StandBehind W.taken W.contents out.old out.new }
     ensures statuses { result.0 ≤ 5 }
 {
@@ -130,6 +134,8 @@ pub fn run_audit_made<F: Read, W: Sink, E: Sink, P: Threads + Wait + Sync>(
     // Any other status comes only where none failed.
     ensures kept { result.0 ≢ 5 → (failures_of result.1 ≡ 0) × (W.failures out.new ≡ W.failures out.old) }
     ensures unwritten { 2 ≤ result.0 → result.0 ≤ 4 → W.taken out.new ≡ W.taken out.old }
+    // Also of a file that never ends.
+    ensures most { length (moved_by result.1) ≤ MAX_INPUT + CHUNK }
     ensures held { StandBehind W.taken W.contents out.old out.new }
     ensures statuses { result.0 ≤ 5 }
 {
@@ -155,6 +161,8 @@ pub fn run_make<F: Read, W: Sink, E: Sink>(
     // Any other status comes only where none failed.
     ensures kept { result.0 ≢ 5 → (failures_of result.1 ≡ 0) × (W.failures out.new ≡ W.failures out.old) }
     ensures unwritten { 2 ≤ result.0 → result.0 ≤ 4 → W.taken out.new ≡ W.taken out.old }
+    // Also of a file that never ends.
+    ensures most { length (moved_by result.1) ≤ MAX_INPUT + CHUNK }
     ensures held { StandBehind W.taken W.contents out.old out.new }
     ensures statuses { (result.0 ≤ 5) × (result.0 ≢ 1) × (result.0 ≢ 3) }
 {
@@ -179,6 +187,8 @@ pub fn run_history<F: Read, W: Sink, E: Sink>(
     // Any other status comes only where none failed.
     ensures kept { result.0 ≢ 5 → (failures_of result.1 ≡ 0) × (W.failures out.new ≡ W.failures out.old) }
     ensures unwritten { 2 ≤ result.0 → result.0 ≤ 4 → W.taken out.new ≡ W.taken out.old }
+    // Also of a file that never ends.
+    ensures most { length (moved_by result.1) ≤ MAX_INPUT + CHUNK }
     ensures held { StandBehind W.taken W.contents out.old out.new }
     ensures statuses { (result.0 ≤ 5) × (result.0 ≢ 1) × (result.0 ≢ 3) }
 {

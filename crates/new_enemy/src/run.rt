@@ -12,7 +12,7 @@ ghost use Rattle.audit.specs.Audit.{Audits, HasRisen};
 ghost use Rattle.audit.specs.Shared.{are_within_limits};
 ghost use Rattle.findings.specs.Headline.{IsTraceRightAndFresh};
 ghost use Rattle.audit.specs.Joined.{OfParts};
-ghost use Rattle.new_enemy.specs.Files.{IsCleanAudit, IsDirtyAudit, IsCleanAuditMade, IsDirtyAuditMade, IsMadeEvidence, IsToldHistory, IsNoTrace, IsNoAudit, OfRun, file_failures};
+ghost use Rattle.new_enemy.specs.Files.{IsCleanAudit, IsDirtyAudit, IsCleanAuditMade, IsDirtyAuditMade, IsMadeEvidence, IsToldHistory, IsNoTrace, IsNoAudit, OfRun, OfFiles, file_failures};
 ghost use Rattle.new_enemy.specs.Run.{IsRefused, OfEveryInput, IsCleanRun, IsDirtyRun};
 ghost use Rattle.new_enemy.specs.declared.run.Ran.TheVariants as ran;
 ghost use Rattle.audit.specs.declared.plain.Verdict.TheVariants.{Clean, Dirty};
@@ -80,6 +80,7 @@ fn audit_paths<W: Sink, E: Sink, P: Files + Threads + Wait + Sync>(
     ensures device { result.0 ≡ 5 → result.1 ≢ ran.Nothing → (0 < file_failures result.1) ⊎ (HasRisen (W.failures out.old) (W.failures out.new) ⊎ HasRisen (W.idle out.old) (W.idle out.new)) }
     ensures kept { result.0 ≢ 5 → (file_failures result.1 ≡ 0) × (W.failures out.new ≡ W.failures out.old) }
     ensures unwritten { 2 ≤ result.0 → result.0 ≤ 4 → W.taken out.new ≡ W.taken out.old }
+    ensures most { OfFiles result.1 (λ file. length (moved_by file) ≤ MAX_INPUT + CHUNK) }
     ensures held { StandBehind W.taken W.contents out.old out.new }
     ensures statuses { result.0 ≤ 5 }
 {
@@ -114,6 +115,7 @@ fn make_for_path<W: Sink, E: Sink, P: Files>(
     ensures device { result.0 ≡ 5 → result.1 ≢ ran.Nothing → (0 < file_failures result.1) ⊎ (HasRisen (W.failures out.old) (W.failures out.new) ⊎ HasRisen (W.idle out.old) (W.idle out.new)) }
     ensures kept { result.0 ≢ 5 → (file_failures result.1 ≡ 0) × (W.failures out.new ≡ W.failures out.old) }
     ensures unwritten { 2 ≤ result.0 → result.0 ≤ 4 → W.taken out.new ≡ W.taken out.old }
+    ensures most { OfFiles result.1 (λ file. length (moved_by file) ≤ MAX_INPUT + CHUNK) }
     ensures held { StandBehind W.taken W.contents out.old out.new }
     ensures statuses { (result.0 ≤ 5) × (result.0 ≢ 1) × (result.0 ≢ 3) }
 {
@@ -141,6 +143,7 @@ fn history_in_path<W: Sink, E: Sink, P: Files>(
     ensures device { result.0 ≡ 5 → result.1 ≢ ran.Nothing → (0 < file_failures result.1) ⊎ (HasRisen (W.failures out.old) (W.failures out.new) ⊎ HasRisen (W.idle out.old) (W.idle out.new)) }
     ensures kept { result.0 ≢ 5 → (file_failures result.1 ≡ 0) × (W.failures out.new ≡ W.failures out.old) }
     ensures unwritten { 2 ≤ result.0 → result.0 ≤ 4 → W.taken out.new ≡ W.taken out.old }
+    ensures most { OfFiles result.1 (λ file. length (moved_by file) ≤ MAX_INPUT + CHUNK) }
     ensures held { StandBehind W.taken W.contents out.old out.new }
     ensures statuses { (result.0 ≤ 5) × (result.0 ≢ 1) × (result.0 ≢ 3) }
 {
@@ -200,7 +203,7 @@ pub fn run_words<R: Source, W: Sink, E: Sink, P: Files + Threads + Wait + Sync>(
     ensures unread { result.1 ≢ ran.Joined → input.new ≡ input.old }
     ensures unwritten { 2 ≤ result.0 → result.0 ≤ 4 → W.taken out.new ≡ W.taken out.old }
     // Also of input that never ends.
-    ensures most { OfBytes R.given input.old input.new (λ came. length came ≤ MAX_INPUT + CHUNK) }
+    ensures most { OfBytes R.given input.old input.new (λ came. length came ≤ MAX_INPUT + CHUNK) × OfFiles result.1 (λ file. length (moved_by file) ≤ MAX_INPUT + CHUNK) }
     // Of devices in memory: what came is what the reader had left, and what went out stands behind what the writer held.
     ensures known { AreNext R.given R.ends R.remaining input.old input.new }
     ensures held { StandBehind W.taken W.contents out.old out.new }
@@ -271,7 +274,7 @@ pub fn run_on<R: Read, W: Write, E: Write, P: Files + Threads + Wait + Sync>(
     ensures kept { result.0 ≢ 5 → (failures_of result.2.0 ≡ 0) × (file_failures result.1 ≡ 0) × (result.1 ≢ ran.Nothing → failures_of result.2.1 ≡ 0) }
     ensures unread { result.1 ≢ ran.Joined → (moved_by result.2.0 ≡ []) × (failures_of result.2.0 ≡ 0) }
     ensures unwritten { 2 ≤ result.0 → result.0 ≤ 4 → moved_by result.2.1 ≡ [] }
-    ensures most { length (moved_by result.2.0) ≤ MAX_INPUT + CHUNK }
+    ensures most { (length (moved_by result.2.0) ≤ MAX_INPUT + CHUNK) × OfFiles result.1 (λ file. length (moved_by file) ≤ MAX_INPUT + CHUNK) }
     ensures statuses { result.0 ≤ 5 }
 {
     let mut input = Counted::new(input);
