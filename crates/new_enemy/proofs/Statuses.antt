@@ -20,19 +20,19 @@ use Rattle.audit.specs.declared.plain.AuditFault.{AuditFault}
 use Rattle.audit.specs.declared.plain.AuditFault.TheVariants as faults
 
 -- a fault that is neither the reader's nor want of memory is that of the bytes
-said_by_trace : (c : Cause) (f : TraceFault) (read : Result TraceValue TraceFault) → c ≢ causes.Read → c ≢ causes.OutOfMemory → FailsBy c f read → read ≡ Err f
+pub said_by_trace : (c : Cause) (f : TraceFault) (read : Result TraceValue TraceFault) → c ≢ causes.Read → c ≢ causes.OutOfMemory → FailsBy c f read → read ≡ Err f
 said_by_trace causes.Read f read n m h = absurd (n refl)
 said_by_trace causes.OutOfMemory f read n m h = absurd (m refl)
 said_by_trace _ f read n m h = h
 
-said_by_evidence : {Y : Type 0} (c : EvidenceCause) (f : EvidenceFault) (given : Result Y EvidenceFault) → c ≢ evidence_causes.Read → c ≢ evidence_causes.OutOfMemory
+pub said_by_evidence : {Y : Type 0} (c : EvidenceCause) (f : EvidenceFault) (given : Result Y EvidenceFault) → c ≢ evidence_causes.Read → c ≢ evidence_causes.OutOfMemory
     → evidence.FailsBy c f given → given ≡ Err f
 said_by_evidence evidence_causes.Read f given n m h = absurd (n refl)
 said_by_evidence evidence_causes.OutOfMemory f given n m h = absurd (m refl)
 said_by_evidence _ f given n m h = h
 
 -- the status tells two from five
-two_or_five : {X : Type 0} (s : ℕ) → s ≡ 2 → s ≡ 5 → X
+pub two_or_five : {X : Type 0} (s : ℕ) → s ≡ 2 → s ≡ 5 → X
 two_or_five s two five = absurd (omega (arith, two, five))
 
 module _ {R : Type 0} (given : R → List ℕ) (ends : R → ℕ) (old new : R) where

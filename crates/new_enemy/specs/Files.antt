@@ -1,6 +1,6 @@
 -- What the program answers of files, by all that they gave.
-use Rattle.std.specs.Prelude.{◌≡◌, ℕ, List, ⊤}
-use Rattle.json_lines.specs.Devices.{moved_by, stops_of}
+use Rattle.std.specs.Prelude.{◌≡◌, ℕ, ◌+◌, List, ⊤}
+use Rattle.json_lines.specs.Devices.{moved_by, failures_of, stops_of}
 use Rattle.json_lines.specs.declared.devices.Counted.{Counted}
 use Rattle.tuple_text.specs.Tuples.{TupleValue}
 use Rattle.audit.specs.Audit.{Audits}
@@ -10,6 +10,7 @@ use Rattle.audit.specs.Made.{MakesRecords}
 use Rattle.audit.specs.MadeAudit.{AuditsMade}
 use Rattle.audit.specs.declared.plain.Verdict.{Verdict}
 use Rattle.audit.specs.declared.plain.Verdict.TheVariants.{Clean, Dirty}
+use Rattle.new_enemy.specs.Run.{SayNoTrace, SayNoAudit, OfEveryInput}
 use Rattle.new_enemy.specs.declared.run.Ran.{Ran}
 use Rattle.new_enemy.specs.declared.run.Ran.TheVariants as ran
 
@@ -44,6 +45,14 @@ IsToldHistory tuple trace old new = (stops_of trace ≡ 1) × ((n : ℕ) × Tell
 abbrev pub IsMadeEvidence : {F : Type 0} → Counted F → List ℕ → List ℕ → Type 0
 IsMadeEvidence trace old new = (stops_of trace ≡ 1) × ((lines : List ℕ) × MakesRecords (moved_by trace) old new lines)
 
+-- no trace begins with what the file gave; where the file was at its end, that is none
+abbrev pub IsNoTrace : {F : Type 0} → Counted F → Type 0
+IsNoTrace trace = OfEveryInput trace SayNoTrace
+
+-- so it is of the two files, or with what the second gave no evidence for the trace begins
+abbrev pub IsNoAudit : {F : Type 0} → Counted F → Counted F → Type 0
+IsNoAudit trace evidence = OfEveryInput trace (λ a. OfEveryInput evidence (λ b. SayNoAudit a b))
+
 -- what holds of a run by what it read: joined input, the files of an audit, the file of one that made its evidence, the file that evidence was made
 -- for, the file of a history, or no file
 abbrev pub OfRun : {F : Type 0} → Ran F → Type 0 → (Counted F → Counted F → Type 0) → (alone made told : Counted F → Type 0) → Type 0 → Type 0
@@ -53,3 +62,21 @@ OfRun (ran.AuditedAlone trace) joined audited alone made told nothing = alone tr
 OfRun (ran.Made trace) joined audited alone made told nothing = made trace
 OfRun (ran.Told trace) joined audited alone made told nothing = told trace
 OfRun ran.Nothing joined audited alone made told nothing = nothing
+
+-- how often the files of a run failed
+abbrev pub file_failures : {F : Type 0} → Ran F → ℕ
+file_failures ran.Joined = 0
+file_failures (ran.Audited trace evidence) = failures_of trace + failures_of evidence
+file_failures (ran.AuditedAlone trace) = failures_of trace
+file_failures (ran.Made trace) = failures_of trace
+file_failures (ran.Told trace) = failures_of trace
+file_failures ran.Nothing = 0
+
+-- what holds of each file of a run
+abbrev pub OfFiles : {F : Type 0} → Ran F → (Counted F → Type 0) → Type 0
+OfFiles ran.Joined P = ⊤
+OfFiles (ran.Audited trace evidence) P = P trace × P evidence
+OfFiles (ran.AuditedAlone trace) P = P trace
+OfFiles (ran.Made trace) P = P trace
+OfFiles (ran.Told trace) P = P trace
+OfFiles ran.Nothing P = ⊤

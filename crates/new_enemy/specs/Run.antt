@@ -1,5 +1,5 @@
 -- What the program answers.
-use Rattle.std.specs.Prelude.{◌≡◌, ◌≢◌, ◌⊎◌, ℕ, ◌≤◌, true, List, [], Result, Ok, Err, ⊤}
+use Rattle.std.specs.Prelude.{◌≡◌, ◌≢◌, ◌⊎◌, ℕ, ◌<◌, ◌≤◌, true, List, [], ◌++◌, Result, Ok, Err, ⊤}
 use Rattle.json_lines.specs.Devices.{moved_by, stops_of, flushes_of}
 use Rattle.json_lines.specs.declared.devices.Counted.{Counted}
 use Rattle.trace_lines.specs.Values.{TraceValue}
@@ -33,10 +33,14 @@ IsStatusOf (Ok Clean) s = s ≡ 0
 IsStatusOf (Ok Dirty) s = s ≡ 1
 IsStatusOf (Err fault) s = (2 ≤ s) × IsStatus fault s
 
+-- the bytes say no trace
+abbrev pub SayNoTrace : List ℕ → Type 0
+SayNoTrace a = (f : TraceFault) × (trace_of true a ≡ Err f)
+
 -- the bytes say no trace, or no evidence for it
 abbrev pub SayNoAudit : List ℕ → List ℕ → Type 0
 SayNoAudit a b =
-    ((f : TraceFault) × (trace_of true a ≡ Err f))
+    SayNoTrace a
     ⊎ ((t : TraceValue) × (trace_of true a ≡ Ok t) × (f : EvidenceFault) × (evidence_of t.entries true b ≡ Err f))
 
 -- joined input that is refused
@@ -44,6 +48,10 @@ abbrev pub IsRefused : List ℕ → Type 0
 IsRefused input = HasNoParts input ⊎ OfParts SayNoAudit input
 
 -- ---- the program on its devices, by all that they gave and took
+
+-- A fact of every input that a device may have: the bytes that it gave, and behind them any others, but none where it was at its end.
+abbrev pub OfEveryInput : {R : Type 0} → Counted R → (List ℕ → Type 0) → Type 0
+OfEveryInput input P = (rest : List ℕ) → (0 < stops_of input → rest ≡ []) → P (moved_by input ++ rest)
 
 -- All that was read, to its end, is a trace and evidence for it. All that was written is the report on them, with this verdict, and a flush was
 -- asked for.

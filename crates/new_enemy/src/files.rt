@@ -1,11 +1,14 @@
 //! The commands that read files, by what these gave.
 
-ghost use Rattle.std.specs.Prelude.{◌≡◌, ◌≢◌, ◌↔◌, ◌+◌, ◌≤◌, false, IfErr, OnOk};
+ghost use Rattle.std.specs.Prelude.{◌≡◌, ◌≢◌, ◌↔◌, ◌+◌, ◌<◌, ◌≤◌, ◌⊎◌, [], length, false, IfErr, OnOk};
 ghost use Rattle.json_lines.specs.Devices.{moved_by, failures_of, stops_of};
 ghost use Rattle.json_lines.specs.Given.{StandBehind};
+ghost use Rattle.json_lines.specs.declared.lines.TheConstants.{CHUNK};
+ghost use Rattle.json_lines.specs.declared.reading.TheConstants.{MAX_INPUT};
+ghost use Rattle.audit.specs.Audit.{HasRisen};
 ghost use Rattle.audit.specs.Shared.{are_within_limits};
 ghost use Rattle.new_enemy.specs.Run.{IsStatus, IsStatusOf};
-ghost use Rattle.new_enemy.specs.Files.{IsCleanAudit, IsDirtyAudit, IsCleanAuditMade, IsDirtyAuditMade, IsMadeEvidence, IsToldHistory};
+ghost use Rattle.new_enemy.specs.Files.{IsCleanAudit, IsDirtyAudit, IsCleanAuditMade, IsDirtyAuditMade, IsMadeEvidence, IsToldHistory, IsNoTrace, IsNoAudit};
 
 use crate::status::{status_of, tell, tell_given_up};
 use audit::{AuditFault, Verdict, audit, audit_early, audit_made, history, make_records_listing};
@@ -55,8 +58,14 @@ pub fn run_audit<F: Read, W: Sink, E: Sink, P: Threads + Wait + Sync>(
     ensures dirty { result.0 ≡ 1 → IsDirtyAudit result.1 result.2 (W.taken out.old) (W.taken out.new) }
     ensures flushed { result.0 ≤ 1 → W.flushes out.new ≡ W.flushes out.old + 1 }
     ensures limits { result.0 ≡ 3 ↔ (are_within_limits sharing.workers sharing.slice ≡ false) }
+    ensures unread { result.0 ≡ 3 → (moved_by result.1 ≡ []) × (moved_by result.2 ≡ []) }
+    ensures refused { result.0 ≡ 2 → IsNoAudit result.1 result.2 }
+    ensures device { result.0 ≡ 5 → (0 < failures_of result.1 + failures_of result.2) ⊎ (HasRisen (W.failures out.old) (W.failures out.new) ⊎ HasRisen (W.idle out.old) (W.idle out.new)) }
+    // Any other status comes only where none failed.
     ensures kept { result.0 ≢ 5 → (failures_of result.1 ≡ 0) × (failures_of result.2 ≡ 0) × (W.failures out.new ≡ W.failures out.old) }
     ensures unwritten { 2 ≤ result.0 → result.0 ≤ 4 → W.taken out.new ≡ W.taken out.old }
+    // Also of files that never end.
+    ensures most { (length (moved_by result.1) ≤ MAX_INPUT + CHUNK) × (length (moved_by result.2) ≤ MAX_INPUT + CHUNK) }
     ensures held { StandBehind W.taken W.contents out.old out.new }
     ensures statuses { result.0 ≤ 5 }
 {
@@ -119,8 +128,14 @@ pub fn run_audit_made<F: Read, W: Sink, E: Sink, P: Threads + Wait + Sync>(
     ensures dirty { result.0 ≡ 1 → IsDirtyAuditMade result.1 (W.taken out.old) (W.taken out.new) }
     ensures flushed { result.0 ≤ 1 → W.flushes out.new ≡ W.flushes out.old + 1 }
     ensures limits { result.0 ≡ 3 ↔ (are_within_limits sharing.workers sharing.slice ≡ false) }
+    ensures unread { result.0 ≡ 3 → moved_by result.1 ≡ [] }
+    ensures refused { result.0 ≡ 2 → IsNoTrace result.1 }
+    ensures device { result.0 ≡ 5 → (0 < failures_of result.1) ⊎ (HasRisen (W.failures out.old) (W.failures out.new) ⊎ HasRisen (W.idle out.old) (W.idle out.new)) }
+    // Any other status comes only where none failed.
     ensures kept { result.0 ≢ 5 → (failures_of result.1 ≡ 0) × (W.failures out.new ≡ W.failures out.old) }
     ensures unwritten { 2 ≤ result.0 → result.0 ≤ 4 → W.taken out.new ≡ W.taken out.old }
+    // Also of a file that never ends.
+    ensures most { length (moved_by result.1) ≤ MAX_INPUT + CHUNK }
     ensures held { StandBehind W.taken W.contents out.old out.new }
     ensures statuses { result.0 ≤ 5 }
 {
@@ -141,8 +156,13 @@ pub fn run_make<F: Read, W: Sink, E: Sink>(
     // All that the file gave, to its end, is a trace, and the records that are made for it went out whole.
     ensures made { result.0 ≡ 0 → IsMadeEvidence result.1 (W.taken out.old) (W.taken out.new) }
     ensures flushed { result.0 ≡ 0 → W.flushes out.new ≡ W.flushes out.old + 1 }
+    ensures refused { result.0 ≡ 2 → IsNoTrace result.1 }
+    ensures device { result.0 ≡ 5 → (0 < failures_of result.1) ⊎ (HasRisen (W.failures out.old) (W.failures out.new) ⊎ HasRisen (W.idle out.old) (W.idle out.new)) }
+    // Any other status comes only where none failed.
     ensures kept { result.0 ≢ 5 → (failures_of result.1 ≡ 0) × (W.failures out.new ≡ W.failures out.old) }
     ensures unwritten { 2 ≤ result.0 → result.0 ≤ 4 → W.taken out.new ≡ W.taken out.old }
+    // Also of a file that never ends.
+    ensures most { length (moved_by result.1) ≤ MAX_INPUT + CHUNK }
     ensures held { StandBehind W.taken W.contents out.old out.new }
     ensures statuses { (result.0 ≤ 5) × (result.0 ≢ 1) × (result.0 ≢ 3) }
 {
@@ -162,8 +182,13 @@ pub fn run_history<F: Read, W: Sink, E: Sink>(
     // All that the file gave, to its end, is a trace, and the tuple's history in it went out whole.
     ensures told { result.0 ≡ 0 → IsToldHistory tuple.now result.1 (W.taken out.old) (W.taken out.new) }
     ensures flushed { result.0 ≡ 0 → W.flushes out.new ≡ W.flushes out.old + 1 }
+    ensures refused { result.0 ≡ 2 → IsNoTrace result.1 }
+    ensures device { result.0 ≡ 5 → (0 < failures_of result.1) ⊎ (HasRisen (W.failures out.old) (W.failures out.new) ⊎ HasRisen (W.idle out.old) (W.idle out.new)) }
+    // Any other status comes only where none failed.
     ensures kept { result.0 ≢ 5 → (failures_of result.1 ≡ 0) × (W.failures out.new ≡ W.failures out.old) }
     ensures unwritten { 2 ≤ result.0 → result.0 ≤ 4 → W.taken out.new ≡ W.taken out.old }
+    // Also of a file that never ends.
+    ensures most { length (moved_by result.1) ≤ MAX_INPUT + CHUNK }
     ensures held { StandBehind W.taken W.contents out.old out.new }
     ensures statuses { (result.0 ≤ 5) × (result.0 ≢ 1) × (result.0 ≢ 3) }
 {

@@ -1,16 +1,19 @@
 //! The program, over any runtime, reader and writers.
 
-ghost use Rattle.std.specs.Prelude.{◌≡◌, ◌≢◌, ◌↔◌, ◌+◌, ◌<◌, ◌≤◌, ◌⊎◌, ◌++◌, ℕ, List, [], length, ⊤};
+ghost use Rattle.std.specs.Prelude.{◌≡◌, ◌≢◌, ◌↔◌, ◌+◌, ◌<◌, ◌≤◌, ◌⊎◌, [], length, Ok, Err, false, ⊤};
 ghost use Rattle.json_lines.specs.Devices.{moved_by, failures_of, stops_of};
 ghost use Rattle.json_lines.specs.Given.{OfBytes, OfWhole, OfInput, AreNext, StandBehind};
 ghost use Rattle.json_lines.specs.declared.lines.TheConstants.{CHUNK};
 ghost use Rattle.json_lines.specs.declared.reading.TheConstants.{MAX_INPUT};
+ghost use Rattle.tuple_text.specs.Reading.{tuple_at};
 ghost use Rattle.tuple_text.specs.Tuples.{TupleValue};
+ghost use Rattle.tuple_text.specs.declared.fault.TupleFault.{TupleFault};
 ghost use Rattle.audit.specs.Audit.{Audits, HasRisen};
+ghost use Rattle.audit.specs.Shared.{are_within_limits};
 ghost use Rattle.findings.specs.Headline.{IsTraceRightAndFresh};
 ghost use Rattle.audit.specs.Joined.{OfParts};
-ghost use Rattle.new_enemy.specs.Files.{IsCleanAudit, IsDirtyAudit, IsCleanAuditMade, IsDirtyAuditMade, IsMadeEvidence, IsToldHistory, OfRun};
-ghost use Rattle.new_enemy.specs.Run.{IsRefused, IsCleanRun, IsDirtyRun};
+ghost use Rattle.new_enemy.specs.Files.{IsCleanAudit, IsDirtyAudit, IsCleanAuditMade, IsDirtyAuditMade, IsMadeEvidence, IsToldHistory, IsNoTrace, IsNoAudit, OfRun, OfFiles, file_failures};
+ghost use Rattle.new_enemy.specs.Run.{IsRefused, OfEveryInput, IsCleanRun, IsDirtyRun};
 ghost use Rattle.new_enemy.specs.declared.run.Ran.TheVariants as ran;
 ghost use Rattle.audit.specs.declared.plain.Verdict.TheVariants.{Clean, Dirty};
 
@@ -71,8 +74,13 @@ fn audit_paths<W: Sink, E: Sink, P: Files + Threads + Wait + Sync>(
         (λ t. IsDirtyAuditMade t (W.taken out.old) (W.taken out.new)) (λ t. ⊥) (λ t. ⊥) ⊥ }
     ensures files { OfRun result.1 ⊥ (λ t e. ⊤) (λ t. ⊤) (λ t. ⊥) (λ t. ⊥) ⊤ }
     ensures flushed { result.0 ≤ 1 → W.flushes out.new ≡ W.flushes out.old + 1 }
-    ensures kept { result.0 ≢ 5 → W.failures out.new ≡ W.failures out.old }
+    ensures limits { result.0 ≡ 3 → are_within_limits sharing.workers sharing.slice ≡ false }
+    ensures unread { result.0 ≡ 3 → OfRun result.1 ⊥ (λ t e. (moved_by t ≡ []) × (moved_by e ≡ [])) (λ t. moved_by t ≡ []) (λ t. ⊥) (λ t. ⊥) ⊥ }
+    ensures refused { result.0 ≡ 2 → OfRun result.1 ⊥ (λ t e. IsNoAudit t e) (λ t. IsNoTrace t) (λ t. ⊥) (λ t. ⊥) ⊥ }
+    ensures device { result.0 ≡ 5 → result.1 ≢ ran.Nothing → (0 < file_failures result.1) ⊎ (HasRisen (W.failures out.old) (W.failures out.new) ⊎ HasRisen (W.idle out.old) (W.idle out.new)) }
+    ensures kept { result.0 ≢ 5 → (file_failures result.1 ≡ 0) × (W.failures out.new ≡ W.failures out.old) }
     ensures unwritten { 2 ≤ result.0 → result.0 ≤ 4 → W.taken out.new ≡ W.taken out.old }
+    ensures most { OfFiles result.1 (λ file. length (moved_by file) ≤ MAX_INPUT + CHUNK) }
     ensures held { StandBehind W.taken W.contents out.old out.new }
     ensures statuses { result.0 ≤ 5 }
 {
@@ -103,8 +111,11 @@ fn make_for_path<W: Sink, E: Sink, P: Files>(
     ensures made { result.0 ≡ 0 → OfRun result.1 ⊥ (λ t e. ⊥) (λ t. ⊥) (λ t. IsMadeEvidence t (W.taken out.old) (W.taken out.new)) (λ t. ⊥) ⊥ }
     ensures files { OfRun result.1 ⊥ (λ t e. ⊥) (λ t. ⊥) (λ t. ⊤) (λ t. ⊥) ⊤ }
     ensures flushed { result.0 ≤ 1 → W.flushes out.new ≡ W.flushes out.old + 1 }
-    ensures kept { result.0 ≢ 5 → W.failures out.new ≡ W.failures out.old }
+    ensures refused { result.0 ≡ 2 → OfRun result.1 ⊥ (λ t e. ⊥) (λ t. ⊥) (λ t. IsNoTrace t) (λ t. ⊥) ⊥ }
+    ensures device { result.0 ≡ 5 → result.1 ≢ ran.Nothing → (0 < file_failures result.1) ⊎ (HasRisen (W.failures out.old) (W.failures out.new) ⊎ HasRisen (W.idle out.old) (W.idle out.new)) }
+    ensures kept { result.0 ≢ 5 → (file_failures result.1 ≡ 0) × (W.failures out.new ≡ W.failures out.old) }
     ensures unwritten { 2 ≤ result.0 → result.0 ≤ 4 → W.taken out.new ≡ W.taken out.old }
+    ensures most { OfFiles result.1 (λ file. length (moved_by file) ≤ MAX_INPUT + CHUNK) }
     ensures held { StandBehind W.taken W.contents out.old out.new }
     ensures statuses { (result.0 ≤ 5) × (result.0 ≢ 1) × (result.0 ≢ 3) }
 {
@@ -124,11 +135,15 @@ fn history_in_path<W: Sink, E: Sink, P: Files>(
     out: &mut W,
     err: &mut E,
 ) -> (u8, Ran<P::File>)
-    ensures told { result.0 ≡ 0 → OfRun result.1 ⊥ (λ t e. ⊥) (λ t. ⊥) (λ t. ⊥) (λ t. (tuple : TupleValue) × IsToldHistory tuple t (W.taken out.old) (W.taken out.new)) ⊥ }
+    ensures told { result.0 ≡ 0 → OfRun result.1 ⊥ (λ t e. ⊥) (λ t. ⊥) (λ t. ⊥)
+        (λ t. (v : TupleValue) × (tuple_at tuple.now ≡ Ok v) × IsToldHistory v t (W.taken out.old) (W.taken out.new)) ⊥ }
     ensures files { OfRun result.1 ⊥ (λ t e. ⊥) (λ t. ⊥) (λ t. ⊥) (λ t. ⊤) ⊤ }
     ensures flushed { result.0 ≤ 1 → W.flushes out.new ≡ W.flushes out.old + 1 }
-    ensures kept { result.0 ≢ 5 → W.failures out.new ≡ W.failures out.old }
+    ensures refused { result.0 ≡ 2 → OfRun result.1 ⊥ (λ t e. ⊥) (λ t. ⊥) (λ t. ⊥) (λ t. IsNoTrace t) ((f : TupleFault) × (tuple_at tuple.now ≡ Err f)) }
+    ensures device { result.0 ≡ 5 → result.1 ≢ ran.Nothing → (0 < file_failures result.1) ⊎ (HasRisen (W.failures out.old) (W.failures out.new) ⊎ HasRisen (W.idle out.old) (W.idle out.new)) }
+    ensures kept { result.0 ≢ 5 → (file_failures result.1 ≡ 0) × (W.failures out.new ≡ W.failures out.old) }
     ensures unwritten { 2 ≤ result.0 → result.0 ≤ 4 → W.taken out.new ≡ W.taken out.old }
+    ensures most { OfFiles result.1 (λ file. length (moved_by file) ≤ MAX_INPUT + CHUNK) }
     ensures held { StandBehind W.taken W.contents out.old out.new }
     ensures statuses { (result.0 ≤ 5) × (result.0 ≢ 1) × (result.0 ≢ 3) }
 {
@@ -177,15 +192,18 @@ pub fn run_words<R: Source, W: Sink, E: Sink, P: Files + Threads + Wait + Sync>(
         (λ t e. IsDirtyAudit t e (W.taken out.old) (W.taken out.new)) (λ t. IsDirtyAuditMade t (W.taken out.old) (W.taken out.new)) (λ t. ⊥) (λ t. ⊥) ⊥ }
     ensures flushed { result.0 ≤ 1 → result.1 ≢ ran.Nothing → W.flushes out.new ≡ W.flushes out.old + 1 }
     // Of every input that begins with the bytes that came.
-    ensures refused { result.1 ≡ ran.Joined → result.0 ≡ 2 → OfInput R.given R.ends input.old input.new IsRefused }
-    ensures used { result.1 ≡ ran.Joined → result.0 ≢ 3 }
-    ensures device { result.1 ≡ ran.Joined → result.0 ≡ 5 → HasRisen (R.failures input.old) (R.failures input.new)
+    ensures refused { result.0 ≡ 2 → OfRun result.1 (OfInput R.given R.ends input.old input.new IsRefused)
+        (λ t e. IsNoAudit t e) (λ t. IsNoTrace t) (λ t. IsNoTrace t) (λ t. IsNoTrace t) ⊤ }
+    ensures used { result.0 ≡ 3 → OfRun result.1 ⊥ (λ t e. (moved_by t ≡ []) × (moved_by e ≡ [])) (λ t. moved_by t ≡ []) (λ t. ⊥) (λ t. ⊥) ⊤ }
+    ensures device { result.0 ≡ 5 → result.1 ≢ ran.Nothing → (HasRisen (R.failures input.old) (R.failures input.new) ⊎ (0 < file_failures result.1))
         ⊎ (HasRisen (W.failures out.old) (W.failures out.new) ⊎ HasRisen (W.idle out.old) (W.idle out.new)) }
     // Any other status comes only where no device failed.
-    ensures kept { result.0 ≢ 5 → (R.failures input.new ≡ R.failures input.old) × (result.1 ≢ ran.Nothing → W.failures out.new ≡ W.failures out.old) }
+    ensures kept { result.0 ≢ 5 → (R.failures input.new ≡ R.failures input.old) × (file_failures result.1 ≡ 0) × (result.1 ≢ ran.Nothing → W.failures out.new ≡ W.failures out.old) }
+    // A command reads its files alone.
+    ensures unread { result.1 ≢ ran.Joined → input.new ≡ input.old }
     ensures unwritten { 2 ≤ result.0 → result.0 ≤ 4 → W.taken out.new ≡ W.taken out.old }
     // Also of input that never ends.
-    ensures most { OfBytes R.given input.old input.new (λ came. length came ≤ MAX_INPUT + CHUNK) }
+    ensures most { OfBytes R.given input.old input.new (λ came. length came ≤ MAX_INPUT + CHUNK) × OfFiles result.1 (λ file. length (moved_by file) ≤ MAX_INPUT + CHUNK) }
     // Of devices in memory: what came is what the reader had left, and what went out stands behind what the writer held.
     ensures known { AreNext R.given R.ends R.remaining input.old input.new }
     ensures held { StandBehind W.taken W.contents out.old out.new }
@@ -249,12 +267,14 @@ pub fn run_on<R: Read, W: Write, E: Write, P: Files + Threads + Wait + Sync>(
         (λ t. IsMadeEvidence t [] (moved_by result.2.1)) (λ t. (tuple : TupleValue) × IsToldHistory tuple t [] (moved_by result.2.1)) ⊤ }
     ensures dirty { result.0 ≡ 1 → OfRun result.1 (IsDirtyRun result.2.0 result.2.1) (λ t e. IsDirtyAudit t e [] (moved_by result.2.1))
         (λ t. IsDirtyAuditMade t [] (moved_by result.2.1)) (λ t. ⊥) (λ t. ⊥) ⊥ }
-    ensures refused { result.1 ≡ ran.Joined → result.0 ≡ 2 → (rest : List ℕ) → (0 < stops_of result.2.0 → rest ≡ []) → IsRefused (moved_by result.2.0 ++ rest) }
-    ensures used { result.1 ≡ ran.Joined → result.0 ≢ 3 }
-    ensures device { result.1 ≡ ran.Joined → result.0 ≡ 5 → 0 < failures_of result.2.0 + failures_of result.2.1 + stops_of result.2.1 }
-    ensures kept { result.0 ≢ 5 → (failures_of result.2.0 ≡ 0) × (result.1 ≢ ran.Nothing → failures_of result.2.1 ≡ 0) }
+    ensures refused { result.0 ≡ 2 → OfRun result.1 (OfEveryInput result.2.0 IsRefused)
+        (λ t e. IsNoAudit t e) (λ t. IsNoTrace t) (λ t. IsNoTrace t) (λ t. IsNoTrace t) ⊤ }
+    ensures used { result.0 ≡ 3 → OfRun result.1 ⊥ (λ t e. (moved_by t ≡ []) × (moved_by e ≡ [])) (λ t. moved_by t ≡ []) (λ t. ⊥) (λ t. ⊥) ⊤ }
+    ensures device { result.0 ≡ 5 → result.1 ≢ ran.Nothing → 0 < (failures_of result.2.0 + file_failures result.1) + (failures_of result.2.1 + stops_of result.2.1) }
+    ensures kept { result.0 ≢ 5 → (failures_of result.2.0 ≡ 0) × (file_failures result.1 ≡ 0) × (result.1 ≢ ran.Nothing → failures_of result.2.1 ≡ 0) }
+    ensures unread { result.1 ≢ ran.Joined → (moved_by result.2.0 ≡ []) × (failures_of result.2.0 ≡ 0) }
     ensures unwritten { 2 ≤ result.0 → result.0 ≤ 4 → moved_by result.2.1 ≡ [] }
-    ensures most { length (moved_by result.2.0) ≤ MAX_INPUT + CHUNK }
+    ensures most { (length (moved_by result.2.0) ≤ MAX_INPUT + CHUNK) × OfFiles result.1 (λ file. length (moved_by file) ≤ MAX_INPUT + CHUNK) }
     ensures statuses { result.0 ≤ 5 }
 {
     let mut input = Counted::new(input);
