@@ -1,6 +1,6 @@
 //! Finding what is wrong with the recorded decisions.
 
-ghost use Rattle.std.specs.Prelude.{◌≡◌, ◌<◌, ◌++◌, ℕ, List, Option, Some, length, slice_get, IfOk, string_bytes, OnOk};
+ghost use Rattle.std.specs.Prelude.{◌≡◌, ◌<◌, ◌++◌, ℕ, List, Option, Some, length, slice_get, IfOk, string_bytes, OnOk, OnErr};
 ghost use Rattle.std.specs.List.{flat_map};
 ghost use Rattle.trace_lines.specs.Values.{TraceValue, EntryValue};
 ghost use Rattle.evidence_check.specs.Evidences.{evidence_value};
@@ -63,17 +63,19 @@ pub fn found_on(
     Ok(found_where(trace, i, judged))
 }
 
-/// Appends a finding on this line for each thing that was found, in their order. For want of memory some of them may stand there already.
+/// Appends a finding on this line for each thing that was found, in their order. For want of memory the findings stay as they were.
 pub fn push_found(
     line: u64,
     found: &[Option<What>],
     findings: &mut Vec<Finding>,
 ) -> Result<(), AllocError>
-    ensures { OnOk result (findings.new.items ≡ findings.old.items ++ on_line line found.now) }
+    ensures pushes { OnOk result (findings.new.items ≡ findings.old.items ++ on_line line found.now) }
+    ensures unchanged { OnErr result (findings.new.items ≡ findings.old.items) }
 {
+    findings.reserve(found.len())?;
     for what in found {
         if let Some(what) = *what {
-            findings.push(Finding { line, what })?;
+            findings.push_reserved(Finding { line, what });
         }
     }
     Ok(())
