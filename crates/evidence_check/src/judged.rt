@@ -20,6 +20,7 @@ use std::alloc::AllocError;
 use trace_lines::laws::valid_strata;
 use trace_lines::{Entry, Trace};
 use tuple_text::Fact;
+use version_chains::MarkedSet;
 
 /// How evidence judges an entry.
 #[derive(Clone, Copy, Debug, PartialEq, Eq)]
@@ -41,7 +42,10 @@ pub fn is_proved(trace: &Trace, at: u64, known: &Known, fact: &Fact) -> bool
     ensures { IsTrue result ↔ IsProved (rule_at trace.now.declarations at) (store_at trace.now.commits at) known.now fact.now }
 {
     match trace.rules().body(fact.set(), at) {
-        Some(rule) => established(rule, fact.set(), fact.user(), trace, at, known),
+        Some(rule) => {
+            let set = MarkedSet::of(fact.set());
+            established(rule, set, fact.user(), trace, at, known)
+        }
         None => false,
     }
 }
@@ -51,7 +55,10 @@ fn is_disproved(trace: &Trace, at: u64, known: &Known, fact: &Fact) -> bool
     ensures { IsTrue result ↔ IsDisproved (rule_at trace.now.declarations at) (store_at trace.now.commits at) known.now fact.now }
 {
     match trace.rules().body(fact.set(), at) {
-        Some(rule) => refuted(rule, fact.set(), fact.user(), trace, at, known),
+        Some(rule) => {
+            let set = MarkedSet::of(fact.set());
+            refuted(rule, set, fact.user(), trace, at, known)
+        }
         None => true,
     }
 }

@@ -9,7 +9,7 @@ use std::collections::BTreeMap;
 use std::mem;
 use trace_lines::Trace;
 use tuple_text::{Fact, SetRef, TupleFault, Userset};
-use version_chains::Usersets;
+use version_chains::{MarkedSet, Usersets};
 
 /// What a gate waits for, of those that feed it.
 #[derive(Clone, Copy, Drop)]
@@ -253,7 +253,7 @@ impl Gates {
                     relation: tupleset.as_str(),
                     ..site.set
                 };
-                let sets = site.trace.chains().usersets(set, site.at);
+                let sets = site.trace.chains().usersets(MarkedSet::of(set), site.at);
                 self.add_targets(sets, Some(computed.as_str()), gate)
             }
             Rewrite::Union(children) => {
@@ -298,10 +298,11 @@ impl Gates {
     fn add_this(&mut self, site: Site<'_>, to: usize) -> Result<(), AllocError> {
         let gate = self.add(1, Wants::Some)?;
         self.feed(gate, to)?;
-        if site.trace.chains().has_id(site.set, site.user, site.at) {
+        let set = MarkedSet::of(site.set);
+        if site.trace.chains().has_id(set, site.user, site.at) {
             self.lower(gate, None)?;
         }
-        let sets = site.trace.chains().usersets(site.set, site.at);
+        let sets = site.trace.chains().usersets(set, site.at);
         self.add_targets(sets, None, gate)
     }
 
@@ -314,8 +315,8 @@ impl Gates {
     ) -> Result<(), AllocError> {
         for set in sets {
             let set = SetRef {
-                relation: relation.unwrap_or(set.relation),
-                ..set
+                relation: relation.unwrap_or(set.set.relation),
+                ..set.set
             };
             self.add_premise(set, to)?;
         }

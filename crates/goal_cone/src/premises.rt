@@ -20,7 +20,7 @@ use namespaces::Rewrite;
 use std::alloc::Global;
 use trace_lines::Trace;
 use tuple_text::{Fact, SetRef, TupleFault};
-use version_chains::Usersets;
+use version_chains::{MarkedSet, Usersets};
 
 /// How many facts a cone may have.
 pub const MAX_USERSETS: usize = 131072;
@@ -98,7 +98,7 @@ fn see_each(
             return Err(ConeFault::Outgrown);
         }
         *room -= 1;
-        see(alloc, trace, at, target(set, relation), user, seen)?;
+        see(alloc, trace, at, target(set.set, relation), user, seen)?;
     }
     Ok(())
 }
@@ -121,7 +121,7 @@ fn see_stored(
         ⊎ IsStuck MAX_USERSETS MAX_LINKS (rule_at trace.now.declarations at) (store_at trace.now.commits at)
         (IsGiven (store_at trace.now.commits at) (set_value set.entry) (option_map (λ s. s.now) relation.entry) user) seen.old }
 {
-    let sets = trace.chains().usersets(set, at);
+    let sets = trace.chains().usersets(MarkedSet::of(set), at);
     see_each(alloc, trace, at, relation, user, sets, seen, room)
 }
 

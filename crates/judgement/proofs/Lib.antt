@@ -1,3 +1,2 @@
-pub mod AmongLemmas
 pub mod MarkedLemmas
 pub mod PassLemmas

@@ -1,45 +1,90 @@
 //! Facts, few or many.
 
-ghost use Rattle.std.specs.Prelude.{◌≡◌, ◌∷◌, ◌++◌, [], OnOk, OnErr, IsTrue, ◌↔◌, Contains};
+ghost use Rattle.std.specs.Prelude.{◌≡◌, ◌∷◌, ◌++◌, [], IfOk, OnOk, OnErr, IsTrue, ◌↔◌, Contains, map, true};
 ghost use Rattle.std.specs.List.{list_any};
 ghost use Rattle.tuple_text.specs.Order.{fact_eq};
 ghost use Rattle.tuple_text.specs.Refs.{set_value};
-ghost use Rattle.tuple_text.specs.Tuples.{fact_of};
+ghost use Rattle.tuple_text.specs.Tuples.{fact_of, fact_tuple};
+ghost use Rattle.version_chains.specs.Marks.{tuple_mark};
 
-use crate::indexed::{Indexed, is_same};
 use std::alloc::{AllocError, Global};
 use std::marker::Model;
 use tuple_text::{Fact, SetRef};
+use version_chains::{MarkedSet, Places, fact_mark};
 
+/// How many facts are looked at one after the other, which needs neither marks nor memory for them.
 const FEW: usize = 8;
 
 /// Facts, which contracts see as the list of them in the order in which they were added.
 ///
-/// The first few are looked at one after the other, which needs no memory for an index; all others have one.
+/// Where they are more than a few they are found by their marks, as the store finds tuples: whoever chooses the texts can
+/// choose them for one tree of the table, which still finds each mark in the logarithm of their number.
 #[derive(Drop)]
 pub(crate) struct Facts {
-    first: Vec<Fact>,
-    rest: Indexed,
+    facts: Vec<Fact>,
+    // whether the marks are those of the facts
+    is_marked: bool,
+    marks: Places,
 }
 
 impl Model for Facts {
-    ghost use Rattle.std.specs.Prelude.{List, ◌≡◌, ◌++◌, ◌<◌, [], vec_len};
-    ghost use Rattle.tuple_text.specs.Tuples.{FactValue};
+    ghost use Rattle.std.specs.Prelude.{List, ◌≡◌, map, true};
+    ghost use Rattle.tuple_text.specs.Tuples.{FactValue, fact_tuple};
+    ghost use Rattle.version_chains.specs.Marks.{tuple_mark};
     ghost use Rattle.judgement.specs.KnownCode.{facts_code};
 
     ghost Value = { List FactValue };
 
     ghost coded = { facts_code };
 
-    ghost view = { λ s. s.first.items ++ s.rest };
+    ghost view = { λ s. s.facts.items };
 
-    ghost invariant = { λ s. vec_len s.first < 8 → s.rest ≡ [] };
+    ghost invariant = { λ s. s.is_marked ≡ true → s.marks ≡ map tuple_mark (map fact_tuple s.facts.items) };
+}
+
+fn is_same(fact: &Fact, set: SetRef<'_>, user: u64) -> bool
+    ensures { result ≡ fact_eq (fact_of (set_value set.entry) user) fact.now }
+{
+    set == fact.set() && user == fact.user()
 }
 
 fn is_among(facts: &[Fact], set: SetRef<'_>, user: u64) -> bool
-    ensures { result ≡ list_any (fact_eq (fact_of (set_value set.entry) user)) facts.now }
+    ensures { IsTrue result ↔ Contains facts.now (fact_of (set_value set.entry) user) }
 {
     facts.iter().any(|fact| is_same(fact, set, user))
+}
+
+fn mark_of(fact: &Fact) -> u64
+    ensures { result ≡ tuple_mark (fact_tuple fact.now) }
+{
+    fact_mark(MarkedSet::of(fact.set()), fact.user())
+}
+
+/// The marks of facts, in order.
+fn marks_of(alloc: Global, facts: &[Fact]) -> Result<Places, AllocError>
+    ensures { IfOk result (λ marks. marks ≡ map tuple_mark (map fact_tuple facts.now)) }
+{
+    let mut marks = Places::new(alloc);
+    for fact in facts {
+        marks.push(mark_of(fact))?;
+    }
+    Ok(marks)
+}
+
+/// Whether a fact stands at a place that its mark names.
+fn is_found(facts: &[Fact], marks: &Places, set: MarkedSet<'_>, user: u64) -> bool
+    requires { marks.now ≡ map tuple_mark (map fact_tuple facts.now) }
+    ensures { IsTrue result ↔ Contains facts.now (fact_of (set_value set.entry.set) user) }
+{
+    let mut place = marks.newest(fact_mark(set, user));
+    while place > 0 {
+        let number = place - 1;
+        if is_same(&facts[number], set.set, user) {
+            return true;
+        }
+        place = marks.older(number);
+    }
+    false
 }
 
 impl Facts {
@@ -47,9 +92,21 @@ impl Facts {
         ensures { result ≡ [] }
     {
         Facts {
-            first: Vec::new(alloc),
-            rest: Indexed::new(alloc),
+            facts: Vec::new(alloc),
+            is_marked: false,
+            marks: Places::new(alloc),
         }
+    }
+
+    /// Finds all facts by their marks from now on. For want of memory nothing changes.
+    fn mark(&mut self) -> Result<(), AllocError>
+        ensures same { self.new ≡ self.old }
+    {
+        if !self.is_marked {
+            self.marks = marks_of(*self.facts.allocator(), &self.facts)?;
+            self.is_marked = true;
+        }
+        Ok(())
     }
 
     /// Adds a fact. For want of memory the facts stay as they were.
@@ -57,17 +114,38 @@ impl Facts {
         ensures ok { OnOk result (self.new ≡ self.old ++ fact ∷ []) }
         ensures err { OnErr result (self.new ≡ self.old) }
     {
-        if self.first.len() < FEW {
-            self.first.push(fact)?;
-            return Ok(());
+        if self.facts.len() >= FEW {
+            self.mark()?;
         }
-        self.rest.add(fact)
+        self.facts.reserve(1)?;
+        if self.is_marked {
+            self.marks.push(mark_of(&fact))?;
+        }
+        if self.facts.push(fact).is_err() {
+            unreachable!();
+        }
+        Ok(())
     }
 
     /// Whether the fact of a userset and a user id is there.
     pub(crate) fn has(&self, set: SetRef<'_>, user: u64) -> bool
         ensures { IsTrue result ↔ Contains self.now (fact_of (set_value set.entry) user) }
     {
-        is_among(&self.first, set, user) || self.rest.has(set, user)
+        if self.is_marked {
+            is_found(&self.facts, &self.marks, MarkedSet::of(set), user)
+        } else {
+            is_among(&self.facts, set, user)
+        }
+    }
+
+    /// The same for a userset whose mark is at hand.
+    pub(crate) fn has_marked(&self, set: MarkedSet<'_>, user: u64) -> bool
+        ensures { IsTrue result ↔ Contains self.now (fact_of (set_value set.entry.set) user) }
+    {
+        if self.is_marked {
+            is_found(&self.facts, &self.marks, set, user)
+        } else {
+            is_among(&self.facts, set.set, user)
+        }
     }
 }

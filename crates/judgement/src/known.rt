@@ -8,6 +8,7 @@ use crate::facts::Facts;
 use std::alloc::{AllocError, Global};
 use std::marker::Model;
 use tuple_text::{Fact, SetRef};
+use version_chains::MarkedSet;
 
 /// The facts that are known to hold, and those that are known not to. Contracts see the two lists, in the order in which facts
 /// were added.
@@ -69,5 +70,19 @@ impl Known {
         ensures { IsTrue result ↔ Contains self.now.no (fact_of (set_value set.entry) user) }
     {
         self.no.has(set, user)
+    }
+
+    /// [`Known::yes`] of a userset whose mark is at hand.
+    pub fn yes_marked(&self, set: MarkedSet<'_>, user: u64) -> bool
+        ensures { IsTrue result ↔ Contains self.now.yes (fact_of (set_value set.entry.set) user) }
+    {
+        self.yes.has_marked(set, user)
+    }
+
+    /// [`Known::no`] of a userset whose mark is at hand.
+    pub fn no_marked(&self, set: MarkedSet<'_>, user: u64) -> bool
+        ensures { IsTrue result ↔ Contains self.now.no (fact_of (set_value set.entry.set) user) }
+    {
+        self.no.has_marked(set, user)
     }
 }

@@ -11,12 +11,11 @@
 //!
 //! ```text
 //! known.add_yes(fact)?;
-//! let is_given = established(rewrite, set, user, &trace, at, &known);
+//! let is_given = established(rewrite, MarkedSet::of(set), user, &trace, at, &known);
 //! ```
 #![tactic(auto)]
 
 mod facts;
-mod indexed;
 mod known;
 mod stored;
 mod table;

@@ -2,42 +2,60 @@
 
 ghost use Rattle.std.specs.Prelude.{◌≡◌, ◌↔◌, IsTrue, option_map};
 ghost use Rattle.tuple_text.specs.Refs.{set_value};
-ghost use Rattle.tuple_text.specs.Tuples.{fact_of};
 ghost use Rattle.tuple_text.specs.declared.users.User.TheVariants.{Id};
 ghost use Rattle.namespaces.specs.Lookup.{rule_at};
-ghost use Rattle.strata.specs.Meaning.{IsStored};
+ghost use Rattle.strata.specs.Meaning.{with_relation, IsStored};
 ghost use Rattle.version_chains.specs.Commits.{store_at};
-ghost use Rattle.judgement.specs.Judgement.{IsOut};
-ghost use Rattle.judgement.specs.Passes.{target, GivesId, BarsId, SomeSet, EachSet, IsLed, IsBarred};
+ghost use Rattle.judgement.specs.Passes.{GivesId, BarsId, SomeSet, EachSet, IsLed, IsBarred};
 
 use crate::known::Known;
 use namespaces::Rules;
 use trace_lines::Trace;
 use tuple_text::SetRef;
-use version_chains::Usersets;
+use version_chains::{MarkedSet, Usersets};
 
-/// The userset whose members are asked for: a stored one itself, or its object under a relation.
-fn target<'a>(set: SetRef<'a>, relation: Option<&'a str>) -> SetRef<'a>
-    ensures { set_value result ≡ target (set_value set.entry) (option_map (λ s. s.now) relation.entry) }
+/// The same object under another relation.
+pub(crate) fn under<'a>(set: SetRef<'a>, relation: &'a str) -> SetRef<'a>
+    ensures { set_value result ≡ with_relation (set_value set.entry) relation.now }
+{
+    SetRef { relation, ..set }
+}
+
+/// Whether the target of a userset is known to hold a user: the userset itself, or its object under a relation.
+fn is_in(known: &Known, set: MarkedSet<'_>, relation: Option<&str>, id: u64) -> bool
+    ensures { IsTrue result ↔ GivesId known.now (option_map (λ s. s.now) relation.entry) id (set_value set.entry.set) }
 {
     match relation {
-        None => set,
-        Some(relation) => SetRef { relation, ..set },
+        None => known.yes_marked(set, id),
+        Some(relation) => known.yes(under(set.set, relation), id),
     }
 }
 
-/// Whether a fact is known not to hold, or its userset is undeclared at a timestamp and so has no members.
-fn is_out(rules: &Rules, at: u64, known: &Known, set: SetRef<'_>, id: u64) -> bool
-    ensures { IsTrue result ↔ IsOut (rule_at rules.now at) known.now (fact_of (set_value set.entry) id) }
+/// Whether the target of a userset is known not to hold a user, or is undeclared at a timestamp and so has no members.
+fn is_out(
+    rules: &Rules,
+    at: u64,
+    known: &Known,
+    set: MarkedSet<'_>,
+    relation: Option<&str>,
+    id: u64,
+) -> bool
+    ensures { IsTrue result ↔ BarsId (rule_at rules.now at) known.now (option_map (λ s. s.now) relation.entry) id (set_value set.entry.set) }
 {
-    known.no(set, id) || rules.body(set, at).is_none()
+    match relation {
+        None => known.no_marked(set, id) || rules.body(set.set, at).is_none(),
+        Some(relation) => {
+            let target = under(set.set, relation);
+            known.no(target, id) || rules.body(target, at).is_none()
+        }
+    }
 }
 
 fn gives_some(known: &Known, relation: Option<&str>, id: u64, sets: Usersets<'_>) -> bool
     ensures { IsTrue result ↔ SomeSet (GivesId known.now (option_map (λ s. s.now) relation.entry) id) sets.entry }
 {
     for set in sets {
-        if known.yes(target(set, relation), id) {
+        if is_in(known, set, relation, id) {
             return true;
         }
     }
@@ -56,7 +74,7 @@ fn bars_each(
         ↔ EachSet (BarsId (rule_at rules.now at) known.now (option_map (λ s. s.now) relation.entry) id) sets.entry }
 {
     for set in sets {
-        if !is_out(rules, at, known, target(set, relation), id) {
+        if !is_out(rules, at, known, set, relation, id) {
             return false;
         }
     }
@@ -64,8 +82,8 @@ fn bars_each(
 }
 
 /// Whether the tuple of a userset and a user id is stored.
-pub(crate) fn is_stored(trace: &Trace, at: u64, set: SetRef<'_>, user: u64) -> bool
-    ensures { IsTrue result ↔ IsStored (store_at trace.now.commits at) (set_value set.entry) (Id user) }
+pub(crate) fn is_stored(trace: &Trace, at: u64, set: MarkedSet<'_>, user: u64) -> bool
+    ensures { IsTrue result ↔ IsStored (store_at trace.now.commits at) (set_value set.entry.set) (Id user) }
 {
     trace.chains().has_id(set, user, at)
 }
@@ -75,12 +93,12 @@ pub(crate) fn is_led(
     trace: &Trace,
     at: u64,
     known: &Known,
-    set: SetRef<'_>,
+    set: MarkedSet<'_>,
     relation: Option<&str>,
     user: u64,
 ) -> bool
     ensures { IsTrue result
-        ↔ IsLed (store_at trace.now.commits at) known.now (set_value set.entry) (option_map (λ s. s.now) relation.entry) user }
+        ↔ IsLed (store_at trace.now.commits at) known.now (set_value set.entry.set) (option_map (λ s. s.now) relation.entry) user }
 {
     let sets = trace.chains().usersets(set, at);
     gives_some(known, relation, user, sets)
@@ -91,12 +109,12 @@ pub(crate) fn is_barred(
     trace: &Trace,
     at: u64,
     known: &Known,
-    set: SetRef<'_>,
+    set: MarkedSet<'_>,
     relation: Option<&str>,
     user: u64,
 ) -> bool
     ensures { IsTrue result
-        ↔ IsBarred (rule_at trace.now.declarations at) (store_at trace.now.commits at) known.now (set_value set.entry)
+        ↔ IsBarred (rule_at trace.now.declarations at) (store_at trace.now.commits at) known.now (set_value set.entry.set)
         (option_map (λ s. s.now) relation.entry) user }
 {
     let sets = trace.chains().usersets(set, at);

@@ -5,43 +5,35 @@ ghost use Rattle.tuple_text.specs.Refs.{set_value};
 ghost use Rattle.tuple_text.specs.Tuples.{fact_of};
 ghost use Rattle.namespaces.specs.Lookup.{rule_at};
 ghost use Rattle.namespaces.specs.View.{expression_of};
-ghost use Rattle.strata.specs.Meaning.{with_relation};
 ghost use Rattle.version_chains.specs.Commits.{store_at};
 ghost use Rattle.judgement.specs.Judgement.{Established, Refuted};
 
 use crate::known::Known;
-use crate::stored::{is_barred, is_led, is_stored};
+use crate::stored::{is_barred, is_led, is_stored, under};
 use namespaces::Rewrite;
 use trace_lines::Trace;
-use tuple_text::SetRef;
-
-/// The same object under another relation.
-fn under<'a>(set: SetRef<'a>, relation: &'a str) -> SetRef<'a>
-    ensures { set_value result ≡ with_relation (set_value set.entry) relation.now }
-{
-    SetRef { relation, ..set }
-}
+use version_chains::MarkedSet;
 
 /// Whether what is known gives that a user is in a userset by a rule of it, over the tuples that are stored at a timestamp.
 #[cycle(judge)]
 pub fn established(
     rewrite: &Rewrite,
-    set: SetRef<'_>,
+    set: MarkedSet<'_>,
     user: u64,
     trace: &Trace,
     at: u64,
     known: &Known,
 ) -> bool
     ensures { IsTrue result ↔ Established (rule_at trace.now.declarations at) (store_at trace.now.commits at) known.now
-        (fact_of (set_value set.entry) user) (expression_of rewrite.now) }
+        (fact_of (set_value set.entry.set) user) (expression_of rewrite.now) }
 {
     match rewrite {
         Rewrite::This => {
             is_stored(trace, at, set, user) || is_led(trace, at, known, set, None, user)
         }
-        Rewrite::Computed(relation) => known.yes(under(set, relation.as_str()), user),
+        Rewrite::Computed(relation) => known.yes(under(set.set, relation.as_str()), user),
         Rewrite::TupleTo { tupleset, computed } => {
-            let tupleset = under(set, tupleset.as_str());
+            let tupleset = MarkedSet::of(under(set.set, tupleset.as_str()));
             is_led(trace, at, known, tupleset, Some(computed.as_str()), user)
         }
         Rewrite::Union(children) => {
@@ -71,22 +63,22 @@ pub fn established(
 #[cycle(judge)]
 pub fn refuted(
     rewrite: &Rewrite,
-    set: SetRef<'_>,
+    set: MarkedSet<'_>,
     user: u64,
     trace: &Trace,
     at: u64,
     known: &Known,
 ) -> bool
     ensures { IsTrue result ↔ Refuted (rule_at trace.now.declarations at) (store_at trace.now.commits at) known.now
-        (fact_of (set_value set.entry) user) (expression_of rewrite.now) }
+        (fact_of (set_value set.entry.set) user) (expression_of rewrite.now) }
 {
     match rewrite {
         Rewrite::This => {
             !is_stored(trace, at, set, user) && is_barred(trace, at, known, set, None, user)
         }
-        Rewrite::Computed(relation) => known.no(under(set, relation.as_str()), user),
+        Rewrite::Computed(relation) => known.no(under(set.set, relation.as_str()), user),
         Rewrite::TupleTo { tupleset, computed } => {
-            let tupleset = under(set, tupleset.as_str());
+            let tupleset = MarkedSet::of(under(set.set, tupleset.as_str()));
             is_barred(trace, at, known, tupleset, Some(computed.as_str()), user)
         }
         Rewrite::Union(children) => {

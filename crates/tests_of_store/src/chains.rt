@@ -4,7 +4,7 @@ use std::alloc::Global;
 use std::test::Fail;
 use tuple_text::{SetRef, Tuple, UserRef, Userset, parse_tuple, parse_userset};
 use version_chains::among::{is_every_set_among, is_some_set_among};
-use version_chains::{AppendFault, Chains};
+use version_chains::{AppendFault, Chains, MarkedSet};
 
 const NONE: &[&str] = &[];
 
@@ -67,7 +67,7 @@ fn count_of_users(chains: &Chains, at: u64) -> usize {
 /// Whether user 1 is stored, where each question about it has the same answer.
 fn is_stored(chains: &Chains, viewer: &Tuple, at: u64) -> Option<bool> {
     let stored = chains.has(viewer, at);
-    if chains.has_id(VIEWED, 1, at) != stored || is_listed(chains, 1, at) != stored {
+    if chains.has_id(MarkedSet::of(VIEWED), 1, at) != stored || is_listed(chains, 1, at) != stored {
         return None;
     }
     Some(stored)
@@ -168,7 +168,7 @@ fn are_among(these: &[Userset], chains: &Chains, at: u64) -> (bool, bool) {
 
 fn count_of_usersets(chains: &Chains, at: u64) -> usize {
     let mut count = 0usize;
-    for _ in chains.usersets(VIEWED, at) {
+    for _ in chains.usersets(MarkedSet::of(VIEWED), at) {
         count = count.saturating_add(1);
     }
     count

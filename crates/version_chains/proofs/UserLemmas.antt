@@ -13,7 +13,7 @@ use Rattle.tuple_text.proofs.ValueLemmas.{set_eq-same, set_eq-itself, user_eq-sa
 use Rattle.version_chains.specs.Arena.{Held, AreApartAt}
 use Rattle.version_chains.specs.Commits.{touches_to, until, last_live}
 use Rattle.version_chains.specs.Given.{AreTouchesKnown, is_of_kind, is_given, users_before, has_mark_of}
-use Rattle.version_chains.specs.Marks.{set_mark, held_mark, is_userset}
+use Rattle.version_chains.specs.Marks.{set_mark, kind_mark, held_mark, is_userset}
 use Rattle.version_chains.specs.Placed.{in_front, last_place, newest_first, IsLinkedPlace}
 use Rattle.version_chains.proofs.NewestLemmas.{live_touched}
 use Rattle.version_chains.proofs.PlacedLemmas.{and-left, and-right, given_at, given_from, last_place-within, newest_first-here, newest_first-not_here}
@@ -43,7 +43,7 @@ module _ (g : SetValue) (k : Bool) (s : ℕ) (h : Held) where
   given_marked : (t : TupleValue) → is_given g k s h.touches t ≡ true → has_mark_of g k t ≡ true
   given_marked t e =
       let kind : k ≡ is_userset t.user = sym ((booleans_Decides (is_userset t.user) k).0 (of_kind t e)) in
-      eq-eqb (set_mark g k) (held_mark t) (λ i. set_mark (sym (of_set t e) i) (kind i))
+      eq-eqb (kind_mark (set_mark g) k) (held_mark t) (λ i. kind_mark (set_mark (sym (of_set t e) i)) (kind i))
 
   -- one with the same user is the same tuple
   same_tuple : (t u : TupleValue) → is_given g k s h.touches t ≡ true → is_given g k s h.touches u ≡ true → user_eq t.user u.user ≡ true → t ≡ u
@@ -121,7 +121,7 @@ module _ (g : SetValue) (k : Bool) (s : ℕ) (h : Held) where
     link_of_set : older ≡ last_place (has_mark_of g k) h.tuples m
     link_of_set =
         let w = linked_item (has_mark_of g k) h.tuples m on in
-        link w.0 w.1 ∙ ap (λ (mark : ℕ). last_place (λ t. nat_eq mark (held_mark t)) h.tuples m) (sym (eqb-true (set_mark g k) (held_mark w.0) w.2))
+        link w.0 w.1 ∙ ap (λ (mark : ℕ). last_place (λ t. nat_eq mark (held_mark t)) h.tuples m) (sym (eqb-true (kind_mark (set_mark g) k) (held_mark w.0) w.2))
 
     pub users_smaller : (place : ℕ) → place ≡ suc m → older < place
     users_smaller place e =

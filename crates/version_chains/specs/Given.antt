@@ -9,12 +9,12 @@ use Rattle.tuple_text.specs.Order.{tuple_eq}
 use Rattle.tuple_text.specs.Refs.{user_value}
 use Rattle.tuple_text.specs.declared.users.User.{User}
 use Rattle.tuple_text.specs.declared.users.User.TheVariants.{Id, Set}
-use Rattle.tuple_text.specs.declared.users.UserRef.{UserRef}
 use Rattle.version_chains.specs.Appends.{first_repeat}
 use Rattle.version_chains.specs.Arena.{Held}
 use Rattle.version_chains.specs.Commits.{Commit, Touch, changelog, touches_to, until, last_live}
 use Rattle.version_chains.specs.Placed.{last_place, newest_first, IsLinkedPlace}
-use Rattle.version_chains.specs.Marks.{set_mark, held_mark, is_userset}
+use Rattle.version_chains.specs.Marks.{set_mark, kind_mark, held_mark, is_userset}
+use Rattle.version_chains.specs.declared.marks.MarkedUser.{MarkedUser}
 use Rattle.version_chains.specs.declared.node.Node.{Node}
 
 -- the place of the newest touch of a tuple among the first n
@@ -49,8 +49,8 @@ abbrev pub is_given : SetValue → Bool → ℕ → List Touch → TupleValue �
 is_given g usersets s touches t = set_eq t.set g && (is_of_kind usersets t.user && is_stored_by touches s t)
 
 -- the user is given where the test says so
-abbrev pub Gives : Option UserRef → Bool → User → Type 0
-Gives result given user = MatchOption result (given ≡ false) (λ u. (given ≡ true) × (user_value u ≡ user))
+abbrev pub Gives : Option MarkedUser → Bool → User → Type 0
+Gives result given user = MatchOption result (given ≡ false) (λ u. (given ≡ true) × (user_value u.user ≡ user))
 
 -- the users of such tuples at the first places, the last first
 abbrev pub users_before : SetValue → Bool → ℕ → Held → ℕ → List User
@@ -68,7 +68,7 @@ AreUsersets us = AllByRecursion (λ u. is_userset u ≡ true) us
 
 -- the tuple's userset and the kind of its user have this mark
 abbrev pub has_mark_of : SetValue → Bool → TupleValue → Bool
-has_mark_of g usersets t = nat_eq (set_mark g usersets) (held_mark t)
+has_mark_of g usersets t = nat_eq (kind_mark (set_mark g) usersets) (held_mark t)
 
 -- the tuple's touches at the first places, the last first
 abbrev pub history_before : TupleValue → Held → ℕ → List (ℕ × Bool)

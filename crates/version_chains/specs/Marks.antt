@@ -1,8 +1,9 @@
--- Marks of tuples and usersets: SipHash of their texts. Equal ones have equal marks, and no more is used.
-use Rattle.std.specs.Prelude.{ℕ, Bool, true, false, List, [], ◌∷◌}
+-- Marks of usersets, users and tuples: SipHash of their texts, or of two marks. Equal ones have equal marks, and no more is used.
+use Rattle.std.specs.Prelude.{ℕ, Bool, true, false, List, [], ◌∷◌, cond}
 use Rattle.std.specs.Hash.DefaultHasher as sip
 use Rattle.std.specs.declared.hash.DefaultHasher.{DefaultHasher}
 use Rattle.std.specs.Int.{w64, to_le_bytes}
+use Rattle.std.specs.Int.Bits.{bit_xor}
 use Rattle.tuple_text.specs.Sets.{SetValue}
 use Rattle.tuple_text.specs.Tuples.{TupleValue}
 use Rattle.tuple_text.specs.declared.users.User.{User}
@@ -15,27 +16,30 @@ fed_text h text = sip.write (sip.write h text) (0xff ∷ [])
 abbrev pub fed_set : DefaultHasher → SetValue → DefaultHasher
 fed_set h g = fed_text (fed_text (fed_text h g.namespace) g.id) g.relation
 
-abbrev pub fed_user : DefaultHasher → User → DefaultHasher
-fed_user h (Id n) = sip.write h (to_le_bytes w64 n)
-fed_user h (Set g) = fed_set h g
+unfoldable pub set_mark : SetValue → ℕ
+set_mark g = sip.finish (fed_set sip.initial g)
+
+-- an id is its own mark
+abbrev pub user_mark : User → ℕ
+user_mark (Id n) = n
+user_mark (Set g) = set_mark g
+
+-- of two marks, in this order
+unfoldable pub pair_mark : ℕ → ℕ → ℕ
+pair_mark m n = sip.finish (sip.write (sip.write sip.initial (to_le_bytes w64 m)) (to_le_bytes w64 n))
+
+abbrev pub tuple_mark : TupleValue → ℕ
+tuple_mark t = pair_mark (set_mark t.set) (user_mark t.user)
 
 -- whether a user is a userset
 abbrev pub is_userset : User → Bool
 is_userset (Id n) = false
 is_userset (Set g) = true
 
--- the hasher after the kind of users, which are usersets or ids
-abbrev pub fed_kind : DefaultHasher → Bool → DefaultHasher
-fed_kind h true = sip.write h (1 ∷ [])
-fed_kind h false = h
-
--- of a userset and one kind of its users
-unfoldable pub set_mark : SetValue → Bool → ℕ
-set_mark g usersets = sip.finish (fed_kind (fed_set sip.initial g) usersets)
+-- of a userset with this mark and one kind of its users, which are usersets or ids
+abbrev pub kind_mark : ℕ → Bool → ℕ
+kind_mark mark usersets = cond usersets mark (bit_xor mark 1)
 
 -- of a tuple's userset and the kind of its user
 abbrev pub held_mark : TupleValue → ℕ
-held_mark t = set_mark t.set (is_userset t.user)
-
-unfoldable pub tuple_mark : TupleValue → ℕ
-tuple_mark t = sip.finish (fed_user (fed_set sip.initial t.set) t.user)
+held_mark t = kind_mark (set_mark t.set) (is_userset t.user)

@@ -6,6 +6,7 @@ ghost use Rattle.tuple_text.specs.Refs.{set_value};
 ghost use Rattle.version_chains.specs.Among.{EveryStoredSetIsAmong, SomeStoredSetIsAmong, is_among};
 
 use crate::chains::Chains;
+use crate::marks::MarkedSet;
 use crate::users::Usersets;
 use tuple_text::{SetRef, Userset};
 
@@ -19,7 +20,7 @@ fn are_all_among(these: &[Userset], sets: Usersets<'_>) -> bool
     ensures { result ≡ list_all (is_among these.now) sets.entry }
 {
     for set in sets {
-        if !is_among(these, set) {
+        if !is_among(these, set.set) {
             return false;
         }
     }
@@ -30,7 +31,7 @@ fn is_any_among(these: &[Userset], sets: Usersets<'_>) -> bool
     ensures { result ≡ list_any (is_among these.now) sets.entry }
 {
     for set in sets {
-        if is_among(these, set) {
+        if is_among(these, set.set) {
             return true;
         }
     }
@@ -41,12 +42,12 @@ fn is_any_among(these: &[Userset], sets: Usersets<'_>) -> bool
 pub fn is_every_set_among(these: &[Userset], chains: &Chains, set: SetRef<'_>, at: u64) -> bool
     ensures { IsTrue result ↔ EveryStoredSetIsAmong these.now chains.now.commits at (set_value set.entry) }
 {
-    are_all_among(these, chains.usersets(set, at))
+    are_all_among(these, chains.usersets(MarkedSet::of(set), at))
 }
 
 /// Whether some userset that is stored in the set at the timestamp is among these.
 pub fn is_some_set_among(these: &[Userset], chains: &Chains, set: SetRef<'_>, at: u64) -> bool
     ensures { IsTrue result ↔ SomeStoredSetIsAmong these.now chains.now.commits at (set_value set.entry) }
 {
-    is_any_among(these, chains.usersets(set, at))
+    is_any_among(these, chains.usersets(MarkedSet::of(set), at))
 }

@@ -10,7 +10,7 @@ ghost use Rattle.version_chains.specs.Given.{AreTouchesKnown, Gives, IsTouchAt, 
 ghost use Rattle.version_chains.specs.Marks.{is_userset};
 ghost use Rattle.version_chains.specs.Placed.{last_place};
 
-use crate::marks::{is_userset, set_mark, tuple_mark};
+use crate::marks::{MarkedSet, MarkedUser, is_userset, kind_mark, tuple_mark};
 use crate::node::{Node, at_place, next_links};
 use crate::places::Places;
 use std::alloc::{AllocError, Global};
@@ -25,6 +25,8 @@ use tuple_text::{SetRef, Tuple, UserRef};
 #[derive(Drop)]
 pub struct Arena {
     tuples: Vec<Tuple>,
+    // the marks of their users
+    users: Vec<u64>,
     latest: Vec<usize>,
     named: Places,
     held: Places,
@@ -37,11 +39,13 @@ impl Model for Arena {
 
     ghost Value = { Held };
 
+    ghost use Rattle.std.specs.Prelude.{◌≡◌};
     ghost use Rattle.version_chains.specs.Arena.{IsLinked, touch_of};
+    ghost use Rattle.version_chains.specs.Marks.{user_mark};
 
     ghost view = { λ a. record { tuples = a.tuples.items; touches = map (touch_of a.tuples.items) a.nodes.items; room = vec_capacity a.nodes - vec_len a.nodes } };
 
-    ghost invariant = { λ a. IsLinked a.tuples.items a.latest.items a.named a.held a.nodes.items };
+    ghost invariant = { λ a. IsLinked a.tuples.items a.latest.items a.named a.held a.nodes.items × (a.users.items ≡ map (λ t. user_mark t.user) a.tuples.items) };
 }
 
 /// Whether the tuple has this userset and this user.
@@ -58,6 +62,7 @@ impl Arena {
     {
         Arena {
             tuples: Vec::new(alloc),
+            users: Vec::new(alloc),
             latest: Vec::new(alloc),
             named: Places::new(alloc),
             held: Places::new(alloc),
@@ -74,15 +79,15 @@ impl Arena {
     }
 
     /// The number of a tuple.
-    pub fn find(&self, set: SetRef<'_>, user: UserRef<'_>) -> Option<usize>
-        ensures found { MatchOption result (IsUnnumbered self.now (tuple_of (set_value set.entry) (user_value user.entry)))
-            (IsNumber self.now.tuples (tuple_of (set_value set.entry) (user_value user.entry))) }
-        ensures untouched { result ≡ None → IsUntouched self.now (tuple_of (set_value set.entry) (user_value user.entry)) }
+    pub fn find(&self, set: MarkedSet<'_>, user: MarkedUser<'_>) -> Option<usize>
+        ensures found { MatchOption result (IsUnnumbered self.now (tuple_of (set_value set.entry.set) (user_value user.entry.user)))
+            (IsNumber self.now.tuples (tuple_of (set_value set.entry.set) (user_value user.entry.user))) }
+        ensures untouched { result ≡ None → IsUntouched self.now (tuple_of (set_value set.entry.set) (user_value user.entry.user)) }
     {
         let mut place = self.named.newest(tuple_mark(set, user));
         while place > 0 {
             let number = place - 1;
-            if names(&self.tuples[number], set, user) {
+            if names(&self.tuples[number], set.set, user.user) {
                 return Some(number);
             }
             place = self.named.older(number);
@@ -92,12 +97,12 @@ impl Arena {
 
     /// The place of the newest tuple of the userset whose user is of the kind, or of one with the same mark. No tuple
     /// stands at two places, and each touch is of a tuple that stands at one.
-    pub fn newest_of_set(&self, set: SetRef<'_>, usersets: bool) -> usize
+    pub fn newest_of_set(&self, set: MarkedSet<'_>, usersets: bool) -> usize
         ensures apart { AreApartAt self.now.tuples }
         ensures known { AreTouchesKnown self.now }
-        ensures newest { result ≡ last_place (has_mark_of (set_value set.entry) usersets) self.now.tuples (length self.now.tuples) }
+        ensures newest { result ≡ last_place (has_mark_of (set_value set.entry.set) usersets) self.now.tuples (length self.now.tuples) }
     {
-        self.held.newest(set_mark(set, usersets))
+        self.held.newest(kind_mark(set, usersets))
     }
 
     /// The place of the tuple before this one whose userset and kind of user have the same mark.
@@ -119,8 +124,8 @@ impl Arena {
     }
 
     /// The place of the newest touch of this tuple.
-    pub fn newest_touch(&self, set: SetRef<'_>, user: UserRef<'_>) -> usize
-        ensures { result ≡ newest_of (tuple_of (set_value set.entry) (user_value user.entry)) self.now.touches (length self.now.touches) }
+    pub fn newest_touch(&self, set: MarkedSet<'_>, user: MarkedUser<'_>) -> usize
+        ensures { result ≡ newest_of (tuple_of (set_value set.entry.set) (user_value user.entry.user)) self.now.touches (length self.now.touches) }
     {
         match self.find(set, user) {
             Some(number) => self.newest(number),
@@ -167,8 +172,8 @@ impl Arena {
     }
 
     /// Whether the tuple of this userset and this user is stored at the timestamp.
-    pub fn is_stored(&self, set: SetRef<'_>, user: UserRef<'_>, at: u64) -> bool
-        ensures { result ≡ is_stored_by self.now.touches at (tuple_of (set_value set.entry) (user_value user.entry)) }
+    pub fn is_stored(&self, set: MarkedSet<'_>, user: MarkedUser<'_>, at: u64) -> bool
+        ensures { result ≡ is_stored_by self.now.touches at (tuple_of (set_value set.entry.set) (user_value user.entry.user)) }
     {
         match self.find(set, user) {
             Some(number) => self.is_live(number, at),
@@ -183,14 +188,17 @@ impl Arena {
         set: SetRef<'_>,
         usersets: bool,
         at: u64,
-    ) -> Option<UserRef<'_>>
+    ) -> Option<MarkedUser<'_>>
         ensures { (t : TupleValue) → IsNumber self.now.tuples t number
             → Gives result (is_given (set_value set.entry) usersets at self.now.touches t) t.user }
     {
         let tuple = self.tuples.get(number)?;
         let user = tuple.user();
         if tuple.set() == set && is_userset(user) == usersets && self.is_live(number, at) {
-            Some(user)
+            Some(MarkedUser {
+                user,
+                mark: self.users[number],
+            })
         } else {
             None
         }
@@ -202,22 +210,25 @@ impl Arena {
         ensures extends { Extends self.old.tuples self.new.tuples }
         ensures touches { self.new.touches ≡ self.old.touches }
     {
-        if let Some(number) = self.find(tuple.set(), tuple.user()) {
+        let set = MarkedSet::of(tuple.set());
+        let user = MarkedUser::of(tuple.user());
+        if let Some(number) = self.find(set, user) {
             return Ok(number);
         }
         let number = self.tuples.len();
         let copy = tuple.clone()?;
         self.tuples.reserve(1)?;
+        self.users.reserve(1)?;
         self.latest.reserve(1)?;
-        self.named.push(tuple_mark(tuple.set(), tuple.user()))?;
-        if let Err(fault) = self
-            .held
-            .push(set_mark(tuple.set(), is_userset(tuple.user())))
-        {
+        self.named.push(tuple_mark(set, user))?;
+        if let Err(fault) = self.held.push(kind_mark(set, is_userset(user.user))) {
             self.named.pop();
             return Err(fault);
         }
-        if self.tuples.push(copy).is_err() || self.latest.push(0).is_err() {
+        if self.tuples.push(copy).is_err()
+            || self.users.push(user.mark).is_err()
+            || self.latest.push(0).is_err()
+        {
             unreachable!();
         }
         Ok(number)

@@ -16,6 +16,7 @@ ghost use Rattle.version_chains.specs.Commits.{TouchesOnce, touches, is_stored, 
 use crate::arena::Arena;
 use crate::fault::AppendFault;
 use crate::history::History;
+use crate::marks::{MarkedSet, MarkedUser};
 use crate::repeats::first_repeat;
 use crate::users::{Users, Usersets};
 use std::alloc::{AllocError, Global};
@@ -172,14 +173,17 @@ impl Chains {
     pub fn has(&self, tuple: &Tuple, at: u64) -> bool
         ensures { result ≡ is_stored self.now.commits at tuple.now }
     {
-        self.arena.is_stored(tuple.set(), tuple.user(), at)
+        let set = MarkedSet::of(tuple.set());
+        let user = MarkedUser::of(tuple.user());
+        self.arena.is_stored(set, user, at)
     }
 
     /// Whether the tuple of this userset and this user id is stored at the timestamp.
-    pub fn has_id(&self, set: SetRef<'_>, user: u64, at: u64) -> bool
-        ensures { result ≡ is_stored self.now.commits at (tuple_of (set_value set.entry) (Id user)) }
+    pub fn has_id(&self, set: MarkedSet<'_>, user: u64, at: u64) -> bool
+        ensures { result ≡ is_stored self.now.commits at (tuple_of (set_value set.entry.set) (Id user)) }
     {
-        self.arena.is_stored(set, UserRef::Id(user), at)
+        let id = MarkedUser::of(UserRef::Id(user));
+        self.arena.is_stored(set, id, at)
     }
 
     /// The users of the userset's tuples that are stored at the timestamp, each once, in no promised order
@@ -188,14 +192,14 @@ impl Chains {
         ensures distinct { IsDistinct user_eq result }
         ensures stored { (user : User) → list_any (user_eq user) result ≡ is_stored self.now.commits at (tuple_of (set_value set.entry) user) }
     {
-        Users::over(&self.arena, set, at)
+        Users::over(&self.arena, MarkedSet::of(set), at)
     }
 
     /// The usersets among those users, each once, in no promised order. What it takes is that of the usersets alone,
     /// however many ids the userset has.
-    pub fn usersets<'a>(&'a self, set: SetRef<'a>, at: u64) -> Usersets<'a>
+    pub fn usersets<'a>(&'a self, set: MarkedSet<'a>, at: u64) -> Usersets<'a>
         ensures distinct { IsDistinct set_eq result }
-        ensures stored { (g : SetValue) → list_any (set_eq g) result ≡ is_stored self.now.commits at (tuple_of (set_value set.entry) (Set g)) }
+        ensures stored { (g : SetValue) → list_any (set_eq g) result ≡ is_stored self.now.commits at (tuple_of (set_value set.entry.set) (Set g)) }
     {
         Usersets::over(&self.arena, set, at)
     }

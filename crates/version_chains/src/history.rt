@@ -5,6 +5,7 @@ ghost use Rattle.std.specs.Iterator.{YieldsFirst, item_count};
 ghost use Rattle.version_chains.specs.Commits.{touches_to};
 
 use crate::arena::Arena;
+use crate::marks::{MarkedSet, MarkedUser};
 use std::marker::Model;
 use tuple_text::Tuple;
 
@@ -52,7 +53,7 @@ impl<'a> History<'a> {
     pub(crate) fn over(arena: &'a Arena, tuple: &'a Tuple) -> History<'a>
         ensures { result ≡ reverse (map (λ x. (x.at, x.live)) (touches_to tuple.now arena.now.touches)) }
     {
-        let place = arena.newest_touch(tuple.set(), tuple.user());
+        let place = arena.newest_touch(MarkedSet::of(tuple.set()), MarkedUser::of(tuple.user()));
         History {
             arena,
             tuple,

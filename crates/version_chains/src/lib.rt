@@ -10,7 +10,8 @@
 //! definitions alone, and none of the questions takes memory. [`Users`], [`Usersets`] and [`History`] are iterators whose
 //! model is the list of what is left to give; `proofs.CallerLemmas` says what a loop over them shows.
 //!
-//! [`Places`] finds what a crate above keeps by the marks of tuples, as the store finds its own.
+//! A [`MarkedSet`] is a userset with the hash of its texts, so that who asks for it again hashes nothing. [`Places`] finds what a crate
+//! above keeps by the marks of facts ([`fact_mark`]), as the store finds its own.
 //!
 //! Each tuple is kept once, and touches are linked, so that a question walks back over the touches, the users or the
 //! usersets that it is about and no others; nothing of that shows in a contract. Why such a walk may jump is the law
@@ -40,6 +41,6 @@ mod users;
 pub use chains::Chains;
 pub use fault::AppendFault;
 pub use history::History;
-pub use marks::tuple_mark;
+pub use marks::{MarkedSet, fact_mark};
 pub use places::Places;
 pub use users::{Users, Usersets};

@@ -3,10 +3,28 @@
 ghost use Rattle.std.specs.Prelude.{◌≡◌};
 ghost use Rattle.tuple_text.specs.Refs.{set_value, user_value};
 ghost use Rattle.tuple_text.specs.Tuples.{tuple_of};
+ghost use Rattle.tuple_text.specs.declared.users.User.TheVariants.{Id};
 ghost use Rattle.version_chains.specs.Marks as marks;
 
 use std::hash::{DefaultHasher, Hasher};
 use tuple_text::{SetRef, UserRef};
+
+/// A userset with its mark, which is a hash of its texts: equal usersets have equal marks. Whoever asks for a userset
+/// more than once makes its mark once.
+#[derive(Clone, Copy, Drop)]
+pub struct MarkedSet<'a> {
+    pub set: SetRef<'a>,
+    pub mark: u64,
+    ghost is_its_mark: { mark ≡ marks.set_mark (set_value set) },
+}
+
+/// A user with its mark: that of a userset, or the id itself.
+#[derive(Clone, Copy, Drop)]
+pub(crate) struct MarkedUser<'a> {
+    pub(crate) user: UserRef<'a>,
+    pub(crate) mark: u64,
+    ghost is_its_mark: { mark ≡ marks.user_mark (user_value user) },
+}
 
 fn feed_text(hasher: &mut DefaultHasher, text: &str)
     ensures { hasher.new ≡ marks.fed_text hasher.old text.now }
@@ -23,17 +41,36 @@ fn feed_set(hasher: &mut DefaultHasher, set: SetRef<'_>)
     feed_text(hasher, set.relation);
 }
 
-fn feed_user(hasher: &mut DefaultHasher, user: UserRef<'_>)
-    ensures { hasher.new ≡ marks.fed_user hasher.old (user_value user.entry) }
+#[tactic(auto, unfolding(crate::specs::Marks::set_mark))]
+fn set_mark(set: SetRef<'_>) -> u64
+    ensures { result ≡ marks.set_mark (set_value set.entry) }
+{
+    let mut hasher = DefaultHasher::new();
+    feed_set(&mut hasher, set);
+    hasher.finish()
+}
+
+fn user_mark(user: UserRef<'_>) -> u64
+    ensures { result ≡ marks.user_mark (user_value user.entry) }
 {
     match user {
-        UserRef::Id(id) => hasher.write(&id.to_le_bytes()),
-        UserRef::Set(set) => feed_set(hasher, set),
+        UserRef::Id(id) => id,
+        UserRef::Set(set) => set_mark(set),
     }
 }
 
+#[tactic(auto, unfolding(crate::specs::Marks::pair_mark))]
+fn pair_mark(first: u64, second: u64) -> u64
+    ensures { result ≡ marks.pair_mark first second }
+{
+    let mut hasher = DefaultHasher::new();
+    hasher.write(&first.to_le_bytes());
+    hasher.write(&second.to_le_bytes());
+    hasher.finish()
+}
+
 /// Whether the user is a userset.
-pub fn is_userset(user: UserRef<'_>) -> bool
+pub(crate) fn is_userset(user: UserRef<'_>) -> bool
     ensures { result ≡ marks.is_userset (user_value user.entry) }
 {
     match user {
@@ -42,32 +79,46 @@ pub fn is_userset(user: UserRef<'_>) -> bool
     }
 }
 
-fn feed_kind(hasher: &mut DefaultHasher, usersets: bool)
-    ensures { hasher.new ≡ marks.fed_kind hasher.old usersets }
-{
-    if usersets {
-        hasher.write(&[1]);
+impl<'a> MarkedSet<'a> {
+    /// The userset with its mark.
+    pub fn of(set: SetRef<'a>) -> MarkedSet<'a>
+        ensures { result.set ≡ set.entry }
+    {
+        MarkedSet {
+            set,
+            mark: set_mark(set),
+        }
     }
 }
 
-/// The mark of a userset and one kind of its users, which are usersets or ids: equal usersets have equal marks for each kind.
-#[tactic(auto, unfolding(crate::specs::Marks::set_mark))]
-pub fn set_mark(set: SetRef<'_>, usersets: bool) -> u64
-    ensures { result ≡ marks.set_mark (set_value set.entry) usersets }
+impl<'a> MarkedUser<'a> {
+    pub(crate) fn of(user: UserRef<'a>) -> MarkedUser<'a>
+        ensures { result.user ≡ user.entry }
+    {
+        MarkedUser {
+            user,
+            mark: user_mark(user),
+        }
+    }
+}
+
+/// The mark of a userset's users of one kind, which are usersets or ids.
+pub(crate) fn kind_mark(set: MarkedSet<'_>, usersets: bool) -> u64
+    ensures { result ≡ marks.kind_mark (marks.set_mark (set_value set.entry.set)) usersets }
 {
-    let mut hasher = DefaultHasher::new();
-    feed_set(&mut hasher, set);
-    feed_kind(&mut hasher, usersets);
-    hasher.finish()
+    if usersets { set.mark } else { set.mark ^ 1 }
 }
 
 /// The mark of a tuple: equal tuples have equal marks.
-#[tactic(auto, unfolding(crate::specs::Marks::tuple_mark))]
-pub fn tuple_mark(set: SetRef<'_>, user: UserRef<'_>) -> u64
-    ensures { result ≡ marks.tuple_mark (tuple_of (set_value set.entry) (user_value user.entry)) }
+pub(crate) fn tuple_mark(set: MarkedSet<'_>, user: MarkedUser<'_>) -> u64
+    ensures { result ≡ marks.tuple_mark (tuple_of (set_value set.entry.set) (user_value user.entry.user)) }
 {
-    let mut hasher = DefaultHasher::new();
-    feed_set(&mut hasher, set);
-    feed_user(&mut hasher, user);
-    hasher.finish()
+    pair_mark(set.mark, user.mark)
+}
+
+/// The mark of the fact that a user id is in a userset, and of that tuple: equal facts have equal marks.
+pub fn fact_mark(set: MarkedSet<'_>, user: u64) -> u64
+    ensures { result ≡ marks.tuple_mark (tuple_of (set_value set.entry.set) (Id user)) }
+{
+    pair_mark(set.mark, user)
 }

@@ -12,6 +12,7 @@ ghost use Rattle.tuple_text.specs.declared.users.User.TheVariants.{Set};
 ghost use Rattle.version_chains.specs.Given.{is_of_kind, is_stored_by};
 
 use crate::arena::Arena;
+use crate::marks::{MarkedSet, MarkedUser};
 use std::marker::Model;
 use tuple_text::{SetRef, UserRef};
 
@@ -42,13 +43,13 @@ impl<'a> Model for OfKind<'a> {
 }
 
 impl<'a> Iterator for OfKind<'a> {
-    type Item = UserRef<'a>;
+    type Item = MarkedUser<'a>;
 
-    ghost next_gives = { YieldsFirstBy user_value (λ users. users) };
+    ghost next_gives = { YieldsFirstBy (λ u. user_value u.user) (λ users. users) };
 
     ghost remaining = { item_count (λ users. users) };
 
-    fn next(&mut self) -> Option<UserRef<'a>> {
+    fn next(&mut self) -> Option<MarkedUser<'a>> {
         while self.place > 0 {
             let number = self.place - 1;
             self.place = self.arena.sibling(number);
@@ -63,15 +64,15 @@ impl<'a> Iterator for OfKind<'a> {
 
 impl<'a> OfKind<'a> {
     /// The users of the kind that the arena gives at the timestamp.
-    fn over(arena: &'a Arena, set: SetRef<'a>, usersets: bool, at: u64) -> OfKind<'a>
+    fn over(arena: &'a Arena, set: MarkedSet<'a>, usersets: bool, at: u64) -> OfKind<'a>
         ensures distinct { IsDistinct user_eq result }
         ensures stored { (user : User) → list_any (user_eq user) result
-            ≡ (is_of_kind usersets user && is_stored_by arena.now.touches at (tuple_of (set_value set.entry) user)) }
+            ≡ (is_of_kind usersets user && is_stored_by arena.now.touches at (tuple_of (set_value set.entry.set) user)) }
     {
         let place = arena.newest_of_set(set, usersets);
         OfKind {
             arena,
-            set,
+            set: set.set,
             usersets,
             at,
             place,
@@ -104,17 +105,20 @@ impl<'a> Iterator for Users<'a> {
 
     fn next(&mut self) -> Option<UserRef<'a>> {
         match self.usersets.next() {
-            Some(user) => Some(user),
-            None => self.ids.next(),
+            Some(user) => Some(user.user),
+            None => match self.ids.next() {
+                Some(user) => Some(user.user),
+                None => None,
+            },
         }
     }
 }
 
 impl<'a> Users<'a> {
     /// The users that the arena gives at the timestamp.
-    pub(crate) fn over(arena: &'a Arena, set: SetRef<'a>, at: u64) -> Users<'a>
+    pub(crate) fn over(arena: &'a Arena, set: MarkedSet<'a>, at: u64) -> Users<'a>
         ensures distinct { IsDistinct user_eq result }
-        ensures stored { (user : User) → list_any (user_eq user) result ≡ is_stored_by arena.now.touches at (tuple_of (set_value set.entry) user) }
+        ensures stored { (user : User) → list_any (user_eq user) result ≡ is_stored_by arena.now.touches at (tuple_of (set_value set.entry.set) user) }
     {
         Users {
             usersets: OfKind::over(arena, set, true, at),
@@ -123,7 +127,7 @@ impl<'a> Users<'a> {
     }
 }
 
-/// The usersets among the users of a userset at a timestamp. A contract sees the list of those that are left to give.
+/// The usersets among the users of a userset at a timestamp, with their marks. A contract sees the list of those that are left to give.
 #[derive(Drop)]
 pub struct Usersets<'a> {
     users: OfKind<'a>,
@@ -143,25 +147,29 @@ impl<'a> Model for Usersets<'a> {
 }
 
 impl<'a> Iterator for Usersets<'a> {
-    type Item = SetRef<'a>;
+    type Item = MarkedSet<'a>;
 
-    ghost next_gives = { YieldsFirstBy set_value (λ sets. sets) };
+    ghost next_gives = { YieldsFirstBy (λ g. set_value g.set) (λ sets. sets) };
 
     ghost remaining = { item_count (λ sets. sets) };
 
-    fn next(&mut self) -> Option<SetRef<'a>> {
-        match self.users.next() {
-            Some(UserRef::Set(set)) => Some(set),
-            _ => None,
+    fn next(&mut self) -> Option<MarkedSet<'a>> {
+        let next = self.users.next()?;
+        match next.user {
+            UserRef::Set(set) => Some(MarkedSet {
+                set,
+                mark: next.mark,
+            }),
+            UserRef::Id(_) => None,
         }
     }
 }
 
 impl<'a> Usersets<'a> {
     /// The usersets that the arena gives at the timestamp.
-    pub(crate) fn over(arena: &'a Arena, set: SetRef<'a>, at: u64) -> Usersets<'a>
+    pub(crate) fn over(arena: &'a Arena, set: MarkedSet<'a>, at: u64) -> Usersets<'a>
         ensures distinct { IsDistinct set_eq result }
-        ensures stored { (g : SetValue) → list_any (set_eq g) result ≡ is_stored_by arena.now.touches at (tuple_of (set_value set.entry) (Set g)) }
+        ensures stored { (g : SetValue) → list_any (set_eq g) result ≡ is_stored_by arena.now.touches at (tuple_of (set_value set.entry.set) (Set g)) }
     {
         Usersets {
             users: OfKind::over(arena, set, true, at),

@@ -13,5 +13,5 @@ returns-in-Some c =
     let rules = rule_at c.args.trace.now.declarations c.args.at in
     let found = subst (λ (g : SetValue). Some (expression_of c.in-Some.rule.now) ≡ option_map (λ (r : Rule). r.expression) (rule_of rules g)) c.set.ensures.parts (rw c.rules.ensures.declarations at c.in-Some.ensures) in
     let rule = by_rule (rule_of rules c.args.fact.now.set) (expression_of c.in-Some.rule.now) (λ x. Established rules (store_at c.args.trace.now.commits c.args.at) c.args.known.now c.args.fact.now x) found in
-    let given = rw (c.set-in-Some.ensures.parts, c.user.ensures.value) at c.established.ensures in
+    let given = rw (c.of-set.ensures, c.set-in-Some.ensures.parts, c.user.ensures.value) at c.established.ensures in
     (λ t. rule.0 (given.0 t), λ p. given.1 (rule.1 p))

@@ -20,31 +20,31 @@ loop-set-init c =
 
 pub loop-set-preserved : goal.loop-set-preserved
 loop-set-preserved c =
-    let left : c.loop-set.set-iterator ≡ set_value c.in-Some.set ∷ c.next.new.self = search rules in
+    let left : c.loop-set.set-iterator ≡ set_value c.in-Some.set.set ∷ c.next.new.self = search rules in
     let rules_at = rule_at c.args.trace.now.declarations c.args.at in
     let relation = option_map (λ s. s.now) c.args.relation in
-    let one : Sees rules_at (λ q. fact_of (target (set_value c.in-Some.set) relation) c.args.user ≡ q) c.loop-set.seen c.see.new.seen =
+    let one : Sees rules_at (λ q. fact_of (target (set_value c.in-Some.set.set) relation) c.args.user ≡ q) c.loop-set.seen c.see.new.seen =
     subst (λ (g : SetValue). Sees rules_at (λ q. fact_of g c.args.user ≡ q) c.loop-set.seen c.see.new.seen) c.target.ensures c.in_ok-see.ensures.seen in
-    let sum : length (set_value c.in-Some.set ∷ c.next.new.self) ≡ 1 + length c.next.new.self = omega arith in
+    let sum : length (set_value c.in-Some.set.set ∷ c.next.new.self) ≡ 1 + length c.next.new.self = omega arith in
     under_way_step 131072 4194304 rules_at (store_at c.args.trace.now.commits c.args.at)
     (AmongTargets relation c.args.user c.args.sets) c.args.seen.now c.args.room.now (length c.args.sets)
-    (λ q. fact_of (target (set_value c.in-Some.set) relation) c.args.user ≡ q) (AmongTargets relation c.args.user c.next.new.self)
-    c.loop-set.seen c.loop-set.room (length (set_value c.in-Some.set ∷ c.next.new.self)) 1 (length c.next.new.self) sum
+    (λ q. fact_of (target (set_value c.in-Some.set.set) relation) c.args.user ≡ q) (AmongTargets relation c.args.user c.next.new.self)
+    c.loop-set.seen c.loop-set.room (length (set_value c.in-Some.set.set ∷ c.next.new.self)) 1 (length c.next.new.self) sum
     (rw left at c.loop-set.invariant) c.see.new.seen (c.loop-set.room - 1) one (omega arith)
 
 pub returns-in_err-see-clause-stuck : goal.returns-in_err-see-clause-stuck
 returns-in_err-see-clause-stuck c = λ e.
-    let left : c.loop-set.set-iterator ≡ set_value c.in-Some.set ∷ c.next.new.self = search rules in
+    let left : c.loop-set.set-iterator ≡ set_value c.in-Some.set.set ∷ c.next.new.self = search rules in
     let rules_at = rule_at c.args.trace.now.declarations c.args.at in
     let store = store_at c.args.trace.now.commits c.args.at in
     let relation = option_map (λ s. s.now) c.args.relation in
-    let one : IsStuck 131072 4194304 rules_at store (λ q. fact_of (target (set_value c.in-Some.set) relation) c.args.user ≡ q) c.loop-set.seen =
+    let one : IsStuck 131072 4194304 rules_at store (λ q. fact_of (target (set_value c.in-Some.set.set) relation) c.args.user ≡ q) c.loop-set.seen =
     subst (λ (g : SetValue). IsStuck 131072 4194304 rules_at store (λ q. fact_of g c.args.user ≡ q) c.loop-set.seen) c.target.ensures (c.in_err-see.ensures.stuck (search rules)) in
-    let sum : length (set_value c.in-Some.set ∷ c.next.new.self) ≡ 1 + length c.next.new.self = omega arith in
+    let sum : length (set_value c.in-Some.set.set ∷ c.next.new.self) ≡ 1 + length c.next.new.self = omega arith in
     under_way_stuck 131072 4194304 rules_at store
     (AmongTargets relation c.args.user c.args.sets) c.args.seen.now c.args.room.now (length c.args.sets)
-    (λ q. fact_of (target (set_value c.in-Some.set) relation) c.args.user ≡ q) (AmongTargets relation c.args.user c.next.new.self)
-    c.loop-set.seen c.loop-set.room (length (set_value c.in-Some.set ∷ c.next.new.self)) 1 (length c.next.new.self) sum
+    (λ q. fact_of (target (set_value c.in-Some.set.set) relation) c.args.user ≡ q) (AmongTargets relation c.args.user c.next.new.self)
+    c.loop-set.seen c.loop-set.room (length (set_value c.in-Some.set.set ∷ c.next.new.self)) 1 (length c.next.new.self) sum
     (rw left at c.loop-set.invariant) (inr one)
 
 pub returns-clause-seen : goal.returns-clause-seen

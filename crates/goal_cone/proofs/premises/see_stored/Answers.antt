@@ -4,6 +4,7 @@ use Rattle.std.specs.List.{list_any}
 use Rattle.tuple_text.specs.Refs.{set_value}
 use Rattle.tuple_text.specs.Sets.{SetValue, set_eq}
 use Rattle.tuple_text.specs.Tuples.{tuple_of}
+use Rattle.tuple_text.specs.declared.sets.SetRef.{SetRef}
 use Rattle.tuple_text.specs.declared.users.User.TheVariants.{Set}
 use Rattle.namespaces.specs.Lookup.{rule_at}
 use Rattle.version_chains.specs.Commits.{Commit, is_stored, store_at}
@@ -15,7 +16,9 @@ use Rattle.goal_cone.proofs.premises.see_stored.Goals.{After-usersets-sets}
 use Rattle.goal_cone.proofs.premises.see_stored.Goals as goal
 
 has : (c : After-usersets-sets) → (g : SetValue) → list_any (set_eq g) c.usersets-sets.result ≡ is_stored c.args.trace.now.commits c.args.at (tuple_of (set_value c.args.set) (Set g))
-has c g = subst (λ (cs : List Commit). list_any (set_eq g) c.usersets-sets.result ≡ is_stored cs c.args.at (tuple_of (set_value c.args.set) (Set g))) c.chains.ensures (c.usersets-sets.ensures.stored g)
+has c g =
+    subst (λ (cs : List Commit). list_any (set_eq g) c.usersets-sets.result ≡ is_stored cs c.args.at (tuple_of (set_value c.args.set) (Set g))) c.chains.ensures
+    (subst (λ (o : SetRef). list_any (set_eq g) c.usersets-sets.result ≡ is_stored c.chains.result.now.commits c.args.at (tuple_of (set_value o) (Set g))) c.of.ensures (c.usersets-sets.ensures.stored g))
 
 pub returns : goal.returns
 returns c =

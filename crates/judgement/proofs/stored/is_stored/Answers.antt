@@ -6,5 +6,5 @@ use Rattle.judgement.proofs.stored.is_stored.Goals as goal
 
 pub returns : goal.returns
 returns c =
-    let both = store_at-iff c.args.trace.now.commits c.args.at (tuple_of (set_value c.args.set) (Id c.args.user)) in
+    let both = store_at-iff c.args.trace.now.commits c.args.at (tuple_of (set_value c.args.set.set) (Id c.args.user)) in
     rw (c.has_id.ensures, c.chains.ensures) (both.1, both.0)

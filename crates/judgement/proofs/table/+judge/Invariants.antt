@@ -15,20 +15,20 @@ decreases-refuted l = goal.size-refuted l
 
 abbrev pub invariant-established-loop-child : goal.invariant-established-loop-child
 invariant-established-loop-child l =
-    SomeEstablished (rule_at l.trace.declarations l.at) (store_at l.trace.commits l.at) l.known (fact_of (set_value l.set) l.user) (expressions_of (drop l.child-index l.child-items))
-    ↔ Established (rule_at l.trace.declarations l.at) (store_at l.trace.commits l.at) l.known (fact_of (set_value l.set) l.user) (expression_of l.fn.rewrite)
+    SomeEstablished (rule_at l.trace.declarations l.at) (store_at l.trace.commits l.at) l.known (fact_of (set_value l.set.set) l.user) (expressions_of (drop l.child-index l.child-items))
+    ↔ Established (rule_at l.trace.declarations l.at) (store_at l.trace.commits l.at) l.known (fact_of (set_value l.set.set) l.user) (expression_of l.fn.rewrite)
 
 abbrev pub invariant-established-loop-child-2 : goal.invariant-established-loop-child-2
 invariant-established-loop-child-2 l =
-    EachEstablished (rule_at l.trace.declarations l.at) (store_at l.trace.commits l.at) l.known (fact_of (set_value l.set) l.user) (expressions_of (drop l.child-index l.child-items))
-    ↔ Established (rule_at l.trace.declarations l.at) (store_at l.trace.commits l.at) l.known (fact_of (set_value l.set) l.user) (expression_of l.fn.rewrite)
+    EachEstablished (rule_at l.trace.declarations l.at) (store_at l.trace.commits l.at) l.known (fact_of (set_value l.set.set) l.user) (expressions_of (drop l.child-index l.child-items))
+    ↔ Established (rule_at l.trace.declarations l.at) (store_at l.trace.commits l.at) l.known (fact_of (set_value l.set.set) l.user) (expression_of l.fn.rewrite)
 
 abbrev pub invariant-refuted-loop-child : goal.invariant-refuted-loop-child
 invariant-refuted-loop-child l =
-    EachRefuted (rule_at l.trace.declarations l.at) (store_at l.trace.commits l.at) l.known (fact_of (set_value l.set) l.user) (expressions_of (drop l.child-index l.child-items))
-    ↔ Refuted (rule_at l.trace.declarations l.at) (store_at l.trace.commits l.at) l.known (fact_of (set_value l.set) l.user) (expression_of l.fn.rewrite)
+    EachRefuted (rule_at l.trace.declarations l.at) (store_at l.trace.commits l.at) l.known (fact_of (set_value l.set.set) l.user) (expressions_of (drop l.child-index l.child-items))
+    ↔ Refuted (rule_at l.trace.declarations l.at) (store_at l.trace.commits l.at) l.known (fact_of (set_value l.set.set) l.user) (expression_of l.fn.rewrite)
 
 abbrev pub invariant-refuted-loop-child-2 : goal.invariant-refuted-loop-child-2
 invariant-refuted-loop-child-2 l =
-    SomeRefuted (rule_at l.trace.declarations l.at) (store_at l.trace.commits l.at) l.known (fact_of (set_value l.set) l.user) (expressions_of (drop l.child-index l.child-items))
-    ↔ Refuted (rule_at l.trace.declarations l.at) (store_at l.trace.commits l.at) l.known (fact_of (set_value l.set) l.user) (expression_of l.fn.rewrite)
+    SomeRefuted (rule_at l.trace.declarations l.at) (store_at l.trace.commits l.at) l.known (fact_of (set_value l.set.set) l.user) (expressions_of (drop l.child-index l.child-items))
+    ↔ Refuted (rule_at l.trace.declarations l.at) (store_at l.trace.commits l.at) l.known (fact_of (set_value l.set.set) l.user) (expression_of l.fn.rewrite)

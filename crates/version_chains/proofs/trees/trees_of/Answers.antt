@@ -1,4 +1,4 @@
-use Rattle.std.proofs.Common.{rules, ℕ, get_or}
+use Rattle.std.proofs.Common.{rules, get_or}
 use Rattle.std.proofs.lemmas.Option.{slice_get-get_or}
 use Rattle.version_chains.specs.Links.{newest_in}
 use Rattle.version_chains.specs.declared.places.Link.{Link}

@@ -12,38 +12,38 @@ use Rattle.version_chains.proofs.arena.Arena.find.Goals as goal
 
 pub loop-place-init : goal.loop-place-init
 loop-place-init c =
-    find_start (tuple_of (set_value c.args.set) (user_value c.args.user)) c.self.inside.tuples.items c.self.inside.named c.self.invariant.names c.newest-place.result
+    find_start (tuple_of (set_value c.args.set.set) (user_value c.args.user.user)) c.self.inside.tuples.items c.self.inside.named c.self.invariant.0.names c.newest-place.result
     (c.newest-place.ensures ∙ ap (λ (m : ℕ). last_place (nat_eq m) c.self.inside.named (length c.self.inside.named)) c.tuple_mark.ensures)
 
 pub index-requires : goal.index-requires
 index-requires c =
     let some = c.loop-place-test.true in
     let next : c.loop-place.place ≡ suc (c.loop-place.place - 1) = omega (arith, some) in
-    let within = find_within (tuple_of (set_value c.args.set) (user_value c.args.user)) c.self.inside.tuples.items c.self.inside.named c.self.invariant.names c.loop-place.place (c.loop-place.place - 1) next c.loop-place.invariant in
+    let within = find_within (tuple_of (set_value c.args.set.set) (user_value c.args.user.user)) c.self.inside.tuples.items c.self.inside.named c.self.invariant.0.names c.loop-place.place (c.loop-place.place - 1) next c.loop-place.invariant in
     search rules
 
 pub loop-place-smaller : goal.loop-place-smaller
 loop-place-smaller c =
     let some = c.loop-place-test.true in
     let next : c.loop-place.place ≡ suc (c.loop-place.place - 1) = omega (arith, some) in
-    find_smaller (tuple_of (set_value c.args.set) (user_value c.args.user)) c.self.inside.tuples.items c.self.inside.named c.self.invariant.names c.loop-place.place (c.loop-place.place - 1) next c.loop-place.invariant c.older-place.result c.older-place.ensures
+    find_smaller (tuple_of (set_value c.args.set.set) (user_value c.args.user.user)) c.self.inside.tuples.items c.self.inside.named c.self.invariant.0.names c.loop-place.place (c.loop-place.place - 1) next c.loop-place.invariant c.older-place.result c.older-place.ensures
 
 pub loop-place-preserved : goal.loop-place-preserved
 loop-place-preserved c =
     let some = c.loop-place-test.true in
     let next : c.loop-place.place ≡ suc (c.loop-place.place - 1) = omega (arith, some) in
-    let tuple = tuple_of (set_value c.args.set) (user_value c.args.user) in
-    let within = find_within tuple c.self.inside.tuples.items c.self.inside.named c.self.invariant.names c.loop-place.place (c.loop-place.place - 1) next c.loop-place.invariant in
+    let tuple = tuple_of (set_value c.args.set.set) (user_value c.args.user.user) in
+    let within = find_within tuple c.self.inside.tuples.items c.self.inside.named c.self.invariant.0.names c.loop-place.place (c.loop-place.place - 1) next c.loop-place.invariant in
     let here = read_item c.self.inside.tuples.items c.self.inside.tuples.items (c.loop-place.place - 1) c.index.result.now (λ i. c.self.inside.tuples.items) within c.index.ensures in
-    find_on tuple c.self.inside.tuples.items c.self.inside.named c.self.invariant.names c.loop-place.place (c.loop-place.place - 1) next c.loop-place.invariant
+    find_on tuple c.self.inside.tuples.items c.self.inside.named c.self.invariant.0.names c.loop-place.place (c.loop-place.place - 1) next c.loop-place.invariant
     c.index.result.now here (sym c.names.ensures ∙ c.if-names.false) c.older-place.result c.older-place.ensures
 
 pub returns-then-names : goal.returns-then-names
 returns-then-names c =
     let some = c.loop-place-test.true in
     let next : c.loop-place.place ≡ suc (c.loop-place.place - 1) = omega (arith, some) in
-    let tuple = tuple_of (set_value c.args.set) (user_value c.args.user) in
-    let within = find_within tuple c.self.inside.tuples.items c.self.inside.named c.self.invariant.names c.loop-place.place (c.loop-place.place - 1) next c.loop-place.invariant in
+    let tuple = tuple_of (set_value c.args.set.set) (user_value c.args.user.user) in
+    let within = find_within tuple c.self.inside.tuples.items c.self.inside.named c.self.invariant.0.names c.loop-place.place (c.loop-place.place - 1) next c.loop-place.invariant in
     let here = read_item c.self.inside.tuples.items c.self.inside.tuples.items (c.loop-place.place - 1) c.index.result.now (λ i. c.self.inside.tuples.items) within c.index.ensures in
     let same = tuple_eq-same c.index.result.now tuple (sym c.names.ensures ∙ c.if-names.true) in
     record {
@@ -54,9 +54,9 @@ returns-then-names c =
 pub returns : goal.returns
 returns c =
     let none = c.loop-place-test.false in
-    let tuple = tuple_of (set_value c.args.set) (user_value c.args.user) in
-    let absent = found_nowhere tuple c.self.inside.tuples.items c.self.inside.named c.self.invariant.names c.loop-place.place (let e : c.loop-place.place ≡ 0 = omega (arith, none) in e) c.loop-place.invariant in
-    let known = touches_known c.self.inside.tuples.items c.self.inside.latest.items c.self.inside.named c.self.inside.held c.self.inside.nodes.items c.self.invariant in
+    let tuple = tuple_of (set_value c.args.set.set) (user_value c.args.user.user) in
+    let absent = found_nowhere tuple c.self.inside.tuples.items c.self.inside.named c.self.invariant.0.names c.loop-place.place (let e : c.loop-place.place ≡ 0 = omega (arith, none) in e) c.loop-place.invariant in
+    let known = touches_known c.self.inside.tuples.items c.self.inside.latest.items c.self.inside.named c.self.inside.held c.self.inside.nodes.items c.self.invariant.0 in
     record {
       found = λ i t h. absent i t (subst (λ (x : Held). slice_get x.tuples i ≡ Some t) (sym c.self.view_is) h);
       untouched = λ _ i x h. let w = known i x (subst (λ (y : Held). slice_get y.touches i ≡ Some x) (sym c.self.view_is) h) in absent w.0 x.tuple w.1;

@@ -8,7 +8,7 @@ use Rattle.version_chains.proofs.arena.Arena.find.Given as goal
 
 abbrev pub invariant-loop-place : goal.invariant-loop-place
 invariant-loop-place l =
-    let tuple = tuple_of (set_value l.set) (user_value l.user) in
+    let tuple = tuple_of (set_value l.set.set) (user_value l.user.user) in
     IsWalk (λ t. nat_eq (tuple_mark tuple) (tuple_mark t)) (λ t. tuple_eq t tuple) l.self-inside.tuples.items l.place
 
 abbrev pub decreases-loop-place : goal.decreases-loop-place

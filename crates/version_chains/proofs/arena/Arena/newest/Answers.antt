@@ -15,10 +15,10 @@ pub returns-in-Some : goal.returns-in-Some
 returns-in-Some c =
     let read = read_item c.self.inside.latest.items c.deref.result.now c.args.number c.in-Some.place.now c.deref.ensures.value c.in-Some.ensures.lookup.3.0 c.in-Some.ensures.lookup.1 in
     subst (IsNewest c.args.number c.in-Some.place.now) c.self.view_is
-    (λ t at. newest_touch c.self.inside.tuples.items c.self.inside.latest.items c.self.inside.named c.self.inside.held c.self.inside.nodes.items c.self.invariant c.args.number c.in-Some.place.now t at read)
+    (λ t at. newest_touch c.self.inside.tuples.items c.self.inside.latest.items c.self.inside.named c.self.inside.held c.self.inside.nodes.items c.self.invariant.0 c.args.number c.in-Some.place.now t at read)
 
 pub returns-in-None : goal.returns-in-None
 returns-in-None c =
     let past = subst (λ (xs : List ℕ). length xs ≤ c.args.number) c.deref.ensures.value c.in-None.ensures.lookup.3 in
     subst (IsNewest c.args.number 0) c.self.view_is
-    (λ t at. has_newest c.self.inside.tuples.items c.self.inside.latest.items c.self.inside.named c.self.inside.held c.self.inside.nodes.items c.self.invariant c.args.number t at past)
+    (λ t at. has_newest c.self.inside.tuples.items c.self.inside.latest.items c.self.inside.named c.self.inside.held c.self.inside.nodes.items c.self.invariant.0 c.args.number t at past)

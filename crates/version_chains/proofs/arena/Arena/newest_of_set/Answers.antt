@@ -5,9 +5,9 @@ use Rattle.version_chains.proofs.ArenaLemmas.{touches_known}
 use Rattle.version_chains.proofs.arena.Arena.newest_of_set.Goals as goal
 
 pub returns-clause-apart : goal.returns-clause-apart
-returns-clause-apart c = subst (λ (h : Held). AreApartAt h.tuples) c.self.view_is c.self.invariant.apart
+returns-clause-apart c = subst (λ (h : Held). AreApartAt h.tuples) c.self.view_is c.self.invariant.0.apart
 
 pub returns-clause-known : goal.returns-clause-known
 returns-clause-known c =
     subst AreTouchesKnown c.self.view_is
-    (touches_known c.self.inside.tuples.items c.self.inside.latest.items c.self.inside.named c.self.inside.held c.self.inside.nodes.items c.self.invariant)
+    (touches_known c.self.inside.tuples.items c.self.inside.latest.items c.self.inside.named c.self.inside.held c.self.inside.nodes.items c.self.invariant.0)

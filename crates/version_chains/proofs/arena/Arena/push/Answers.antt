@@ -18,9 +18,9 @@ invariant_of-self c =
     let more = length-more c.self.inside.nodes.items node in
     let count : c.len.result ≡ suc (length c.self.inside.nodes.items) = rw (len, items) more in
     let known : c.args.number < length c.self.inside.tuples.items = subst (λ (h : Held). c.args.number < length h.tuples) (sym c.self.view_is) c.requires.known in
-    let counted = c.self.invariant.counted in
+    let counted = c.self.invariant.0.counted in
     let within : c.args.number < length c.self.inside.latest.items = omega (arith, known, counted) in
     let is = read_item c.self.inside.latest.items c.self.inside.latest.items c.args.number c.index-older.result.now (λ i. c.self.inside.latest.items) within c.index-older.ensures in
     let on = subst (λ (ns : List Node). Goes ns c.index-older.result.now c.next_links-depth.result.1) c.as_slice.ensures.value (c.next_links-depth.ensures.first, c.next_links-depth.ensures.later) in
     let late = up_to_nodes c.self.inside.tuples.items c.self.inside.nodes.items c.args.at (subst (λ (h : Held). AreUpTo c.args.at h.touches) (sym c.self.view_is) c.requires.late) in
-    rw (items, count) (more_touches c.self.inside.tuples.items c.self.inside.latest.items c.self.inside.named c.self.inside.held c.self.inside.nodes.items c.self.invariant node known is on late)
+    (rw (items, count) (more_touches c.self.inside.tuples.items c.self.inside.latest.items c.self.inside.named c.self.inside.held c.self.inside.nodes.items c.self.invariant.0 node known is on late), c.self.invariant.1)

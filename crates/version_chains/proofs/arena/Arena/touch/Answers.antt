@@ -31,5 +31,5 @@ returns c =
     pick (Some n) test is =
         let yes : true ≡ nat_lt c.args.index (length c.deref.result.now) = test in
         let within : c.args.index < length c.deref.result.now = grind (arith, nat_tests) in
-        touch_at c.self.inside.tuples.items c.self.inside.latest.items c.self.inside.named c.self.inside.held c.self.inside.nodes.items c.self.invariant c.args.index n.now
+        touch_at c.self.inside.tuples.items c.self.inside.latest.items c.self.inside.named c.self.inside.held c.self.inside.nodes.items c.self.invariant.0 c.args.index n.now
         (read_item c.self.inside.nodes.items c.deref.result.now c.args.index n.now c.deref.ensures.value within is)
