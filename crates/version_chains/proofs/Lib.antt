@@ -12,6 +12,6 @@ pub mod PlacedLemmas
 pub mod LinkLemmas
 pub mod RepeatLemmas
 pub mod StoreLemmas
-pub mod TreeLemmas
+pub mod TableLemmas
 pub mod UserLemmas
 pub mod WalkLemmas

@@ -1,13 +1,13 @@
 -- One more link, and one less.
 use Rattle.std.proofs.Common.{◌≡◌, ◌≢◌, ℕ, suc, ◌+◌, ◌≤◌, Bool, true, false, cond, List, [], ◌∷◌, ◌++◌, length, map, refl, sym, ◌∙◌, ap, subst, Option, Some, ◌⊎◌, inl, inr, arith, nat_eq}
 use Rattle.std.specs.Prelude.{slice_get, option_map}
-use Rattle.std.specs.BTreeMap.{BTreeMap}
 use Rattle.std.proofs.lemmas.List.{map-append}
 use Rattle.std.proofs.lemmas.Option.{slice_get_within, slice_get-map}
 use Rattle.std.proofs.lemmas.Bool.{eqb-true, eq-eqb}
 use Rattle.version_chains.specs.Placed.{last_place}
-use Rattle.version_chains.specs.Links.{newest_in, AreLinked}
+use Rattle.version_chains.specs.Links.{AreLinked, IsTable, newest_of}
 use Rattle.version_chains.specs.declared.places.Link.{Link}
+use Rattle.version_chains.specs.declared.table.Table.{Table}
 use Rattle.version_chains.proofs.PlacedLemmas.{slice_get-cases, slice_get-kept, slice_get-next, last_place-front, last_place-more}
 
 abbrev marks_of : List Link → List ℕ
@@ -42,9 +42,9 @@ one_further links i link mark new old is before at =
     is ∙ ap (λ (n : ℕ). cond (nat_eq mark link.mark) (i + 1) n) before ∙ rw (next, here) refl
 
 -- one more link
-module _ (links : List Link) (trees new : List (BTreeMap ℕ ℕ)) (link : Link) (are : AreLinked links trees)
+module _ (links : List Link) (newest new : Table) (link : Link) (are : AreLinked links newest)
     (newest_is : link.older ≡ last_place (nat_eq link.mark) (marks_of links) (length (marks_of links)))
-    (sets : (m : ℕ) → newest_in new m ≡ cond (nat_eq m link.mark) (length links + 1) (newest_in trees m)) where
+    (sets : (m : ℕ) → newest_of new m ≡ cond (nat_eq m link.mark) (length links + 1) (newest_of newest m)) (chained : IsTable new) where
   earlier : (i : ℕ) (l : Link) → (slice_get links i ≡ Some l) ⊎ ((i ≡ length links) × (link ≡ l)) → l.older ≡ last_place (nat_eq l.mark) (marks_of (links ++ link ∷ [])) i
   earlier i l (inl h) = let within = slice_get_within links i l h in are.earlier i l h ∙ sym (before_link links link l.mark i (omega (arith, within)))
   earlier i l (inr h) =
@@ -54,6 +54,7 @@ module _ (links : List Link) (trees new : List (BTreeMap ℕ ℕ)) (link : Link)
 
   pub more_links : AreLinked (links ++ link ∷ []) new
   more_links = record {
+    chained = chained;
     earlier = λ i l h. earlier i l (slice_get-cases links link i l h);
     latest = λ mark.
         sets mark
@@ -63,22 +64,23 @@ module _ (links : List Link) (trees new : List (BTreeMap ℕ ℕ)) (link : Link)
   }
 
 -- one link less
-module _ (links : List Link) (link : Link) (trees : List (BTreeMap ℕ ℕ)) (are : AreLinked (links ++ link ∷ []) trees) where
-  newest_of_last : newest_in trees link.mark ≡ suc (length links)
+module _ (links : List Link) (link : Link) (newest : Table) (are : AreLinked (links ++ link ∷ []) newest) where
+  newest_of_last : newest_of newest link.mark ≡ suc (length links)
   newest_of_last =
       are.latest link.mark ∙ with_link links link link.mark
       ∙ ap (λ (b : Bool). cond b (suc (length links)) (last_place (nat_eq link.mark) (marks_of links) (length links))) (eq-eqb link.mark link.mark refl)
 
-  pub last_is_there : newest_in trees link.mark ≢ 0
+  pub last_is_there : newest_of newest link.mark ≢ 0
   last_is_there none = let e : 0 ≡ suc (length links) = sym none ∙ newest_of_last in omega (arith, e)
 
-  pub less_links : (new : List (BTreeMap ℕ ℕ)) → ((m : ℕ) → newest_in new m ≡ cond (nat_eq m link.mark) link.older (newest_in trees m)) → AreLinked links new
-  less_links new sets = record {
+  pub less_links : (new : Table) → ((m : ℕ) → newest_of new m ≡ cond (nat_eq m link.mark) link.older (newest_of newest m)) → IsTable new → AreLinked links new
+  less_links new sets chained = record {
+    chained = chained;
     earlier = λ i l h. let within = slice_get_within links i l h in are.earlier i l (slice_get-kept links (link ∷ []) i l h) ∙ before_link links link l.mark i (omega (arith, within));
     latest = λ mark. sets mark ∙ by_test mark (nat_eq mark link.mark) refl;
   }
     where
-      by_test : (mark : ℕ) (b : Bool) → nat_eq mark link.mark ≡ b → cond b link.older (newest_in trees mark) ≡ last_place (nat_eq mark) (marks_of links) (length links)
+      by_test : (mark : ℕ) (b : Bool) → nat_eq mark link.mark ≡ b → cond b link.older (newest_of newest mark) ≡ last_place (nat_eq mark) (marks_of links) (length links)
       by_test mark true t =
           are.earlier (length links) link (slice_get-next links link) ∙ before_link links link link.mark (length links) (omega arith)
           ∙ ap (λ (m : ℕ). last_place (nat_eq m) (marks_of links) (length links)) (sym (eqb-true mark link.mark t))

@@ -15,7 +15,7 @@ use Rattle.version_chains.specs.Arena.{AreApartAt, AreNumbersOf, Extends}
 use Rattle.version_chains.specs.Commits.{Touch}
 use Rattle.version_chains.proofs.CommitLemmas.{side}
 use Rattle.version_chains.proofs.ArenaLemmas.{tuples_by_number}
-use Rattle.version_chains.proofs.TreeLemmas.{at_mark}
+use Rattle.version_chains.proofs.TableLemmas.{at_mark}
 
 -- one item of the list
 repeat_more : {X : Type 0} (eq : X → X → Bool) (xs : List X) (i : ℕ) (d : X) → i < length xs

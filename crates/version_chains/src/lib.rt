@@ -33,9 +33,9 @@ mod marks;
 mod node;
 mod places;
 mod repeats;
+mod table;
 #[cfg(test)]
 mod tests;
-mod trees;
 mod users;
 
 pub use chains::Chains;

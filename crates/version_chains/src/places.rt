@@ -3,7 +3,7 @@
 ghost use Rattle.std.specs.Prelude.{◌≡◌, ℕ, ◌∷◌, ◌++◌, [], Some, length, slice_get, nat_eq, OnOk, OnErr, List};
 ghost use Rattle.version_chains.specs.Placed.{last_place};
 
-use crate::trees::Trees;
+use crate::table::Table;
 use std::alloc::{AllocError, Global};
 use std::marker::Model;
 
@@ -17,12 +17,12 @@ pub struct Link {
 /// A list of marks, from each of which a walk leads back over the places with this mark. Places count from 1, and 0
 /// is no place.
 ///
-/// The newest places are kept in a table of small search trees. Marks come from texts that a stranger chose, so he can choose
-/// them for one tree of the table; that tree still finds each in the logarithm of their number.
+/// The newest places are kept in a table of short chains. Marks come from texts that a stranger chose, so he can choose
+/// them for one chain; those for which it has no room stand in a tree, which finds each in the logarithm of their number.
 #[derive(Drop)]
 pub struct Places {
     links: Vec<Link>,
-    newest: Trees,
+    newest: Table,
 }
 
 impl Model for Places {
@@ -34,7 +34,7 @@ impl Model for Places {
 
     ghost view = { λ p. map (λ l. l.mark) p.links.items };
 
-    ghost invariant = { λ p. AreLinked p.links.items p.newest.trees.items };
+    ghost invariant = { λ p. AreLinked p.links.items p.newest };
 }
 
 impl Places {
@@ -43,7 +43,7 @@ impl Places {
     {
         Places {
             links: Vec::new(alloc),
-            newest: Trees::new(alloc),
+            newest: Table::new(alloc),
         }
     }
 
@@ -71,8 +71,7 @@ impl Places {
     {
         let older = self.newest(mark);
         self.links.reserve(1)?;
-        self.newest
-            .spread(*self.links.allocator(), self.links.as_slice())?;
+        self.newest.spread(*self.links.allocator(), &self.links)?;
         self.newest.set(mark, self.links.len() + 1)?;
         if self.links.push(Link { mark, older }).is_err() {
             unreachable!();

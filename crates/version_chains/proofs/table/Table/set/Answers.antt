@@ -1,0 +1,75 @@
+use Rattle.std.proofs.Common.{rules, ◌≡◌, ◌∙◌, ◌-◌, ◌<◌, sym, ap, suc, refl, arith, length, None}
+use Rattle.std.specs.BTreeMap.{get}
+use Rattle.std.specs.Ordering.{nat_cmp}
+use Rattle.version_chains.specs.declared.table.Entry.{Entry}
+use Rattle.version_chains.specs.Links.{head_of, longest, newest_in}
+use Rattle.version_chains.proofs.PlacedLemmas.{read_item}
+use Rattle.version_chains.proofs.TableLemmas.{entry_within, newest-placed, chained-placed, newest-in_rest, newest-of_rest, newest-same_rest, newest-written, chained-written, on_err}
+use Rattle.version_chains.proofs.table.Table.set.Goals as goal
+
+pub index_mut-requires : goal.index_mut-requires
+index_mut-requires c =
+    let some : 0 < c.entry-entry.result = search rules in
+    let within = entry_within c.args.self.now.entries.items c.args.mark longest (head_of c.args.self.now.heads.items c.args.mark) c.entry-entry.result c.entry-entry.ensures some in
+    let less : c.entry-entry.result - 1 < length c.args.self.now.entries.items = omega (arith, some, within) in
+    search rules
+
+pub returns-then-entry-gt0-clause-table : goal.returns-then-entry-gt0-clause-table
+returns-then-entry-gt0-clause-table c =
+    let some : 0 < c.entry-entry.result = search rules in
+    let within = entry_within c.args.self.now.entries.items c.args.mark longest (head_of c.args.self.now.heads.items c.args.mark) c.entry-entry.result c.entry-entry.ensures some in
+    let less : c.entry-entry.result - 1 < length c.args.self.now.entries.items = omega (arith, some, within) in
+    chained-placed c.args.self.now.entries.items (c.entry-entry.result - 1) c.args.place c.index_mut.result.now
+    (read_item c.args.self.now.entries.items c.args.self.now.entries.items (c.entry-entry.result - 1) c.index_mut.result.now refl less (search rules))
+    c.args.self.now.heads.items c.requires
+
+pub returns-then-entry-gt0-clause-ok : goal.returns-then-entry-gt0-clause-ok
+returns-then-entry-gt0-clause-ok c =
+    let some : 0 < c.entry-entry.result = search rules in
+    let within = entry_within c.args.self.now.entries.items c.args.mark longest (head_of c.args.self.now.heads.items c.args.mark) c.entry-entry.result c.entry-entry.ensures some in
+    let is : c.entry-entry.result ≡ suc (c.entry-entry.result - 1) = omega (arith, some) in
+    let less : c.entry-entry.result - 1 < length c.args.self.now.entries.items = omega (arith, some, within) in
+    newest-placed c.args.self.now.entries.items (c.entry-entry.result - 1) c.args.place c.index_mut.result.now
+    (read_item c.args.self.now.entries.items c.args.self.now.entries.items (c.entry-entry.result - 1) c.index_mut.result.now refl less (search rules))
+    c.args.self.now.heads.items c.args.self.now.rest c.args.mark longest (sym c.entry-entry.ensures ∙ is)
+
+pub returns-in_ok-insert-clause-ok : goal.returns-in_ok-insert-clause-ok
+returns-in_ok-insert-clause-ok c =
+    let none : c.entry-entry.result ≡ 0 = search rules in
+    newest-in_rest longest c.args.self.now.heads.items c.args.self.now.entries.items c.args.self.now.rest c.insert.new.self c.args.mark c.args.place (sym c.entry-entry.ensures ∙ none) (search rules)
+
+pub returns-in_err-push-clause-err : goal.returns-in_err-push-clause-err
+returns-in_err-push-clause-err c =
+    on_err c.from_residual.result (λ m. ap (λ es. newest_in longest c.args.self.now.heads.items es c.args.self.now.rest m) c.in_err-push.ensures.items)
+
+pub returns-in_err-push-clause-unknown : goal.returns-in_err-push-clause-unknown
+returns-in_err-push-clause-unknown c =
+    let none : c.entry-entry.result ≡ 0 = search rules in
+    on_err c.from_residual.result
+    (newest-of_rest longest c.args.self.now.heads.items c.args.self.now.entries.items c.args.self.now.rest c.args.mark (sym c.entry-entry.ensures ∙ none) c.if-may_chain.ensures.none)
+
+pub returns-in_err-insert-clause-err : goal.returns-in_err-insert-clause-err
+returns-in_err-insert-clause-err c =
+    on_err c.from_residual-in_err-insert.result
+    (newest-same_rest longest c.args.self.now.heads.items c.args.self.now.entries.items c.args.self.now.rest c.insert.new.self c.in_err-insert.ensures.err)
+
+pub returns-in_err-insert-clause-unknown : goal.returns-in_err-insert-clause-unknown
+returns-in_err-insert-clause-unknown c =
+    let none : c.entry-entry.result ≡ 0 = search rules in
+    let absent : get nat_cmp c.args.self.now.rest c.args.mark ≡ None = search rules in
+    on_err c.from_residual-in_err-insert.result
+    (newest-of_rest longest c.args.self.now.heads.items c.args.self.now.entries.items c.args.self.now.rest c.args.mark (sym c.entry-entry.ensures ∙ none) absent)
+
+pub returns-in_ok-push-clause-table : goal.returns-in_ok-push-clause-table
+returns-in_ok-push-clause-table c =
+    let x : Entry = record { mark = c.args.mark; place = c.args.place; next = c.head-next.result } in
+    let next_is : c.head-next.result ≡ head_of c.args.self.now.heads.items c.args.mark = c.head-next.ensures ∙ ap (λ hs. head_of hs c.args.mark) c.deref.ensures.value in
+    chained-written longest c.args.self.now.heads.items c.args.self.now.entries.items c.args.self.now.rest c.requires x (longest - 1) refl c.if-may_chain.ensures.some next_is c.if-may_chain.ensures.room
+    c.chain_of-chain.result c.len-then-may_chain.result c.push.new.self.items (search rules) (search rules) (search rules)
+
+pub returns-in_ok-push-clause-ok : goal.returns-in_ok-push-clause-ok
+returns-in_ok-push-clause-ok c =
+    let x : Entry = record { mark = c.args.mark; place = c.args.place; next = c.head-next.result } in
+    let next_is : c.head-next.result ≡ head_of c.args.self.now.heads.items c.args.mark = c.head-next.ensures ∙ ap (λ hs. head_of hs c.args.mark) c.deref.ensures.value in
+    newest-written longest c.args.self.now.heads.items c.args.self.now.entries.items c.args.self.now.rest c.requires x (longest - 1) refl c.if-may_chain.ensures.some next_is c.if-may_chain.ensures.room
+    c.chain_of-chain.result c.len-then-may_chain.result c.push.new.self.items (search rules) (search rules) (search rules)

@@ -1,0 +1,197 @@
+//! The newest place of each mark, in a table of chains.
+
+ghost use Rattle.std.specs.Prelude.{◌≡◌, ◌<◌, ◌%◌, ◌-◌, ℕ, true, None, map, length, cond, nat_eq, IfOk, OnOk, OnErr};
+ghost use Rattle.std.specs.Bool.{OnTrue};
+ghost use Rattle.std.specs.BTreeMap.{get};
+ghost use Rattle.std.specs.Ordering.{nat_cmp};
+ghost use Rattle.version_chains.specs.Links.{IsTable, ends, entry_for, entry_in, head_of, longest, newest_of};
+ghost use Rattle.version_chains.specs.Placed.{last_place};
+
+use crate::places::Link;
+use std::alloc::{AllocError, Global};
+use std::collections::BTreeMap;
+
+/// How many entries a chain may have.
+const LONGEST: usize = 16;
+
+/// How many entries there are for each chain, before there are more chains.
+const MOST: usize = 2;
+
+/// How many chains there are at first.
+const FEWEST: usize = 8;
+
+/// A mark and its newest place, and the entry behind it in its chain. Entries count from 1, and 0 is the end of a chain.
+#[derive(Clone, Copy, Drop)]
+pub struct Entry {
+    pub mark: u64,
+    pub place: usize,
+    pub next: usize,
+}
+
+/// The newest place of each mark. 0 is no place.
+///
+/// A mark stands in the chain that its remainder names, or in a tree where that chain is full.
+#[derive(Drop)]
+pub struct Table {
+    heads: Vec<usize>,
+    entries: Vec<Entry>,
+    rest: BTreeMap<u64, usize>,
+}
+
+/// The index of a mark's chain.
+fn chain_of(mark: u64, chains: usize) -> usize
+    requires { 0 < chains }
+    ensures value { result ≡ mark % chains }
+    ensures within { result < chains }
+{
+    (mark % chains as u64) as usize
+}
+
+/// The first entry of a mark's chain.
+fn head(heads: &[usize], mark: u64) -> usize
+    ensures { result ≡ head_of heads.now mark }
+{
+    if heads.is_empty() {
+        return 0;
+    }
+    heads[chain_of(mark, heads.len())]
+}
+
+/// The mark's entry in the chain that begins here.
+fn entry_of(entries: &[Entry], mark: u64, head: usize) -> usize
+    ensures { result ≡ entry_in entries.now mark longest head }
+{
+    let mut at = head;
+    for _ in 0..LONGEST {
+        if at == 0 {
+            return 0;
+        }
+        match entries.get(at - 1) {
+            Some(entry) => {
+                if entry.mark == mark {
+                    return at;
+                }
+                at = entry.next;
+            }
+            None => return 0,
+        }
+    }
+    0
+}
+
+/// Whether one more entry may stand before the chain that begins here.
+fn has_room(entries: &[Entry], head: usize) -> bool
+    ensures { result ≡ ends entries.now (longest - 1) head }
+{
+    let mut at = head;
+    for _ in 0..LONGEST - 1 {
+        if at == 0 {
+            return true;
+        }
+        match entries.get(at - 1) {
+            Some(entry) => at = entry.next,
+            None => return true,
+        }
+    }
+    at == 0
+}
+
+fn empty_table(alloc: Global, chains: usize) -> Result<Table, AllocError>
+    ensures table { IfOk result IsTable }
+    ensures none { IfOk result (λ t. (mark : ℕ) → newest_of t mark ≡ 0) }
+{
+    Ok(Table {
+        heads: vec![in alloc; 0usize; chains]?,
+        entries: Vec::new(alloc),
+        rest: BTreeMap::new(alloc),
+    })
+}
+
+/// So many chains, with the newest place of each mark of the links.
+fn table_of(alloc: Global, links: &[Link], chains: usize) -> Result<Table, AllocError>
+    ensures table { IfOk result IsTable }
+    ensures newest { IfOk result (λ t. (mark : ℕ) → newest_of t mark ≡ last_place (nat_eq mark) (map (λ l. l.mark) links.now) (length links.now)) }
+{
+    let mut table = empty_table(alloc, chains)?;
+    for (index, link) in links.iter().enumerate() {
+        table.set(link.mark, index + 1)?;
+    }
+    Ok(table)
+}
+
+impl Table {
+    pub fn new(alloc: Global) -> Table
+        ensures table { IsTable result }
+        ensures none { (mark : ℕ) → newest_of result mark ≡ 0 }
+    {
+        Table {
+            heads: Vec::new(alloc),
+            entries: Vec::new(alloc),
+            rest: BTreeMap::new(alloc),
+        }
+    }
+
+    /// The mark's entry.
+    fn entry(&self, mark: u64) -> usize
+        ensures { result ≡ entry_for self.now mark }
+    {
+        entry_of(&self.entries, mark, head(&self.heads, mark))
+    }
+
+    /// Whether a new entry of the mark may stand before the mark's chain.
+    fn may_chain(&self, mark: u64) -> bool
+        ensures some { OnTrue result (0 < length self.now.heads.items) }
+        ensures room { OnTrue result (ends self.now.entries.items (longest - 1) (head_of self.now.heads.items mark) ≡ true) }
+        ensures none { OnTrue result (get nat_cmp self.now.rest mark ≡ None) }
+    {
+        !self.heads.is_empty()
+            && !self.rest.contains_key(&mark)
+            && has_room(&self.entries, head(&self.heads, mark))
+    }
+
+    /// The newest place of the mark, or 0 where it has none.
+    pub fn newest(&self, mark: u64) -> usize
+        ensures { result ≡ newest_of self.now mark }
+    {
+        let entry = self.entry(mark);
+        if entry > 0 {
+            return self.entries[entry - 1].place;
+        }
+        self.rest.get(&mark).copied().unwrap_or(0)
+    }
+
+    /// Makes a place the mark's newest. Where the mark has one already, no memory is wanted.
+    pub fn set(&mut self, mark: u64, place: usize) -> Result<(), AllocError>
+        requires { IsTable self.old }
+        ensures table { IsTable self.new }
+        ensures ok { OnOk result ((m : ℕ) → newest_of self.new m ≡ cond (nat_eq m mark) place (newest_of self.old m)) }
+        ensures err { OnErr result ((m : ℕ) → newest_of self.new m ≡ newest_of self.old m) }
+        ensures unknown { OnErr result (newest_of self.old mark ≡ 0) }
+    {
+        let entry = self.entry(mark);
+        if entry > 0 {
+            self.entries[entry - 1].place = place;
+        } else if self.may_chain(mark) {
+            let next = head(&self.heads, mark);
+            self.entries.push(Entry { mark, place, next })?;
+            let chain = chain_of(mark, self.heads.len());
+            self.heads[chain] = self.entries.len();
+        } else {
+            self.rest.insert(mark, place)?;
+        }
+        Ok(())
+    }
+
+    /// Makes more chains where there are many entries for each. What is found stays.
+    pub fn spread(&mut self, alloc: Global, links: &[Link]) -> Result<(), AllocError>
+        requires newest { (mark : ℕ) → newest_of self.old mark ≡ last_place (nat_eq mark) (map (λ l. l.mark) links.now) (length links.now) }
+        requires table { IsTable self.old }
+        ensures table { IsTable self.new }
+        ensures same { (mark : ℕ) → newest_of self.new mark ≡ newest_of self.old mark }
+    {
+        if self.heads.len() <= self.entries.len() / MOST {
+            *self = table_of(alloc, links, self.entries.len() + FEWEST)?;
+        }
+        Ok(())
+    }
+}
