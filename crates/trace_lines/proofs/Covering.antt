@@ -1,5 +1,5 @@
 -- A cover has a broken edge where one of its sample is broken, and stays a cover from one declaration to the next.
-use Rattle.std.proofs.Common.{◌≡◌, ℕ, zero, suc, ◌+◌, ◌<◌, ◌&&◌, get_or, set, List, [], ◌∷◌, ◌++◌, length, take, drop, Bool, true, false, nat_lt, not, position, Option, None, Some, option_map, option_and_then, unwrap_or, Result, Ok, Err, ◌⊎◌, inl, inr, refl, sym, ap, ◌∙◌, subst, arith}
+use Rattle.std.proofs.Common.{◌≡◌, ℕ, zero, suc, ◌+◌, ◌<◌, ◌&&◌, get_or, set, List, [], ◌∷◌, ◌++◌, length, take, drop, Bool, true, false, Option, None, Some, option_map, option_and_then, unwrap_or, Result, Ok, Err, ◌⊎◌, inl, inr, refl, sym, ap, ◌∙◌, subst, arith}
 use Rattle.std.specs.Prelude.{Contains, OnOk}
 use Rattle.std.specs.List.{filter_map, flat_map, cons_option}
 use Rattle.std.specs.Str.{bytes_eq}
@@ -12,7 +12,7 @@ use Rattle.tuple_text.specs.declared.users.User.{User}
 use Rattle.tuple_text.specs.declared.users.User.TheVariants.{Id, Set}
 use Rattle.namespaces.specs.declared.number.RelNo.{RelNo}
 use Rattle.namespaces.specs.Declaration.{Relation, Declaration}
-use Rattle.namespaces.specs.Lookup.{relation_named, relation_names, relations_of, relation_of, relation_count, namespace_names, history_numbered, number_of, place_of}
+use Rattle.namespaces.specs.Lookup.{relation_named, relations_of, relation_of, relation_count, namespace_names, history_numbered, number_of, place_of}
 use Rattle.namespaces.specs.WellFormed.{IsWellFormed}
 use Rattle.namespaces.proofs.Declared.{numbered}
 use Rattle.namespaces.proofs.Names.{by_bool, clash, same_name, and_true, one_name}
@@ -21,7 +21,7 @@ use Rattle.strata.specs.Edges.{Place, at_this, at_computed, at_tuple_to, places,
 use Rattle.strata.proofs.LastTuple.{absent, numbers_kept, stratum_of_number}
 use Rattle.strata.proofs.Lists.{Contains-cons_cases, Contains-here, Contains-there, not_in_nil}
 use Rattle.strata.proofs.Newest.{both_ok}
-use Rattle.strata.proofs.Walks.{both, edges_joined}
+use Rattle.strata.proofs.Walks.{edges_joined}
 use Rattle.trace_lines.specs.Covers.{stratum_of, is_at_most, covers_user, covers, IsCovered, IsCover, IsCoverBefore, is_asked, IsWidened}
 use Rattle.trace_lines.specs.declared.cover.Cover.{Cover}
 use Rattle.trace_lines.proofs.Sampling.{each_unbroken}

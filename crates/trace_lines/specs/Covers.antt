@@ -1,5 +1,5 @@
 -- Tuples whose edges are broken wherever an edge of another is, and tuples that cover a sample so. No public clause cites this module.
-use Rattle.std.specs.Prelude.{◌≡◌, ℕ, ◌∷◌, ◌&&◌, nat_lt, not, Bool, true, false, Contains, List, Option, None, Some, option_map}
+use Rattle.std.specs.Prelude.{◌≡◌, ℕ, ◌&&◌, nat_lt, not, Bool, true, false, Contains, List, Option, None, Some, option_map}
 use Rattle.std.proofs.Common.{◌⊎◌}
 use Rattle.std.specs.Str.{bytes_eq}
 use Rattle.tuple_text.specs.Sets.{SetValue}

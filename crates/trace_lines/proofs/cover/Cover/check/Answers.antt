@@ -1,4 +1,4 @@
-use Rattle.std.proofs.Common.{◌≡◌, ◌∙◌, List, Ok, false, refl, sym, subst}
+use Rattle.std.proofs.Common.{◌≡◌, List, Ok, false, refl, sym, subst}
 use Rattle.tuple_text.specs.Tuples.{TupleValue}
 use Rattle.strata.specs.Edges.{first_broken, edges_of_tuples}
 use Rattle.trace_lines.proofs.Covering.{cover_stays, cover_unbroken, sample_unbroken}
