@@ -9,6 +9,8 @@ KIND is one of
   late_changes   half of the bytes are tuples, the other half change lines behind them
   kinds          tuples that each store another relation of usersets, and up to 4,000 small changes of another namespace behind them
   own_kinds      the same, and the changes are of the tuples' namespace
+  spread_kinds   tuples of 60 relations that each lead to 250 namespaces, and up to 4,000 changes of the tuples' namespace behind them
+  more_kinds     tuples that each store another relation of usersets of 250 namespaces, and changes of these that bring one relation each
   toggled        one tuple added and removed in every other commit, and checks at old snapshots
   ids            one group of users alone, and checks that a stranger is not in it
   chain          records of one chain of groups each, as long as a record may be: from the last group on
@@ -84,6 +86,37 @@ def kinds(size, name):
             break
         given.at += 1
         given.line({"kind": "namespace", "at": given.at, "name": name, "relations": small})
+    given.check("doc:a#viewer@10", False, [{"no": ["doc:a#viewer@10"]}], snapshot=1)
+    return given
+
+
+def spread_kinds(size):
+    """Tuples of 60 relations of one namespace that lead to 250 namespaces each, and behind them changes of that namespace."""
+    relations = [relation(f"r{k}") for k in range(60)]
+    given = Input(size, [{"name": "doc", "relations": relations}])
+    for k in range(60):
+        given.commit([f"doc:a#r{k}@n{j}:b#m" for j in range(250)])
+    for _ in range(4000):
+        if given.is_full():
+            break
+        given.at += 1
+        given.line({"kind": "namespace", "at": given.at, "name": "doc", "relations": relations})
+    given.check("doc:a#r0@10", False, [{"no": ["doc:a#r0@10"]}], snapshot=1)
+    return given
+
+
+def more_kinds(size):
+    """Tuples that each store another relation of usersets, and behind them changes of the users' namespaces that bring one relation each."""
+    given = Input(size, [{"name": "doc", "relations": [relation("viewer")]}])
+    k = 0
+    while given.bytes < size // 3:
+        given.commit([f"doc:a#viewer@n{j % 250}:b#m{j // 250}" for j in range(k, k + 100)])
+        k += 100
+    for change in range(4000):
+        if given.is_full():
+            break
+        given.at += 1
+        given.line({"kind": "namespace", "at": given.at, "name": f"n{change % 250}", "relations": [relation(f"m{j}") for j in range(change // 250 + 1)]})
     given.check("doc:a#viewer@10", False, [{"no": ["doc:a#viewer@10"]}], snapshot=1)
     return given
 
@@ -172,6 +205,8 @@ KINDS = {
     "late_changes": late_changes,
     "kinds": lambda size: kinds(size, "plan"),
     "own_kinds": lambda size: kinds(size, "doc"),
+    "spread_kinds": spread_kinds,
+    "more_kinds": more_kinds,
     "toggled": toggled,
     "ids": ids,
     "chain": lambda size: rings(size, 1, False),

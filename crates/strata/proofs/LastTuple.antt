@@ -20,7 +20,7 @@ use Rattle.strata.proofs.Newest.{position_cons, position_item, both_ok, place_sa
 use Rattle.strata.proofs.Unbroken.{unbroken, edge_of_namespace, item_least, item_there}
 use Rattle.strata.proofs.Walks.{both, edges_joined}
 
-absent : (p : List ℕ) (os : List Relation) → relation_named p os ≡ None → position (bytes_eq p) (relation_names os) ≡ None
+pub absent : (p : List ℕ) (os : List Relation) → relation_named p os ≡ None → position (bytes_eq p) (relation_names os) ≡ None
 absent p [] h = refl
 absent p (o ∷ os) h = by_bool (bytes_eq p o.name)
     (λ t. let no : Some o ≡ None = rw t at h in cc)
@@ -98,7 +98,7 @@ module _ (ds : List Declaration) (d : Declaration) (w : IsWellFormed (ds ++ d �
   more = ds ++ d ∷ []
 
   -- a relation that has a number keeps its stratum
-  stratum_of_number : (q p : List ℕ) (m : RelNo) → number_of q p ds ≡ Some m → stratum_numbered more m ≡ stratum_numbered ds m
+  pub stratum_of_number : (q p : List ℕ) (m : RelNo) → number_of q p ds ≡ Some m → stratum_numbered more m ≡ stratum_numbered ds m
   stratum_of_number q p m h = by_bool (bytes_eq q d.name)
       (λ t.
       let own : number_of d.name p ds ≡ Some m = subst (λ (n : List ℕ). number_of n p ds ≡ Some m) (one_name q d.name t) h in
@@ -142,7 +142,7 @@ module _ (ds : List Declaration) (d : Declaration) (w : IsWellFormed (ds ++ d �
           by_name os found (names.1 ∙ ap (λ xs. relation_names os ++ xs) (no_more (relation_names os) names.0 all) ∙ append-nil (relation_names os)) (relation_named p os) refl
 
   -- those of other namespaces have theirs anyway
-  numbers_kept : (q : List ℕ) → (q ≡ d.name → relation_count d.name more ≡ relation_count d.name ds) → (p : List ℕ) → number_of q p more ≡ number_of q p ds
+  pub numbers_kept : (q : List ℕ) → (q ≡ d.name → relation_count d.name more ≡ relation_count d.name ds) → (p : List ℕ) → number_of q p more ≡ number_of q p ds
   numbers_kept q count p = by_bool (bytes_eq q d.name)
       (λ t.
       let same : q ≡ d.name = one_name q d.name t in

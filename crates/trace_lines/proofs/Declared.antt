@@ -17,7 +17,9 @@ use Rattle.namespaces.proofs.Growth.{passed}
 use Rattle.refusals.specs.Refusals.{◌>>=◌}
 use Rattle.json_lines.specs.Fields.{text_at}
 use Rattle.strata.specs.Edges.{first_broken, edges_of_tuples}
-use Rattle.trace_lines.specs.Declaring.{AreUnbroken, IsDeclaredLast, IsDeclaredOver}
+use Rattle.trace_lines.specs.Covers.{IsCover, IsCoverBefore}
+use Rattle.trace_lines.specs.Declaring.{AreUnbroken, IsDeclaredLast}
+use Rattle.trace_lines.specs.declared.cover.Cover.{Cover}
 
 step : {A B : Type 0} (r : Result A RulesFault) (f : A → Result B RulesFault) (y : B) → (r >>= f) ≡ Ok y → (x : A) × (r ≡ Ok x) × (f x ≡ Ok y)
 step (Ok x) f y h = (x, refl, h)
@@ -80,17 +82,20 @@ after_change ds es at d h unbroken =
     let is = change_made ds es at d h in
     record { before = ds; last = is.0; are = is.1; named = is.2; unbroken = unbroken }
 
--- and over the tuples before it
-pub over_change : (ds es : List Declaration) (at : ℕ) (d : Data) (ts : List TupleValue) (q : List ℕ) (has_more : Bool) → rules_change ds at d ≡ Ok es → IsWellFormed es
+-- and over the tuples before it, and their cover
+pub over_change : (ds es : List Declaration) (at : ℕ) (d : Data) (ts : List TupleValue) (cover : Cover) (q : List ℕ) (has_more : Bool) → rules_change ds at d ≡ Ok es → IsWellFormed es
     → q ≡ unwrap_or (text_at (codes "name") d) [] → (has_more ≡ false → relation_count q es ≡ relation_count q ds)
-    → first_broken ds (edges_of_tuples ds ts) ≡ Ok (tt {0}) → IsDeclaredOver es q has_more ts
-over_change ds es at d ts q has_more h w name count none =
+    → first_broken ds (edges_of_tuples ds ts) ≡ Ok (tt {0}) → IsCover ds cover ts → IsCoverBefore es q has_more cover ts
+over_change ds es at d ts cover q has_more h w name count none had =
     let is = change_made ds es at d h in
     record {
-      well_formed = w;
-      before = ds;
-      again = record { last = is.0; are = is.1; named = sym (name ∙ ap (λ (o : Option (List ℕ)). unwrap_or o []) is.2); count = count };
-      unbroken = none;
+      over = record {
+        well_formed = w;
+        before = ds;
+        again = record { last = is.0; are = is.1; named = sym (name ∙ ap (λ (o : Option (List ℕ)). unwrap_or o []) is.2); count = count };
+        unbroken = none;
+      };
+      covered = had;
     }
 
 -- counts that do not differ

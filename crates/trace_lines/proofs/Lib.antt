@@ -1,4 +1,5 @@
 pub mod Answers
+pub mod Covering
 pub mod Declared
 pub mod IssuedVersions
 pub mod Keeping

@@ -30,10 +30,13 @@ use Rattle.trace_lines.specs.Causes.{Gives, namespace_cause}
 use Rattle.trace_lines.specs.Values.{TraceValue}
 use Rattle.trace_lines.specs.Traces.{strata_cause, rules_checked, tuples_checked, late_or, with_namespace, changes_of, append_cause, commit_checked, with_touches, with_commit, empty_commit, change_line}
 use Rattle.trace_lines.specs.Declaring.{checked, changed_rules, rules_changed, refused_late}
+use Rattle.trace_lines.specs.Covers.{IsCover}
 use Rattle.trace_lines.specs.Tuples.{Represents, IsOrderly}
 use Rattle.trace_lines.specs.declared.cause.Cause.{Cause}
+use Rattle.trace_lines.specs.declared.cover.Cover.{Cover}
 use Rattle.trace_lines.specs.declared.cause.Cause.TheVariants as causes
 use Rattle.trace_lines.proofs.Answers.{made}
+use Rattle.trace_lines.proofs.Covering.{cover_without, cover_of_none}
 use Rattle.trace_lines.proofs.Sampling.{none_broken, tuples_joined, represents_then, unbroken_without_rules}
 
 pub orderly_empty : IsOrderly [] [] []
@@ -41,6 +44,7 @@ orderly_empty = record {
   well_formed = record { namespaces = omega arith; distinct = refl; fit = tt; changes = omega arith; continued = tt };
   unbroken = record { of_rules = refl; of_tuples = refl };
   sampled = λ ds. refl;
+  empty = λ h. refl;
   later = λ at h k d lt. absurd (omega (arith, lt));
   touches = omega arith;
 }
@@ -51,6 +55,7 @@ orderly_without ds commits sample is = record {
   well_formed = orderly_empty.well_formed;
   unbroken = record { of_rules = refl; of_tuples = unbroken_without_rules (added commits) };
   sampled = is.sampled;
+  empty = is.empty;
   later = λ at h k d lt. absurd (omega (arith, lt));
   touches = is.touches;
 }
@@ -133,6 +138,7 @@ orderly_commit ds commits sample now is c fine fault more =
         of_tuples = subst (λ ts. first_broken ds (edges_of_tuples ds ts) ≡ Ok (tt {0})) (sym (added_pushed commits c)) tuples;
       };
       sampled = subst (Represents now) (sym (added_pushed commits c)) (represents_then now sample c.adds more (added commits) is.sampled);
+      empty = λ h. let n = length-append commits (c ∷ []) in absurd (omega (arith, n, h));
       later = λ at h.
           let last : late_fault (Some c.at) at ≡ None = subst (λ (o : Option ℕ). late_fault o at ≡ None) (last_pushed commits c) h in
           later_on c.at at ds (is.later c.at a.later) (later_than c.at at last);
@@ -175,6 +181,7 @@ orderly_namespace ds es sample d is h later =
       well_formed = subst IsWellFormed same (well_formed_add ds d one.0 is.well_formed (rules_ok (rules_add ds d) one.0 one.1));
       unbroken = record { of_rules = none_broken (first_broken es (rule_edges es)) fine; of_tuples = refl };
       sampled = is.sampled;
+      empty = is.empty;
       later = λ at g. later at (is.later at g);
       touches = is.touches;
     }
@@ -196,6 +203,7 @@ orderly_change ds es commits sample at d is before last h later =
         of_tuples = sym (is.sampled es) ∙ none_broken (first_broken es (edges_of_tuples es sample)) tuples;
       };
       sampled = is.sampled;
+      empty = is.empty;
       later = λ next g. later next (later_than at next (subst (λ (o : Option ℕ). late_fault o next ≡ None) last g));
       touches = is.touches;
     }
@@ -205,15 +213,25 @@ pub nothing_before : (lines : List ℕ) (b : Bool) (commits : List Commit) → l
 nothing_before [] b commits same h = sym same
 nothing_before (l ∷ ls) b commits same h = absurd (grind (arith, nat_tests))
 
+not_late : (begun : Bool) (ds es : List Declaration) (d : Data) → with_namespace begun ds d ≡ Ok es → begun ≡ false
+not_late false ds es d h = refl
+not_late true ds es d h =
+    let one = step_ok (namespace_cause (rules_add ds d)) (late_or true) es h in
+    let late : Err causes.Late ≡ Ok es = one.2 in
+    cc
+
+-- what a line of a namespace leaves covered: nothing was added so far
+pub cover_declared : (r : Result (Unit {0}) Cause) (begun : Bool) (ds es : List Declaration) (commits : List Commit) (sample : List TupleValue) (cover : Cover) (d : Data)
+    → IsOrderly ds commits sample → (begun ≡ false → length commits ≡ 0) → Gives (λ u. es) r (with_namespace begun ds d) → OnErr r (es ≡ []) → IsCover ds cover sample → IsCover es cover sample
+cover_declared (Err e) begun ds es commits sample cover d is first gives none had = rw none (cover_without ds cover sample had)
+cover_declared (Ok u) begun ds es commits sample cover d is first gives none had = cover_of_none ds es cover sample (is.empty (first (not_late begun ds es d gives))) had
+
 -- what a line of a namespace leaves
 pub orderly_declared : (r : Result (Unit {0}) Cause) (begun : Bool) (ds es : List Declaration) (commits : List Commit) (sample : List TupleValue) (d : Data)
     → IsOrderly ds commits sample → (begun ≡ false → length commits ≡ 0) → Gives (λ u. es) r (with_namespace begun ds d) → OnErr r (es ≡ [])
     → OnOk r ((at : ℕ) → IsLater at ds → IsLater at es) → IsOrderly es commits sample
 orderly_declared (Err e) begun ds es commits sample d is first gives none later = rw none (orderly_without ds commits sample is)
-orderly_declared (Ok u) true ds es commits sample d is first gives none later =
-    let one = step_ok (namespace_cause (rules_add ds d)) (late_or true) es gives in
-    let late : Err causes.Late ≡ Ok es = one.2 in
-    cc
+orderly_declared (Ok u) true ds es commits sample d is first gives none later = let late : true ≡ false = not_late true ds es d gives in cc
 orderly_declared (Ok u) false ds es [] sample d is first gives none later = orderly_namespace ds es sample d is gives later
 orderly_declared (Ok u) false ds es (c ∷ cs) sample d is first gives none later = let n : length (c ∷ cs) ≡ 0 = first refl in absurd (omega arith)
 

@@ -49,7 +49,7 @@ pub one_unbroken : (ds : List Declaration) (t : TupleValue) → first_broken ds 
 one_unbroken ds t = ap (first_broken ds) (append-nil (tuple_edges ds t))
 
 -- where no edge of the tuples is broken, none is of one of them
-each_unbroken : (ds : List Declaration) (ts : List TupleValue) (t : TupleValue) → Contains ts t → first_broken ds (edges_of_tuples ds ts) ≡ Ok (tt {0})
+pub each_unbroken : (ds : List Declaration) (ts : List TupleValue) (t : TupleValue) → Contains ts t → first_broken ds (edges_of_tuples ds ts) ≡ Ok (tt {0})
     → first_broken ds (tuple_edges ds t) ≡ Ok (tt {0})
 each_unbroken ds [] t c h = absurd (not_in_nil t c)
 each_unbroken ds (x ∷ xs) t c h =

@@ -1,4 +1,5 @@
 pub mod Causes
+pub mod Covers
 pub mod Declaring
 pub mod Kept
 pub mod Recorded

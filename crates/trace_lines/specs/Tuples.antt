@@ -1,5 +1,5 @@
 -- The tuples of all commits, and some of them that stand for all.
-use Rattle.std.specs.Prelude.{◌≡◌, ℕ, ◌&&◌, ◌≤◌, ◌^◌, ◌-◌, Bool, false, true, Contains, List, length, None}
+use Rattle.std.specs.Prelude.{◌≡◌, ℕ, ◌&&◌, ◌≤◌, ◌^◌, ◌-◌, Bool, false, true, Contains, List, [], length, None}
 use Rattle.std.specs.Str.{bytes_eq}
 use Rattle.tuple_text.specs.Tuples.{TupleValue}
 use Rattle.tuple_text.specs.declared.users.User.{User}
@@ -34,5 +34,6 @@ pub record IsOrderly (ds : List Declaration) (commits : List Commit) (sample : L
   pub well_formed : IsWellFormed ds
   pub unbroken : HasNoBrokenEdge ds (added commits)
   pub sampled : Represents sample (added commits)
+  pub empty : length commits ≡ 0 → sample ≡ []
   pub later : (at : ℕ) → late_fault (last_at commits) at ≡ None → IsLater at ds
   pub touches : length (changelog commits) ≤ 2 ^ 32 - 1

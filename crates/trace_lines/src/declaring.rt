@@ -5,10 +5,12 @@ ghost use Rattle.serde_json.specs.View.{view};
 ghost use Rattle.namespaces.specs.Changing.{IsLater};
 ghost use Rattle.strata.specs.Edges.{first_broken, edges_of_tuples};
 ghost use Rattle.trace_lines.specs.Causes.{Gives, Fails, namespace_cause};
+ghost use Rattle.trace_lines.specs.Covers.{IsCover};
 ghost use Rattle.trace_lines.specs.Declaring.{AreUnbroken, IsDeclaredLast, checked, changed_rules, refused_late};
 ghost use Rattle.trace_lines.specs.Traces.{with_namespace, rules_checked};
 
 use crate::cause::Cause;
+use crate::cover::Cover;
 use crate::sample::Sample;
 use json_lines::fields::text_at;
 use namespaces::{Rules, RulesFault};
@@ -63,11 +65,19 @@ pub(crate) fn declare(
     answer
 }
 
-fn make_change(rules: &mut Rules, sample: &Sample, at: u64, value: &Value) -> Result<(), Cause>
+fn make_change(
+    rules: &mut Rules,
+    cover: &mut Cover,
+    sample: &Sample,
+    at: u64,
+    value: &Value,
+) -> Result<(), Cause>
     requires later { IsLater at rules.old }
     requires unbroken { AreUnbroken rules.old }
     requires tuples { first_broken rules.old (edges_of_tuples rules.old sample.now) ≡ Ok (tt {0}) }
+    requires cover { IsCover rules.old cover.old sample.now }
     ensures answer { Gives (λ _. rules.new) result (changed_rules at rules.old sample.now (view value.now)) }
+    ensures cover { OnOk result (IsCover rules.new cover.new sample.now) }
     ensures later { (next : ℕ) → at < next → IsLater next rules.new }
 {
     let namespace = text_at(value, "name").unwrap_or("");
@@ -79,15 +89,14 @@ fn make_change(rules: &mut Rules, sample: &Sample, at: u64, value: &Value) -> Re
     }
     check(rules, value)?;
     let has_more = rules.relation_count(namespace) != known;
-    sample
-        .check(rules, namespace, has_more)
-        .map_err(Cause::Strata)
+    cover.follow(rules, sample, namespace, has_more)
 }
 
 /// Declares a namespace, or gives one a new list of relations, in force from a timestamp on.
 pub(crate) fn change(
     alloc: Global,
     rules: &mut Rules,
+    cover: &mut Cover,
     sample: &Sample,
     at: u64,
     value: &Value,
@@ -95,12 +104,15 @@ pub(crate) fn change(
     requires later { IsLater at rules.old }
     requires unbroken { AreUnbroken rules.old }
     requires tuples { first_broken rules.old (edges_of_tuples rules.old sample.now) ≡ Ok (tt {0}) }
+    requires cover { IsCover rules.old cover.old sample.now }
     ensures answer { Gives (λ _. rules.new) result (changed_rules at rules.old sample.now (view value.now)) }
+    ensures cover { IsCover rules.new cover.new sample.now }
     ensures dropped { OnErr result (rules.new ≡ []) }
     ensures later { OnOk result ((next : ℕ) → at < next → IsLater next rules.new) }
 {
-    let answer = make_change(rules, sample, at, value);
+    let answer = make_change(rules, cover, sample, at, value);
     if answer.is_err() {
+        cover.give_up();
         *rules = Rules::new(alloc);
     }
     answer

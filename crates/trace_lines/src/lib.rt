@@ -16,6 +16,7 @@
 
 mod cause;
 mod checks;
+mod cover;
 mod declaring;
 mod entry;
 pub mod laws;

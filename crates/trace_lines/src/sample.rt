@@ -83,6 +83,12 @@ impl Sample {
         self.tuples.len()
     }
 
+    pub(crate) fn tuples(&self) -> &[Tuple]
+        ensures { result.now ≡ self.now }
+    {
+        &self.tuples
+    }
+
     /// Drops all but the first tuples.
     pub(crate) fn truncate(&mut self, len: usize)
         ensures { self.new ≡ take len self.old }
@@ -147,7 +153,12 @@ impl Sample {
     }
 }
 
-fn check_all(rules: &Rules, namespace: &str, has_more: bool, tuples: &[Tuple]) -> Result<(), Edge>
+pub(crate) fn check_all(
+    rules: &Rules,
+    namespace: &str,
+    has_more: bool,
+    tuples: &[Tuple],
+) -> Result<(), Edge>
     requires { IsDeclaredOver rules.now namespace.now has_more tuples.now }
     ensures { result ≡ first_broken rules.now (edges_of_tuples rules.now tuples.now) }
 {

@@ -5,6 +5,7 @@ ghost use Rattle.std.specs.Io.KnownBytes.{Consumes};
 ghost use Rattle.serde_json.specs.View.{view};
 ghost use Rattle.tuple_text.specs.Refs.{set_value};
 ghost use Rattle.trace_lines.specs.Causes.{Gives};
+ghost use Rattle.trace_lines.specs.Covers.{IsCover};
 ghost use Rattle.trace_lines.specs.Values.{empty_trace, entry_value, entry_lines, next_line};
 ghost use Rattle.trace_lines.specs.Traces.{is_declared, are_declared, is_begun, namespace_line, change_line, declaration_line, commit_checked, commit_of, with_commit, commit_line, entry_of, recorded, with_entry, entry_line, value_line};
 ghost use Rattle.trace_lines.specs.Versions.{entry_version, version_issued, issuer, content_among, content_of};
@@ -23,6 +24,7 @@ ghost use Rattle.std.specs.List.Sorted.{IsStrictlyIncreasing};
 
 use crate::cause::Cause;
 use crate::checks::entry_of;
+use crate::cover::Cover;
 use crate::declaring::{change, declare, late_change};
 use crate::entry::{Entry, EntryKind};
 use crate::sample::Sample;
@@ -53,6 +55,8 @@ pub struct Trace {
     chains: Chains,
     // of the tuples ever added
     sample: Sample,
+    // of the sample
+    cover: Cover,
     commit_lines: Vec<u64>,
     recorded: Vec<Recorded>,
     // by which entry each version was issued
@@ -70,6 +74,7 @@ impl Model for Trace {
 
     ghost coded = { trace_code };
 
+    ghost use Rattle.trace_lines.specs.Covers.{IsCover};
     ghost use Rattle.trace_lines.specs.Kept.{IsKept};
     ghost use Rattle.trace_lines.specs.Recorded.{shown, contents};
     ghost use Rattle.trace_lines.specs.Tuples.{IsOrderly};
@@ -77,13 +82,14 @@ impl Model for Trace {
     ghost view = { λ t. record { declarations = t.rules; commits = t.chains.commits; commit_lines = t.commit_lines.items; entries = shown t.recorded.items } };
 
     ghost invariant = { λ t. (t.chains.limit ≡ 2 ^ 32 - 1) × IsKept t.chains.commits t.commit_lines.items (shown t.recorded.items) (contents t.recorded.items) t.versions
-        × IsOrderly t.rules t.chains.commits t.sample };
+        × IsOrderly t.rules t.chains.commits t.sample × IsCover t.rules t.cover t.sample };
 }
 
-/// Commits changes to the chains, and takes what they add into the sample. The tuples that were there stay in front.
+/// Commits changes to the chains, and takes what they add into the sample and its cover. The tuples that were there stay in front.
 fn commit(
     rules: &Rules,
     sample: &mut Sample,
+    cover: &mut Cover,
     chains: &mut Chains,
     at: u64,
     adds: &[Tuple],
@@ -95,8 +101,11 @@ fn commit(
     ensures unchanged { OnErr result (chains.new ≡ chains.old) }
     ensures taken { OnOk result (Represents sample.new (sample.old ++ adds.now)) }
     ensures kept { take (length sample.old) sample.new ≡ sample.old }
+    ensures cover { OnOk result (IsCover rules.now cover.old sample.old → IsCover rules.now cover.new sample.new) }
 {
+    let known = sample.len();
     sample.admit_all(rules, adds)?;
+    cover.add_behind(rules, known, sample)?;
     match chains.append(at, adds, removes) {
         Ok(()) => Ok(()),
         Err(AppendFault::OutOfMemory) => Err(Cause::OutOfMemory),
@@ -113,6 +122,7 @@ impl Trace {
             rules: Rules::new(alloc),
             chains: Chains::new(alloc, u32::MAX),
             sample: Sample::new(alloc),
+            cover: Cover::new(alloc),
             commit_lines: Vec::new(alloc),
             recorded: Vec::new(alloc),
             versions: BTreeMap::new(alloc),
@@ -240,7 +250,14 @@ impl Trace {
         requires last { last_at self.old.commits ≡ Some at }
         ensures { Gives (λ _. self.new) result (rules_changed at self.old (view value.now)) }
     {
-        change(self.alloc, &mut self.rules, &self.sample, at, value)
+        change(
+            self.alloc,
+            &mut self.rules,
+            &mut self.cover,
+            &self.sample,
+            at,
+            value,
+        )
     }
 
     /// The timestamp of the last commit, if it is not before another.
@@ -278,6 +295,7 @@ impl Trace {
         match commit(
             &self.rules,
             &mut self.sample,
+            &mut self.cover,
             &mut self.chains,
             at,
             adds,
@@ -286,6 +304,7 @@ impl Trace {
             Ok(()) => {}
             Err(cause) => {
                 self.sample.truncate(known);
+                self.cover.give_up();
                 return Err(cause);
             }
         }

@@ -21,4 +21,5 @@ invariant_of-self-2 c =
       c.self.invariant.0,
       kept_commit _ _ _ _ _ c.self.invariant.1 commit c.args.line (omega (arith, room)) (omega (arith, room)),
       orderly_commit c.self.inside.rules c.self.inside.chains.commits c.self.inside.sample c.commit.new.sample c.self.invariant.2 commit fine.0 accepted c.in-Ok.ensures.taken,
+      c.in-Ok.ensures.cover c.self.invariant.3,
     )

@@ -16,4 +16,5 @@ invariant_of-self-2 c =
       c.self.invariant.0,
       kept_content _ _ c.self.inside.recorded.items _ c.self.invariant.1 r c.push.new.self.items pushed room before c.args.version c.insert.new.self c.requires.kind c.requires.version refl absent up,
       c.self.invariant.2,
+      c.self.invariant.3,
     )

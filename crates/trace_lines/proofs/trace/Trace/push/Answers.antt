@@ -12,4 +12,5 @@ invariant_of-self-2 c =
       c.self.invariant.0,
       kept_plain _ _ c.self.inside.recorded.items _ c.self.invariant.1 _ c.push.new.self.items c.in_ok-push.ensures.items room before c.requires.issues_nothing content,
       c.self.invariant.2,
+      c.self.invariant.3,
     )
