@@ -5,4 +5,5 @@ pub mod History
 pub mod Json
 pub mod Lines
 pub mod Moves
+pub mod Places
 pub mod Reading

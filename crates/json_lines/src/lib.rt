@@ -20,7 +20,7 @@ mod devices;
 pub mod fields;
 mod held;
 mod history;
-mod json;
+mod taking;
 mod lines;
 mod reading;
 mod sending;
@@ -28,7 +28,7 @@ mod source;
 
 pub use devices::{Counted, Failing};
 pub use held::Held;
-pub use json::{LineCause, TakeJson, is_blank};
+pub use taking::{LineCause, TakeJson, is_blank};
 pub use lines::{CHUNK, InputFault, line_end};
 pub use reading::{LineFault, MAX_INPUT, read_lines};
 pub use sending::{Unsent, send};

@@ -7,7 +7,7 @@ ghost use Rattle.json_lines.specs.Reading.{cause_of, read_all, Reads, IsReadFaul
 ghost use Rattle.json_lines.specs.declared.lines.InputFault.TheVariants.{Read};
 ghost use Rattle.json_lines.specs.declared.reading.Stop.TheVariants.{Input};
 
-use crate::json::{LineCause, TakeJson, take_line};
+use crate::taking::{LineCause, TakeJson, take_line};
 use crate::lines::{CHUNK, InputFault, Lines};
 use crate::source::Source;
 use std::alloc::Global;

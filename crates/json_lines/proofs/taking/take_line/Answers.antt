@@ -2,8 +2,8 @@ use Rattle.std.proofs.Common.{◌∙◌, sym}
 use Rattle.std.proofs.lemmas.Bool.{iff_false}
 use Rattle.serde_json.specs.View.{view}
 use Rattle.json_lines.proofs.JsonLines.{of_a_value, of_no_value, of_no_blank}
-use Rattle.json_lines.proofs.json.take_line.Goals as goal
-use Rattle.json_lines.proofs.json.take_line.Goals.{then-is_memory, else-is_memory, then-is_memory-2, else-is_memory-2}
+use Rattle.json_lines.proofs.taking.take_line.Goals as goal
+use Rattle.json_lines.proofs.taking.take_line.Goals.{then-is_memory, else-is_memory, then-is_memory-2, else-is_memory-2}
 
 pub returns-in-Err-clause-refused : goal.returns-in-Err-clause-refused
 returns-in-Err-clause-refused g c =
