@@ -72,3 +72,22 @@ pub read_of_document : (text : List ℕ) (j : json.Json) (d : Data) → document
 read_of_document text j d e shallow is =
     let spelled : tokens text ≡ json_tokens j ++ [] = tokens-document text j e ∙ sym (append-nil (json_tokens j)) in
     ap (λ o. option_and_then of_json (last_of o)) (ap (value max_depth) spelled ∙ value-json_tokens j max_depth [] shallow) ∙ is
+
+pub data_of_read : (text : List ℕ) (d : Data) → read text ≡ Some d → data_of_text text ≡ d
+unfolding data_of_text
+data_of_read text d e = ap (λ o. unwrap_or o null) e
+
+pub json_is_read : (text : List ℕ) → is_json text ≡ true → read text ≡ Some (data_of_text text)
+unfolding is_json data_of_text
+json_is_read text h = some_is (read text) null h
+
+pub read_is_json : (text : List ℕ) (d : Data) → read text ≡ Some d → is_json text ≡ true
+unfolding is_json
+read_is_json text d e = ap is_some e
+
+-- the tokens of a line begin with its value
+pub json_begins : (text : List ℕ) → is_json text ≡ true → (is_value (tokens text) ≡ true) × (data_at (tokens text) ≡ data_of_text text)
+json_begins text h =
+    let s = read-stands text (data_of_text text) (json_is_read text h) in
+    let stands = s.2 in
+    (stands-is_value _ _ _ stands, stands-data_at _ _ _ stands)

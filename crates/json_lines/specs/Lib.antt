@@ -1,3 +1,4 @@
+pub mod Data
 pub mod Devices
 pub mod Fields
 pub mod Given

@@ -1,5 +1,5 @@
 -- The data of the values inside a line of JSON, by the tokens from there on.
-use Rattle.std.specs.Prelude.{ℕ, zero, suc, ◌&&◌, List, [], ◌∷◌, Bool, true, false, Option, Some, None, is_some, option_and_then, unwrap_or}
+use Rattle.std.specs.Prelude.{ℕ, zero, suc, List, [], ◌∷◌, Bool, true, false, if◌then◌else◌, Option, Some, None, is_some, option_map, option_and_then, unwrap_or}
 use Rattle.json.specs.Token.{Token}
 use Rattle.json.specs.Json.{value}
 use Rattle.serde_json.specs.Data.{Data, null, boolean, number, string, array, object, Items, no_items}
@@ -45,18 +45,22 @@ data_of_text text = unwrap_or (read text) null
 unfoldable pub is_json : List ℕ → Bool
 is_json text = is_some (read text)
 
+-- how many more levels may open behind a token, if it is one that serde_json reads
+abbrev pub levels_after : ℕ → Token → Option ℕ
+levels_after zero Token.begin_object = None
+levels_after (suc levels) Token.begin_object = Some levels
+levels_after levels Token.end_object = Some (suc levels)
+levels_after zero Token.begin_array = None
+levels_after (suc levels) Token.begin_array = Some levels
+levels_after levels Token.end_array = Some (suc levels)
+levels_after levels (Token.key s) = Some levels
+levels_after levels (Token.string s) = Some levels
+levels_after levels (Token.number s) = if is_some (number_of s) then Some levels else None
+levels_after levels (Token.boolean b) = Some levels
+levels_after levels Token.null = Some levels
+levels_after levels Token.bad = Some levels
+
 -- The tokens of a value nest no deeper than so many levels, and each number is in range.
 unfoldable pub is_in_range : ℕ → List Token → Bool
 is_in_range levels [] = true
-is_in_range zero (Token.begin_object ∷ ts) = false
-is_in_range (suc levels) (Token.begin_object ∷ ts) = is_in_range levels ts
-is_in_range levels (Token.end_object ∷ ts) = is_in_range (suc levels) ts
-is_in_range zero (Token.begin_array ∷ ts) = false
-is_in_range (suc levels) (Token.begin_array ∷ ts) = is_in_range levels ts
-is_in_range levels (Token.end_array ∷ ts) = is_in_range (suc levels) ts
-is_in_range levels (Token.key s ∷ ts) = is_in_range levels ts
-is_in_range levels (Token.string s ∷ ts) = is_in_range levels ts
-is_in_range levels (Token.number s ∷ ts) = is_some (number_of s) && is_in_range levels ts
-is_in_range levels (Token.boolean b ∷ ts) = is_in_range levels ts
-is_in_range levels (Token.null ∷ ts) = is_in_range levels ts
-is_in_range levels (Token.bad ∷ ts) = is_in_range levels ts
+is_in_range levels (t ∷ ts) = unwrap_or (option_map (λ left. is_in_range left ts) (levels_after levels t)) false
