@@ -10,7 +10,7 @@ use Rattle.evidence_check.proofs.records.steps_in.Goals as goal
 pub loop-item-preserved : goal.loop-item-preserved
 loop-item-preserved c =
     let left = items_data c.next.new.self in
-    next_step (step_values c.loop-item.steps.items) (step_values c.push.new.self.items) (step_value c.in-Some-step_in.step) (value_data c.in-Some.item) left
-    (rw c.in-Some-step_in.is at c.in_ok-step.ensures)
-    (ap step_values c.in_ok-push.ensures.items ∙ map-append step_value c.loop-item.steps.items (c.in-Some-step_in.step ∷ []))
+    next_step (step_values c.loop-item.steps.items) (step_values c.push.new.self.items) (step_value c.in-Some-2.step) (value_data c.in-Some.item) left
+    (rw c.in-Some-2.is at c.in_ok-step.ensures)
+    (ap step_values c.in_ok-push.ensures.items ∙ map-append step_value c.loop-item.steps.items (c.in-Some-2.step ∷ []))
     ∙ ap (λ ds. with_front (step_values c.loop-item.steps.items) (steps_in ds)) (sym c.in-Some.ensures) ∙ c.loop-item.invariant
