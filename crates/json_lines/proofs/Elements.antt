@@ -1,11 +1,11 @@
 -- What a look at a place of a tape answers, by the data there.
-use Rattle.std.proofs.Common.{◌≡◌, ℕ, List, Bool, true, Option, Some, None, option_and_then, is_some, refl, sym, ap, ◌∙◌, subst}
+use Rattle.std.proofs.Common.{◌≡◌, ℕ, List, true, Option, Some, None, option_and_then, is_some, refl, sym, ap, ◌∙◌, subst}
 use Rattle.std.specs.Prelude.{MatchOption}
 use Rattle.json.specs.Token.{Token}
 use Rattle.json.specs.Json as json
 use Rattle.json.specs.Find.{BeginsWith, InItems, InMembers}
 use Rattle.json.specs.Find as find
-use Rattle.serde_json.specs.Data.{Data, array, Items}
+use Rattle.serde_json.specs.Data.{Data}
 use Rattle.serde_json.specs.Read.{number_of, of_json}
 use Rattle.serde_json.specs.Find.{as_number, as_array, as_object, as_u64}
 use Rattle.json_lines.specs.Places.{is_value, data_at, items_in, are_items_or_none, items_or_none}

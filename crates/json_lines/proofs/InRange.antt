@@ -1,13 +1,12 @@
 -- Tokens that nest within a number of levels, with numbers in range, are those of a value that serde_json reads.
-use Rattle.std.proofs.Common.{◌≡◌, ℕ, zero, suc, ◌≤◌, List, [], ◌∷◌, ◌++◌, Bool, true, false, cond, unwrap_or, Option, Some, None, option_map, option_and_then, is_some, true≢false, refl, sym, ap, ◌∙◌, subst, arith, append_assoc, append-nil}
+use Rattle.std.proofs.Common.{◌≡◌, ℕ, zero, suc, ◌≤◌, List, [], ◌++◌, Bool, true, false, cond, unwrap_or, Option, Some, None, option_map, option_and_then, is_some, true≢false, refl, sym, ap, ◌∙◌, subst, arith, append_assoc, append-nil}
 use Rattle.json.specs.Token.{Token}
 use Rattle.json.specs.Lex.{tokens}
 use Rattle.json.specs.Json as json
 use Rattle.json.specs.Json.{document}
 use Rattle.json.specs.Tree.{json_tokens, items_tokens, members_tokens, depth, items_depth, members_depth}
-use Rattle.json.proofs.Found.{Some_inj}
 use Rattle.json.proofs.Unique.Spelling.{tokens-document}
-use Rattle.serde_json.specs.Data.{Data, number, array, object, Items, item, Members, no_members, put}
+use Rattle.serde_json.specs.Data.{Data, number, array, object, item, Members, no_members, put}
 use Rattle.serde_json.specs.Read.{number_of, of_json, of_items, of_members, max_depth, read}
 use Rattle.json_lines.specs.Places.{is_json, is_in_range}
 use Rattle.json_lines.proofs.Places.{read-stands, read_of_document, read_is_json}

@@ -1,5 +1,5 @@
 -- What is found in a tape is what serde_json finds in the data.
-use Rattle.std.proofs.Common.{◌≡◌, ℕ, zero, suc, ◌≤◌, List, [], ◌∷◌, ◌++◌, Bool, true, false, cond, Option, Some, None, option_map, option_and_then, is_some, unwrap_or, true≢false, bytes_eq, refl, sym, ap, ◌∙◌, subst, arith, append_assoc}
+use Rattle.std.proofs.Common.{◌≡◌, ℕ, suc, ◌≤◌, List, ◌∷◌, ◌++◌, Bool, true, false, cond, Option, Some, None, option_map, option_and_then, is_some, unwrap_or, true≢false, bytes_eq, refl, sym, ap, ◌∙◌, subst, arith, append_assoc}
 use Rattle.std.specs.Prelude.{⊤, MatchOption, IfNone}
 use Rattle.std.proofs.lemmas.Slice.Eq.{bytes_eq-Decides}
 use Rattle.json.specs.Token.{Token}
@@ -13,7 +13,7 @@ use Rattle.json.proofs.Grammar.{closed_array, value-begin_array}
 use Rattle.json.proofs.Nesting.{value-depth}
 use Rattle.json.proofs.Printed.Trees.{value-json_tokens}
 use Rattle.json.proofs.Unique.Spelling.{value-json_tokens_back}
-use Rattle.serde_json.specs.Data.{Num, Data, null, boolean, number, string, array, object, Items, no_items, item, Members, no_members, member, put}
+use Rattle.serde_json.specs.Data.{Data, null, boolean, number, string, array, object, Items, no_items, item, Members, no_members, put}
 use Rattle.serde_json.specs.Read.{number_of, of_json, of_items, of_members, max_depth}
 use Rattle.serde_json.specs.Find.{get, get_member, as_null, as_bool, as_number, as_str, as_array, as_object}
 use Rattle.serde_json.proofs.Views.{get_member-put, get_member-put_other}
@@ -246,9 +246,11 @@ next_item old new us h next =
     let first = chained (λ d. option_map (item d) (of_items js)) (of_json j) s.1 (ap of_items (sym n.2) ∙ stand.2) in
     let more = mapped (item first.0) (of_items js) s.1 first.2 in
     let here : Stands us j first.0 = (n.3, omega (arith, deep), first.1) in
-    let there : StandItems new js more.0 = (n.4, omega (arith, deep), more.1) in
-    (stands-is_value us j first.0 here, stand-are_items new js more.0 there,
-    stand-items_at old s.0 s.1 stand ∙ sym more.2 ∙ sym (ap (λ d. item d (items_at new)) (stands-data_at us j first.0 here) ∙ ap (item first.0) (stand-items_at new js more.0 there)))
+    let there : StandItems new js more.0 = (n.4, omega (arith, deep), more.1) in (
+      stands-is_value us j first.0 here,
+      stand-are_items new js more.0 there,
+      stand-items_at old s.0 s.1 stand ∙ sym more.2 ∙ sym (ap (λ d. item d (items_at new)) (stands-data_at us j first.0 here) ∙ ap (item first.0) (stand-items_at new js more.0 there)),
+    )
 
 pub no_item : (old new : List Token) → are_items old ≡ true → NextItem old None new → items_at old ≡ no_items
 no_item old new h next =

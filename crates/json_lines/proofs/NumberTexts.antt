@@ -1,5 +1,5 @@
 -- A number with a sign, and one without.
-use Rattle.std.proofs.Common.{◌≡◌, ℕ, ◌==◌, ℤ, List, drop, get_or, Bool, true, false, Option, Some, None, Float, cond, option_and_then, refl, sym, ap, ◌∙◌, arith, take_all, length-drop}
+use Rattle.std.proofs.Common.{◌≡◌, ℕ, ◌==◌, ℤ, List, drop, get_or, Bool, true, false, Some, None, Float, cond, option_and_then, refl}
 use Rattle.fast_float.specs.Text.{Parts, scan}
 use Rattle.serde_json.specs.Data.{negative, float}
 use Rattle.serde_json.specs.Read.{number_of, number_from}

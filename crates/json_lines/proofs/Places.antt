@@ -1,24 +1,17 @@
 -- What a place in a tape says is what serde_json reads there.
-use Rattle.std.proofs.Common.{◌≡◌, ℕ, zero, suc, ◌+◌, ◌≤◌, List, [], ◌∷◌, ◌++◌, length, Bool, true, false, cond, Option, Some, None, option_map, option_and_then, is_some, unwrap_or, true≢false, refl, sym, ap, ◌∙◌, subst, arith, append_assoc, append-nil, max, bytes_eq}
-use Rattle.std.proofs.lemmas.Bool.{and_parts}
-use Rattle.std.proofs.lemmas.Slice.Eq.{bytes_eq-Decides}
+use Rattle.std.proofs.Common.{◌≡◌, ℕ, ◌≤◌, List, [], ◌∷◌, ◌++◌, true, Option, Some, None, option_and_then, is_some, unwrap_or, true≢false, refl, sym, ap, ◌∙◌, arith, append-nil}
 use Rattle.json.specs.Token.{Token}
 use Rattle.json.specs.Lex.{tokens}
 use Rattle.json.specs.Json as json
 use Rattle.json.specs.Json.{value, if_last, document}
-use Rattle.json.specs.Tree.{json_tokens, items_tokens, members_tokens, depth, items_depth, members_depth}
-use Rattle.json.specs.Find.{BeginsWith, InItems}
-use Rattle.json.specs.Find as find
-use Rattle.json.proofs.Found.{one_reading, Some_inj, opened, items_go_on}
-use Rattle.json.proofs.Grammar.{closed_array}
+use Rattle.json.specs.Tree.{json_tokens, depth}
+use Rattle.json.specs.Find.{BeginsWith}
 use Rattle.json.proofs.Nesting.{value-depth}
 use Rattle.json.proofs.Printed.Trees.{value-json_tokens}
 use Rattle.json.proofs.Unique.Spelling.{value-json_tokens_back, tokens-document}
-use Rattle.serde_json.specs.Data.{Num, Data, null, boolean, number, string, array, object, Items, no_items, item, Members, no_members, member, put}
-use Rattle.serde_json.specs.Read.{number_of, of_json, of_items, of_members, max_depth, read}
-use Rattle.serde_json.specs.Find.{get, get_member, as_bool, as_number, as_str, as_array}
-use Rattle.serde_json.proofs.Views.{get_member-put, get_member-put_other}
-use Rattle.json_lines.specs.Places.{read_at, is_value, data_at, are_items, items_at, data_of_text, is_json, is_in_range}
+use Rattle.serde_json.specs.Data.{Data, null}
+use Rattle.serde_json.specs.Read.{of_json, max_depth, read}
+use Rattle.json_lines.specs.Places.{read_at, is_value, data_at, data_of_text, is_json}
 
 abbrev pub Stands : List Token → json.Json → Data → Type 0
 Stands ts j d = BeginsWith ts j × (depth j ≤ max_depth) × (of_json j ≡ Some d)

@@ -21,11 +21,7 @@ fn levels_after(levels: usize, node: &Node<'_>) -> Option<usize>
         Node::Array(_) => levels.checked_sub(1),
         Node::EndObject => Some(levels + 1),
         Node::EndArray => Some(levels + 1),
-        Node::Number(text) => if is_number(text) {
-            Some(levels)
-        } else {
-            None
-        },
+        Node::Number(text) => if is_number(text) { Some(levels) } else { None },
         _ => Some(levels),
     }
 }

@@ -7,9 +7,9 @@ ghost use Rattle.json_lines.specs.Reading.{cause_of, read_all, Reads, IsReadFaul
 ghost use Rattle.json_lines.specs.declared.lines.InputFault.TheVariants.{Read};
 ghost use Rattle.json_lines.specs.declared.reading.Stop.TheVariants.{Input};
 
-use crate::taking::{LineCause, TakeJson, take_line};
 use crate::lines::{CHUNK, InputFault, Lines};
 use crate::source::Source;
+use crate::taking::{LineCause, TakeJson, take_line};
 use json::Scratch;
 use std::alloc::Global;
 

@@ -301,7 +301,12 @@ impl Trace {
 
     /// Takes a line that records a check.
     #[tactic(auto, unfolding(crate::specs::Traces::with_entry))]
-    fn take_entry(&mut self, kind: EntryKind, line: u64, value: &JsonRef<'_, '_>) -> Result<(), Cause>
+    fn take_entry(
+        &mut self,
+        kind: EntryKind,
+        line: u64,
+        value: &JsonRef<'_, '_>,
+    ) -> Result<(), Cause>
         requires { next_line self.old ≤ line }
         ensures { Gives (λ _. self.new) result (entry_line kind line self.old (value_data value.now)) }
     {

@@ -1,7 +1,7 @@
-use Rattle.std.proofs.Common.{◌≡◌, ◌+◌, map, drop, false, option_map, unwrap_or, sym, ap, ◌∙◌, arith}
+use Rattle.std.proofs.Common.{◌+◌, map, drop, false, option_map, unwrap_or, sym, ap, ◌∙◌, arith}
 use Rattle.std.proofs.lemmas.List.{drop_all}
 use Rattle.json.specs.Tape.{node_token}
-use Rattle.json_lines.specs.Places.{levels_after, is_in_range}
+use Rattle.json_lines.specs.Places.{is_in_range}
 use Rattle.json_lines.proofs.NodeWalk.{at_node, levels_after-most}
 use Rattle.json_lines.proofs.ranges.is_in_range.Goals as goal
 

@@ -1,4 +1,4 @@
-use Rattle.std.proofs.Common.{◌≡◌, ◌∙◌, ap, Bor, ℕ, List, [], Option, unwrap_or}
+use Rattle.std.proofs.Common.{◌∙◌, ap, Bor, ℕ, List, [], Option, unwrap_or}
 use Rattle.serde_json.specs.View.{view}
 use Rattle.trace_lines.proofs.Declared.{after_change, over_change, same_count, shown_or}
 use Rattle.trace_lines.proofs.declaring.make_change.Goals as goal

@@ -1,5 +1,4 @@
-use Rattle.std.proofs.Common.{◌≡◌, ap, ◌∙◌}
-use Rattle.json.specs.Lex.{tokens}
+use Rattle.std.proofs.Common.{ap, ◌∙◌}
 use Rattle.json_lines.specs.Places.{is_value, data_at}
 use Rattle.json_lines.proofs.Places.{json_begins}
 use Rattle.json_lines.proofs.line.JsonLine.root.Goals as goal

@@ -1,4 +1,4 @@
-use Rattle.std.proofs.Common.{◌≡◌, true, sym, subst, ap, ◌∙◌}
+use Rattle.std.proofs.Common.{◌≡◌, true, subst, ap, ◌∙◌}
 use Rattle.json_lines.specs.Places.{are_items, are_items_or_none, items_or_none}
 use Rattle.json_lines.proofs.Lookups.{next_item, no_item, still_items}
 use Rattle.json_lines.proofs.refs.JsonItems.next.Goals as goal

@@ -1,7 +1,5 @@
-use Rattle.std.proofs.Common.{Some, None, sym, subst}
-use Rattle.serde_json.specs.Find.{get}
-use Rattle.json_lines.specs.Places.{data_at}
-use Rattle.json_lines.proofs.Lookups.{IsFoundIn, get_found}
+use Rattle.std.proofs.Common.{Some, None, sym}
+use Rattle.json_lines.proofs.Lookups.{get_found}
 use Rattle.json_lines.proofs.refs.JsonRef.get.Goals as goal
 
 pub invariant_of-result : goal.invariant_of-result
