@@ -2,7 +2,7 @@
 
 ghost use Rattle.std.specs.Prelude.{◌≡◌, ◌≤◌, ℕ, length, replicate, map, option_map, slice_get, slice_set, None, Some, IfOk, IfErr, OnOk};
 ghost use Rattle.std.specs.List.Sorted.{IsStrictlyIncreasing};
-ghost use Rattle.serde_json.specs.View.{view};
+ghost use Rattle.json_lines.specs.Data.{line_data};
 ghost use Rattle.trace_lines.specs.Values.{entry_lines};
 ghost use Rattle.evidence_check.specs.Causes.{Gives};
 ghost use Rattle.evidence_check.specs.Reading.{place_of, is_taken, put_steps, record_line, no_records};
@@ -12,9 +12,8 @@ ghost use Rattle.evidence_check.specs.Steps.{step_values};
 use crate::cause::EvidenceCause;
 use crate::records::{are_known, has_too_many, steps_at, steps_in};
 use crate::step::Steps;
-use json_lines::TakeJson;
 use json_lines::fields::number_at;
-use serde_json::Value;
+use json_lines::{JsonLine, TakeJson};
 use std::alloc::{AllocError, Global};
 use std::marker::Model;
 use trace_lines::Trace;
@@ -131,13 +130,14 @@ impl Recorder {
     }
 
     #[tactic(auto, unfolding(crate::specs::Reading::record_line))]
-    fn take_record(&mut self, record: &Value) -> Result<(), EvidenceCause>
-        ensures { Gives (λ _. self.new) result (record_line self.old (view record.now)) }
+    fn take_record(&mut self, json: &JsonLine<'_>) -> Result<(), EvidenceCause>
+        ensures { Gives (λ _. self.new) result (record_line self.old (line_data json.now)) }
     {
-        let line = number_at(record, "line").ok_or(EvidenceCause::Shape)?;
-        let items = steps_at(record).ok_or(EvidenceCause::Shape)?;
-        let steps = steps_in(self.alloc, items)?;
-        if !are_known(items) {
+        let record = json.root();
+        let line = number_at(&record, "line").ok_or(EvidenceCause::Shape)?;
+        let list = steps_at(&record).ok_or(EvidenceCause::Shape)?;
+        let steps = steps_in(self.alloc, list.items())?;
+        if !are_known(list.items()) {
             return Err(EvidenceCause::UnknownStep);
         }
         let place = self.place(line).ok_or(EvidenceCause::StrayLine)?;
@@ -155,7 +155,7 @@ impl TakeJson for Recorder {
 
     ghost taken = { λ _. record_line };
 
-    fn take_value(&mut self, _number: u64, value: &Value) -> Result<(), EvidenceCause> {
-        self.take_record(value)
+    fn take_value(&mut self, _number: u64, line: &JsonLine<'_>) -> Result<(), EvidenceCause> {
+        self.take_record(line)
     }
 }

@@ -1,7 +1,8 @@
 //! The records of evidence.
 
 ghost use Rattle.std.specs.Prelude.{◌≡◌, option_map, map, nat_lt};
-ghost use Rattle.serde_json.specs.View.{view, items_view};
+ghost use Rattle.json_lines.specs.Data.{value_data, items_data};
+ghost use Rattle.json_lines.specs.Places.{items_in};
 ghost use Rattle.tuple_text.specs.Reading.{fact_at};
 ghost use Rattle.evidence_check.specs.Causes.{Gives, text_cause};
 ghost use Rattle.evidence_check.specs.Reading.{at_only, is_text_list, is_step, are_shaped, is_known, are_known, fact_in, facts_in, step_in, steps_in, steps_at, count_of, fact_count};
@@ -10,7 +11,7 @@ ghost use Rattle.evidence_check.specs.Steps.{step_value, step_values};
 use crate::cause::EvidenceCause;
 use crate::step::{Step, Steps};
 use json_lines::fields::are_strings;
-use serde_json::Value;
+use json_lines::{JsonItems, JsonRef};
 use std::alloc::Global;
 use tuple_text::{Fact, TupleFault, parse_fact};
 
@@ -18,8 +19,8 @@ use tuple_text::{Fact, TupleFault, parse_fact};
 pub const MAX_FACTS: usize = 100000;
 
 /// What stands at a key of a step that does not have the other key.
-fn at_only<'a>(step: &'a Value, key: &str, other: &str) -> Option<&'a Value>
-    ensures { option_map (λ v. view v.now) result ≡ at_only key.now other.now (view step.now) }
+fn at_only<'t, 'a>(step: &JsonRef<'t, 'a>, key: &str, other: &str) -> Option<JsonRef<'t, 'a>>
+    ensures { option_map value_data result ≡ at_only key.now other.now (value_data step.now) }
 {
     match step.get(other) {
         Some(_) => None,
@@ -27,18 +28,15 @@ fn at_only<'a>(step: &'a Value, key: &str, other: &str) -> Option<&'a Value>
     }
 }
 
-fn is_text_list(value: &Value) -> bool
-    ensures { result ≡ is_text_list (view value.now) }
+fn is_text_list(value: &JsonRef<'_, '_>) -> bool
+    ensures { result ≡ is_text_list (value_data value.now) }
 {
-    match value.as_array() {
-        Some(items) => are_strings(items.as_slice()),
-        None => false,
-    }
+    value.is_array() && are_strings(value.items())
 }
 
 /// Whether a value has the shape of a step, known or not.
-fn is_step(step: &Value) -> bool
-    ensures { result ≡ is_step (view step.now) }
+fn is_step(step: &JsonRef<'_, '_>) -> bool
+    ensures { result ≡ is_step (value_data step.now) }
 {
     if !step.is_object() {
         return false;
@@ -47,16 +45,17 @@ fn is_step(step: &Value) -> bool
         return fact.is_string();
     }
     match at_only(step, "no", "yes") {
-        Some(facts) => is_text_list(facts),
+        Some(facts) => is_text_list(&facts),
         None => true,
     }
 }
 
-fn are_shaped(steps: &[Value]) -> bool
-    ensures { result ≡ are_shaped (items_view steps.now) }
+fn are_shaped(steps: JsonItems<'_, '_>) -> bool
+    ensures { result ≡ are_shaped (items_data steps.entry) }
 {
-    for step in steps {
-        if !is_step(step) {
+    let mut rest = steps;
+    while let Some(step) = rest.next() {
+        if !is_step(&step) {
             return false;
         }
     }
@@ -64,18 +63,19 @@ fn are_shaped(steps: &[Value]) -> bool
 }
 
 /// Whether a step has just one of the keys that steps have.
-fn is_known(step: &Value) -> bool
-    ensures { result ≡ is_known (view step.now) }
+fn is_known(step: &JsonRef<'_, '_>) -> bool
+    ensures { result ≡ is_known (value_data step.now) }
 {
     at_only(step, "yes", "no").is_some() || at_only(step, "no", "yes").is_some()
 }
 
 /// Whether each step is known.
-pub(crate) fn are_known(steps: &[Value]) -> bool
-    ensures { result ≡ are_known (items_view steps.now) }
+pub(crate) fn are_known(steps: JsonItems<'_, '_>) -> bool
+    ensures { result ≡ are_known (items_data steps.entry) }
 {
-    for step in steps {
-        if !is_known(step) {
+    let mut rest = steps;
+    while let Some(step) = rest.next() {
+        if !is_known(&step) {
             return false;
         }
     }
@@ -92,47 +92,51 @@ fn fact_of(alloc: Global, text: &str) -> Result<Fact, EvidenceCause>
     }
 }
 
-fn fact_in(alloc: Global, value: &Value) -> Result<Fact, EvidenceCause>
-    ensures { Gives (λ f. f) result (fact_in (view value.now)) }
+fn fact_in(alloc: Global, value: &JsonRef<'_, '_>) -> Result<Fact, EvidenceCause>
+    ensures { Gives (λ f. f) result (fact_in (value_data value.now)) }
 {
     let text = value.as_str().ok_or(EvidenceCause::Shape)?;
     fact_of(alloc, text)
 }
 
 /// The facts that texts are, up to the first that is none.
-fn facts_in(alloc: Global, items: &[Value]) -> Result<Vec<Fact>, EvidenceCause>
-    ensures { Gives (λ v. v.items) result (facts_in (items_view items.now)) }
+fn facts_in(alloc: Global, items: JsonItems<'_, '_>) -> Result<Vec<Fact>, EvidenceCause>
+    ensures { Gives (λ v. v.items) result (facts_in (items_data items.entry)) }
 {
-    let mut facts = Vec::with_capacity(alloc, items.len())?;
-    for item in items {
-        facts.push(fact_in(alloc, item)?)?;
+    let mut rest = items;
+    let mut facts = Vec::new(alloc);
+    while let Some(item) = rest.next() {
+        facts.push(fact_in(alloc, &item)?)?;
     }
     Ok(facts)
 }
 
 /// The step that a value is, where it is known.
-fn step_in(alloc: Global, step: &Value) -> Result<Option<Step>, EvidenceCause>
-    ensures { Gives (option_map step_value) result (step_in (view step.now)) }
+fn step_in(alloc: Global, step: &JsonRef<'_, '_>) -> Result<Option<Step>, EvidenceCause>
+    ensures { Gives (option_map step_value) result (step_in (value_data step.now)) }
 {
     if let Some(fact) = at_only(step, "yes", "no") {
-        return Ok(Some(Step::Yes(fact_in(alloc, fact)?)));
+        return Ok(Some(Step::Yes(fact_in(alloc, &fact)?)));
     }
     match at_only(step, "no", "yes") {
         Some(facts) => {
-            let facts = facts.as_array().ok_or(EvidenceCause::Shape)?;
-            Ok(Some(Step::No(facts_in(alloc, facts.as_slice())?)))
+            if !facts.is_array() {
+                return Err(EvidenceCause::Shape);
+            }
+            Ok(Some(Step::No(facts_in(alloc, facts.items())?)))
         }
         None => Ok(None),
     }
 }
 
 /// The steps that are known, up to the first text that is no fact.
-pub(crate) fn steps_in(alloc: Global, items: &[Value]) -> Result<Steps, EvidenceCause>
-    ensures { Gives (λ v. step_values v.items) result (steps_in (items_view items.now)) }
+pub(crate) fn steps_in(alloc: Global, items: JsonItems<'_, '_>) -> Result<Steps, EvidenceCause>
+    ensures { Gives (λ v. step_values v.items) result (steps_in (items_data items.entry)) }
 {
-    let mut steps = Vec::with_capacity(alloc, items.len())?;
-    for item in items {
-        let Some(step) = step_in(alloc, item)? else {
+    let mut rest = items;
+    let mut steps = Vec::new(alloc);
+    while let Some(item) = rest.next() {
+        let Some(step) = step_in(alloc, &item)? else {
             continue;
         };
         steps.push(step)?;
@@ -142,15 +146,14 @@ pub(crate) fn steps_in(alloc: Global, items: &[Value]) -> Result<Steps, Evidence
 
 /// The list of steps of a record; None where its shape is wrong.
 #[tactic(auto, unfolding(crate::specs::Reading::steps_at))]
-pub(crate) fn steps_at(record: &Value) -> Option<&[Value]>
-    ensures { option_map (λ items. items_view items.now) result ≡ steps_at (view record.now) }
+pub(crate) fn steps_at<'t, 'a>(record: &JsonRef<'t, 'a>) -> Option<JsonRef<'t, 'a>>
+    ensures { option_map (λ list. items_in (value_data list)) result ≡ steps_at (value_data record.now) }
 {
-    match record.get("steps").and_then(Value::as_array) {
-        Some(items) => {
-            let items = items.as_slice();
-            if are_shaped(items) { Some(items) } else { None }
-        }
-        None => None,
+    let list = record.get("steps")?;
+    if list.is_array() && are_shaped(list.items()) {
+        Some(list)
+    } else {
+        None
     }
 }
 

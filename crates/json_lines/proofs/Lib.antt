@@ -1,7 +1,13 @@
 pub mod Cuts
+pub mod Elements
 pub mod Folds
 pub mod Given
 pub mod JsonLines
+pub mod Lookups
+pub mod NodeWalk
+pub mod NumberTexts
+pub mod Places
+pub mod InRange
 pub mod ReadFaults
 pub mod Sent
 pub mod Steps

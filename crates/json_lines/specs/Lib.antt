@@ -1,3 +1,4 @@
+pub mod Data
 pub mod Devices
 pub mod Fields
 pub mod Given
@@ -5,4 +6,5 @@ pub mod History
 pub mod Json
 pub mod Lines
 pub mod Moves
+pub mod Places
 pub mod Reading

@@ -1,36 +1,45 @@
 //! The fields of an object of JSON, by their types. Nothing here takes memory.
 
 ghost use Rattle.std.specs.Prelude.{◌≡◌, option_map};
-ghost use Rattle.serde_json.specs.View.{view, items_view};
+ghost use Rattle.json_lines.specs.Data.{value_data, items_data};
 ghost use Rattle.json_lines.specs.Fields.{number_at, flag_at, text_at, optional_text_at, optional_number_at, are_strings, strings_at};
 
-use serde_json::Value;
+use crate::refs::{JsonItems, JsonRef};
 
 /// The u64 under a key; None where it is absent or of another shape.
-pub fn number_at(value: &Value, name: &str) -> Option<u64>
-    ensures { result ≡ number_at name.now (view value.now) }
+pub fn number_at(value: &JsonRef<'_, '_>, name: &str) -> Option<u64>
+    ensures { result ≡ number_at name.now (value_data value.now) }
 {
-    value.get(name).and_then(Value::as_u64)
+    match value.get(name) {
+        Some(found) => found.as_u64(),
+        None => None,
+    }
 }
 
 /// The truth value under a key; None where it is absent or of another shape.
-pub fn flag_at(value: &Value, name: &str) -> Option<bool>
-    ensures { result ≡ flag_at name.now (view value.now) }
+pub fn flag_at(value: &JsonRef<'_, '_>, name: &str) -> Option<bool>
+    ensures { result ≡ flag_at name.now (value_data value.now) }
 {
-    value.get(name).and_then(Value::as_bool)
+    match value.get(name) {
+        Some(found) => found.as_bool(),
+        None => None,
+    }
 }
 
 /// The text under a key; None where it is absent or of another shape.
-pub fn text_at<'a>(value: &'a Value, name: &str) -> Option<&'a str>
-    ensures { option_map (λ s. s.now) result ≡ text_at name.now (view value.now) }
+pub fn text_at<'a>(value: &JsonRef<'_, 'a>, name: &str) -> Option<&'a str>
+    ensures { option_map (λ s. s.now) result ≡ text_at name.now (value_data value.now) }
 {
-    value.get(name).and_then(Value::as_str)
+    match value.get(name) {
+        Some(found) => found.as_str(),
+        None => None,
+    }
 }
 
 /// The text under a key, which may be absent or null; None where it is of another shape.
 #[tactic(auto, unfolding(crate::specs::Fields::optional_text_at))]
-pub fn optional_text_at<'a>(value: &'a Value, name: &str) -> Option<Option<&'a str>>
-    ensures { option_map (option_map (λ s. s.now)) result ≡ optional_text_at name.now (view value.now) }
+pub fn optional_text_at<'a>(value: &JsonRef<'_, 'a>, name: &str) -> Option<Option<&'a str>>
+    ensures { option_map (option_map (λ s. s.now)) result ≡ optional_text_at name.now (value_data value.now) }
 {
     match value.get(name) {
         None => Some(None),
@@ -48,8 +57,8 @@ pub fn optional_text_at<'a>(value: &'a Value, name: &str) -> Option<Option<&'a s
 
 /// The u64 under a key, which may be absent or null; None where it is of another shape.
 #[tactic(auto, unfolding(crate::specs::Fields::optional_number_at))]
-pub fn optional_number_at(value: &Value, name: &str) -> Option<Option<u64>>
-    ensures { result ≡ optional_number_at name.now (view value.now) }
+pub fn optional_number_at(value: &JsonRef<'_, '_>, name: &str) -> Option<Option<u64>>
+    ensures { result ≡ optional_number_at name.now (value_data value.now) }
 {
     match value.get(name) {
         None => Some(None),
@@ -66,10 +75,11 @@ pub fn optional_number_at(value: &Value, name: &str) -> Option<Option<u64>>
 }
 
 /// Whether each value is a text.
-pub fn are_strings(items: &[Value]) -> bool
-    ensures { result ≡ are_strings (items_view items.now) }
+pub fn are_strings(items: JsonItems<'_, '_>) -> bool
+    ensures { result ≡ are_strings (items_data items.entry) }
 {
-    for item in items {
+    let mut rest = items;
+    while let Some(item) = rest.next() {
         if !item.is_string() {
             return false;
         }
@@ -79,25 +89,19 @@ pub fn are_strings(items: &[Value]) -> bool
 
 /// The list of texts under a key, where an absent one and null are empty; None where it is of another shape.
 #[tactic(auto, unfolding(crate::specs::Fields::strings_at))]
-pub fn strings_at<'a>(value: &'a Value, name: &str) -> Option<&'a [Value]>
-    ensures { option_map (λ items. items_view items.now) result ≡ strings_at name.now (view value.now) }
+pub fn strings_at<'t, 'a>(value: &JsonRef<'t, 'a>, name: &str) -> Option<JsonItems<'t, 'a>>
+    ensures { option_map items_data result ≡ strings_at name.now (value_data value.now) }
 {
     match value.get(name) {
-        None => Some(&[]),
+        None => Some(JsonItems::none()),
         Some(found) => {
             if found.is_null() {
-                return Some(&[]);
+                return Some(JsonItems::none());
             }
-            match found.as_array() {
-                Some(items) => {
-                    let items = items.as_slice();
-                    if are_strings(items) {
-                        Some(items)
-                    } else {
-                        None
-                    }
-                }
-                None => None,
+            if found.is_array() && are_strings(found.items()) {
+                Some(found.items())
+            } else {
+                None
             }
         }
     }

@@ -2,13 +2,16 @@
 //!
 //! [`Source`] and [`Sink`] are a reader and a writer whose contracts name all bytes that they gave or took, and count the failures.
 //! [`Counted`] makes one of any reader or writer, at no cost when the program runs, and [`Held`] a source of bytes in memory.
-//! [`read_lines`] hands each line of a source, as a JSON value, to a [`TakeJson`], up to the first line that is refused, and [`send`]
-//! writes a whole text. [`fields`] has the fields of an object by their types.
+//! [`read_lines`] hands each line of a source, as a [`JsonLine`], to a [`TakeJson`], up to the first line that is refused, and [`send`]
+//! writes a whole text. A [`JsonRef`] is a value inside a line, and [`fields`] has the fields of an object by their types.
+//!
+//! What a line is, is what `serde_json` reads: contracts see a line and a value in it as its `Data`, by `line_data` and `value_data`. The
+//! line itself is a flat list of nodes, which borrow its texts, and is made a tree only where [`JsonLine::value`] is asked for one.
 //!
 //! Callers may rely on this: what is read is `read_all` of the bytes that the reader gave, to its end or to the first fault with its line,
 //! also of a reader that fails. A refusal holds of every input that begins with these bytes. A line has at most 2^20 bytes and the input
 //! 2^30, so that input that never ends is refused. Lines of spaces, tabs and carriage returns alone are skipped and counted. There is one
-//! pass over the input, with one JSON value at a time.
+//! pass over the input, with one line of JSON at a time.
 //!
 //! ```text
 //! let mut trace = Trace::new(alloc);
@@ -20,16 +23,22 @@ mod devices;
 pub mod fields;
 mod held;
 mod history;
-mod json;
+mod line;
 mod lines;
+mod numbers;
+mod ranges;
 mod reading;
+mod refs;
 mod sending;
 mod source;
+mod taking;
 
 pub use devices::{Counted, Failing};
 pub use held::Held;
-pub use json::{LineCause, TakeJson, is_blank};
+pub use line::JsonLine;
 pub use lines::{CHUNK, InputFault, line_end};
 pub use reading::{LineFault, MAX_INPUT, read_lines};
+pub use refs::{JsonItems, JsonRef};
 pub use sending::{Unsent, send};
 pub use source::{Sink, Source};
+pub use taking::{LineCause, TakeJson, is_blank};

@@ -7,9 +7,10 @@ ghost use Rattle.json_lines.specs.Reading.{cause_of, read_all, Reads, IsReadFaul
 ghost use Rattle.json_lines.specs.declared.lines.InputFault.TheVariants.{Read};
 ghost use Rattle.json_lines.specs.declared.reading.Stop.TheVariants.{Input};
 
-use crate::json::{LineCause, TakeJson, take_line};
 use crate::lines::{CHUNK, InputFault, Lines};
 use crate::source::Source;
+use crate::taking::{LineCause, TakeJson, take_line};
+use json::Scratch;
 use std::alloc::Global;
 
 /// Why reading stopped: the input, or what a line says.
@@ -85,6 +86,7 @@ pub fn read_lines<R: Source, T: TakeJson>(
         }),
     };
     let mut line = Vec::new(alloc);
+    let mut scratch = Scratch::new(alloc);
     let mut room = MAX_INPUT;
     for number in 1..u64::MAX {
         let more = match lines.next(reader, room.min(MAX_LINE), &mut line) {
@@ -100,7 +102,7 @@ pub fn read_lines<R: Source, T: TakeJson>(
                 stop: Stop::Input(InputFault::TooLong),
             });
         }
-        if let Err(stop) = take_line(alloc, value, number, &line) {
+        if let Err(stop) = take_line(alloc, value, number, &line, &mut scratch) {
             return Err(LineFault { line: number, stop });
         }
         if !more {

@@ -1,7 +1,7 @@
 //! Lines that record a check, of content or not.
 
 ghost use Rattle.std.specs.Prelude.{◌≡◌};
-ghost use Rattle.serde_json.specs.View.{view};
+ghost use Rattle.json_lines.specs.Data.{value_data};
 ghost use Rattle.trace_lines.specs.Causes.{Gives};
 ghost use Rattle.trace_lines.specs.Values.{entry_value};
 ghost use Rattle.trace_lines.specs.Traces.{entry_of};
@@ -9,8 +9,8 @@ ghost use Rattle.trace_lines.specs.Traces.{entry_of};
 use crate::cause::Cause;
 use crate::entry::{Entry, EntryKind};
 use crate::texts::{goal_of, label_of, token_of, version_at};
+use json_lines::JsonRef;
 use json_lines::fields::{flag_at, number_at, optional_text_at, text_at};
-use serde_json::Value;
 use std::alloc::Global;
 
 /// The check that a line records.
@@ -20,9 +20,9 @@ pub(crate) fn entry_of(
     kind: EntryKind,
     line: u64,
     before: usize,
-    value: &Value,
+    value: &JsonRef<'_, '_>,
 ) -> Result<Entry, Cause>
-    ensures { Gives entry_value result (entry_of kind line before (view value.now)) }
+    ensures { Gives entry_value result (entry_of kind line before (value_data value.now)) }
 {
     let text = text_at(value, "goal").ok_or(Cause::Shape)?;
     let snapshot = number_at(value, "snapshot").ok_or(Cause::Shape)?;

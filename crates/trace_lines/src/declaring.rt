@@ -1,7 +1,8 @@
 //! The rules of a trace, as its lines declare them. Where a line is refused no rule is left, for the trace is refused with it.
 
-ghost use Rattle.std.specs.Prelude.{◌≡◌, ℕ, ◌<◌, [], Ok, OnOk, OnErr};
+ghost use Rattle.std.specs.Prelude.{◌≡◌, option_map, ℕ, ◌<◌, [], Ok, OnOk, OnErr};
 ghost use Rattle.serde_json.specs.View.{view};
+ghost use Rattle.json_lines.specs.Fields.{text_at};
 ghost use Rattle.namespaces.specs.Changing.{IsLater};
 ghost use Rattle.strata.specs.Edges.{first_broken, edges_of_tuples};
 ghost use Rattle.trace_lines.specs.Causes.{Gives, Fails, namespace_cause};
@@ -12,12 +13,17 @@ ghost use Rattle.trace_lines.specs.Traces.{with_namespace, rules_checked};
 use crate::cause::Cause;
 use crate::cover::Cover;
 use crate::sample::Sample;
-use json_lines::fields::text_at;
 use namespaces::{Rules, RulesFault};
 use serde_json::Value;
 use std::alloc::Global;
 use strata::{ChangeFault, check_change, check_declared};
 use version_chains::AppendFault;
+
+fn text_at<'a>(value: &'a Value, name: &str) -> Option<&'a str>
+    ensures { option_map (λ s. s.now) result ≡ text_at name.now (view value.now) }
+{
+    value.get(name).and_then(Value::as_str)
+}
 
 /// The first broken edge of the rules, after a value declared a namespace: it is one of that namespace.
 fn check(rules: &Rules, value: &Value) -> Result<(), Cause>

@@ -1,14 +1,14 @@
 //! The texts in a line of a trace.
 
 ghost use Rattle.std.specs.Prelude.{◌≡◌, option_map, string_bytes, Ok};
-ghost use Rattle.serde_json.specs.View.{view, items_view};
+ghost use Rattle.json_lines.specs.Data.{value_data, items_data};
 ghost use Rattle.trace_lines.specs.Causes.{Gives};
 ghost use Rattle.trace_lines.specs.Texts.{tuple_of_text, tuples_of, goal_of, token_of, is_label, label_at, fits_reply, version_at};
 
 use crate::cause::Cause;
 use crate::entry::EntryKind;
 use json_lines::fields::optional_text_at;
-use serde_json::Value;
+use json_lines::{JsonItems, JsonRef};
 use std::alloc::Global;
 use tuple_text::{Fact, Tuple, TupleFault, parse_fact, parse_tuple};
 use zookie::Zookie;
@@ -27,11 +27,12 @@ fn tuple_of_text(alloc: Global, text: Option<&str>) -> Result<Tuple, Cause>
 }
 
 /// The tuples of a list of texts.
-pub(crate) fn tuples_of(alloc: Global, items: &[Value]) -> Result<Vec<Tuple>, Cause>
-    ensures { Gives (λ v. v.items) result (tuples_of (items_view items.now)) }
+pub(crate) fn tuples_of(alloc: Global, items: JsonItems<'_, '_>) -> Result<Vec<Tuple>, Cause>
+    ensures { Gives (λ v. v.items) result (tuples_of (items_data items.entry)) }
 {
+    let mut rest = items;
     let mut tuples = Vec::new(alloc);
-    for item in items {
+    while let Some(item) = rest.next() {
         tuples.push(tuple_of_text(alloc, item.as_str())?)?;
     }
     Ok(tuples)
@@ -69,8 +70,8 @@ fn is_label(text: &str) -> bool
 
 /// The label of a version, where there is one; None where it is of another shape.
 #[tactic(auto, unfolding(crate::specs::Texts::label_at))]
-fn label_at(value: &Value) -> Option<Option<&str>>
-    ensures { option_map (option_map (λ s. s.now)) result ≡ label_at (view value.now) }
+fn label_at<'a>(value: &JsonRef<'_, 'a>) -> Option<Option<&'a str>>
+    ensures { option_map (option_map (λ s. s.now)) result ≡ label_at (value_data value.now) }
 {
     match optional_text_at(value, "version") {
         None => None,
@@ -94,8 +95,12 @@ fn fits_reply(kind: EntryKind, reply: bool, label: Option<&str>) -> bool
 
 /// The label in a line of this kind with this reply, where there is one; None where it is of another shape.
 #[tactic(auto, unfolding(crate::specs::Texts::version_at))]
-pub(crate) fn version_at(kind: EntryKind, reply: bool, value: &Value) -> Option<Option<&str>>
-    ensures { option_map (option_map (λ s. s.now)) result ≡ version_at kind reply (view value.now) }
+pub(crate) fn version_at<'a>(
+    kind: EntryKind,
+    reply: bool,
+    value: &JsonRef<'_, 'a>,
+) -> Option<Option<&'a str>>
+    ensures { option_map (option_map (λ s. s.now)) result ≡ version_at kind reply (value_data value.now) }
 {
     let label = label_at(value)?;
     if fits_reply(kind, reply, label) {

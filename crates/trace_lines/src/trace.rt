@@ -3,6 +3,7 @@
 ghost use Rattle.std.specs.Prelude.{◌≡◌, ◌+◌, ◌<◌, ◌≤◌, Some, None, slice_get, ◌^◌, ◌&&◌, [], length, take, drop, All, true, false, ℕ, ◌++◌, option_map, option_and_then, Ok, IfOk, OnOk, OnErr, IfErr, IfSome, IsErr};
 ghost use Rattle.std.specs.Io.KnownBytes.{Consumes};
 ghost use Rattle.serde_json.specs.View.{view};
+ghost use Rattle.json_lines.specs.Data.{value_data, line_data};
 ghost use Rattle.tuple_text.specs.Refs.{set_value};
 ghost use Rattle.trace_lines.specs.Causes.{Gives};
 ghost use Rattle.trace_lines.specs.Covers.{IsCover};
@@ -30,8 +31,8 @@ use crate::entry::{Entry, EntryKind};
 use crate::sample::Sample;
 use crate::texts::tuples_of;
 use crate::versions::{VersionName, version_of};
-use json_lines::TakeJson;
-use json_lines::fields::{number_at, optional_number_at, strings_at};
+use json_lines::fields::{number_at, optional_number_at, strings_at, text_at};
+use json_lines::{JsonLine, JsonRef, TakeJson};
 use namespaces::{Rules, RulesFault};
 use serde_json::Value;
 use std::alloc::{AllocError, Global};
@@ -202,14 +203,17 @@ impl Trace {
 
     /// Takes a line that declares a namespace.
     #[tactic(auto, unfolding(crate::specs::Traces::declaration_line))]
-    fn take_declaration(&mut self, line: u64, value: &Value) -> Result<(), Cause>
+    fn take_declaration(&mut self, line: u64, json: &JsonLine<'_>) -> Result<(), Cause>
         requires { next_line self.old ≤ line }
-        ensures { Gives (λ _. self.new) result (declaration_line line self.old (view value.now)) }
+        ensures { Gives (λ _. self.new) result (declaration_line line self.old (line_data json.now)) }
     {
-        match optional_number_at(value, "at") {
-            Some(Some(at)) => self.take_change(line, at, value),
-            Some(None) => self.take_namespace(value),
-            None => Err(Cause::Namespace(RulesFault::Shape)),
+        let Some(at) = optional_number_at(&json.root(), "at") else {
+            return Err(Cause::Namespace(RulesFault::Shape));
+        };
+        let value = json.value(self.alloc)?;
+        match at {
+            Some(at) => self.take_change(line, at, &value),
+            None => self.take_namespace(&value),
         }
     }
 
@@ -270,9 +274,9 @@ impl Trace {
 
     /// Takes a line that commits changes.
     #[tactic(auto, unfolding(crate::specs::Traces::commit_of, crate::specs::Traces::with_commit))]
-    fn take_commit(&mut self, line: u64, value: &Value) -> Result<(), Cause>
+    fn take_commit(&mut self, line: u64, value: &JsonRef<'_, '_>) -> Result<(), Cause>
         requires { next_line self.old ≤ line }
-        ensures { Gives (λ _. self.new) result (commit_line line self.old (view value.now)) }
+        ensures { Gives (λ _. self.new) result (commit_line line self.old (value_data value.now)) }
     {
         let at = number_at(value, "at").ok_or(Cause::Shape)?;
         let add = strings_at(value, "add").ok_or(Cause::Shape)?;
@@ -316,9 +320,14 @@ impl Trace {
 
     /// Takes a line that records a check.
     #[tactic(auto, unfolding(crate::specs::Traces::with_entry))]
-    fn take_entry(&mut self, kind: EntryKind, line: u64, value: &Value) -> Result<(), Cause>
+    fn take_entry(
+        &mut self,
+        kind: EntryKind,
+        line: u64,
+        value: &JsonRef<'_, '_>,
+    ) -> Result<(), Cause>
         requires { next_line self.old ≤ line }
-        ensures { Gives (λ _. self.new) result (entry_line kind line self.old (view value.now)) }
+        ensures { Gives (λ _. self.new) result (entry_line kind line self.old (value_data value.now)) }
     {
         let entry = entry_of(self.alloc, kind, line, self.commit_lines.len(), value)?;
         if !self.is_declared(entry.goal.set()) {
@@ -390,20 +399,21 @@ impl Trace {
     }
 
     #[tactic(auto, unfolding(crate::specs::Traces::value_line))]
-    fn take(&mut self, line: u64, value: &Value) -> Result<(), Cause>
+    fn take(&mut self, line: u64, json: &JsonLine<'_>) -> Result<(), Cause>
         requires { next_line self.old ≤ line }
-        ensures { Gives (λ _. self.new) result (value_line line self.old (view value.now)) }
+        ensures { Gives (λ _. self.new) result (value_line line self.old (line_data json.now)) }
     {
-        match value.get("kind").and_then(Value::as_str) {
+        let value = json.root();
+        match text_at(&value, "kind") {
             Some(kind) => {
                 if kind == "namespace" {
-                    self.take_declaration(line, value)
+                    self.take_declaration(line, json)
                 } else if kind == "commit" {
-                    self.take_commit(line, value)
+                    self.take_commit(line, &value)
                 } else if kind == "content" {
-                    self.take_entry(EntryKind::Content, line, value)
+                    self.take_entry(EntryKind::Content, line, &value)
                 } else if kind == "check" {
-                    self.take_entry(EntryKind::Check, line, value)
+                    self.take_entry(EntryKind::Check, line, &value)
                 } else {
                     Err(Cause::Kind)
                 }
@@ -424,7 +434,7 @@ impl TakeJson for Trace {
 
     ghost taken = { value_line };
 
-    fn take_value(&mut self, number: u64, value: &Value) -> Result<(), Cause> {
-        self.take(number, value)
+    fn take_value(&mut self, number: u64, line: &JsonLine<'_>) -> Result<(), Cause> {
+        self.take(number, line)
     }
 }

@@ -1,7 +1,11 @@
-use Rattle.std.proofs.Common.{◌≡◌, drop}
-use Rattle.serde_json.specs.View.{items_view}
+use Rattle.std.proofs.Common.{◌≡◌}
+use Rattle.serde_json.specs.Events.{items_len}
+use Rattle.json_lines.specs.Data.{items_data}
 use Rattle.evidence_check.specs.Reading.{are_known}
 use Rattle.evidence_check.proofs.records.are_known.Given as goal
 
 abbrev pub invariant-loop-step : goal.invariant-loop-step
-invariant-loop-step l = are_known (items_view (drop l.step-index l.steps)) ≡ are_known (items_view l.steps)
+invariant-loop-step l = are_known (items_data l.rest) ≡ are_known (items_data l.fn.steps)
+
+abbrev pub decreases-loop-step : goal.decreases-loop-step
+decreases-loop-step l = items_len (items_data l.rest)

@@ -1,7 +1,5 @@
-use Rattle.std.proofs.Common.{◌≡◌, ◌+◌, drop, sym, ap, ◌∙◌, arith}
-use Rattle.std.proofs.lemmas.List.{at_drop_more}
-use Rattle.serde_json.specs.Data.{item}
-use Rattle.serde_json.specs.View.{view, items_view}
+use Rattle.std.proofs.Common.{sym, ap, ◌∙◌}
+use Rattle.json_lines.specs.Data.{value_data, items_data}
 use Rattle.evidence_check.specs.Reading.{facts_in}
 use Rattle.refusals.proofs.Fronts.{with_front}
 use Rattle.evidence_check.proofs.StepLoops.{next_fact}
@@ -9,8 +7,6 @@ use Rattle.evidence_check.proofs.records.facts_in.Goals as goal
 
 pub loop-item-preserved : goal.loop-item-preserved
 loop-item-preserved c =
-    let left = items_view (drop (c.loop-item.item-index + 1) c.args.items.now) in
-    let here : facts_in (items_view (drop c.loop-item.item-index c.args.items.now)) ≡ facts_in (item (view c.item-item.result) left) =
-    rw c.item-item.is (at_drop_more (λ vs. facts_in (items_view vs)) c.args.items.now c.loop-item.item-index c.item-item.result (omega (arith, c.loop-item-test.true))) in
-    next_fact c.loop-item.facts.items c.push.new.self.items c.in_ok-fact_in.field-0 (view c.item-item.result) left c.in_ok-fact_in.ensures c.in_ok-push.ensures.items
-    ∙ ap (with_front c.loop-item.facts.items) (sym here) ∙ c.loop-item.invariant
+    let left = items_data c.next.new.self in
+    next_fact c.loop-item.facts.items c.push.new.self.items c.in_ok-fact_in.field-0 (value_data c.in-Some.item) left c.in_ok-fact_in.ensures c.in_ok-push.ensures.items
+    ∙ ap (λ ds. with_front c.loop-item.facts.items (facts_in ds)) (sym c.in-Some.ensures) ∙ c.loop-item.invariant

@@ -27,6 +27,24 @@ returns-in-Err-next-clause-most g c =
     let follows = c.loop-number.invariant.follows in
     came_in_all g.R.Source.given c.args.reader.now c.next.new.reader (2 ^ 30) c.loop-number.room c.min.result 65536 follows.0 follows.2 (omega (arith, c.min.ensures)) (c.next.ensures.most (g.R.Source.given c.args.reader.now ++ follows.0) follows.1)
 
+pub returns-then-is_over-clause-most : goal.returns-then-is_over-clause-most
+returns-then-is_over-clause-most g c =
+    let follows = c.loop-number.invariant.follows in
+    came_in_all g.R.Source.given c.args.reader.now c.next.new.reader (2 ^ 30) c.loop-number.room c.min.result 65536 follows.0 follows.2 (omega (arith, c.min.ensures)) (c.next.ensures.most (g.R.Source.given c.args.reader.now ++ follows.0) follows.1)
+
+pub returns-in-Err-take_line-clause-most : goal.returns-in-Err-take_line-clause-most
+returns-in-Err-take_line-clause-most g c =
+    let follows = c.loop-number.invariant.follows in
+    came_in_all g.R.Source.given c.args.reader.now c.next.new.reader (2 ^ 30) c.loop-number.room c.min.result 65536 follows.0 follows.2 (omega (arith, c.min.ensures)) (c.next.ensures.most (g.R.Source.given c.args.reader.now ++ follows.0) follows.1)
+
+pub returns-then-not-more-clause-most : goal.returns-then-not-more-clause-most
+returns-then-not-more-clause-most g c =
+    let follows = c.loop-number.invariant.follows in
+    came_in_all g.R.Source.given c.args.reader.now c.next.new.reader (2 ^ 30) c.loop-number.room c.min.result 65536 follows.0 follows.2 (omega (arith, c.min.ensures)) (c.next.ensures.most (g.R.Source.given c.args.reader.now ++ follows.0) follows.1)
+
+pub returns-then-is_over-clause-known : goal.returns-then-is_over-clause-known
+returns-then-is_over-clause-known g c = next-trans g.R.Source.given g.R.Source.ends g.R.Read.remaining c.args.reader.now c.loop-number.reader c.next.new.reader c.loop-number.invariant.known c.in-Ok-next.ensures.known
+
 pub returns-then-is_over-clause-exact : goal.returns-then-is_over-clause-exact
 returns-then-is_over-clause-exact g c =
     let follows = c.loop-number.invariant.follows in

@@ -1,15 +1,15 @@
 use Rattle.std.proofs.Common.{◌≡◌, ◌∙◌, length, subst}
-use Rattle.serde_json.specs.View.{view}
+use Rattle.json_lines.specs.Data.{value_data}
 use Rattle.trace_lines.specs.Values.{TraceValue, entry_value}
 use Rattle.trace_lines.proofs.RisingLines.{entry_stands}
 use Rattle.trace_lines.proofs.trace.Trace.take_entry.Goals as goal
 
 pub record-requires-clause-line : goal.record-requires-clause-line
 record-requires-clause-line c =
-    let at = entry_stands c.args.kind c.args.line c.len.result (view c.args.value.now) (entry_value c.in_ok-entry.entry) c.in_ok-entry.ensures in
+    let at = entry_stands c.args.kind c.args.line c.len.result (value_data c.args.value.now) (entry_value c.in_ok-entry.entry) c.in_ok-entry.ensures in
     rw at.0 c.requires
 
 pub record-requires-clause-before : goal.record-requires-clause-before
 record-requires-clause-before c =
-    let at = entry_stands c.args.kind c.args.line c.len.result (view c.args.value.now) (entry_value c.in_ok-entry.entry) c.in_ok-entry.ensures in
+    let at = entry_stands c.args.kind c.args.line c.len.result (value_data c.args.value.now) (entry_value c.in_ok-entry.entry) c.in_ok-entry.ensures in
     at.1 ∙ subst (λ (t : TraceValue). c.len.result ≡ length t.commit_lines) c.self.view_is (c.len.ensures ∙ c.self.inside.commit_lines.ok.0)

@@ -2,15 +2,17 @@
 
 ghost use Rattle.std.specs.Prelude.{◌≡◌, ◌+◌, ◌≤◌, ℕ, Bool, Result, Ok, IfErr, OnOk};
 ghost use Rattle.serde_json.specs.Data.{Data};
-ghost use Rattle.serde_json.specs.View.{view};
 ghost use Rattle.refusals.specs.Refusals.{Gives};
+ghost use Rattle.json_lines.specs.Data.{line_data};
 ghost use Rattle.json_lines.specs.Json.{is_blank, is_blank_byte, taken_line};
 ghost use Rattle.json_lines.specs.Reading.{Refuses};
 ghost use Rattle.json_lines.specs.declared.lines.InputFault.{InputFault};
 
+use crate::line::JsonLine;
 use crate::lines::InputFault;
 use crate::reading::Stop;
-use serde_json::Value;
+use json::Scratch;
+use simdutf8::basic::from_utf8;
 use std::alloc::Global;
 
 /// Why a line is refused: by what the input did, or by what the line says.
@@ -43,10 +45,10 @@ pub trait TakeJson {
     // What the value of a line, by the line's number, makes of this one.
     ghost taken: { ℕ → Self → Data → Result Self Self.Cause };
 
-    /// Takes the value of a line. Whatever the answer, the next call is not made after a refusal.
-    fn take_value(&mut self, number: u64, value: &Value) -> Result<(), Self::Cause>
+    /// Takes a line. Whatever the answer, the next call is not made after a refusal.
+    fn take_value(&mut self, number: u64, line: &JsonLine<'_>) -> Result<(), Self::Cause>
         requires { next self.old ≤ number }
-        ensures answer { Gives Self.Cause.is_memory (λ _. self.new) result (taken number self.old (view value.now)) }
+        ensures answer { Gives Self.Cause.is_memory (λ _. self.new) result (taken number self.old (line_data line.now)) }
         ensures further { OnOk result (next self.new ≤ number + 1) };
 }
 
@@ -70,6 +72,7 @@ pub(crate) fn take_line<T: TakeJson>(
     taker: &mut T,
     number: u64,
     line: &[u8],
+    scratch: &mut Scratch,
 ) -> Result<(), Stop<T::Cause>>
     requires { T.next taker.old ≤ number }
     ensures ok { OnOk result (taken_line T.Cause.not_json T.taken number taker.old line.now ≡ Ok taker.new) }
@@ -79,15 +82,15 @@ pub(crate) fn take_line<T: TakeJson>(
     if is_blank(line) {
         return Ok(());
     }
-    let value = match Value::from_slice(alloc, line) {
-        Ok(value) => value,
-        Err(e) => return Err(if e.is_memory() {
-            Stop::Input(InputFault::OutOfMemory)
-        } else {
-            Stop::Line(T::Cause::not_json())
-        }),
+    let Ok(text) = from_utf8(line) else {
+        return Err(Stop::Line(T::Cause::not_json()));
     };
-    match taker.take_value(number, &value) {
+    let line = match JsonLine::read(alloc, text, scratch) {
+        Ok(Some(line)) => line,
+        Ok(None) => return Err(Stop::Line(T::Cause::not_json())),
+        Err(_) => return Err(Stop::Input(InputFault::OutOfMemory)),
+    };
+    match taker.take_value(number, &line) {
         Ok(()) => Ok(()),
         Err(cause) => Err(if cause.is_memory() {
             Stop::Input(InputFault::OutOfMemory)
