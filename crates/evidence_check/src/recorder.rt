@@ -136,7 +136,7 @@ impl Recorder {
         let record = json.root();
         let line = number_at(&record, "line").ok_or(EvidenceCause::Shape)?;
         let list = steps_at(&record).ok_or(EvidenceCause::Shape)?;
-        let steps = steps_in(self.alloc, list.items())?;
+        let steps = steps_in(self.alloc, &list)?;
         if !are_known(list.items()) {
             return Err(EvidenceCause::UnknownStep);
         }

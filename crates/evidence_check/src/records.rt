@@ -99,12 +99,26 @@ fn fact_in(alloc: Global, value: &JsonRef<'_, '_>) -> Result<Fact, EvidenceCause
     fact_of(alloc, text)
 }
 
-/// The facts that texts are, up to the first that is none.
-fn facts_in(alloc: Global, items: JsonItems<'_, '_>) -> Result<Vec<Fact>, EvidenceCause>
+/// How many items there are, so that room is made for them and no more.
+fn count_items(items: JsonItems<'_, '_>) -> usize {
+    let mut rest = items;
+    let mut count = 0usize;
+    while let Some(_) = rest.next() {
+        count = count.saturating_add(1);
+    }
+    count
+}
+
+/// The facts that texts are, up to the first that is none, with room for `count`.
+fn facts_in(
+    alloc: Global,
+    items: JsonItems<'_, '_>,
+    count: usize,
+) -> Result<Vec<Fact>, EvidenceCause>
     ensures { Gives (λ v. v.items) result (facts_in (items_data items.entry)) }
 {
     let mut rest = items;
-    let mut facts = Vec::new(alloc);
+    let mut facts = Vec::with_capacity(alloc, count)?;
     while let Some(item) = rest.next() {
         facts.push(fact_in(alloc, &item)?)?;
     }
@@ -123,18 +137,19 @@ fn step_in(alloc: Global, step: &JsonRef<'_, '_>) -> Result<Option<Step>, Eviden
             if !facts.is_array() {
                 return Err(EvidenceCause::Shape);
             }
-            Ok(Some(Step::No(facts_in(alloc, facts.items())?)))
+            let count = count_items(facts.items());
+            Ok(Some(Step::No(facts_in(alloc, facts.items(), count)?)))
         }
         None => Ok(None),
     }
 }
 
-/// The steps that are known, up to the first text that is no fact.
-pub(crate) fn steps_in(alloc: Global, items: JsonItems<'_, '_>) -> Result<Steps, EvidenceCause>
-    ensures { Gives (λ v. step_values v.items) result (steps_in (items_data items.entry)) }
+/// The steps of a list that are known, up to the first text that is no fact.
+pub(crate) fn steps_in(alloc: Global, list: &JsonRef<'_, '_>) -> Result<Steps, EvidenceCause>
+    ensures { Gives (λ v. step_values v.items) result (steps_in (items_in (value_data list.now))) }
 {
-    let mut rest = items;
-    let mut steps = Vec::new(alloc);
+    let mut rest = list.items();
+    let mut steps = Vec::with_capacity(alloc, count_items(list.items()))?;
     while let Some(item) = rest.next() {
         let Some(step) = step_in(alloc, &item)? else {
             continue;

@@ -17,8 +17,8 @@ const FEW: usize = 8;
 
 /// Facts, which contracts see as the list of them in the order in which they were added.
 ///
-/// Where they are more than a few they are found by their marks, as the store finds tuples: whoever chooses the texts can
-/// choose them for one tree of the table, which still finds each mark in the logarithm of their number.
+/// Where they are more than a few they are found by their marks, as the store finds tuples: no choice of texts makes that slower
+/// than the logarithm of their number, as long as few texts have one mark.
 #[derive(Drop)]
 pub(crate) struct Facts {
     facts: Vec<Fact>,
