@@ -1,7 +1,8 @@
-use Rattle.std.proofs.Common.{sym, ◌∙◌, ◌||◌, refl, rules}
+use Rattle.std.proofs.Common.{sym, ap, ◌∙◌, ◌||◌, refl, rules}
 use Rattle.trace_lines.specs.Causes.{of_input, is_memory, is_read}
 use Rattle.trace_lines.specs.Traces.{faulted}
 use Rattle.trace_lines.proofs.LineCauses.{readers_own}
+use Rattle.json_lines.specs.Reading.{cause_of}
 use Rattle.json_lines.proofs.ReadFaults.{reader_failed, failed_so_far, refused_so_far}
 use Rattle.trace_lines.proofs.read.read_trace.Goals as goal
 
@@ -18,3 +19,6 @@ pub returns-in-Err-clause-exact : goal.returns-in-Err-clause-exact
 returns-in-Err-clause-exact g c =
     refused_so_far g.R.Source.given g.R.Source.ends c.args.reader.now c.read_lines.new.reader _ faulted (λ e. is_memory e.cause || is_read e.cause) c.new-trace.result _ c.in-Err.fault _ c.new-trace.ensures (search rules)
     (λ h. rw (c.cause.ensures, h) refl) (λ h. rw (c.cause.ensures, h) refl) c.in-Err.ensures.exact
+
+pub returns-in-Err-clause-unfailed : goal.returns-in-Err-clause-unfailed
+returns-in-Err-clause-unfailed g c = λ other. c.in-Err.ensures.unfailed (λ stop. other (c.cause.ensures ∙ ap (cause_of of_input) stop))
