@@ -6,3 +6,4 @@ pub mod MadeAuditLemmas
 pub mod ReadWhole
 pub mod Readers
 pub mod SharedLemmas
+pub mod TraceSync

@@ -1,6 +1,6 @@
 -- What two readers say, put together.
-use Rattle.std.proofs.Common.{◌≡◌, ◌⊎◌, inl, inr, ℕ, true, false, List, [], ◌∷◌, ◌++◌, Option, Result, Ok, Err, refl, sym, ◌∙◌}
-use Rattle.std.specs.Prelude.{IfOk, IfErr, OnOk}
+use Rattle.std.proofs.Common.{◌≡◌, ◌⊎◌, inl, inr, ℕ, true, false, List, [], ◌∷◌, ◌++◌, Option, Result, Ok, Err, refl, subst, sym, ◌∙◌}
+use Rattle.std.specs.Prelude.{IfOk, IfErr, IsErrAnd, OnOk}
 use Rattle.json_lines.specs.Given.{OfBytes, OfWhole, OfInput}
 use Rattle.json_lines.proofs.Given.{of_bytes-map, of_whole-map, of_input-map}
 use Rattle.trace_lines.specs.Values.{TraceValue}
@@ -138,3 +138,8 @@ pub answered_clean : {E : Type 0} (v : Verdict) (fs : List Finding) → v ≡ ve
 answered_clean v fs is h =
     let clean : v ≡ Clean = cc in
     no_findings fs (sym is ∙ clean)
+
+-- want of memory alone was told
+pub out_of_memory : {A : Type 0} (P : AuditFault → Type 0) → P faults.OutOfMemory → (r : Result A AuditFault) → IsErrAnd r (λ e. e ≡ faults.OutOfMemory) → IfErr r P
+out_of_memory P p (Ok a) h = tt
+out_of_memory P p (Err e) h = subst P (sym h) p

@@ -6,7 +6,7 @@ use Rattle.audit.specs.Audit.{IsOfNoDevice, IsUnwritten}
 use Rattle.audit.specs.History.{IsOfHistory}
 use Rattle.audit.specs.MadeAudit.{AreOfMaker}
 use Rattle.audit.proofs.MadeAuditLemmas.{of_maker, audited_made, broken_made, clean_made, whatever_made}
-use Rattle.audit.proofs.Readers.{of_writing, devices_of_writing, unwritten_without_device}
+use Rattle.audit.proofs.Readers.{of_writing, devices_of_writing, out_of_memory, unwritten_without_device}
 use Rattle.audit.proofs.made_audit.audit_made_by.Goals as goal
 
 pub returns-clause-audits : goal.returns-clause-audits
@@ -50,3 +50,9 @@ returns-clause-faults g c = IfErr-weaker c.tell_findings.result _ IsOfHistory (o
 pub returns-clause-kept : goal.returns-clause-kept
 returns-clause-kept g c =
     on_ok_weaker c.tell_findings.result (λ k. (c.in_ok-trace.ensures.kept, k)) c.tell_findings.ensures.kept
+
+pub returns-in_err-findings-clause-devices : goal.returns-in_err-findings-clause-devices
+returns-in_err-findings-clause-devices g c = out_of_memory _ tt c.from_residual-in_err-findings.result c.from_residual-in_err-findings.ensures.1
+
+pub returns-in_err-findings-clause-faults : goal.returns-in_err-findings-clause-faults
+returns-in_err-findings-clause-faults g c = out_of_memory IsOfHistory tt c.from_residual-in_err-findings.result c.from_residual-in_err-findings.ensures.1
