@@ -10,6 +10,7 @@ KIND is one of
   kinds          tuples that each store another relation of usersets, and up to 4,000 small changes of another namespace behind them
   own_kinds      the same, and the changes are of the tuples' namespace
   spread_kinds   tuples of 60 relations that each lead to 250 namespaces, and up to 4,000 changes of the tuples' namespace behind them
+  read_kinds     the same, where one of the relations reads a tupleset and the 250 namespaces are declared
   more_kinds     tuples that each store another relation of usersets of 250 namespaces, and changes of these that bring one relation each
   toggled        one tuple added and removed in every other commit, and checks at old snapshots
   ids            one group of users alone, and checks that a stranger is not in it
@@ -90,10 +91,10 @@ def kinds(size, name):
     return given
 
 
-def spread_kinds(size):
+def spread_kinds(size, more=(), users=()):
     """Tuples of 60 relations of one namespace that lead to 250 namespaces each, and behind them changes of that namespace."""
-    relations = [relation(f"r{k}") for k in range(60)]
-    given = Input(size, [{"name": "doc", "relations": relations}])
+    relations = [relation(f"r{k}") for k in range(60)] + list(more)
+    given = Input(size, [{"name": "doc", "relations": relations}, *users])
     for k in range(60):
         given.commit([f"doc:a#r{k}@n{j}:b#m" for j in range(250)])
     for _ in range(4000):
@@ -101,8 +102,14 @@ def spread_kinds(size):
             break
         given.at += 1
         given.line({"kind": "namespace", "at": given.at, "name": "doc", "relations": relations})
-    given.check("doc:a#r0@10", False, [{"no": ["doc:a#r0@10"]}], snapshot=1)
+    given.check("doc:b#r0@10", False, [{"no": ["doc:b#r0@10"]}], snapshot=1)
     return given
+
+
+def read_kinds(size):
+    """The same, where one of the relations reads a tupleset and the users' namespaces are declared."""
+    reader = relation("reader", {"tuple_to": {"tupleset": "r0", "computed": "m"}})
+    return spread_kinds(size, [reader], [{"name": f"n{j}", "relations": [relation("m")]} for j in range(250)])
 
 
 def more_kinds(size):
@@ -206,6 +213,7 @@ KINDS = {
     "kinds": lambda size: kinds(size, "plan"),
     "own_kinds": lambda size: kinds(size, "doc"),
     "spread_kinds": spread_kinds,
+    "read_kinds": read_kinds,
     "more_kinds": more_kinds,
     "toggled": toggled,
     "ids": ids,

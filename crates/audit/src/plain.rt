@@ -1,6 +1,6 @@
 //! The audit on one thread.
 
-ghost use Rattle.std.specs.Prelude.{◌≡◌, ◌⊎◌, ℕ, ◌+◌, ◌≤◌, ◌++◌, length, true, false, Ok, IfOk, IfErr, OnOk, Err, string_bytes};
+ghost use Rattle.std.specs.Prelude.{◌≡◌, ◌≢◌, ◌⊎◌, ℕ, ◌+◌, ◌≤◌, ◌++◌, List, Option, length, true, false, Ok, IfOk, IfErr, OnOk, Err, string_bytes};
 ghost use Rattle.json_lines.specs.Given.{OfBytes, OfWhole, OfInput, AreNext, StandBehind};
 ghost use Rattle.json_lines.specs.declared.lines.TheConstants.{CHUNK};
 ghost use Rattle.json_lines.specs.declared.reading.TheConstants.{MAX_INPUT};
@@ -12,6 +12,8 @@ ghost use Rattle.trace_lines.specs.Traces.{trace_of};
 ghost use Rattle.evidence_check.specs.Reading as evidence;
 ghost use Rattle.evidence_check.specs.Reading.{evidence_of};
 ghost use Rattle.evidence_check.specs.Evidences.{evidence_value};
+ghost use Rattle.evidence_check.specs.Judging.{AreJudged};
+ghost use Rattle.evidence_check.specs.Steps.{StepValue};
 ghost use Rattle.audit.specs.Audit.{verdict_of, report_on, Audits, Breaks, RefusesTrace, RefusesEvidence, CutsEvidence, HasRisen, IsOfDevices, IsOfNoDevice, IsWrite, IsUnwritten, FailsWriting, IsOfTrace, IsOfEvidence, IsOfAudit, IsOfBytes};
 ghost use Rattle.audit.specs.declared.plain.AuditFault.TheVariants as faults;
 ghost use Rattle.findings.specs.Findings.{findings_of};
@@ -22,9 +24,11 @@ ghost use Rattle.audit.specs.declared.plain.Verdict.{Verdict};
 ghost use Rattle.audit.specs.declared.plain.Verdict.TheVariants.{Clean};
 
 use crate::finder::{Finder, OneThread};
-use evidence_check::{Evidence, EvidenceCause, EvidenceFault, read_evidence};
+use evidence_check::{
+    Evidence, EvidenceCause, EvidenceFault, Judged, judge_evidence, read_evidence,
+};
 use findings::laws::{right_and_fresh_without_findings, wrong_replies_are_wrong};
-use findings::{Finding, report_of};
+use findings::{Finding, findings_judged, report_of};
 use json_lines::{Sink, Source, send};
 use std::alloc::{AllocError, Global};
 use thiserror::Error;
@@ -141,6 +145,31 @@ pub(crate) fn audit_values_by<W: Sink, F: Finder>(
     tell_findings(alloc, &findings, trace.len(), out)
 }
 
+/// Writes the report on a trace whose entries are judged so by some evidence.
+fn audit_judged<W: Sink>(
+    alloc: Global,
+    trace: &Trace,
+    judgements: &[Judged],
+    out: &mut W,
+) -> Result<Verdict, AuditFault>
+    ensures verdict { (given : List (Option (List StepValue))) → AreJudged trace.now given judgements.now → IfOk result (λ v. v ≡ verdict_of (findings_of trace.now given)) }
+    ensures headline { (given : List (Option (List StepValue))) → AreJudged trace.now given judgements.now → result ≡ Ok Clean → IsRightAndFresh trace.now }
+    ensures report { (given : List (Option (List StepValue))) → AreJudged trace.now given judgements.now → OnOk result (W.taken out.new ≡ W.taken out.old ++ report_on trace.now given) }
+    ensures flushed { OnOk result (W.flushes out.new ≡ W.flushes out.old + 1) }
+    ensures write { (given : List (Option (List StepValue))) → AreJudged trace.now given judgements.now
+        → (n : ℕ) → result ≡ Err (faults.Write n) → FailsWriting (W.taken out.old) (W.taken out.new) n (report_on trace.now given) }
+    ensures device { IfErr result (λ e. IsWrite e → HasRisen (W.failures out.old) (W.failures out.new) ⊎ HasRisen (W.idle out.old) (W.idle out.new)) }
+    ensures kept { OnOk result (W.failures out.new ≡ W.failures out.old) }
+    ensures faults { IfErr result (λ e. (e ≡ faults.OutOfMemory) ⊎ IsWrite e) }
+    ensures unwritten { IfErr result (λ e. IsUnwritten e → W.taken out.new ≡ W.taken out.old) }
+    ensures unfailed { IfErr result (λ e. IsUnwritten e → W.failures out.new ≡ W.failures out.old) }
+    ensures held { StandBehind W.taken W.contents out.old out.new }
+{
+    right_and_fresh_without_findings(trace);
+    let findings = findings_judged(alloc, trace, judgements)?;
+    tell_findings(alloc, &findings, trace.len(), out)
+}
+
 /// Writes the report on a trace by its evidence.
 pub fn audit_values<W: Sink>(
     alloc: Global,
@@ -192,6 +221,18 @@ pub(crate) fn trace_from<R: Source>(alloc: Global, reader: &mut R) -> Result<Tra
     }
 }
 
+/// A fault of the evidence, where want of memory is told as such.
+fn of_evidence(fault: EvidenceFault) -> AuditFault
+    ensures same { (f : EvidenceFault) → result ≡ faults.Evidence f → f ≡ fault }
+    ensures device { IsOfNoDevice result → fault.cause ≢ evidence_causes.Read }
+    ensures faults { IsOfEvidence result }
+{
+    match fault.cause {
+        EvidenceCause::OutOfMemory => AuditFault::OutOfMemory,
+        _ => AuditFault::Evidence(fault),
+    }
+}
+
 /// The evidence of a reader for a trace.
 fn evidence_from<R: Source>(
     alloc: Global,
@@ -210,13 +251,30 @@ fn evidence_from<R: Source>(
 {
     match read_evidence(alloc, reader, trace) {
         Ok(evidence) => Ok(evidence),
-        Err(
-            EvidenceFault {
-                cause: EvidenceCause::OutOfMemory,
-                ..
-            },
-        ) => Err(AuditFault::OutOfMemory),
-        Err(fault) => Err(AuditFault::Evidence(fault)),
+        Err(fault) => Err(of_evidence(fault)),
+    }
+}
+
+/// How the evidence of a reader judges each entry of a trace, each record as it is read.
+fn judgements_from<R: Source>(
+    alloc: Global,
+    reader: &mut R,
+    trace: &Trace,
+) -> Result<Vec<Judged>, AuditFault>
+    ensures given { IfOk result (λ v. (given : List (Option (List StepValue))) × AreJudged trace.now given v.items
+        × OfWhole R.given R.ends reader.old reader.new (λ b. evidence_of trace.now.entries true b ≡ Ok given)) }
+    ensures refused { (f : EvidenceFault) → result ≡ Err (faults.Evidence f) → OfInput R.given R.ends reader.old reader.new (λ b. evidence.FailsBy f.cause f (evidence_of trace.now.entries true b)) }
+    ensures cut { (f : EvidenceFault) → result ≡ Err (faults.Evidence f) → f.cause ≡ evidence_causes.Read → OfBytes R.given reader.old reader.new (λ b. evidence_of trace.now.entries false b ≡ Err f) }
+    ensures most { OfBytes R.given reader.old reader.new (λ b. length b ≤ MAX_INPUT + CHUNK) }
+    ensures known { AreNext R.given R.ends R.remaining reader.old reader.new }
+    ensures device { (f : EvidenceFault) → result ≡ Err (faults.Evidence f) → f.cause ≡ evidence_causes.Read → HasRisen (R.failures reader.old) (R.failures reader.new) }
+    ensures kept { OnOk result (R.failures reader.new ≡ R.failures reader.old) }
+    ensures unfailed { IfErr result (λ e. IsOfNoDevice e → R.failures reader.new ≡ R.failures reader.old) }
+    ensures faults { IfErr result IsOfEvidence }
+{
+    match judge_evidence(alloc, reader, trace) {
+        Ok(judgements) => Ok(judgements),
+        Err(fault) => Err(of_evidence(fault)),
     }
 }
 
@@ -316,5 +374,10 @@ pub fn audit_plain<A: Source, B: Source, W: Sink>(
     ensures unfailed { IfErr result (λ e. IsOfNoDevice e → (A.failures trace.new ≡ A.failures trace.old) × (B.failures evidence.new ≡ B.failures evidence.old) × (W.failures out.new ≡ W.failures out.old)) }
     ensures faults { IfErr result IsOfAudit }
 {
-    audit_by(alloc, trace, evidence, out, &mut OneThread)
+    let trace = trace_from(alloc, trace)?;
+    let judgements = match judgements_from(alloc, evidence, &trace) {
+        Ok(judgements) => judgements,
+        Err(fault) => return Err(fault),
+    };
+    audit_judged(alloc, &trace, &judgements, out)
 }

@@ -22,7 +22,7 @@ ghost use Rattle.audit.specs.declared.plain.AuditFault.TheVariants as faults;
 ghost use Rattle.audit.specs.declared.plain.Verdict.TheVariants.{Clean};
 
 use crate::finder::Finder;
-use crate::plain::{AuditFault, Verdict, audit_by};
+use crate::plain::{AuditFault, Verdict, audit_by, audit_plain};
 use audit_slices::{Blind, Board, Check, Free, MOST_WORKERS, Names, SliceReport, cut, run_pool};
 use evidence_check::Evidence;
 use findings::{Finding, What, found_on, push_found};
@@ -256,6 +256,9 @@ pub fn audit<A: Source, B: Source, W: Sink, R: Threads + Wait + Sync>(
 {
     if !are_within_limits(workers, slice) {
         return Err(AuditFault::Limits);
+    }
+    if workers == 1 {
+        return audit_plain(alloc, trace, evidence, out);
     }
     let mut finder = Workers {
         rt,

@@ -1,4 +1,5 @@
 pub mod JudgedLemmas
+pub mod Judgements
 pub mod LineCauses
 pub mod Places
 pub mod Shown

@@ -4,6 +4,7 @@ pub mod Decided
 pub mod EvidenceCode
 pub mod Evidences
 pub mod Judged
+pub mod Judging
 pub mod Laws
 pub mod Members
 pub mod Reading

@@ -124,14 +124,18 @@ put_steps r place steps =
     else (if nat_lt 100000 (fact_count steps) then Err causes.TooMany
     else Ok (record r { steps = slice_set r.steps place (Some steps) }))
 
-unfoldable pub record_line : Records → Data → Result Records EvidenceCause
-record_line r d = do
+-- a record: the place of its entry, and its steps
+unfoldable pub placed_steps : List ℕ → Data → Result (ℕ × List StepValue) EvidenceCause
+placed_steps lines d = do
   line ← needed causes.Shape (number_at (codes "line") d)
   items ← needed causes.Shape (steps_at d)
   read ← steps_in items
   steps ← known_steps items read
-  place ← needed causes.StrayLine (place_of line r.lines)
-  put_steps r place steps
+  place ← needed causes.StrayLine (place_of line lines)
+  Ok (place, steps)
+
+unfoldable pub record_line : Records → Data → Result Records EvidenceCause
+record_line r d = placed_steps r.lines d >>= λ p. put_steps r p.0 p.1
 
 -- ---- the evidence
 

@@ -1,26 +1,26 @@
 //! Judging entries.
 
-ghost use Rattle.std.specs.Prelude.{◌≡◌, ◌<◌, ◌↔◌, None, Some, IsTrue, IfOk, OnOk, length, slice_get, option_map};
+ghost use Rattle.std.specs.Prelude.{◌≡◌, ◌<◌, ◌↔◌, None, Some, IsTrue, IfOk, OnOk, length, slice_get, option_map, map};
 ghost use Rattle.std.specs.List.{AllByRecursion};
 ghost use Rattle.tuple_text.specs.Refs.{set_value};
 ghost use Rattle.namespaces.specs.Lookup.{rule_at};
 ghost use Rattle.version_chains.specs.Commits.{store_at};
+ghost use Rattle.judgement.specs.Facts.{marked_fact};
 ghost use Rattle.trace_lines.specs.Values.{EntryValue, entry_value};
 ghost use Rattle.evidence_check.specs.Accepted.{IsProved, IsDisproved, with_no, after_step, after_steps, nothing_known};
 ghost use Rattle.evidence_check.specs.Evidences.{evidence_value, steps_of};
 ghost use Rattle.evidence_check.specs.Judged.{is_accepted, first_bad, by_reply, by_goal, judged};
 ghost use Rattle.evidence_check.specs.Members.{IsMemberAt};
-ghost use Rattle.evidence_check.specs.Steps.{step_value, step_values};
+ghost use Rattle.evidence_check.specs.Steps.{yes_step, no_step, step_value, step_values};
 ghost use Rattle.evidence_check.specs.declared.judged.Judged.TheVariants.{Supported, Contradicted};
 
 use crate::evidence::Evidence;
 use crate::step::{Step, Steps};
-use judgement::{Known, established, refuted};
-use std::alloc::AllocError;
+use judgement::{Known, KnownFact, MarkedFact, established, refuted};
+use std::alloc::{AllocError, Global};
 use trace_lines::laws::valid_strata;
 use trace_lines::{Entry, Trace};
 use tuple_text::Fact;
-use version_chains::MarkedSet;
 
 /// How evidence judges an entry.
 #[derive(Clone, Copy, Debug, PartialEq, Eq)]
@@ -38,85 +38,139 @@ pub enum Judged {
 }
 
 /// Whether the fact's relation is declared, and its rule gives the fact from what is known.
-pub fn is_proved(trace: &Trace, at: u64, known: &Known, fact: &Fact) -> bool
+pub fn is_proved<F: KnownFact>(trace: &Trace, at: u64, known: &Known<F>, fact: &Fact) -> bool
     ensures { IsTrue result ↔ IsProved (rule_at trace.now.declarations at) (store_at trace.now.commits at) known.now fact.now }
 {
-    match trace.rules().body(fact.set(), at) {
-        Some(rule) => {
-            let set = MarkedSet::of(fact.set());
-            established(rule, set, fact.user(), trace, at, known)
-        }
+    is_given(trace, at, known, MarkedFact::of(fact))
+}
+
+/// The same of a fact whose mark is at hand.
+fn is_given<F: KnownFact>(trace: &Trace, at: u64, known: &Known<F>, fact: MarkedFact<'_>) -> bool
+    ensures { IsTrue result ↔ IsProved (rule_at trace.now.declarations at) (store_at trace.now.commits at) known.now (marked_fact fact.entry) }
+{
+    match trace.rules().body(fact.set.set, at) {
+        Some(rule) => established(rule, fact.set, fact.user, trace, at, known),
         None => false,
     }
 }
 
 /// Whether the fact's relation is undeclared, or its rule cannot give the fact by what is known.
-fn is_disproved(trace: &Trace, at: u64, known: &Known, fact: &Fact) -> bool
-    ensures { IsTrue result ↔ IsDisproved (rule_at trace.now.declarations at) (store_at trace.now.commits at) known.now fact.now }
+fn is_disproved(trace: &Trace, at: u64, known: &Known<MarkedFact<'_>>, fact: MarkedFact<'_>) -> bool
+    ensures { IsTrue result ↔ IsDisproved (rule_at trace.now.declarations at) (store_at trace.now.commits at) known.now (marked_fact fact.entry) }
 {
-    match trace.rules().body(fact.set(), at) {
-        Some(rule) => {
-            let set = MarkedSet::of(fact.set());
-            refuted(rule, set, fact.user(), trace, at, known)
-        }
+    match trace.rules().body(fact.set.set, at) {
+        Some(rule) => refuted(rule, fact.set, fact.user, trace, at, known),
         None => true,
     }
 }
 
-fn are_disproved(trace: &Trace, at: u64, known: &Known, facts: &[Fact]) -> bool
+fn are_disproved(
+    trace: &Trace,
+    at: u64,
+    known: &Known<MarkedFact<'_>>,
+    facts: &[MarkedFact<'_>],
+) -> bool
     ensures { IsTrue result
-        ↔ AllByRecursion (IsDisproved (rule_at trace.now.declarations at) (store_at trace.now.commits at) known.now) facts.now }
+        ↔ AllByRecursion (IsDisproved (rule_at trace.now.declarations at) (store_at trace.now.commits at) known.now) (map marked_fact facts.now) }
 {
     for fact in facts {
-        if !is_disproved(trace, at, known, fact) {
+        if !is_disproved(trace, at, known, *fact) {
             return false;
         }
     }
     true
 }
 
+/// The facts with the marks of their usersets, each of which is made once.
+fn marked<'a>(alloc: Global, facts: &'a [Fact]) -> Result<Vec<MarkedFact<'a>>, AllocError>
+    ensures { IfOk result (λ v. map marked_fact v.items ≡ facts.now) }
+{
+    let mut marked = Vec::with_capacity(alloc, facts.len())?;
+    for fact in facts {
+        marked.push(MarkedFact::of(fact))?;
+    }
+    Ok(marked)
+}
+
 /// From now on none of the facts is known to hold.
-fn add_each_no(known: &mut Known, facts: &[Fact]) -> Result<(), AllocError>
-    ensures { OnOk result (known.new ≡ with_no known.old facts.now) }
+fn add_each_no<'a>(
+    known: &mut Known<MarkedFact<'a>>,
+    facts: &[MarkedFact<'a>],
+) -> Result<(), AllocError>
+    ensures { OnOk result (known.new ≡ with_no known.old (map marked_fact facts.now)) }
 {
     for fact in facts {
-        known.add_no(fact.clone()?)?;
+        known.add_no(*fact)?;
     }
     Ok(())
 }
 
+/// Whether a step that says a fact is accepted. From now on the fact is known to hold.
+fn take_yes<'a>(
+    trace: &Trace,
+    at: u64,
+    known: &mut Known<MarkedFact<'a>>,
+    fact: MarkedFact<'a>,
+) -> Result<bool, AllocError>
+    ensures accepted { IfOk result (λ r. r
+        ≡ is_accepted (rule_at trace.now.declarations at) (store_at trace.now.commits at) known.old (yes_step (marked_fact fact.entry))) }
+    ensures known { OnOk result (known.new ≡ after_step known.old (yes_step (marked_fact fact.entry))) }
+{
+    let proved = is_given(trace, at, known, fact);
+    known.add_yes(fact)?;
+    Ok(proved)
+}
+
+/// Whether a step that denies facts is accepted. From now on they are known not to hold.
+fn take_no<'a>(
+    trace: &Trace,
+    at: u64,
+    known: &mut Known<MarkedFact<'a>>,
+    facts: &[MarkedFact<'a>],
+) -> Result<bool, AllocError>
+    ensures accepted { IfOk result (λ r. r
+        ≡ is_accepted (rule_at trace.now.declarations at) (store_at trace.now.commits at) known.old (no_step (map marked_fact facts.now))) }
+    ensures known { OnOk result (known.new ≡ after_step known.old (no_step (map marked_fact facts.now))) }
+{
+    add_each_no(known, facts)?;
+    Ok(are_disproved(trace, at, known, facts))
+}
+
 /// Whether a step is accepted. From now on its facts are known.
-fn take_step(trace: &Trace, at: u64, known: &mut Known, step: &Step) -> Result<bool, AllocError>
+fn take_step<'a>(
+    alloc: Global,
+    trace: &Trace,
+    at: u64,
+    known: &mut Known<MarkedFact<'a>>,
+    step: &'a Step,
+) -> Result<bool, AllocError>
     ensures accepted { IfOk result (λ r. r
         ≡ is_accepted (rule_at trace.now.declarations at) (store_at trace.now.commits at) known.old (step_value step.now)) }
     ensures known { OnOk result (known.new ≡ after_step known.old (step_value step.now)) }
 {
     match step {
-        Step::Yes(fact) => {
-            let proved = is_proved(trace, at, known, fact);
-            known.add_yes(fact.clone()?)?;
-            Ok(proved)
-        }
+        Step::Yes(fact) => take_yes(trace, at, known, MarkedFact::of(fact)),
         Step::No(facts) => {
-            add_each_no(known, facts)?;
-            Ok(are_disproved(trace, at, known, facts))
+            let facts = marked(alloc, facts)?;
+            take_no(trace, at, known, &facts)
         }
     }
 }
 
 /// The first step that is not accepted, from 1. Where there is none, the facts of all of them are known from now on.
-fn first_bad(
+fn first_bad<'a>(
+    alloc: Global,
     trace: &Trace,
     at: u64,
-    known: &mut Known,
-    steps: &[Step],
+    known: &mut Known<MarkedFact<'a>>,
+    steps: &'a [Step],
 ) -> Result<Option<u64>, AllocError>
     ensures first { IfOk result (λ r. r
         ≡ first_bad (rule_at trace.now.declarations at) (store_at trace.now.commits at) known.old 1 (step_values steps.now)) }
     ensures known { IfOk result (λ r. r ≡ None → known.new ≡ after_steps known.old (step_values steps.now)) }
 {
     for k in 0..steps.len() {
-        if !take_step(trace, at, known, &steps[k])? {
+        if !take_step(alloc, trace, at, known, &steps[k])? {
             return Ok(Some(k as u64 + 1));
         }
     }
@@ -134,7 +188,7 @@ fn by_reply(agrees: bool) -> Judged
 }
 
 /// What is known of the goal settles it.
-fn by_goal(known: &Known, goal: &Fact, reply: bool) -> Judged
+fn by_goal(known: &Known<MarkedFact<'_>>, goal: &Fact, reply: bool) -> Judged
     ensures { result ≡ by_goal known.now goal.now reply }
 {
     if known.yes(goal.set(), goal.user()) {
@@ -150,8 +204,9 @@ fn by_goal(known: &Known, goal: &Fact, reply: bool) -> Judged
 pub fn judge_steps(trace: &Trace, entry: &Entry, steps: &Steps) -> Result<Judged, AllocError>
     ensures { IfOk result (λ j. j ≡ judged trace.now (entry_value entry.now) (Some (step_values steps.now.items))) }
 {
-    let mut known = Known::new(*steps.allocator());
-    match first_bad(trace, entry.snapshot, &mut known, steps)? {
+    let alloc = *steps.allocator();
+    let mut known = Known::new(alloc);
+    match first_bad(alloc, trace, entry.snapshot, &mut known, steps)? {
         Some(step) => Ok(Judged::Bad { step }),
         None => Ok(by_goal(&known, &entry.goal, entry.reply)),
     }

@@ -17,7 +17,9 @@
 mod cause;
 mod evidence;
 mod judged;
+mod judging;
 pub mod laws;
+mod placed;
 mod read;
 mod recorder;
 mod records;
@@ -26,6 +28,6 @@ mod step;
 pub use cause::{EvidenceCause, EvidenceFault};
 pub use evidence::Evidence;
 pub use judged::{Judged, is_proved, judge_entry, judge_steps};
-pub use read::read_evidence;
+pub use read::{judge_evidence, read_evidence};
 pub use records::{MAX_FACTS, has_too_many};
 pub use step::{Step, Steps};

@@ -10,9 +10,9 @@ ghost use Rattle.evidence_check.specs.Evidences.{shown_steps, all_shown};
 ghost use Rattle.evidence_check.specs.Steps.{step_values};
 
 use crate::cause::EvidenceCause;
-use crate::records::{are_known, has_too_many, steps_at, steps_in};
+use crate::placed::{lines_of, placed_steps};
+use crate::records::has_too_many;
 use crate::step::Steps;
-use json_lines::fields::number_at;
 use json_lines::{JsonLine, TakeJson};
 use std::alloc::{AllocError, Global};
 use std::marker::Model;
@@ -41,18 +41,6 @@ impl Model for Recorder {
     ghost invariant = { λ r. IsStrictlyIncreasing r.lines.items };
 }
 
-/// The lines that the entries of a trace stand on.
-fn lines_of(alloc: Global, trace: &Trace) -> Result<Vec<u64>, AllocError>
-    ensures lines { IfOk result (λ v. v.items ≡ entry_lines trace.now.entries) }
-    ensures rising { IfOk result (λ v. IsStrictlyIncreasing v.items) }
-{
-    let mut lines = Vec::new(alloc);
-    for i in 0..trace.len() {
-        lines.push(trace.entry(i).line)?;
-    }
-    Ok(lines)
-}
-
 fn no_steps(alloc: Global, count: usize) -> Result<Vec<Option<Steps>>, AllocError>
     ensures { IfOk result (λ v. all_shown v.items ≡ replicate count None) }
 {
@@ -61,14 +49,6 @@ fn no_steps(alloc: Global, count: usize) -> Result<Vec<Option<Steps>>, AllocErro
         steps.push(None)?;
     }
     Ok(steps)
-}
-
-/// The place of a line among lines that rise.
-fn place_of(lines: &[u64], line: u64) -> Option<usize>
-    requires { IsStrictlyIncreasing lines.now }
-    ensures { result ≡ place_of line lines.now }
-{
-    lines.binary_search(&line).ok()
 }
 
 impl Recorder {
@@ -89,12 +69,6 @@ impl Recorder {
         ensures { all_shown result.items ≡ self.steps }
     {
         self.steps
-    }
-
-    fn place(&self, line: u64) -> Option<usize>
-        ensures { result ≡ place_of line self.now.lines }
-    {
-        place_of(&self.lines, line)
     }
 
     fn is_taken(&self, place: usize) -> bool
@@ -133,14 +107,7 @@ impl Recorder {
     fn take_record(&mut self, json: &JsonLine<'_>) -> Result<(), EvidenceCause>
         ensures { Gives (λ _. self.new) result (record_line self.old (line_data json.now)) }
     {
-        let record = json.root();
-        let line = number_at(&record, "line").ok_or(EvidenceCause::Shape)?;
-        let list = steps_at(&record).ok_or(EvidenceCause::Shape)?;
-        let steps = steps_in(self.alloc, &list)?;
-        if !are_known(list.items()) {
-            return Err(EvidenceCause::UnknownStep);
-        }
-        let place = self.place(line).ok_or(EvidenceCause::StrayLine)?;
+        let (place, steps) = placed_steps(self.alloc, &self.lines, json)?;
         self.put(place, steps)
     }
 }

@@ -20,7 +20,7 @@ use trace_lines::Trace;
 use tuple_text::Fact;
 
 /// Whether the fact is known to hold, or known not to.
-fn is_known(known: &Known, fact: &Fact) -> bool
+fn is_known(known: &Known<Fact>, fact: &Fact) -> bool
     ensures { IsTrue result ↔ IsKnown known.now fact.now }
 {
     known.yes(fact.set(), fact.user()) || known.no(fact.set(), fact.user())
@@ -31,7 +31,7 @@ fn look_at(
     trace: &Trace,
     at: u64,
     fact: &Fact,
-    known: &mut Known,
+    known: &mut Known<Fact>,
     steps: &mut Steps,
 ) -> Result<bool, AllocError>
     ensures kept { OnOk result ((C : List FactValue) (k : ℕ) → Contains C fact.now →
@@ -59,7 +59,7 @@ fn look_at_each(
     at: u64,
     cone: &[Fact],
     places: &[usize],
-    known: &mut Known,
+    known: &mut Known<Fact>,
     steps: &mut Steps,
 ) -> Result<(), AllocError>
     ensures { OnOk result ((k : ℕ) →
@@ -79,7 +79,7 @@ fn sift(
     trace: &Trace,
     at: u64,
     facts: &[Fact],
-    known: &mut Known,
+    known: &mut Known<Fact>,
     steps: &mut Steps,
 ) -> Result<Vec<Fact>, AllocError>
     ensures kept { OnOk result ((C : List FactValue) (k : ℕ) → ((f : FactValue) → Contains facts.now f → Contains C f) →
@@ -101,7 +101,7 @@ fn settle_layer(
     trace: &Trace,
     at: u64,
     layer: Vec<Fact>,
-    known: &mut Known,
+    known: &mut Known<Fact>,
     steps: &mut Steps,
 ) -> Result<Vec<Fact>, AllocError>
     ensures kept { OnOk result ((C : List FactValue) (k : ℕ) → ((f : FactValue) → Contains layer.items f → Contains C f) →
@@ -122,7 +122,7 @@ fn settle_layer(
 }
 
 /// From now on none of the facts is known to hold.
-fn add_each_no(known: &mut Known, facts: &[Fact]) -> Result<(), AllocError>
+fn add_each_no(known: &mut Known<Fact>, facts: &[Fact]) -> Result<(), AllocError>
     ensures { OnOk result (known.new ≡ with_no known.old facts.now) }
 {
     for fact in facts {
@@ -136,7 +136,7 @@ fn leave(
     trace: &Trace,
     at: u64,
     left: Vec<Fact>,
-    known: &mut Known,
+    known: &mut Known<Fact>,
     steps: &mut Steps,
 ) -> Result<(), AllocError>
     ensures { OnOk result ((C : List FactValue) (k : ℕ) →
@@ -165,7 +165,7 @@ fn settle_stratum(
     cone: &[Fact],
     stratum: u16,
     places: &[usize],
-    known: &mut Known,
+    known: &mut Known<Fact>,
     steps: &mut Steps,
 ) -> Result<(), AllocError>
     ensures { OnOk result (

@@ -1,10 +1,12 @@
 //! Finding what is wrong with the recorded decisions.
 
-ghost use Rattle.std.specs.Prelude.{◌≡◌, ◌<◌, ◌++◌, ℕ, List, Option, Some, length, slice_get, IfOk, string_bytes, OnOk, OnErr};
+ghost use Rattle.std.specs.Prelude.{◌≡◌, ◌<◌, ◌++◌, ℕ, List, Option, Some, length, slice_get, unwrap_or, IfOk, string_bytes, OnOk, OnErr};
 ghost use Rattle.std.specs.List.{flat_map};
 ghost use Rattle.trace_lines.specs.Values.{TraceValue, EntryValue};
 ghost use Rattle.evidence_check.specs.Evidences.{evidence_value};
+ghost use Rattle.evidence_check.specs.Judging.{AreJudged};
 ghost use Rattle.evidence_check.specs.Steps.{StepValue};
+ghost use Rattle.evidence_check.specs.declared.judged.Judged.TheVariants.{Missing};
 ghost use Rattle.findings.specs.Findings.{found_by, if_told, found_where, found_on, on_line, findings_of};
 ghost use Rattle.findings.specs.Report.{line_text, last_lines, verdict_text, report_text};
 
@@ -93,6 +95,36 @@ pub fn findings_of(
     for i in 0..trace.len() {
         let found = found_on(trace, evidence, i)?;
         push_found(trace.entry(i).line, &found, &mut findings)?;
+    }
+    Ok(findings)
+}
+
+fn judged_at(judgements: &[Judged], i: usize) -> Judged
+    ensures { result ≡ unwrap_or (slice_get judgements.now i) Missing }
+{
+    match judgements.get(i) {
+        Some(judged) => *judged,
+        None => Judged::Missing,
+    }
+}
+
+/// The findings on each entry, in line order and by their numbers, where each entry is judged so. One beyond the judgements counts as
+/// `Missing`. It is refused for want of memory alone.
+pub fn findings_judged(
+    alloc: Global,
+    trace: &Trace,
+    judgements: &[Judged],
+) -> Result<Vec<Finding>, AllocError>
+    ensures { (evidence : List (Option (List StepValue))) → AreJudged trace.now evidence judgements.now → IfOk result (λ v. v.items ≡ findings_of trace.now evidence) }
+{
+    let mut findings = Vec::new(alloc);
+    for i in 0..trace.len() {
+        let judged = judged_at(judgements, i);
+        push_found(
+            trace.entry(i).line,
+            &found_where(trace, i, judged),
+            &mut findings,
+        )?;
     }
     Ok(findings)
 }

@@ -1,7 +1,8 @@
 //! What is found on the entries of a trace by its tokens and its evidence, and the text of the report.
 //!
-//! [`findings_of`] gives the findings on each entry, in line order and by their numbers. [`found_on`] and [`push_found`] are its two steps,
-//! for callers who share the entries among them, and [`found_where`] says what is found where a judgement is known. [`report_line`] writes
+//! [`findings_of`] gives the findings on each entry, in line order and by their numbers; [`findings_judged`] gives the same where only the
+//! judgements by the evidence were kept. [`found_on`] and [`push_found`] are the two steps of the first, for callers who share the entries
+//! among them, and [`found_where`] says what is found where a judgement is known. [`report_line`] writes
 //! the line of a finding, and [`report_of`] the whole report. Contracts see a trace, evidence and findings as the values that `Findings`
 //! and `Report` speak of; no device is touched.
 //!
@@ -20,5 +21,5 @@ mod entries;
 mod finding;
 pub mod laws;
 
-pub use entries::{findings_of, found_on, found_where, push_found, report_of};
+pub use entries::{findings_judged, findings_of, found_on, found_where, push_found, report_of};
 pub use finding::{Finding, What, report_line};

@@ -14,7 +14,7 @@ use tuple_text::{Fact, SetRef};
 pub(crate) struct Seen {
     facts: Vec<Fact>,
     // the same facts, by an index
-    index: Known,
+    index: Known<Fact>,
 }
 
 impl Model for Seen {

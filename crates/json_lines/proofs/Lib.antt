@@ -10,4 +10,5 @@ pub mod Places
 pub mod InRange
 pub mod ReadFaults
 pub mod Sent
+pub mod Simulated
 pub mod Steps

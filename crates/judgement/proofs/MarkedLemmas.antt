@@ -1,11 +1,16 @@
 -- Facts that are found by the marks of their tuples.
-use Rattle.std.proofs.Common.{◌≡◌, ℕ, suc, true, false, List, ◌∷◌, [], map, Some, ◌⊎◌, inl, inr, sym, ap, subst}
+use Rattle.std.proofs.Common.{◌≡◌, ℕ, ◌<◌, length, suc, true, false, List, ◌∷◌, [], map, Some, ◌⊎◌, ◌↔◌, IsTrue, inl, inr, sym, ap, subst}
 use Rattle.std.specs.Prelude.{Contains, slice_get}
+use Rattle.std.specs.List.{list_any}
+use Rattle.std.proofs.lemmas.Map.Views.{Contains-from_any, list_any-from_Contains}
+use Rattle.std.proofs.lemmas.List.{length-map}
+use Rattle.std.proofs.lemmas.Option.{slice_get-map, slice_get_within, get_or_from_slice_get}
 use Rattle.tuple_text.specs.Order.{fact_eq, tuple_eq}
+use Rattle.tuple_text.specs.OrderLaws.{fact_equiv}
 use Rattle.tuple_text.specs.Tuples.{FactValue, TupleValue, fact_tuple}
 use Rattle.tuple_text.specs.declared.users.User.{User}
 use Rattle.tuple_text.specs.declared.users.User.TheVariants.{Id, Set}
-use Rattle.tuple_text.proofs.ValueLemmas.{tuple_eq-same, tuple_eq-itself, fact_eq-itself}
+use Rattle.tuple_text.proofs.ValueLemmas.{tuple_eq-same, tuple_eq-itself, fact_eq-itself, fact_eq-same}
 use Rattle.namespaces.proofs.Names.{by_bool, clash}
 use Rattle.strata.proofs.Lists.{Contains-cons_cases, not_in_nil}
 
@@ -31,3 +36,19 @@ absent_fact (x ∷ xs) f none c = by (absent_fact xs f (λ i. none (suc i))) (Co
     by : ¬ Contains xs f → (x ≡ f) ⊎ Contains xs f → ⊥
     by later (inl same) = clash (tuple_eq (fact_tuple f) (fact_tuple f)) (tuple_eq-itself (fact_tuple f)) (none 0 (fact_tuple f) (ap (λ (g : FactValue). Some (fact_tuple g)) same))
     by later (inr there) = later there
+
+module _ {X : Type 0} (view : X → FactValue) (kept : List X) (i : ℕ) where
+  pub within_kept : i < length (map fact_tuple (map view kept)) → i < length kept
+  within_kept within = rw (length-map (map view kept) fact_tuple, length-map kept view) at within
+
+  pub tuple_at : (x : X) → slice_get kept i ≡ Some x → slice_get (map fact_tuple (map view kept)) i ≡ Some (fact_tuple (view x))
+  tuple_at x here = rw (slice_get-map fact_tuple (map view kept) i, slice_get-map view kept i, here) (λ j. Some (fact_tuple (view x)))
+
+  pub fact_there : (x : X) (f : FactValue) → slice_get kept i ≡ Some x → f ≡ view x → Contains (map view kept) f
+  fact_there x f here same =
+      let at_fact : slice_get (map view kept) i ≡ Some f = rw (slice_get-map view kept i, here) (λ j. Some (sym same j)) in
+      (i, slice_get_within (map view kept) i f at_fact, get_or_from_slice_get (map view kept) i f f at_fact)
+
+-- a fact is there where one of them is equal to it
+pub there_if_any : (fs : List FactValue) (f : FactValue) → IsTrue (list_any (fact_eq f) fs) ↔ Contains fs f
+there_if_any fs f = (Contains-from_any fact_eq-same f fs, list_any-from_Contains fact_equiv f fs)

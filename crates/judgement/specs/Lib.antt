@@ -1,4 +1,5 @@
 pub mod Decided
+pub mod Facts
 pub mod Judgement
 pub mod KnownCode
 pub mod Passes

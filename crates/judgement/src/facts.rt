@@ -7,9 +7,10 @@ ghost use Rattle.tuple_text.specs.Refs.{set_value};
 ghost use Rattle.tuple_text.specs.Tuples.{fact_of, fact_tuple};
 ghost use Rattle.version_chains.specs.Marks.{tuple_mark};
 
+use crate::fact::KnownFact;
 use std::alloc::{AllocError, Global};
 use std::marker::Model;
-use tuple_text::{Fact, SetRef};
+use tuple_text::SetRef;
 use version_chains::{MarkedSet, Places, fact_mark};
 
 /// How many facts are looked at one after the other, which needs neither marks nor memory for them.
@@ -20,14 +21,14 @@ const FEW: usize = 8;
 /// Where they are more than a few they are found by their marks, as the store finds tuples: no choice of texts makes that slower
 /// than the logarithm of their number, as long as few texts have one mark.
 #[derive(Drop)]
-pub(crate) struct Facts {
-    facts: Vec<Fact>,
+pub(crate) struct Facts<F: KnownFact> {
+    facts: Vec<F>,
     // whether the marks are those of the facts
     is_marked: bool,
     marks: Places,
 }
 
-impl Model for Facts {
+impl<F: KnownFact> Model for Facts<F> {
     ghost use Rattle.std.specs.Prelude.{List, ◌≡◌, map, true};
     ghost use Rattle.tuple_text.specs.Tuples.{FactValue, fact_tuple};
     ghost use Rattle.version_chains.specs.Marks.{tuple_mark};
@@ -37,49 +38,53 @@ impl Model for Facts {
 
     ghost coded = { facts_code };
 
-    ghost view = { λ s. s.facts.items };
+    ghost view = { λ s. map F.fact s.facts.items };
 
-    ghost invariant = { λ s. s.is_marked ≡ true → s.marks ≡ map tuple_mark (map fact_tuple s.facts.items) };
+    ghost invariant = { λ s. s.is_marked ≡ true → s.marks ≡ map tuple_mark (map fact_tuple (map F.fact s.facts.items)) };
 }
 
-fn is_same(fact: &Fact, set: SetRef<'_>, user: u64) -> bool
-    ensures { result ≡ fact_eq (fact_of (set_value set.entry) user) fact.now }
+fn is_among<F: KnownFact>(facts: &[F], set: SetRef<'_>, user: u64) -> bool
+    ensures { result ≡ list_any (fact_eq (fact_of (set_value set.entry) user)) (map F.fact facts.now) }
 {
-    set == fact.set() && user == fact.user()
-}
-
-fn is_among(facts: &[Fact], set: SetRef<'_>, user: u64) -> bool
-    ensures { IsTrue result ↔ Contains facts.now (fact_of (set_value set.entry) user) }
-{
-    facts.iter().any(|fact| is_same(fact, set, user))
-}
-
-fn mark_of(fact: &Fact) -> u64
-    ensures { result ≡ tuple_mark (fact_tuple fact.now) }
-{
-    fact_mark(MarkedSet::of(fact.set()), fact.user())
-}
-
-/// The marks of facts, in order.
-fn marks_of(alloc: Global, facts: &[Fact]) -> Result<Places, AllocError>
-    ensures { IfOk result (λ marks. marks ≡ map tuple_mark (map fact_tuple facts.now)) }
-{
-    let mut marks = Places::new(alloc);
     for fact in facts {
-        marks.push(mark_of(fact))?;
+        if fact.is_of(set, user) {
+            return true;
+        }
+    }
+    false
+}
+
+fn is_marked_among<F: KnownFact>(facts: &[F], set: MarkedSet<'_>, user: u64) -> bool
+    ensures { result ≡ list_any (fact_eq (fact_of (set_value set.entry.set) user)) (map F.fact facts.now) }
+{
+    for fact in facts {
+        if fact.is_of_marked(set, user) {
+            return true;
+        }
+    }
+    false
+}
+
+/// The marks of facts, in order, with room for as many again.
+fn marks_of<F: KnownFact>(alloc: Global, facts: &[F]) -> Result<Places, AllocError>
+    ensures { IfOk result (λ marks. marks ≡ map tuple_mark (map fact_tuple (map F.fact facts.now))) }
+{
+    let mut marks = Places::with_room(alloc, facts.len().saturating_mul(2))?;
+    for fact in facts {
+        marks.push(fact.mark())?;
     }
     Ok(marks)
 }
 
 /// Whether a fact stands at a place that its mark names.
-fn is_found(facts: &[Fact], marks: &Places, set: MarkedSet<'_>, user: u64) -> bool
-    requires { marks.now ≡ map tuple_mark (map fact_tuple facts.now) }
-    ensures { IsTrue result ↔ Contains facts.now (fact_of (set_value set.entry.set) user) }
+fn is_found<F: KnownFact>(facts: &[F], marks: &Places, set: MarkedSet<'_>, user: u64) -> bool
+    requires { marks.now ≡ map tuple_mark (map fact_tuple (map F.fact facts.now)) }
+    ensures { IsTrue result ↔ Contains (map F.fact facts.now) (fact_of (set_value set.entry.set) user) }
 {
     let mut place = marks.newest(fact_mark(set, user));
     while place > 0 {
         let number = place - 1;
-        if is_same(&facts[number], set.set, user) {
+        if facts[number].is_of_marked(set, user) {
             return true;
         }
         place = marks.older(number);
@@ -87,8 +92,8 @@ fn is_found(facts: &[Fact], marks: &Places, set: MarkedSet<'_>, user: u64) -> bo
     false
 }
 
-impl Facts {
-    pub(crate) fn new(alloc: Global) -> Facts
+impl<F: KnownFact> Facts<F> {
+    pub(crate) fn new(alloc: Global) -> Facts<F>
         ensures { result ≡ [] }
     {
         Facts {
@@ -110,8 +115,8 @@ impl Facts {
     }
 
     /// Adds a fact. For want of memory the facts stay as they were.
-    pub(crate) fn add(&mut self, fact: Fact) -> Result<(), AllocError>
-        ensures ok { OnOk result (self.new ≡ self.old ++ fact ∷ []) }
+    pub(crate) fn add(&mut self, fact: F) -> Result<(), AllocError>
+        ensures ok { OnOk result (self.new ≡ self.old ++ F.fact fact ∷ []) }
         ensures err { OnErr result (self.new ≡ self.old) }
     {
         if self.facts.len() >= FEW {
@@ -119,7 +124,7 @@ impl Facts {
         }
         self.facts.reserve(1)?;
         if self.is_marked {
-            self.marks.push(mark_of(&fact))?;
+            self.marks.push(fact.mark())?;
         }
         if self.facts.push(fact).is_err() {
             unreachable!();
@@ -145,7 +150,7 @@ impl Facts {
         if self.is_marked {
             is_found(&self.facts, &self.marks, set, user)
         } else {
-            is_among(&self.facts, set.set, user)
+            is_marked_among(&self.facts, set, user)
         }
     }
 }

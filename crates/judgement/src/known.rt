@@ -4,10 +4,11 @@ ghost use Rattle.std.specs.Prelude.{◌≡◌, ◌∷◌, ◌++◌, [], OnOk, On
 ghost use Rattle.tuple_text.specs.Refs.{set_value};
 ghost use Rattle.tuple_text.specs.Tuples.{fact_of};
 
+use crate::fact::KnownFact;
 use crate::facts::Facts;
 use std::alloc::{AllocError, Global};
 use std::marker::Model;
-use tuple_text::{Fact, SetRef};
+use tuple_text::SetRef;
 use version_chains::MarkedSet;
 
 /// The facts that are known to hold, and those that are known not to. Contracts see the two lists, in the order in which facts
@@ -15,12 +16,12 @@ use version_chains::MarkedSet;
 ///
 /// A look-up takes no memory, and its comparisons are few against what is known.
 #[derive(Drop)]
-pub struct Known {
-    yes: Facts,
-    no: Facts,
+pub struct Known<F: KnownFact> {
+    yes: Facts<F>,
+    no: Facts<F>,
 }
 
-impl Model for Known {
+impl<F: KnownFact> Model for Known<F> {
     ghost use Rattle.judgement.specs.Judgement.{KnownValue};
     ghost use Rattle.judgement.specs.KnownCode.{known_code};
 
@@ -31,9 +32,9 @@ impl Model for Known {
     ghost view = { λ k. record { yes = k.yes; no = k.no } };
 }
 
-impl Known {
+impl<F: KnownFact> Known<F> {
     /// Nothing is known. Nothing is allocated before the first fact.
-    pub fn new(alloc: Global) -> Known
+    pub fn new(alloc: Global) -> Known<F>
         ensures { result ≡ record { yes = []; no = [] } }
     {
         Known {
@@ -43,16 +44,16 @@ impl Known {
     }
 
     /// From now on the fact is known to hold. For want of memory it is dropped, and what is known stays.
-    pub fn add_yes(&mut self, fact: Fact) -> Result<(), AllocError>
-        ensures ok { OnOk result (self.new ≡ record self.old { yes = self.old.yes ++ fact ∷ [] }) }
+    pub fn add_yes(&mut self, fact: F) -> Result<(), AllocError>
+        ensures ok { OnOk result (self.new ≡ record self.old { yes = self.old.yes ++ F.fact fact ∷ [] }) }
         ensures err { OnErr result (self.new ≡ self.old) }
     {
         self.yes.add(fact)
     }
 
     /// From now on the fact is known not to hold. For want of memory it is dropped, and what is known stays.
-    pub fn add_no(&mut self, fact: Fact) -> Result<(), AllocError>
-        ensures ok { OnOk result (self.new ≡ record self.old { no = self.old.no ++ fact ∷ [] }) }
+    pub fn add_no(&mut self, fact: F) -> Result<(), AllocError>
+        ensures ok { OnOk result (self.new ≡ record self.old { no = self.old.no ++ F.fact fact ∷ [] }) }
         ensures err { OnErr result (self.new ≡ self.old) }
     {
         self.no.add(fact)

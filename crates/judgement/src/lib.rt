@@ -15,10 +15,12 @@
 //! ```
 #![tactic(auto)]
 
+mod fact;
 mod facts;
 mod known;
 mod stored;
 mod table;
 
+pub use fact::{KnownFact, MarkedFact};
 pub use known::Known;
 pub use table::{established, refuted};

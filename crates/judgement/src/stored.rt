@@ -8,6 +8,7 @@ ghost use Rattle.strata.specs.Meaning.{with_relation, IsStored};
 ghost use Rattle.version_chains.specs.Commits.{store_at};
 ghost use Rattle.judgement.specs.Passes.{GivesId, BarsId, SomeSet, EachSet, IsLed, IsBarred};
 
+use crate::fact::KnownFact;
 use crate::known::Known;
 use namespaces::Rules;
 use trace_lines::Trace;
@@ -22,7 +23,12 @@ pub(crate) fn under<'a>(set: SetRef<'a>, relation: &'a str) -> SetRef<'a>
 }
 
 /// Whether the target of a userset is known to hold a user: the userset itself, or its object under a relation.
-fn is_in(known: &Known, set: MarkedSet<'_>, relation: Option<&str>, id: u64) -> bool
+fn is_in<F: KnownFact>(
+    known: &Known<F>,
+    set: MarkedSet<'_>,
+    relation: Option<&str>,
+    id: u64,
+) -> bool
     ensures { IsTrue result ↔ GivesId known.now (option_map (λ s. s.now) relation.entry) id (set_value set.entry.set) }
 {
     match relation {
@@ -32,10 +38,10 @@ fn is_in(known: &Known, set: MarkedSet<'_>, relation: Option<&str>, id: u64) -> 
 }
 
 /// Whether the target of a userset is known not to hold a user, or is undeclared at a timestamp and so has no members.
-fn is_out(
+fn is_out<F: KnownFact>(
     rules: &Rules,
     at: u64,
-    known: &Known,
+    known: &Known<F>,
     set: MarkedSet<'_>,
     relation: Option<&str>,
     id: u64,
@@ -51,7 +57,12 @@ fn is_out(
     }
 }
 
-fn gives_some(known: &Known, relation: Option<&str>, id: u64, sets: Usersets<'_>) -> bool
+fn gives_some<F: KnownFact>(
+    known: &Known<F>,
+    relation: Option<&str>,
+    id: u64,
+    sets: Usersets<'_>,
+) -> bool
     ensures { IsTrue result ↔ SomeSet (GivesId known.now (option_map (λ s. s.now) relation.entry) id) sets.entry }
 {
     for set in sets {
@@ -62,10 +73,10 @@ fn gives_some(known: &Known, relation: Option<&str>, id: u64, sets: Usersets<'_>
     false
 }
 
-fn bars_each(
+fn bars_each<F: KnownFact>(
     rules: &Rules,
     at: u64,
-    known: &Known,
+    known: &Known<F>,
     relation: Option<&str>,
     id: u64,
     sets: Usersets<'_>,
@@ -89,10 +100,10 @@ pub(crate) fn is_stored(trace: &Trace, at: u64, set: MarkedSet<'_>, user: u64) -
 }
 
 /// Whether some userset that is stored in a set has a target that is known to hold a user.
-pub(crate) fn is_led(
+pub(crate) fn is_led<F: KnownFact>(
     trace: &Trace,
     at: u64,
-    known: &Known,
+    known: &Known<F>,
     set: MarkedSet<'_>,
     relation: Option<&str>,
     user: u64,
@@ -105,10 +116,10 @@ pub(crate) fn is_led(
 }
 
 /// Whether no userset that is stored in a set has a target that may hold a user.
-pub(crate) fn is_barred(
+pub(crate) fn is_barred<F: KnownFact>(
     trace: &Trace,
     at: u64,
-    known: &Known,
+    known: &Known<F>,
     set: MarkedSet<'_>,
     relation: Option<&str>,
     user: u64,

@@ -8,6 +8,7 @@ ghost use Rattle.namespaces.specs.View.{expression_of};
 ghost use Rattle.version_chains.specs.Commits.{store_at};
 ghost use Rattle.judgement.specs.Judgement.{Established, Refuted};
 
+use crate::fact::KnownFact;
 use crate::known::Known;
 use crate::stored::{is_barred, is_led, is_stored, under};
 use namespaces::Rewrite;
@@ -16,13 +17,13 @@ use version_chains::MarkedSet;
 
 /// Whether what is known gives that a user is in a userset by a rule of it, over the tuples that are stored at a timestamp.
 #[cycle(judge)]
-pub fn established(
+pub fn established<F: KnownFact>(
     rewrite: &Rewrite,
     set: MarkedSet<'_>,
     user: u64,
     trace: &Trace,
     at: u64,
-    known: &Known,
+    known: &Known<F>,
 ) -> bool
     ensures { IsTrue result ↔ Established (rule_at trace.now.declarations at) (store_at trace.now.commits at) known.now
         (fact_of (set_value set.entry.set) user) (expression_of rewrite.now) }
@@ -61,13 +62,13 @@ pub fn established(
 
 /// Whether what is known rules out that a user is in a userset by a rule of it, over the tuples that are stored at a timestamp.
 #[cycle(judge)]
-pub fn refuted(
+pub fn refuted<F: KnownFact>(
     rewrite: &Rewrite,
     set: MarkedSet<'_>,
     user: u64,
     trace: &Trace,
     at: u64,
-    known: &Known,
+    known: &Known<F>,
 ) -> bool
     ensures { IsTrue result ↔ Refuted (rule_at trace.now.declarations at) (store_at trace.now.commits at) known.now
         (fact_of (set_value set.entry.set) user) (expression_of rewrite.now) }

@@ -1,5 +1,5 @@
 -- What the reader of evidence makes of a record's text.
-use Rattle.std.proofs.Common.{◌≡◌, ℕ, zero, suc, ◌+◌, ◌-◌, ◌<◌, ◌≤◌, ◌^◌, true, false, List, [], ◌∷◌, ◌++◌, length, map, replicate, None, Some, Result, Ok, IsUtf8, refl, sym, ap, ◌∙◌, arith, append-nil}
+use Rattle.std.proofs.Common.{◌≡◌, ℕ, zero, suc, ◌+◌, ◌-◌, ◌<◌, ◌≤◌, ◌^◌, true, false, List, [], ◌∷◌, ◌++◌, length, map, replicate, None, Some, Result, Ok, Err, IsUtf8, refl, sym, ap, ◌∙◌, arith, append-nil}
 use Rattle.std.specs.Prelude.{slice_get}
 use Rattle.std.specs.List.{AllByRecursion}
 use Rattle.std.proofs.lemmas.Bool.{le-ltb, ne_eqb}
@@ -14,7 +14,7 @@ use Rattle.json_lines.specs.Reading.{parts, read_from, read_all}
 use Rattle.json_lines.proofs.JsonLines.{of_a_value, of_no_blank}
 use Rattle.json_lines.proofs.Folds.{goes_first, goes_on, within_from}
 use Rattle.trace_lines.specs.Values.{EntryValue}
-use Rattle.evidence_check.specs.Reading.{facts_in, steps_in, is_known, are_known, is_step, are_shaped, steps_at, fact_count, place_of, put_steps, record_line, no_records, faulted}
+use Rattle.evidence_check.specs.Reading.{facts_in, steps_in, is_known, are_known, is_step, are_shaped, steps_at, fact_count, place_of, placed_steps, put_steps, record_line, no_records, faulted}
 use Rattle.evidence_check.specs.Reading as records
 use Rattle.evidence_check.specs.Records.{Records}
 use Rattle.evidence_check.specs.Steps.{StepValue, yes_step, no_step}
@@ -60,9 +60,16 @@ at_steps : (line : ℕ) (steps : List StepValue) → steps_at (record_data line 
 unfolding steps_at
 at_steps line steps = rw (steps_shaped steps) refl
 
+abbrev placed : List StepValue → ℕ → Result (ℕ × List StepValue) EvidenceCause
+placed steps place = Ok (place, steps)
+
 line_of_record : (line : ℕ) (steps : List StepValue) (r : Records) → HaveFacts steps → record_line r (record_data line steps) ≡ (needed causes.StrayLine (place_of line r.lines) >>= λ place. put_steps r place steps)
-unfolding record_line
-line_of_record line steps r facts = rw (at_steps line steps, steps_read steps facts, steps_known steps) refl
+unfolding record_line placed_steps
+line_of_record line steps r facts = rw (at_steps line steps, steps_read steps facts, steps_known steps) (put_there (needed causes.StrayLine (place_of line r.lines)))
+  where
+    put_there : (place : Result ℕ EvidenceCause) → ((place >>= placed steps) >>= λ p. put_steps r p.0 p.1) ≡ (place >>= λ p. put_steps r p steps)
+    put_there (Ok p) = refl
+    put_there (Err e) = refl
 
 -- ---- the line, and the whole input
 

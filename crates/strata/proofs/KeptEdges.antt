@@ -1,5 +1,5 @@
 -- Edges whose ends a declaration more leaves as they were.
-use Rattle.std.proofs.Common.{◌≡◌, Bool, true, false, List, [], ◌∷◌, Option, None, Some, option_map, option_and_then, Result, Ok, Err, refl, sym, ◌∙◌}
+use Rattle.std.proofs.Common.{◌≡◌, Bool, false, List, [], ◌∷◌, Option, None, Some, option_map, option_and_then, refl, sym, ◌∙◌}
 use Rattle.std.specs.List.{flat_map, filter_map, cons_option}
 use Rattle.namespaces.specs.declared.number.RelNo.{RelNo}
 use Rattle.namespaces.specs.Declaration.{Relation, Declaration}

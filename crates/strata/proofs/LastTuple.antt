@@ -1,5 +1,5 @@
 -- After a declaration of a namespace: which edges of a tuple decide.
-use Rattle.std.proofs.Common.{◌≡◌, ℕ, ◌+◌, ◌-◌, ◌≤◌, Bool, true, false, List, [], ◌∷◌, ◌++◌, length, slice_get, position, Option, None, Some, option_map, option_and_then, unwrap_or, Result, Ok, Err, refl, sym, ◌∙◌, ap, subst, length-append, append-nil, arith}
+use Rattle.std.proofs.Common.{◌≡◌, ℕ, ◌+◌, ◌-◌, ◌≤◌, true, false, List, [], ◌∷◌, ◌++◌, length, slice_get, position, Option, None, Some, option_map, option_and_then, unwrap_or, Ok, refl, sym, ◌∙◌, ap, subst, length-append, append-nil, arith}
 use Rattle.std.specs.Str.{bytes_eq}
 use Rattle.std.proofs.lemmas.List.{length-map}
 use Rattle.std.proofs.lemmas.Option.{slice_get-map}
@@ -9,9 +9,8 @@ use Rattle.namespaces.specs.Declaration.{Relation, Declaration}
 use Rattle.namespaces.specs.Lookup.{history, relation_named, relation_names, relations_of, relation_count, namespace_names, namespace_numbered, relation_numbered, number_of, place_of, item_at}
 use Rattle.namespaces.specs.WellFormed.{IsWellFormed}
 use Rattle.namespaces.proofs.Declared.{numbered}
-use Rattle.namespaces.proofs.Names.{by_bool, same_name, one_name}
+use Rattle.namespaces.proofs.Names.{by_bool, one_name}
 use Rattle.namespaces.proofs.Numbers.{item_at-place}
-use Rattle.strata.specs.declared.edge.Edge.{Edge}
 use Rattle.strata.specs.Edges.{RelationName, Place, at_this, at_computed, at_tuple_to, read_in_userset, read_through, relation_edges, namespace_edges, last_relation_edges, last_edges, userset_edges, last_userset_edges, this_edges, tuple_to_edges, stratum_numbered, first_broken}
 use Rattle.strata.proofs.KeptEdges.{IsKept, rules_same}
 use Rattle.strata.proofs.LastDeclared as last

@@ -1,6 +1,6 @@
 -- The rules with one declaration more: where no edge was broken before, only edges of its namespace can be.
 use Rattle.std.proofs.Common.{◌≡◌, ℕ, zero, suc, ◌+◌, ◌-◌, ◌≤◌, nat_lt, Bool, true, false, cond, List, [], ◌∷◌, ◌++◌, length, slice_get, position, Option, None, Some, option_map, option_and_then, unwrap_or, Result, Ok, Err, ◌⊎◌, inl, inr, refl, sym, ◌∙◌, ap, subst, arith}
-use Rattle.std.specs.List.{flat_map, filter_map, enumerate_from, range_with_len, cons_option, list_any, position_or_len}
+use Rattle.std.specs.List.{flat_map, enumerate_from, range_with_len, list_any, position_or_len}
 use Rattle.std.specs.Str.{bytes_eq}
 use Rattle.std.proofs.lemmas.Bool.Decides.{nat_tests}
 use Rattle.namespaces.specs.declared.number.RelNo.{RelNo}
@@ -11,7 +11,7 @@ use Rattle.namespaces.proofs.Growth.{names_after-push}
 use Rattle.namespaces.proofs.Names.{by_bool, clash, has_repeats-with_name, same_name, one_name, other_name, or_false}
 use Rattle.namespaces.proofs.Numbers.{item_at-place}
 use Rattle.strata.specs.declared.edge.Edge.{Edge}
-use Rattle.strata.specs.Edges.{RelationName, Place, at_this, at_computed, at_tuple_to, edge_at, edges_in, places, relation_edges, relations_in, namespace_edges, edges_of_namespace, rule_edges, read_by_rule, stratum_numbered, is_broken, first_broken}
+use Rattle.strata.specs.Edges.{RelationName, Place, at_this, at_computed, at_tuple_to, relation_edges, relations_in, namespace_edges, edges_of_namespace, rule_edges, read_by_rule, stratum_numbered, first_broken}
 use Rattle.strata.proofs.KeptEdges.{IsKept, flat_same, rules_same}
 use Rattle.strata.proofs.Walks.{both, edges_joined}
 

@@ -1,5 +1,5 @@
 -- Walks over edges, list by list.
-use Rattle.std.proofs.Common.{is_some, subst, add-one, ◌≡◌, ℕ, zero, suc, ◌+◌, ◌-◌, ◌<◌, ◌≤◌, List, [], ◌∷◌, ◌++◌, length, get_or, drop, slice_get, find, Bool, true, false, Option, None, Some, option_map, option_and_then, unwrap_or, Result, Ok, Err, refl, sym, ap, ◌∙◌, arith}
+use Rattle.std.proofs.Common.{is_some, subst, add-one, ◌≡◌, ℕ, zero, suc, ◌+◌, ◌-◌, ◌<◌, ◌≤◌, List, [], ◌∷◌, ◌++◌, length, get_or, drop, slice_get, find, Bool, ◌||◌, true, false, Option, None, Some, option_map, option_and_then, unwrap_or, Result, Ok, Err, refl, sym, ap, ◌∙◌, arith}
 use Rattle.std.specs.Option.{option_or}
 use Rattle.std.specs.List.{flat_map, filter_map, enumerate_from, range_with_len, cons_option}
 use Rattle.std.proofs.lemmas.List.Folds.{find-append}
@@ -8,7 +8,8 @@ use Rattle.namespaces.specs.declared.number.RelNo.{RelNo}
 use Rattle.namespaces.specs.declared.rewrite.Rewrite.{Rewrite}
 use Rattle.namespaces.specs.View.{expression_of, expressions_of}
 use Rattle.namespaces.specs.Adding.{has_repeats}
-use Rattle.namespaces.specs.Expression.{Expression, child}
+use Rattle.tuple_text.specs.Sets.{SetValue}
+use Rattle.namespaces.specs.Expression.{Expression, this, computed, tuple_to, union, inter, minus, Expressions, no_child, child}
 use Rattle.namespaces.specs.Declaration.{Relation, Declaration}
 use Rattle.namespaces.specs.Lookup.{declared_in, history, relation_named, relation_names, relations_of, relation_of, namespace_names, namespace_numbered, relation_numbered, history_numbered, item_at}
 use Rattle.namespaces.specs.WellFormed.{IsFit, IsWellFormed}
@@ -19,7 +20,8 @@ use Rattle.std.proofs.lemmas.Option.{slice_get_within}
 use Rattle.namespaces.proofs.Walks as below
 use Rattle.strata.proofs.Unbroken.{item_least, item_there}
 use Rattle.strata.specs.declared.edge.Edge.{Edge}
-use Rattle.strata.specs.Edges.{RelationName, Place, edge_at, edges_in, relations_in, namespace_edges, last_relation_edges, read_by_rule, stratum_numbered, is_broken, refused, first_broken}
+use Rattle.strata.specs.Edges.{RelationName, Place, edge_at, edges_in, relations_in, namespace_edges, last_relation_edges, read_by_rule, stratum_numbered, is_broken, refused, first_broken, places, all_places, read_through}
+use Rattle.strata.specs.Sights.{reads_tupleset, some_reads_tupleset}
 
 -- the first refusal of two
 abbrev pub both : Result (Unit {0}) Edge → Result (Unit {0}) Edge → Result (Unit {0}) Edge
@@ -267,3 +269,31 @@ module _ (ds : List Declaration) where
       let least = item_least n (namespace_names ds) q h in
       let within = slice_get_within (namespace_names ds) (n - 1) q (item_there n (namespace_names ds) q h) in
       omega (arith, least)
+
+-- ---- rules that read no tupleset
+
+or_false : (a b : Bool) → (a || b) ≡ false → (a ≡ false) × (b ≡ false)
+or_false false b h = (refl, h)
+or_false true b h = cc
+
+module _ (ds : List Declaration) (reader : RelNo) (r : List ℕ) (g : SetValue) where
+  mutual
+    none_through : (b : Bool) (e : Expression) → reads_tupleset e ≡ false → filter_map (edge_at ds reader (read_through r g)) (places b e) ≡ []
+    none_through b this h = refl
+    none_through b (computed q) h = refl
+    none_through b (tuple_to q c) h = cc
+    none_through b (union es) h = none_through_all b es h
+    none_through b (inter es) h = none_through_all b es h
+    none_through b (minus x y) h =
+        let one = or_false (reads_tupleset x) (reads_tupleset y) h in
+        filter_map-append (edge_at ds reader (read_through r g)) (places b x) (places true y) ∙ rw (none_through b x one.0, none_through true y one.1) refl
+
+    none_through_all : (b : Bool) (es : Expressions) → some_reads_tupleset es ≡ false → filter_map (edge_at ds reader (read_through r g)) (all_places b es) ≡ []
+    none_through_all b no_child h = refl
+    none_through_all b (child e es) h =
+        let one = or_false (reads_tupleset e) (some_reads_tupleset es) h in
+        filter_map-append (edge_at ds reader (read_through r g)) (places b e) (all_places b es) ∙ rw (none_through b e one.0, none_through_all b es one.1) refl
+
+  pub rule_unread : (e : Expression) → Some e ≡ option_map (λ (x : Relation). x.expression) (relation_numbered reader ds) → reads_tupleset e ≡ false
+      → first_broken ds (last_relation_edges ds (read_through r g) reader) ≡ Ok (tt {0})
+  rule_unread e is h = rw (last_rule_edges ds (read_through r g) reader e is, none_through false e h) refl

@@ -155,6 +155,11 @@ refused (Some e) = Err e
 abbrev pub first_broken : List Declaration → List Edge → Result (Unit {0}) Edge
 first_broken ds es = refused (find (is_broken ds) es)
 
+-- the last rules of a namespace give no broken edge through a tupleset, whatever tuple is stored
+abbrev pub HasNoneThrough : List Declaration → List ℕ → Type 0
+HasNoneThrough ds q =
+    (r : List ℕ) (g : SetValue) → first_broken ds (unwrap_or (option_map (last_edges ds (read_through r g)) (place_of q (namespace_names ds))) []) ≡ Ok (tt {0})
+
 -- no edge of the rules is broken, and none of a tuple
 pub record HasNoBrokenEdge (ds : List Declaration) (ts : List TupleValue) : Type 0 where
   pub of_rules : first_broken ds (rule_edges ds) ≡ Ok (tt {0})

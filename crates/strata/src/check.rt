@@ -1,16 +1,17 @@
 //! The first broken edge of rules and of tuples.
 
-ghost use Rattle.std.specs.Prelude.{◌≡◌, ◌∷◌, ◌++◌, [], List, Ok};
+ghost use Rattle.std.specs.Prelude.{◌≡◌, ◌∷◌, ◌++◌, [], List, ℕ, Ok, false};
 ghost use Rattle.strata.specs.Edges as edges;
 ghost use Rattle.namespaces.specs.Declaration.{Declaration};
 ghost use Rattle.namespaces.specs.WellFormed.{IsWellFormed};
 ghost use Rattle.strata.specs.Changes.{IsDeclaredAgain};
-ghost use Rattle.strata.specs.Edges.{first_broken, last_edges, last_edges_of_namespace, last_relation_edges, last_userset_edges, rule_edges, tuple_edges};
+ghost use Rattle.strata.specs.Edges.{HasNoneThrough, first_broken, last_edges, last_edges_of_namespace, last_relation_edges, last_userset_edges, read_through, rule_edges, tuple_edges};
 ghost use Rattle.strata.specs.Sights.{reads};
 ghost use Rattle.tuple_text.specs.Refs.{set_value};
+ghost use Rattle.tuple_text.specs.Sets.{SetValue};
 
 use crate::edge::Edge;
-use crate::walk::{Sight, check_relation, check_rewrite};
+use crate::walk::{Sight, check_relation, check_rewrite, reads_tupleset};
 use namespaces::{RelNo, Rules};
 use tuple_text::{SetRef, Tuple, UserRef};
 
@@ -103,13 +104,49 @@ fn check_user(rules: &Rules, set: SetRef<'_>, user: SetRef<'_>) -> Result<(), Ed
     Ok(())
 }
 
-/// The first broken edge that the rules of the last declaration of the set's namespace give.
+/// Whether a rule of the last declaration of the namespace with this number reads a tupleset.
+fn last_rules_read(rules: &Rules, namespace: u16) -> bool
+    ensures { result ≡ false → (r : List ℕ) (g : SetValue) → first_broken rules.now (last_edges rules.now (read_through r g) namespace) ≡ Ok (tt {0}) }
+{
+    let mut number = RelNo {
+        namespace,
+        relation: 1,
+    };
+    while let Some(rewrite) = rules.last_rule(number) {
+        if reads_tupleset(rewrite) {
+            return true;
+        }
+        number.relation += 1;
+    }
+    false
+}
+
+/// Whether a rule of this namespace's last declaration reads a tupleset. Where none does, [`check_tuple_by`] need not look for one.
+pub fn reads_tuplesets(rules: &Rules, namespace: &str) -> bool
+    ensures { result ≡ false → HasNoneThrough rules.now namespace.now }
+{
+    match rules.namespace_number(namespace) {
+        Some(number) => last_rules_read(rules, number),
+        None => false,
+    }
+}
+
+/// The first broken edge that the rules of the last declaration of the set's namespace give, where some of them may read a tupleset or none does.
 #[tactic(auto, using(crate::proofs::Walks::edges_joined))]
-fn check_user_last(rules: &Rules, set: SetRef<'_>, user: SetRef<'_>) -> Result<(), Edge>
+fn check_user_last(
+    rules: &Rules,
+    set: SetRef<'_>,
+    user: SetRef<'_>,
+    through: bool,
+) -> Result<(), Edge>
+    requires { through ≡ false → HasNoneThrough rules.now set.namespace.now }
     ensures edges { result ≡ first_broken rules.now (last_userset_edges rules.now (set_value set.entry) (set_value user.entry)) }
 {
     if let Some(number) = rules.number(set) {
         check_last_rule(rules, number, Sight::Userset(user))?;
+    }
+    if !through {
+        return Ok(());
     }
     if let Some(namespace) = rules.namespace_number(set.namespace) {
         check_last_rules(rules, namespace, Sight::Through(set.relation, user))?;
@@ -141,29 +178,31 @@ pub fn check_tuple_again(
     ensures { (before : List Declaration) → IsDeclaredAgain before rules.now namespace.now has_more
         → first_broken before (tuple_edges before tuple.now) ≡ Ok (tt {0}) → result ≡ first_broken rules.now (tuple_edges rules.now tuple.now) }
 {
+    check_tuple_by(rules, tuple, namespace, has_more, true)
+}
+
+/// Does what [`check_tuple_again`] does. Where `through` is false, the namespace's rules are not searched for those that read a tupleset.
+pub fn check_tuple_by(
+    rules: &Rules,
+    tuple: &Tuple,
+    namespace: &str,
+    has_more: bool,
+    through: bool,
+) -> Result<(), Edge>
+    requires well_formed { IsWellFormed rules.now }
+    requires through { through ≡ false → HasNoneThrough rules.now namespace.now }
+    ensures { (before : List Declaration) → IsDeclaredAgain before rules.now namespace.now has_more
+        → first_broken before (tuple_edges before tuple.now) ≡ Ok (tt {0}) → result ≡ first_broken rules.now (tuple_edges rules.now tuple.now) }
+{
     let UserRef::Set(user) = tuple.user() else {
         return Ok(());
     };
-    check_user_again(rules, tuple.set(), user, namespace, has_more)
-}
-
-fn check_user_again(
-    rules: &Rules,
-    set: SetRef<'_>,
-    user: SetRef<'_>,
-    namespace: &str,
-    has_more: bool,
-) -> Result<(), Edge>
-    requires { IsWellFormed rules.now }
-    ensures { (before : List Declaration) → IsDeclaredAgain before rules.now namespace.now has_more
-        → first_broken before (edges.userset_edges before (set_value set.entry) (set_value user.entry)) ≡ Ok (tt {0})
-        → result ≡ first_broken rules.now (edges.userset_edges rules.now (set_value set.entry) (set_value user.entry)) }
-{
+    let set = tuple.set();
     if has_more && user.namespace == namespace {
         return check_user(rules, set, user);
     }
     if set.namespace == namespace {
-        return check_user_last(rules, set, user);
+        return check_user_last(rules, set, user, through);
     }
     Ok(())
 }

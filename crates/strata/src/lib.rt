@@ -5,8 +5,8 @@
 //! valid, over the rules in force at one timestamp, given as a look-up, and one store, given as a list of tuples. `Edges` lists what
 //! the rules ever declared, and the tuples ever added, read.
 //!
-//! Callers may rely on this: [`check_rules`], [`check_declared`], [`check_tuple`], [`check_tuple_again`] and [`check_change`] answer the first broken edge of
-//! those lists, or that there is none; where there is none, strata are valid at each timestamp; and the laws in [`laws`] hold for valid
+//! Callers may rely on this: [`check_rules`], [`check_declared`], [`check_tuple`], [`check_tuple_again`], [`check_tuple_by`] and [`check_change`] answer the first
+//! broken edge of those lists, or that there is none; where there is none, strata are valid at each timestamp; and the laws in [`laws`] hold for valid
 //! strata: a settled fact stays settled at higher strata, members are a fixed point of the rules, and the least one (stratum by stratum
 //! where rules have exclusions), a member has a least round, and renumbering the strata changes no member.
 //!
@@ -23,5 +23,7 @@ pub mod laws;
 mod walk;
 
 pub use change::{ChangeFault, check_change};
-pub use check::{check_declared, check_rules, check_tuple, check_tuple_again};
+pub use check::{
+    check_declared, check_rules, check_tuple, check_tuple_again, check_tuple_by, reads_tuplesets,
+};
 pub use edge::Edge;

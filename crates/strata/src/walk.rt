@@ -5,7 +5,7 @@ ghost use Rattle.std.specs.List.{cons_option, filter_map, flat_map};
 ghost use Rattle.namespaces.specs.Lookup.{history_numbered};
 ghost use Rattle.namespaces.specs.View.{expression_of, expressions_of};
 ghost use Rattle.strata.specs.Edges as edges;
-ghost use Rattle.strata.specs.Sights.{reads, name_of, leaf_read};
+ghost use Rattle.strata.specs.Sights.{reads, name_of, leaf_read, reads_tupleset, some_reads_tupleset};
 
 use crate::edge::Edge;
 use namespaces::{RelNo, Rewrite, Rules};
@@ -139,6 +139,32 @@ fn check_children(
         check_rewrite(rules, reader, sight, child, strict)?;
     }
     Ok(())
+}
+
+/// Whether a rule reads a tupleset.
+#[cycle(reads_tupleset)]
+pub(crate) fn reads_tupleset(rewrite: &Rewrite) -> bool
+    ensures { result ≡ reads_tupleset (expression_of rewrite.now) }
+{
+    match rewrite {
+        Rewrite::This | Rewrite::Computed(_) => false,
+        Rewrite::TupleTo { .. } => true,
+        Rewrite::Union(children) | Rewrite::Inter(children) => some_reads_tupleset(children),
+        Rewrite::Minus(base, subtract) => reads_tupleset(base) || reads_tupleset(subtract),
+    }
+}
+
+#[cycle(reads_tupleset)]
+#[tactic(auto, using(crate::proofs::Walks::children_step))]
+fn some_reads_tupleset(children: &Vec<Rewrite>) -> bool
+    ensures { result ≡ some_reads_tupleset (expressions_of children.now.items) }
+{
+    for child in children {
+        if reads_tupleset(child) {
+            return true;
+        }
+    }
+    false
 }
 
 /// The first broken edge of all rules that a relation ever had.

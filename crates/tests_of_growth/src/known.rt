@@ -12,17 +12,17 @@ const VIEWER: SetRef<'static> = SetRef {
 };
 
 /// Whether it is known that user 7 is a viewer, and whether it is known that user 8 is none.
-fn is_known(known: &Known) -> (bool, bool) {
+fn is_known(known: &Known<Fact>) -> (bool, bool) {
     (known.yes(VIEWER, 7), known.no(VIEWER, 8))
 }
 
 /// Whether the fact is known in the end, where want of memory leaves what was known.
-fn is_added(known: &mut Known, fact: Fact, again: Fact) -> bool {
+fn is_added(known: &mut Known<Fact>, fact: Fact, again: Fact) -> bool {
     let before = is_known(known);
     known.add_yes(fact).is_ok() || is_known(known) == before && known.add_yes(again).is_ok()
 }
 
-fn is_denied(known: &mut Known, fact: Fact, again: Fact) -> bool {
+fn is_denied(known: &mut Known<Fact>, fact: Fact, again: Fact) -> bool {
     let before = is_known(known);
     known.add_no(fact).is_ok() || is_known(known) == before && known.add_no(again).is_ok()
 }

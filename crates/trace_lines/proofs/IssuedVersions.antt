@@ -1,44 +1,34 @@
 -- Which entry issued a version, and after one entry more.
-use Rattle.std.proofs.Common.{◌≡◌, ℕ, ◌+◌, ◌<◌, Bool, true, false, cond, List, [], ◌∷◌, ◌++◌, length, suc, take, drop, get_or, Option, Some, None, arith, refl, sym, ap, ◌∙◌, inl, inr}
+use Rattle.std.proofs.Common.{◌≡◌, ℕ, ◌+◌, ◌<◌, Bool, true, false, cond, List, [], ◌∷◌, ◌++◌, length, map, suc, zero, take, drop, get_or, Option, Some, None, arith, refl, sym, ap, subst, ◌∙◌, inl, inr}
 use Rattle.std.specs.Prelude.{slice_get, IfSome}
 use Rattle.std.specs.List.{position_from}
 use Rattle.std.specs.Option.{option_or}
-use Rattle.std.specs.BTreeMap.{BTreeMap, get, Updates, is_at}
-use Rattle.std.specs.Cmp.{first_so, second_so, both_tied}
-use Rattle.std.specs.Cmp.Lexicographic.{texts_ties, slice_cmp}
-use Rattle.std.specs.Ordering.{eq_by_cmp, nat_cmp}
 use Rattle.std.proofs.lemmas.Bool.{cases_Bool}
-use Rattle.std.proofs.lemmas.List.{length-take, take-append-drop}
-use Rattle.std.proofs.lemmas.Option.{same_Some, none-some, option_and_then_some, slice_get_within, slice_get-get_or, get_or_from_slice_get}
+use Rattle.std.proofs.lemmas.List.{length-take, take-append-drop, map-append, append-nil}
+use Rattle.std.proofs.lemmas.Option.{same_Some, none-some, option_and_then_some, slice_get_within, slice_get-get_or, slice_get-map, get_or_from_slice_get}
 use Rattle.std.proofs.Math.ListN.{get_or-append}
-use Rattle.std.proofs.lemmas.Slice.Eq.{bytes_eq-Decides}
+use Rattle.tuple_text.specs.Sets.{SetValue}
+use Rattle.tuple_text.proofs.ValueLemmas.{set_eq-same, set_eq-itself}
+use Rattle.version_chains.proofs.PlacedLemmas.{slice_get-cases}
+use Rattle.trace_lines.specs.Issued.{Issue, issue_in_front, issued_from, issued_by, AreIssued}
+use Rattle.trace_lines.specs.VersionMarks.{version_mark}
 use Rattle.trace_lines.specs.Values.{EntryValue}
-use Rattle.trace_lines.specs.Versions.{Version, version_eq, version_cmp, version_issued, version_named, entry_version, issues, issuer, content_among, content_of}
+use Rattle.trace_lines.specs.Versions.{Version, version_eq, is_version, version_issued, version_named, entry_version, issues, issuer, content_among, content_of}
+use Rattle.trace_lines.specs.declared.entry.EntryKind.{EntryKind}
+use Rattle.trace_lines.specs.declared.entry.EntryKind.TheVariants.{Check, Content}
+use Rattle.trace_lines.specs.declared.versions.Versions.{Versions}
 
-abbrev version_from : List ℕ → List ℕ → List ℕ → Version
-version_from n i l = record { namespace = n; id = i; label = l }
+abbrev label_set : Version → SetValue
+label_set v = record { namespace = v.namespace; id = v.id; relation = v.label }
 
 -- versions that compare alike are the same
-version_eq-same : (x y : Version) → version_eq x y ≡ true → x ≡ y
+pub version_eq-same : (x y : Version) → version_eq x y ≡ true → x ≡ y
 version_eq-same x y h =
-    let rest = second_so _ _ h in
-    ap (λ (v : List ℕ). version_from v x.id x.label) ((bytes_eq-Decides x.namespace y.namespace).0 (first_so _ _ h))
-    ∙ ap (λ (v : List ℕ). version_from y.namespace v x.label) ((bytes_eq-Decides x.id y.id).0 (first_so _ _ rest))
-    ∙ ap (λ (v : List ℕ). version_from y.namespace y.id v) ((bytes_eq-Decides x.label y.label).0 (second_so _ _ rest))
+    let same : label_set x ≡ label_set y = set_eq-same (label_set x) (label_set y) h in
+    λ i. record { namespace = (same i).namespace; id = (same i).id; label = (same i).relation }
 
-version_ties : (x y : Version) → version_eq x y ≡ eq_by_cmp version_cmp x y
-version_ties x y =
-    both_tied _ _ (slice_cmp nat_cmp x.namespace y.namespace) _ (texts_ties x.namespace y.namespace)
-    (both_tied _ _ (slice_cmp nat_cmp x.id y.id) (slice_cmp nat_cmp x.label y.label) (texts_ties x.id y.id) (texts_ties x.label y.label))
-
-version_eq-swap : (x y : Version) → version_eq x y ≡ version_eq y x
-version_eq-swap x y = elim (cases_Bool (version_eq x y)) [
-  | inl t ↦ let e = version_eq-same x y t in rw e refl
-  | inr f ↦ elim (cases_Bool (version_eq y x)) [
-    | inl t ↦ let e = version_eq-same y x t in rw e refl
-    | inr g ↦ f ∙ sym g
-  ]
-]
+version_eq-itself : (x : Version) → version_eq x x ≡ true
+version_eq-itself x = set_eq-itself (label_set x)
 
 -- the first place, where one item more comes last
 position_from-push : {X : Type 0} (test : X → Bool) (n : ℕ) (xs : List X) (x : X)
@@ -62,24 +52,78 @@ option_or-none : {X : Type 0} (o : Option X) → option_or o None ≡ o
 option_or-none None = refl
 option_or-none (Some x) = refl
 
-module _ (es : List EntryValue) (e : EntryValue) (table : BTreeMap Version ℕ) (led : (v : Version) → get version_cmp table v ≡ issuer es v) where
+-- ---- the versions that are kept
+
+-- what issues a version names it
+issues_this : (v : Version) (k : EntryKind) (o : Option Version) → is_version v (version_issued k o) ≡ true → o ≡ Some v
+issues_this v Check o h = cc
+issues_this v Content None h = cc
+issues_this v Content (Some w) h = ap Some (sym (version_eq-same v w h))
+
+-- an entry more
+issued_from-push : (n : ℕ) (es : List EntryValue) (e : EntryValue) → issued_from n (es ++ e ∷ []) ≡ issued_from n es ++ issue_in_front (n + length es) (version_issued e.kind (entry_version e)) []
+issued_from-push n [] e = ap (λ (k : ℕ). issue_in_front k (version_issued e.kind (entry_version e)) []) (let same : n ≡ n + 0 = omega arith in same)
+issued_from-push n (x ∷ xs) e =
+    by (version_issued x.kind (entry_version x))
+    (issued_from-push (n + 1) xs e ∙ ap (λ (k : ℕ). issued_from (n + 1) xs ++ issue_in_front k (version_issued e.kind (entry_version e)) []) (let same : n + 1 + length xs ≡ n + length (x ∷ xs) = omega arith in same))
+  where
+    last : List Issue
+    last = issue_in_front (n + length (x ∷ xs)) (version_issued e.kind (entry_version e)) []
+
+    by : (o : Option Version) → issued_from (n + 1) (xs ++ e ∷ []) ≡ issued_from (n + 1) xs ++ last
+        → issue_in_front n o (issued_from (n + 1) (xs ++ e ∷ [])) ≡ issue_in_front n o (issued_from (n + 1) xs) ++ last
+    by None h = h
+    by (Some v) h = ap (λ (is : List Issue). record { number = n; version = v } ∷ is) h
+
+-- what no entry issues has no issuer
+none_issued : (v : Version) (n : ℕ) (es : List EntryValue) → ((i : ℕ) (x : Issue) → slice_get (issued_from n es) i ≡ Some x → version_eq v x.version ≡ false) → position_from (issues v) n es ≡ None
+none_issued v n [] none = refl
+none_issued v n (e ∷ es) none = by (version_issued e.kind (entry_version e)) refl none (none_issued v (n + 1) es)
+  where
+    by : (o : Option Version) → version_issued e.kind (entry_version e) ≡ o
+        → ((i : ℕ) (x : Issue) → slice_get (issue_in_front n o (issued_from (n + 1) es)) i ≡ Some x → version_eq v x.version ≡ false)
+        → (((i : ℕ) (x : Issue) → slice_get (issued_from (n + 1) es) i ≡ Some x → version_eq v x.version ≡ false) → position_from (issues v) (n + 1) es ≡ None)
+        → position_from (issues v) n (e ∷ es) ≡ None
+    by None is h further = rw is (further h)
+    by (Some w) is h further = rw (is, h 0 (record { number = n; version = w }) refl) (further (λ i. h (suc i)))
+
+pub not_issued : (v : Version) (es : List EntryValue) → ((i : ℕ) (x : Issue) → slice_get (issued_by es) i ≡ Some x → version_eq v x.version ≡ false) → issuer es v ≡ None
+not_issued v es none = none_issued v 0 es none
+
+-- equal versions have equal marks
+pub version_mark-same : (v : Version) (x : Issue) → version_eq v x.version ≡ true → version_mark v ≡ version_mark x.version
+version_mark-same v x h = ap version_mark (version_eq-same v x.version h)
+
+module _ (es : List EntryValue) (e : EntryValue) (old : Versions) (are : AreIssued old es) where
+  -- who issued a version stays the one who did
+  still_issued : (k : ℕ) (x : Issue) → slice_get (issued_by es) k ≡ Some x → issuer (es ++ e ∷ []) x.version ≡ Some x.number
+  still_issued k x here = issuer-push es e x.version ∙ rw (are.once k x here) refl
+
   -- an entry that issues nothing
-  pub leads_on : version_issued e.kind (entry_version e) ≡ None → (v : Version) → get version_cmp table v ≡ issuer (es ++ e ∷ []) v
-  leads_on none v = led v ∙ sym (issuer-push es e v ∙ rw none (option_or-none (issuer es v)))
+  pub issued_on : version_issued e.kind (entry_version e) ≡ None → AreIssued old (es ++ e ∷ [])
+  issued_on none =
+      let same : issued_by (es ++ e ∷ []) ≡ issued_by es = issued_from-push 0 es e ∙ rw none (append-nil (issued_by es)) in
+      record {
+        numbers = are.numbers ∙ ap (map (λ (x : Issue). x.number)) (sym same);
+        marks = are.marks ∙ ap (map (λ (x : Issue). version_mark x.version)) (sym same);
+        once = λ k x here. still_issued k x (sym (ap (λ (xs : List Issue). slice_get xs k) same) ∙ here);
+      }
 
   -- one that issues a version for the first time
-  pub leads_to_new : (now : BTreeMap Version ℕ) (w : Version) (n : ℕ) → version_issued e.kind (entry_version e) ≡ Some w → get version_cmp table w ≡ None → n ≡ length es
-      → Updates version_cmp table now w (Some n) → (v : Version) → get version_cmp now v ≡ issuer (es ++ e ∷ []) v
-  leads_to_new now w n is absent place up v = elim (cases_Bool (version_eq w v)) [
-    | inl t ↦
-        let same = version_eq-same w v t in
-        let none : issuer es v ≡ None = sym (led v) ∙ ap (λ (x : Version). get version_cmp table x) (sym same) ∙ absent in
-        let at : is_at (version_cmp w) v ≡ true = sym (version_ties w v) ∙ t in
-        up.0 v ∙ rw (at, issuer-push es e v, none, is, version_eq-swap v w, t, place) refl
-    | inr f ↦
-        let at : is_at (version_cmp w) v ≡ false = sym (version_ties w v) ∙ f in
-        up.0 v ∙ rw (at, issuer-push es e v, is, version_eq-swap v w, f, option_or-none (issuer es v)) (led v)
-  ]
+  pub issued_more : (now : Versions) (v : Version) → version_issued e.kind (entry_version e) ≡ Some v → issuer es v ≡ None
+      → now.entries.items ≡ old.entries.items ++ length es ∷ [] → now.marks ≡ old.marks ++ version_mark v ∷ [] → AreIssued now (es ++ e ∷ [])
+  issued_more now v some new numbers marks =
+      let issue : Issue = record { number = length es; version = v } in
+      let more : issued_by (es ++ e ∷ []) ≡ issued_by es ++ issue ∷ [] = issued_from-push 0 es e ∙ rw some (ap (λ (n : ℕ). issued_by es ++ record { number = n; version = v } ∷ []) (let same : 0 + length es ≡ length es = omega arith in same)) in
+      let first : issuer (es ++ e ∷ []) v ≡ Some (length es) = issuer-push es e v ∙ rw (new, some, version_eq-itself v) refl in
+      record {
+        numbers = numbers ∙ rw (are.numbers, more) (sym (map-append (λ (x : Issue). x.number) (issued_by es) (issue ∷ [])));
+        marks = marks ∙ rw (are.marks, more) (sym (map-append (λ (x : Issue). version_mark x.version) (issued_by es) (issue ∷ [])));
+        once = λ k x here. elim (slice_get-cases (issued_by es) issue k x (sym (ap (λ (xs : List Issue). slice_get xs k) more) ∙ here)) [
+          | inl there ↦ still_issued k x there
+          | inr last ↦ subst (λ (y : Issue). issuer (es ++ e ∷ []) y.version ≡ Some y.number) last.1 first
+        ];
+      }
 
 -- ---- what a check means
 
@@ -141,3 +185,44 @@ named_content-means es i j e v at named h = issuer-means es v i j (sym (rw (at, 
 pub content_of-earlier : (es : List EntryValue) (i : ℕ) (o : Option ℕ) → o ≡ content_of es i → IfSome o (λ j. j < i)
 content_of-earlier es i None e = tt
 content_of-earlier es i (Some j) e = (content_of-means es i j (sym e)).1.earlier
+
+pub content_among-within : (es : List EntryValue) (e : EntryValue) (o : Option ℕ) → o ≡ content_among es e → IfSome o (λ n. n < length es)
+content_among-within es e None h = tt
+content_among-within es e (Some n) h =
+    option_and_then_some (issuer es) (version_named e.kind (entry_version e)) n (sym h)
+    (λ v _ by.
+    let found = position_from-found (issues v) 0 es n by in
+    let within = slice_get_within es found.place found.item found.there in
+    omega (arith, within, found.place_is))
+
+-- ---- what stands at a place
+
+slice_get-within_some : {X : Type 0} (xs : List X) (i : ℕ) → i < length xs → slice_get xs i ≡ None → ⊥
+slice_get-within_some [] i h e = omega (arith, h)
+slice_get-within_some (x ∷ xs) zero h e = none-some x (sym e)
+slice_get-within_some (x ∷ xs) (suc i) h e = slice_get-within_some xs i (omega (arith, h)) e
+
+pub record IsPlace (versions : Versions) (es : List EntryValue) (m : ℕ) : Type 0 where
+  pub issue : Issue
+  pub here : slice_get (issued_by es) m ≡ Some issue
+  pub number : slice_get versions.entries.items m ≡ Some issue.number
+  pub entry : EntryValue
+  pub there : slice_get es issue.number ≡ Some entry
+  pub names : entry_version entry ≡ Some issue.version
+
+pub at_place : (versions : Versions) (es : List EntryValue) (m : ℕ) → AreIssued versions es → m < length (issued_by es) → IsPlace versions es m
+at_place versions es m are within = by (slice_get (issued_by es) m) refl
+  where
+    by : (o : Option Issue) → slice_get (issued_by es) m ≡ o → IsPlace versions es m
+    by None none = absurd (slice_get-within_some (issued_by es) m within none)
+    by (Some x) here =
+        let found = position_from-found (issues x.version) 0 es x.number (are.once m x here) in
+        let place : found.place ≡ x.number = omega (arith, found.place_is) in
+        record {
+          issue = x;
+          here = here;
+          number = ap (λ (ns : List ℕ). slice_get ns m) are.numbers ∙ slice_get-map (λ (y : Issue). y.number) (issued_by es) m ∙ rw here refl;
+          entry = found.item;
+          there = ap (λ (k : ℕ). slice_get es k) (sym place) ∙ found.there;
+          names = issues_this x.version found.item.kind (entry_version found.item) found.passes;
+        }

@@ -2,7 +2,6 @@
 use Rattle.std.proofs.Common.{◌≡◌, ℕ, ◌<◌, ◌≤◌, List, [], ◌∷◌, ◌++◌, length, suc, zero, take, drop, get_or, Option, Some, None, arith, refl, sym, ap, ◌∙◌, inl, inr}
 use Rattle.std.specs.Prelude.{All, slice_get}
 use Rattle.std.specs.List.Sorted.{IsStrictlyIncreasing}
-use Rattle.std.specs.BTreeMap.{BTreeMap, get, IsEmpty}
 use Rattle.std.proofs.Math.ListN.{get_or-append}
 use Rattle.std.proofs.Math.Seq.{get_or-append_seam, take-append_seam}
 use Rattle.std.proofs.lemmas.Bool.{cases_lt}
@@ -12,7 +11,9 @@ use Rattle.std.proofs.lemmas.List.Kept.{AllPairs-from_increasing}
 use Rattle.std.proofs.lemmas.Option.{slice_get-get_or}
 use Rattle.version_chains.specs.Commits.{Commit}
 use Rattle.trace_lines.specs.Values.{EntryValue, entry_lines, after_last}
-use Rattle.trace_lines.specs.Versions.{Version, version_cmp, issuer, content_among, content_of}
+use Rattle.trace_lines.specs.Issued.{AreIssued}
+use Rattle.trace_lines.specs.Versions.{content_among, content_of}
+use Rattle.trace_lines.specs.declared.versions.Versions.{Versions}
 use Rattle.trace_lines.specs.Kept.{IsPlaced, IsKept}
 use Rattle.trace_lines.proofs.RisingLines.{last_of, rising_push}
 
@@ -54,18 +55,18 @@ placed_last lines e up le all = record {
   later = rw (drop_all e.before lines (omega (arith, all))) (λ k d lt. absurd (omega (arith, lt)));
 }
 
-pub kept_empty : (table : BTreeMap Version ℕ) → IsEmpty table → IsKept [] [] [] [] table
-kept_empty table none = record {
+pub kept_empty : (versions : Versions) → AreIssued versions [] → IsKept [] [] [] [] versions
+kept_empty versions none = record {
   counted = refl;
   commits_rise = λ k lt. absurd (omega (arith, lt));
   entries_rise = λ k lt. absurd (omega (arith, lt));
   placed = λ k d lt. absurd (omega (arith, lt));
-  issued = λ v. rw none refl;
+  issued = none;
   named = λ i lt. absurd (omega (arith, lt));
 }
 
-module _ (commits : List Commit) (lines : List ℕ) (es : List EntryValue) (contents : List (Option ℕ)) (table : BTreeMap Version ℕ) (is : IsKept commits lines es contents table) where
-  pub kept_commit : (c : Commit) (n : ℕ) → after_last lines ≤ n → after_last (entry_lines es) ≤ n → IsKept (commits ++ c ∷ []) (lines ++ n ∷ []) es contents table
+module _ (commits : List Commit) (lines : List ℕ) (es : List EntryValue) (contents : List (Option ℕ)) (versions : Versions) (is : IsKept commits lines es contents versions) where
+  pub kept_commit : (c : Commit) (n : ℕ) → after_last lines ≤ n → after_last (entry_lines es) ≤ n → IsKept (commits ++ c ∷ []) (lines ++ n ∷ []) es contents versions
   kept_commit c n behind below = record {
     counted = let a = length-append commits (c ∷ []) in let b = length-append lines (n ∷ []) in omega (arith, a, b, is.counted);
     commits_rise = rising_push lines n is.commits_rise behind;
@@ -97,8 +98,8 @@ module _ (commits : List Commit) (lines : List ℕ) (es : List EntryValue) (cont
             ))
       ]
 
-  pub kept_entry : (e : EntryValue) (content : Option ℕ) (now : BTreeMap Version ℕ) → after_last lines ≤ e.line → after_last (entry_lines es) ≤ e.line → e.before ≡ length lines
-      → length contents ≡ length es → content ≡ content_among es e → ((v : Version) → get version_cmp now v ≡ issuer (es ++ e ∷ []) v)
+  pub kept_entry : (e : EntryValue) (content : Option ℕ) (now : Versions) → after_last lines ≤ e.line → after_last (entry_lines es) ≤ e.line → e.before ≡ length lines
+      → length contents ≡ length es → content ≡ content_among es e → AreIssued now (es ++ e ∷ [])
       → IsKept commits lines (es ++ e ∷ []) (contents ++ content ∷ []) now
   kept_entry e content now behind below before same found led = record {
     counted = is.counted;

@@ -2,6 +2,7 @@ pub mod Answers
 pub mod Covering
 pub mod Declared
 pub mod IssuedVersions
+pub mod IssuerWalk
 pub mod Keeping
 pub mod LineCauses
 pub mod OfBytes

@@ -1,42 +1,45 @@
 -- An entry more of a trace.
 use Rattle.std.proofs.Common.{◌≡◌, ℕ, ◌<◌, ◌≤◌, max, false, List, [], ◌∷◌, ◌++◌, length, get_or, Option, Some, None, Ok, arith, refl, sym, ap, subst, ◌∙◌}
 use Rattle.std.specs.Prelude.{All, slice_get, is_some}
-use Rattle.std.specs.BTreeMap.{BTreeMap, get, Updates}
 use Rattle.std.proofs.lemmas.Bool.{true≢false}
 use Rattle.std.proofs.lemmas.List.{length-map, get_or-map, map-append}
-use Rattle.std.proofs.lemmas.Option.{same_Some, slice_get-get_or, slice_get-map}
+use Rattle.std.proofs.lemmas.Option.{same_Some, slice_get_within, slice_get-get_or, slice_get-map}
 use Rattle.version_chains.specs.Commits.{Commit}
 use Rattle.trace_lines.specs.Values.{EntryValue, TraceValue, entry_value, entry_lines, after_last}
-use Rattle.trace_lines.specs.Versions.{Version, version_cmp, version_issued, entry_version, issuer, is_repeated, content_among, content_of}
+use Rattle.trace_lines.specs.Versions.{Version, version_issued, entry_version, issuer, is_repeated, content_among, content_of}
 use Rattle.trace_lines.specs.Traces.{recorded}
 use Rattle.trace_lines.specs.Kept.{IsPlaced, IsKept}
-use Rattle.trace_lines.specs.Recorded.{shown, contents}
+use Rattle.trace_lines.specs.Recorded.{shown, number_at, contents}
 use Rattle.trace_lines.specs.declared.entry.EntryKind.TheVariants.{Content}
-use Rattle.trace_lines.specs.declared.trace.Recorded.{Recorded}
-use Rattle.trace_lines.proofs.IssuedVersions.{leads_on, leads_to_new}
+use Rattle.trace_lines.specs.declared.recorded.Recorded.{Recorded}
+use Rattle.trace_lines.specs.declared.versions.Versions.{Versions}
+use Rattle.trace_lines.specs.Issued.{Issue, issued_by, AreIssued}
+use Rattle.trace_lines.specs.VersionMarks.{version_mark}
+use Rattle.trace_lines.proofs.IssuedVersions.{issued_on, issued_more, at_place}
 use Rattle.trace_lines.proofs.Keeping.{kept_entry}
 
-module _ (commits : List Commit) (lines : List ℕ) (rs : List Recorded) (table : BTreeMap Version ℕ) (is : IsKept commits lines (shown rs) (contents rs) table)
+module _ (commits : List Commit) (lines : List ℕ) (rs : List Recorded) (versions : Versions) (is : IsKept commits lines (shown rs) (contents rs) versions)
     (r : Recorded) (new : List Recorded) (pushed : new ≡ rs ++ r ∷ []) (behind : max (after_last lines) (after_last (entry_lines (shown rs))) ≤ r.entry.line) (before : r.entry.before ≡ length lines) where
   abbrev e : EntryValue
   e = entry_value r.entry
 
-  kept_push : (now : BTreeMap Version ℕ) → r.content ≡ content_among (shown rs) e → ((v : Version) → get version_cmp now v ≡ issuer (shown rs ++ e ∷ []) v) → IsKept commits lines (shown new) (contents new) now
+  kept_push : (now : Versions) → number_at r.content ≡ content_among (shown rs) e → AreIssued now (shown rs ++ e ∷ []) → IsKept commits lines (shown new) (contents new) now
   kept_push now found led =
-      let same : length (contents rs) ≡ length (shown rs) = length-map rs (λ (x : Recorded). x.content) ∙ sym (length-map rs (λ (x : Recorded). entry_value x.entry)) in
-      rw (pushed, map-append (λ (x : Recorded). entry_value x.entry) rs (r ∷ []), map-append (λ (x : Recorded). x.content) rs (r ∷ []))
-      (kept_entry commits lines (shown rs) (contents rs) table is e r.content now (omega (arith, behind)) (omega (arith, behind)) before same found led)
+      let same : length (contents rs) ≡ length (shown rs) = length-map rs (λ (x : Recorded). number_at x.content) ∙ sym (length-map rs (λ (x : Recorded). entry_value x.entry)) in
+      rw (pushed, map-append (λ (x : Recorded). entry_value x.entry) rs (r ∷ []), map-append (λ (x : Recorded). number_at x.content) rs (r ∷ []))
+      (kept_entry commits lines (shown rs) (contents rs) versions is e (number_at r.content) now (omega (arith, behind)) (omega (arith, behind)) before same found led)
 
   -- it issues nothing
-  pub kept_plain : version_issued r.entry.kind (entry_version e) ≡ None → r.content ≡ content_among (shown rs) e → IsKept commits lines (shown new) (contents new) table
-  kept_plain nothing found = kept_push table found (leads_on (shown rs) e table is.issued nothing)
+  pub kept_plain : version_issued r.entry.kind (entry_version e) ≡ None → number_at r.content ≡ content_among (shown rs) e → IsKept commits lines (shown new) (contents new) versions
+  kept_plain nothing found = kept_push versions found (issued_on (shown rs) e versions is.issued nothing)
 
   -- it issues a version that is new
-  pub kept_content : (v : Version) (now : BTreeMap Version ℕ) → r.entry.kind ≡ Content → entry_version e ≡ Some v → r.content ≡ None → get version_cmp table v ≡ None
-      → Updates version_cmp table now v (Some (length rs)) → IsKept commits lines (shown new) (contents new) now
-  kept_content v now kind some nothing absent up =
+  pub kept_content : (v : Version) (now : Versions) → r.entry.kind ≡ Content → entry_version e ≡ Some v → number_at r.content ≡ None → issuer (shown rs) v ≡ None
+      → now.entries.items ≡ versions.entries.items ++ length rs ∷ [] → now.marks ≡ versions.marks ++ version_mark v ∷ [] → IsKept commits lines (shown new) (contents new) now
+  kept_content v now kind some nothing absent numbers marks =
+      let count : length rs ≡ length (shown rs) = sym (length-map rs (λ (x : Recorded). entry_value x.entry)) in
       kept_push now (nothing ∙ sym (rw kind refl))
-      (leads_to_new (shown rs) e table is.issued now v (length rs) (rw (kind, some) refl) absent (sym (length-map rs (λ (x : Recorded). entry_value x.entry))) up)
+      (issued_more (shown rs) e versions is.issued now v (rw (kind, some) refl) absent (numbers ∙ ap (λ (n : ℕ). versions.entries.items ++ n ∷ []) count) marks)
 
 -- a version that nobody issued is not repeated
 pub recorded_new : (t : TraceValue) (e : EntryValue) (v : Version) (new : List EntryValue) → e.kind ≡ Content → entry_version e ≡ Some v → issuer t.entries v ≡ None → new ≡ t.entries ++ e ∷ []
@@ -58,8 +61,36 @@ placed_recorded lines rs i r all lt is =
 
 -- what is kept beside it
 pub content_recorded : (rs : List Recorded) (i : ℕ) (r : Recorded) → ((j : ℕ) → j < length (shown rs) → slice_get (contents rs) j ≡ Some (content_of (shown rs) j)) → i < length (shown rs) → r ≡ get_or rs i r
-    → r.content ≡ content_of (shown rs) i
+    → number_at r.content ≡ content_of (shown rs) i
 content_recorded rs i r named lt is =
     let within : i < length rs = subst (λ (n : ℕ). i < n) (length-map rs (λ (x : Recorded). entry_value x.entry)) lt in
     let there : slice_get rs i ≡ Some r = slice_get-get_or rs i r within ∙ ap (λ (x : Recorded). Some x) (sym is) in
-    same_Some r.content (content_of (shown rs) i) (sym (slice_get-map (λ (x : Recorded). x.content) rs i ∙ rw there refl) ∙ named i lt)
+    same_Some (number_at r.content) (content_of (shown rs) i) (sym (slice_get-map (λ (x : Recorded). number_at x.content) rs i ∙ rw there refl) ∙ named i lt)
+
+-- ---- the versions among them
+
+-- the number of an entry that issued a version
+pub record IsIssuer (rs : List Recorded) (m n : ℕ) : Type 0 where
+  pub issue : Issue
+  pub here : slice_get (issued_by (shown rs)) m ≡ Some issue
+  pub within : n < length rs
+  pub names : (r : Recorded) → entry_version (entry_value (get_or rs n r).entry) ≡ Some issue.version
+  pub first : issuer (shown rs) issue.version ≡ Some n
+
+module _ (rs : List Recorded) (versions : Versions) (are : AreIssued versions (shown rs)) where
+  pub issued_count : length versions.entries.items ≡ length (issued_by (shown rs))
+  issued_count = ap length are.numbers ∙ length-map (issued_by (shown rs)) (λ (x : Issue). x.number)
+
+  pub issuer_at : (m n : ℕ) → m < length (issued_by (shown rs)) → slice_get versions.entries.items m ≡ Some n → IsIssuer rs m n
+  issuer_at m n below read =
+      let place = at_place versions (shown rs) m are below in
+      let is : place.issue.number ≡ n = same_Some place.issue.number n (sym place.number ∙ read) in
+      let there : slice_get (shown rs) n ≡ Some place.entry = subst (λ (k : ℕ). slice_get (shown rs) k ≡ Some place.entry) is place.there in
+      let within : n < length rs = subst (λ (k : ℕ). n < k) (length-map rs (λ (x : Recorded). entry_value x.entry)) (slice_get_within (shown rs) n place.entry there) in
+      record {
+        issue = place.issue;
+        here = place.here;
+        within = within;
+        names = λ r. ap entry_version (same_Some (entry_value (get_or rs n r).entry) place.entry (sym (slice_get-map (λ (x : Recorded). entry_value x.entry) rs n ∙ rw (slice_get-get_or rs n r within) refl) ∙ there)) ∙ place.names;
+        first = are.once m place.issue place.here ∙ ap (λ (k : ℕ). Some k) is;
+      }

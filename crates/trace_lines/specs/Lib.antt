@@ -1,6 +1,7 @@
 pub mod Causes
 pub mod Covers
 pub mod Declaring
+pub mod Issued
 pub mod Kept
 pub mod Recorded
 pub mod Results
@@ -9,4 +10,5 @@ pub mod TraceCode
 pub mod Traces
 pub mod Tuples
 pub mod Values
+pub mod VersionMarks
 pub mod Versions

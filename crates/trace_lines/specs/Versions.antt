@@ -1,9 +1,8 @@
 -- Versions of content: which content check issued each, and which one a check means.
 use Rattle.std.specs.Prelude.{ℕ, Bool, false, List, take, slice_get, is_some, nat_eq, Option, None, Some, option_map, option_and_then}
 use Rattle.std.specs.List.{position_from}
-use Rattle.std.specs.declared.cmp.Ordering.{Ordering}
-use Rattle.std.specs.Ordering.{nat_cmp, on, then_cmp, eq_of_both}
-use Rattle.std.specs.Cmp.Lexicographic.{slice_cmp, pointwise}
+use Rattle.std.specs.Ordering.{on, eq_of_both}
+use Rattle.std.specs.Cmp.Lexicographic.{pointwise}
 use Rattle.tuple_text.specs.Sets.{SetValue}
 use Rattle.trace_lines.specs.declared.entry.EntryKind.{EntryKind}
 use Rattle.trace_lines.specs.declared.entry.EntryKind.TheVariants.{Check, Content}
@@ -24,12 +23,6 @@ abbrev pub version_eq : Version → Version → Bool
 version_eq =
     eq_of_both (on (λ v. v.namespace) (pointwise nat_eq))
     (eq_of_both (on (λ v. v.id) (pointwise nat_eq)) (on (λ v. v.label) (pointwise nat_eq)))
-
--- by the bytes of the namespace, then of the object id, then of the label
-abbrev pub version_cmp : Version → Version → Ordering
-version_cmp =
-    then_cmp (on (λ v. v.namespace) (slice_cmp nat_cmp))
-    (then_cmp (on (λ v. v.id) (slice_cmp nat_cmp)) (on (λ v. v.label) (slice_cmp nat_cmp)))
 
 -- the version that stands in an entry
 abbrev pub entry_version : EntryValue → Option Version

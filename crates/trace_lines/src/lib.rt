@@ -21,9 +21,11 @@ mod declaring;
 mod entry;
 pub mod laws;
 mod read;
+mod recorded;
 mod sample;
 mod texts;
 mod trace;
+mod version_ref;
 mod versions;
 
 pub use cause::{Cause, TraceFault};

@@ -13,7 +13,7 @@ use namespaces::{RelNo, Rules};
 use std::alloc::Global;
 use std::collections::BTreeMap;
 use std::marker::Model;
-use strata::{Edge, check_tuple, check_tuple_again};
+use strata::{Edge, check_tuple, check_tuple_by, reads_tuplesets};
 use tuple_text::{SetRef, Tuple, UserRef};
 
 /// Of all tuples that were ever added the first of each kind, in order, where a kind is the relations of a tuple's userset and of its user.
@@ -162,8 +162,9 @@ pub(crate) fn check_all(
     requires { IsDeclaredOver rules.now namespace.now has_more tuples.now }
     ensures { result ≡ first_broken rules.now (edges_of_tuples rules.now tuples.now) }
 {
+    let through = reads_tuplesets(rules, namespace);
     for tuple in tuples {
-        check_tuple_again(rules, tuple, namespace, has_more)?;
+        check_tuple_by(rules, tuple, namespace, has_more, through)?;
     }
     Ok(())
 }

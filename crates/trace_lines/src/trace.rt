@@ -28,25 +28,18 @@ use crate::checks::entry_of;
 use crate::cover::Cover;
 use crate::declaring::{change, declare, late_change};
 use crate::entry::{Entry, EntryKind};
+use crate::recorded::Recorded;
 use crate::sample::Sample;
 use crate::texts::tuples_of;
-use crate::versions::{VersionName, version_of};
+use crate::versions::{Versions, version_of};
 use json_lines::fields::{number_at, optional_number_at, strings_at, text_at};
 use json_lines::{JsonLine, JsonRef, TakeJson};
 use namespaces::{Rules, RulesFault};
 use serde_json::Value;
 use std::alloc::{AllocError, Global};
-use std::collections::BTreeMap;
 use std::marker::Model;
 use tuple_text::{SetRef, Tuple};
 use version_chains::{AppendFault, Chains};
-
-/// An entry, and where it names a version the entry that issued that.
-#[derive(Drop)]
-pub(crate) struct Recorded {
-    entry: Entry,
-    content: Option<usize>,
-}
 
 /// A trace: its namespaces, its commits with the lines that they stand on, and its entries.
 #[derive(Drop)]
@@ -60,10 +53,7 @@ pub struct Trace {
     cover: Cover,
     commit_lines: Vec<u64>,
     recorded: Vec<Recorded>,
-    // by which entry each version was issued
-    versions: BTreeMap<VersionName, usize>,
-    // the version last looked up, kept for its room
-    asked: VersionName,
+    versions: Versions,
 }
 
 impl Model for Trace {
@@ -126,8 +116,7 @@ impl Trace {
             cover: Cover::new(alloc),
             commit_lines: Vec::new(alloc),
             recorded: Vec::new(alloc),
-            versions: BTreeMap::new(alloc),
-            asked: VersionName::new(alloc),
+            versions: Versions::new(alloc),
         }
     }
 
@@ -176,7 +165,7 @@ impl Trace {
         ensures value { result ≡ content_of self.now.entries i }
         ensures earlier { IfSome result (λ c. c < i) }
     {
-        self.recorded[i].content
+        self.recorded[i].content()
     }
 
     /// The line of commit `k`.
@@ -344,26 +333,18 @@ impl Trace {
     {
         match entry.kind {
             EntryKind::Check => {
-                let content = self.content_named(&entry)?;
+                let content = self.content_named(&entry);
                 self.push(entry, content)
             }
-            EntryKind::Content => match version_of(self.alloc, &entry)? {
-                Some(version) => self.issue(entry, version),
-                None => self.push(entry, None),
-            },
+            EntryKind::Content => self.issue(entry),
         }
     }
 
     /// The entry that issued the version which stands in this one.
-    fn content_named(&mut self, entry: &Entry) -> Result<Option<usize>, AllocError>
-        ensures found { IfOk result (λ content. content ≡ option_and_then (issuer self.old.entries) (entry_version (entry_value entry.now))) }
-        ensures unchanged { self.new ≡ self.old }
+    fn content_named(&self, entry: &Entry) -> Option<usize>
+        ensures { result ≡ option_and_then (issuer self.now.entries) (entry_version (entry_value entry.now)) }
     {
-        let Some(label) = &entry.version else {
-            return Ok(None);
-        };
-        self.asked.rename(entry.goal.set(), label.as_str())?;
-        Ok(self.versions.get(&self.asked).copied())
+        self.versions.issuer(&self.recorded, version_of(entry)?)
     }
 
     /// Puts an entry last that issues no version, and names the one that `content` issued.
@@ -374,25 +355,26 @@ impl Trace {
         requires content { content ≡ content_among self.old.entries (entry_value entry) }
         ensures { Gives (λ _. self.new) result (recorded self.old (entry_value entry)) }
     {
-        self.recorded.push(Recorded { entry, content })?;
+        self.recorded.push(Recorded::new(entry, content))?;
         Ok(())
     }
 
-    /// Puts a content check last that issues a version.
-    fn issue(&mut self, entry: Entry, version: VersionName) -> Result<(), Cause>
+    /// Puts a content check last. An object's version is issued once.
+    fn issue(&mut self, entry: Entry) -> Result<(), Cause>
         requires line { next_line self.old ≤ entry.line }
         requires before { entry.before ≡ length self.old.commit_lines }
         requires kind { entry.kind ≡ Content }
-        requires version { entry_version (entry_value entry) ≡ Some version }
         ensures { Gives (λ _. self.new) result (recorded self.old (entry_value entry)) }
     {
-        if self.versions.contains_key(&version) {
+        let Some(version) = version_of(&entry) else {
+            return self.push(entry, None);
+        };
+        if self.versions.issuer(&self.recorded, version).is_some() {
             return Err(Cause::RepeatedVersion);
         }
         self.recorded.reserve(1)?;
-        let _ = self.versions.insert(version, self.recorded.len())?;
-        let content = None;
-        if self.recorded.push(Recorded { entry, content }).is_err() {
+        self.versions.push(version, self.recorded.len())?;
+        if self.recorded.push(Recorded::new(entry, None)).is_err() {
             unreachable!();
         }
         Ok(())

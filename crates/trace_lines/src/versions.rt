@@ -1,125 +1,91 @@
-//! Versions of content, as keys of a table.
+//! Versions of content, found by their marks.
 
-ghost use Rattle.std.specs.Prelude.{◌≡◌, IfOk, OnOk};
-ghost use Rattle.tuple_text.specs.Refs.{set_value};
+ghost use Rattle.std.specs.Prelude.{◌≡◌, ◌∷◌, ◌++◌, [], option_map, OnOk, OnErr};
+ghost use Rattle.trace_lines.specs.Issued.{AreIssued, version_value};
+ghost use Rattle.trace_lines.specs.Recorded.{shown};
 ghost use Rattle.trace_lines.specs.Values.{entry_value};
-ghost use Rattle.trace_lines.specs.Versions.{entry_version, version_of};
+ghost use Rattle.trace_lines.specs.VersionMarks.{version_mark};
+ghost use Rattle.trace_lines.specs.Versions.{entry_version, is_version, issuer};
 
 use crate::entry::Entry;
+use crate::recorded::Recorded;
+use crate::version_ref::VersionRef;
 use std::alloc::{AllocError, Global};
-use std::cmp::Ordering;
-use std::marker::Model;
-use tuple_text::SetRef;
+use version_chains::Places;
 
-/// A version by its object and its label.
+/// The version that stands in an entry.
+pub(crate) fn version_of(entry: &Entry) -> Option<VersionRef<'_>>
+    ensures { option_map version_value result ≡ entry_version (entry_value entry.now) }
+{
+    match &entry.version {
+        Some(label) => Some(VersionRef::of(entry.goal.set(), label.as_str())),
+        None => None,
+    }
+}
+
+fn is_version(version: VersionRef<'_>, entry: &Entry) -> bool
+    ensures { result ≡ is_version (version_value version.entry) (entry_version (entry_value entry.now)) }
+{
+    match &entry.version {
+        Some(label) => {
+            let object = entry.goal.set();
+            version.object.namespace == object.namespace
+                && version.object.id == object.id
+                && version.label == label.as_str()
+        }
+        None => false,
+    }
+}
+
+/// The versions that the entries of a trace issued, each by the number of its entry, where its texts stand.
+///
+/// They are found as the store finds tuples: no choice of texts makes that slower than the logarithm of their number, as long as
+/// few of them have one mark.
 #[derive(Drop)]
-pub(crate) struct VersionName {
-    namespace: String,
-    id: String,
-    label: String,
+pub(crate) struct Versions {
+    entries: Vec<usize>,
+    marks: Places,
 }
 
-impl Model for VersionName {
-    ghost use Rattle.std.specs.Prelude.{string_bytes};
-    ghost use Rattle.trace_lines.specs.Versions.{Version};
-
-    ghost Value = { Version };
-
-    ghost view = { λ v. record { namespace = string_bytes v.namespace; id = string_bytes v.id; label = string_bytes v.label } };
-}
-
-impl PartialEq for VersionName {
-    ghost use Rattle.std.proofs.Common.{rules};
-    ghost use Rattle.std.specs.Cmp.Rules.{comparing};
-    ghost use Rattle.trace_lines.specs.Versions.{version_eq};
-
-    ghost eq = { version_eq };
-
-    ghost laws = { Prim.search (comparing, rules) };
-
-    fn eq(&self, other: &Self) -> bool {
-        self.namespace == other.namespace && self.id == other.id && self.label == other.label
-    }
-}
-
-impl Eq for VersionName {
-    ghost use Rattle.std.proofs.Common.{rules};
-    ghost use Rattle.std.specs.Cmp.Rules.{comparing};
-
-    ghost laws = { Prim.search (comparing, rules) };
-}
-
-impl PartialOrd for VersionName {
-    ghost use Rattle.std.proofs.Common.{rules};
-    ghost use Rattle.std.specs.Cmp.Rules.{comparing};
-    ghost use Rattle.std.specs.Cmp.{partial_order_from_own_ties};
-    ghost use Rattle.std.specs.Ordering.{as_partial_cmp};
-    ghost use Rattle.trace_lines.specs.Versions.{version_cmp};
-
-    ghost partial_cmp = { as_partial_cmp version_cmp };
-
-    ghost laws = { partial_order_from_own_ties (Prim.search (comparing, rules)) (Prim.search (comparing, rules)) };
-
-    fn partial_cmp(&self, other: &Self) -> Option<Ordering> {
-        Some(self.cmp(other))
-    }
-}
-
-impl Ord for VersionName {
-    ghost use Rattle.std.proofs.Common.{rules};
-    ghost use Rattle.std.specs.Cmp.Rules.{comparing};
-    ghost use Rattle.trace_lines.specs.Versions.{version_cmp};
-
-    ghost cmp = { version_cmp };
-
-    ghost total = { Prim.search (comparing, rules) };
-
-    ghost matches_partial_cmp = { Prim.search (comparing, rules) };
-
-    ghost matches_eq = { Prim.search (comparing, rules) };
-
-    fn cmp(&self, other: &Self) -> Ordering {
-        self.namespace
-            .cmp(&other.namespace)
-            .then(self.id.cmp(&other.id).then(self.label.cmp(&other.label)))
-    }
-}
-
-impl VersionName {
-    /// The version of nothing.
-    pub(crate) fn new(alloc: Global) -> VersionName {
-        VersionName {
-            namespace: String::new(alloc),
-            id: String::new(alloc),
-            label: String::new(alloc),
+impl Versions {
+    pub(crate) fn new(alloc: Global) -> Versions
+        ensures { AreIssued result [] }
+    {
+        Versions {
+            entries: Vec::new(alloc),
+            marks: Places::new(alloc),
         }
     }
 
-    /// From now on the version of this object and label, in the room of the texts that stood here. For want of memory
-    /// some of the texts may stay.
-    pub(crate) fn rename(&mut self, object: SetRef<'_>, label: &str) -> Result<(), AllocError>
-        ensures { OnOk result (self.new ≡ version_of (set_value object.entry) label.now) }
+    /// Which of these entries issued the version.
+    pub(crate) fn issuer(&self, recorded: &[Recorded], version: VersionRef<'_>) -> Option<usize>
+        requires { AreIssued self.now (shown recorded.now) }
+        ensures { result ≡ issuer (shown recorded.now) (version_value version.entry) }
     {
-        self.namespace.clear();
-        self.namespace.push_str(object.namespace)?;
-        self.id.clear();
-        self.id.push_str(object.id)?;
-        self.label.clear();
-        self.label.push_str(label)
+        let mut place = self.marks.newest(version.mark);
+        while place > 0 {
+            let index = place - 1;
+            let number = self.entries[index];
+            if is_version(version, &recorded[number].entry) {
+                return Some(number);
+            }
+            place = self.marks.older(index);
+        }
+        None
     }
-}
 
-/// The version that stands in an entry.
-pub(crate) fn version_of(alloc: Global, entry: &Entry) -> Result<Option<VersionName>, AllocError>
-    ensures { IfOk result (λ v. v ≡ entry_version (entry_value entry.now)) }
-{
-    let Some(label) = &entry.version else {
-        return Ok(None);
-    };
-    let object = entry.goal.set();
-    Ok(Some(VersionName {
-        namespace: String::from_str(alloc, object.namespace)?,
-        id: String::from_str(alloc, object.id)?,
-        label: label.clone()?,
-    }))
+    /// Adds the version that the entry of this number issues. For want of memory nothing changes.
+    pub(crate) fn push(&mut self, version: VersionRef<'_>, number: usize) -> Result<(), AllocError>
+        ensures entries { OnOk result (self.new.entries.items ≡ self.old.entries.items ++ number ∷ []) }
+        ensures marks { OnOk result (self.new.marks ≡ self.old.marks ++ version_mark (version_value version.entry) ∷ []) }
+        ensures same_entries { OnErr result (self.new.entries.items ≡ self.old.entries.items) }
+        ensures same_marks { OnErr result (self.new.marks ≡ self.old.marks) }
+    {
+        self.entries.reserve(1)?;
+        self.marks.push(version.mark)?;
+        if self.entries.push(number).is_err() {
+            unreachable!();
+        }
+        Ok(())
+    }
 }

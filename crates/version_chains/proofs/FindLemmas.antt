@@ -1,4 +1,4 @@
--- A walk over the tuples with one mark, for one of them.
+-- A walk over the items with one mark, for one of them; and of tuples.
 use Rattle.std.proofs.Common.{◌≡◌, ℕ, suc, ◌<◌, Bool, true, false, List, length, map, sym, ◌∙◌, ap, subst, Some, arith, nat_eq}
 use Rattle.std.specs.Prelude.{slice_get, option_map}
 use Rattle.std.proofs.lemmas.List.{length-map}
@@ -12,47 +12,71 @@ use Rattle.version_chains.specs.Marks.{tuple_mark}
 use Rattle.version_chains.proofs.PlacedLemmas.{last_place-within, last_place-map}
 use Rattle.version_chains.proofs.WalkLemmas.{linked_within, linked_item, walk_start, walk_on, walk_none}
 
-module _ (t : TupleValue) (tuples : List TupleValue) (named : List ℕ) (names : named ≡ map tuple_mark tuples) where
-  abbrev linked : TupleValue → Bool
-  linked u = nat_eq (tuple_mark t) (tuple_mark u)
+-- what is wanted has the mark that is asked for
+module _ {X : Type 0} (mark : X → ℕ) (asked : ℕ) (wanted : X → Bool) (has_mark : (x : X) → wanted x ≡ true → asked ≡ mark x) (xs : List X) (marks : List ℕ) (are : marks ≡ map mark xs) where
+  abbrev linked : X → Bool
+  linked x = nat_eq asked (mark x)
 
-  abbrev wanted : TupleValue → Bool
-  wanted u = tuple_eq u t
+  wanted_linked : (x : X) → wanted x ≡ true → linked x ≡ true
+  wanted_linked x h = eq-eqb asked (mark x) (has_mark x h)
 
-  wanted_linked : (u : TupleValue) → wanted u ≡ true → linked u ≡ true
-  wanted_linked u h = eq-eqb (tuple_mark t) (tuple_mark u) (ap tuple_mark (sym (tuple_eq-same u t h)))
+  by_marks : (n : ℕ) → last_place (nat_eq asked) marks n ≡ last_place linked xs n
+  by_marks n = ap (λ (ms : List ℕ). last_place (nat_eq asked) ms n) are ∙ last_place-map mark (nat_eq asked) xs n
 
-  by_marks : (n : ℕ) → last_place (nat_eq (tuple_mark t)) named n ≡ last_place linked tuples n
-  by_marks n = ap (λ (ms : List ℕ). last_place (nat_eq (tuple_mark t)) ms n) names ∙ last_place-map tuple_mark (nat_eq (tuple_mark t)) tuples n
+  pub marked_start : (place : ℕ) → place ≡ last_place (nat_eq asked) marks (length marks) → IsWalk linked wanted xs place
+  marked_start place e =
+      walk_start linked wanted wanted_linked xs place
+      (e ∙ by_marks (length marks) ∙ ap (last_place linked xs) (ap length are ∙ length-map xs mark))
 
-  pub find_start : (place : ℕ) → place ≡ last_place (nat_eq (tuple_mark t)) named (length named) → IsWalk linked wanted tuples place
-  find_start place e =
-      walk_start linked wanted wanted_linked tuples place
-      (e ∙ by_marks (length named) ∙ ap (last_place linked tuples) (ap length names ∙ length-map tuples tuple_mark))
+  pub marked_nowhere : (place : ℕ) → place ≡ 0 → IsWalk linked wanted xs place → (i : ℕ) (x : X) → slice_get xs i ≡ Some x → wanted x ≡ false
+  marked_nowhere place none walk = walk_none linked wanted wanted_linked xs (subst (IsWalk linked wanted xs) none walk)
 
-  pub found_nowhere : (place : ℕ) → place ≡ 0 → IsWalk linked wanted tuples place → (i : ℕ) (u : TupleValue) → slice_get tuples i ≡ Some u → wanted u ≡ false
-  found_nowhere place none walk = walk_none linked wanted wanted_linked tuples (subst (IsWalk linked wanted tuples) none walk)
+  module _ (place m : ℕ) (next : place ≡ suc m) (walk : IsWalk linked wanted xs place) where
+    walk_here : IsWalk linked wanted xs (suc m)
+    walk_here = subst (IsWalk linked wanted xs) next walk
 
-  module _ (place m : ℕ) (next : place ≡ suc m) (walk : IsWalk linked wanted tuples place) where
-    walk_here : IsWalk linked wanted tuples (suc m)
-    walk_here = subst (IsWalk linked wanted tuples) next walk
-
-    pub find_within : m < length tuples
-    find_within = let within = linked_within linked tuples (suc m) walk_here.on in omega (arith, within)
+    pub marked_within : m < length xs
+    marked_within = let within = linked_within linked xs (suc m) walk_here.on in omega (arith, within)
 
     -- the link from here
-    pub find_older : (older : ℕ) → ((mark : ℕ) → slice_get named m ≡ Some mark → older ≡ last_place (nat_eq mark) named m) → older ≡ last_place linked tuples m
-    find_older older e =
-        let w = linked_item linked tuples m walk_here.on in
-        let same : tuple_mark w.0 ≡ tuple_mark t = sym (eqb-true (tuple_mark t) (tuple_mark w.0) w.2) in
-        let here : slice_get named m ≡ Some (tuple_mark t) = ap (λ (ms : List ℕ). slice_get ms m) names ∙ slice_get-map tuple_mark tuples m ∙ ap (option_map tuple_mark) w.1 ∙ ap Some same in
-        e (tuple_mark t) here ∙ by_marks m
+    marked_older : (older : ℕ) → ((n : ℕ) → slice_get marks m ≡ Some n → older ≡ last_place (nat_eq n) marks m) → older ≡ last_place linked xs m
+    marked_older older e =
+        let w = linked_item linked xs m walk_here.on in
+        let same : mark w.0 ≡ asked = sym (eqb-true asked (mark w.0) w.2) in
+        let here : slice_get marks m ≡ Some asked = ap (λ (ms : List ℕ). slice_get ms m) are ∙ slice_get-map mark xs m ∙ ap (option_map mark) w.1 ∙ ap Some same in
+        e asked here ∙ by_marks m
 
-    pub find_smaller : (older : ℕ) → ((mark : ℕ) → slice_get named m ≡ Some mark → older ≡ last_place (nat_eq mark) named m) → older < place
-    find_smaller older e =
-        let is = find_older older e in
-        let below = last_place-within linked tuples m in
+    pub marked_smaller : (older : ℕ) → ((n : ℕ) → slice_get marks m ≡ Some n → older ≡ last_place (nat_eq n) marks m) → older < place
+    marked_smaller older e =
+        let is = marked_older older e in
+        let below = last_place-within linked xs m in
         omega (arith, is, below, next)
 
-    pub find_on : (u : TupleValue) → slice_get tuples m ≡ Some u → wanted u ≡ false → (older : ℕ) → ((mark : ℕ) → slice_get named m ≡ Some mark → older ≡ last_place (nat_eq mark) named m) → IsWalk linked wanted tuples older
-    find_on u here other older e = walk_on linked wanted wanted_linked tuples m older u walk_here here other (find_older older e)
+    pub marked_on : (x : X) → slice_get xs m ≡ Some x → wanted x ≡ false → (older : ℕ) → ((n : ℕ) → slice_get marks m ≡ Some n → older ≡ last_place (nat_eq n) marks m) → IsWalk linked wanted xs older
+    marked_on x here other older e = walk_on linked wanted wanted_linked xs m older x walk_here here other (marked_older older e)
+
+module _ (t : TupleValue) (tuples : List TupleValue) (named : List ℕ) (names : named ≡ map tuple_mark tuples) where
+  abbrev named_so : TupleValue → Bool
+  named_so u = nat_eq (tuple_mark t) (tuple_mark u)
+
+  abbrev is_it : TupleValue → Bool
+  is_it u = tuple_eq u t
+
+  same_mark : (u : TupleValue) → is_it u ≡ true → tuple_mark t ≡ tuple_mark u
+  same_mark u h = ap tuple_mark (sym (tuple_eq-same u t h))
+
+  pub find_start : (place : ℕ) → place ≡ last_place (nat_eq (tuple_mark t)) named (length named) → IsWalk named_so is_it tuples place
+  find_start = marked_start tuple_mark (tuple_mark t) is_it same_mark tuples named names
+
+  pub found_nowhere : (place : ℕ) → place ≡ 0 → IsWalk named_so is_it tuples place → (i : ℕ) (u : TupleValue) → slice_get tuples i ≡ Some u → is_it u ≡ false
+  found_nowhere = marked_nowhere tuple_mark (tuple_mark t) is_it same_mark tuples named names
+
+  module _ (place m : ℕ) (next : place ≡ suc m) (walk : IsWalk named_so is_it tuples place) where
+    pub find_within : m < length tuples
+    find_within = marked_within tuple_mark (tuple_mark t) is_it same_mark tuples named names place m next walk
+
+    pub find_smaller : (older : ℕ) → ((mark : ℕ) → slice_get named m ≡ Some mark → older ≡ last_place (nat_eq mark) named m) → older < place
+    find_smaller = marked_smaller tuple_mark (tuple_mark t) is_it same_mark tuples named names place m next walk
+
+    pub find_on : (u : TupleValue) → slice_get tuples m ≡ Some u → is_it u ≡ false → (older : ℕ) → ((mark : ℕ) → slice_get named m ≡ Some mark → older ≡ last_place (nat_eq mark) named m) → IsWalk named_so is_it tuples older
+    find_on = marked_on tuple_mark (tuple_mark t) is_it same_mark tuples named names place m next walk

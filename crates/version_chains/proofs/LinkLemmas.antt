@@ -43,14 +43,14 @@ one_further links i link mark new old is before at =
 
 -- one more link
 module _ (links : List Link) (newest new : Table) (link : Link) (are : AreLinked links newest)
-    (newest_is : link.older ≡ last_place (nat_eq link.mark) (marks_of links) (length (marks_of links)))
+    (newest_is : link.older ≡ newest_of newest link.mark)
     (sets : (m : ℕ) → newest_of new m ≡ cond (nat_eq m link.mark) (length links + 1) (newest_of newest m)) (chained : IsTable new) where
   earlier : (i : ℕ) (l : Link) → (slice_get links i ≡ Some l) ⊎ ((i ≡ length links) × (link ≡ l)) → l.older ≡ last_place (nat_eq l.mark) (marks_of (links ++ link ∷ [])) i
   earlier i l (inl h) = let within = slice_get_within links i l h in are.earlier i l h ∙ sym (before_link links link l.mark i (omega (arith, within)))
   earlier i l (inr h) =
       subst (λ (x : Link). x.older ≡ last_place (nat_eq x.mark) (marks_of (links ++ link ∷ [])) i) h.1
       (subst (λ (k : ℕ). link.older ≡ last_place (nat_eq link.mark) (marks_of (links ++ link ∷ [])) k) (sym h.0)
-      (newest_is ∙ ap (last_place (nat_eq link.mark) (marks_of links)) (length-marks links) ∙ sym (before_link links link link.mark (length links) (omega arith))))
+      (newest_is ∙ are.latest link.mark ∙ sym (before_link links link link.mark (length links) (omega arith))))
 
   pub more_links : AreLinked (links ++ link ∷ []) new
   more_links = record {

@@ -1,5 +1,5 @@
 -- The table in which the newest place of each mark is found.
-use Rattle.std.proofs.Common.{◌≡◌, ◌≢◌, ℕ, zero, suc, ◌%◌, ◌<◌, ◌≤◌, Bool, true, false, cond, List, [], ◌∷◌, ◌++◌, length, refl, sym, ◌∙◌, ap, subst, Option, None, Some, arith, nat_eq, eqb-true, false-eqb, eq-eqb, inl, inr, Result, Ok, Err, OnErr}
+use Rattle.std.proofs.Common.{◌≡◌, ◌≢◌, ℕ, zero, suc, ◌%◌, ◌-◌, ◌<◌, ◌≤◌, Bool, true, false, cond, List, [], ◌∷◌, ◌++◌, length, refl, sym, ◌∙◌, ap, subst, Option, None, Some, arith, nat_eq, eqb-true, false-eqb, eq-eqb, inl, inr, Result, Ok, Err, OnErr}
 use Rattle.std.specs.Prelude.{slice_get, slice_set, unwrap_or}
 use Rattle.std.specs.Ordering.{nat_cmp, eq_by_cmp}
 use Rattle.std.specs.BTreeMap.{BTreeMap, get, Updates, is_at}
@@ -97,6 +97,13 @@ pub entry_none : (mark n at : ℕ) → entry_in [] mark n at ≡ 0
 entry_none mark zero at = refl
 entry_none mark (suc n) zero = refl
 entry_none mark (suc n) (suc i) = entry_none mark n 0
+
+-- and its place is the newest of the mark
+pub newest_at_entry : (longest : ℕ) (heads : List ℕ) (entries : List Entry) (rest : BTreeMap ℕ ℕ) (mark entry : ℕ) (e : Entry) → entry ≡ entry_in entries mark longest (head_of heads mark) → 0 < entry
+    → slice_get entries (entry - 1) ≡ Some e → e.place ≡ newest_in longest heads entries rest mark
+newest_at_entry longest heads entries rest mark entry e found some there =
+    let is : entry ≡ suc (entry - 1) = omega (arith, some) in
+    ap place_of (sym there) ∙ ap (place_in entries rest mark) (sym is ∙ found)
 
 -- past the end of a chain nothing is found
 pub entry-ended : (entries : List Entry) (mark n at : ℕ) → ends entries n at ≡ true → entry_in entries mark (suc n) at ≡ entry_in entries mark n at

@@ -1,11 +1,11 @@
 -- What the arena of tuples and touches holds, and how it is linked. No public clause cites this module.
-use Rattle.std.specs.Prelude.{◌≡◌, ℕ, ◌<◌, ◌≤◌, List, [], ◌++◌, map, length, slice_get, Some, nat_eq, unwrap_or}
+use Rattle.std.specs.Prelude.{◌≡◌, ℕ, ◌-◌, ◌<◌, ◌≤◌, List, [], ◌++◌, map, length, slice_get, Some, nat_eq, unwrap_or}
 use Rattle.tuple_text.specs.Tuples.{TupleValue}
 use Rattle.tuple_text.specs.declared.users.User.TheVariants.{Id}
 use Rattle.version_chains.specs.Commits.{Touch}
 use Rattle.version_chains.specs.Jumps.{AreJumps}
 use Rattle.version_chains.specs.Marks.{held_mark, tuple_mark}
-use Rattle.version_chains.specs.Placed.{last_place}
+use Rattle.version_chains.specs.Placed.{last_place, most}
 use Rattle.version_chains.specs.declared.node.Node.{Node}
 
 -- the tuples, each once, in the order in which they were first named; the touches, in order; and how many more touches
@@ -14,6 +14,10 @@ pub record Held : Type 0 where
   pub tuples : List TupleValue
   pub touches : List Touch
   pub room : ℕ
+
+-- how many more there is room for: what the capacity leaves of it, as far as places go
+abbrev pub room_of : ℕ → ℕ → ℕ
+room_of capacity count = capacity - (capacity - most) - count
 
 -- a tuple for the look-up that never happens, past the end
 abbrev pub nobody : TupleValue

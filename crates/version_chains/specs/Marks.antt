@@ -1,7 +1,6 @@
 -- Marks of usersets, users and tuples: SipHash of their texts, or of two marks. Equal ones have equal marks, and no more is used.
-use Rattle.std.specs.Prelude.{ℕ, Bool, true, false, List, [], ◌∷◌, cond}
+use Rattle.std.specs.Prelude.{ℕ, Bool, true, false, List, [], ◌∷◌, ◌++◌, length, fold, cond}
 use Rattle.std.specs.Hash.DefaultHasher as sip
-use Rattle.std.specs.declared.hash.DefaultHasher.{DefaultHasher}
 use Rattle.std.specs.Int.{w64, to_le_bytes}
 use Rattle.std.specs.Int.Bits.{bit_xor}
 use Rattle.tuple_text.specs.Sets.{SetValue}
@@ -9,15 +8,13 @@ use Rattle.tuple_text.specs.Tuples.{TupleValue}
 use Rattle.tuple_text.specs.declared.users.User.{User}
 use Rattle.tuple_text.specs.declared.users.User.TheVariants.{Id, Set}
 
--- the hasher after a text and a byte that ends it, which no text has
-abbrev pub fed_text : DefaultHasher → List ℕ → DefaultHasher
-fed_text h text = sip.write (sip.write h text) (0xff ∷ [])
+-- the bytes of two numbers, in this order
+abbrev pub pair_bytes : ℕ → ℕ → List ℕ
+pair_bytes m n = to_le_bytes w64 m ++ to_le_bytes w64 n
 
-abbrev pub fed_set : DefaultHasher → SetValue → DefaultHasher
-fed_set h g = fed_text (fed_text (fed_text h g.namespace) g.id) g.relation
-
+-- first the lengths of the namespace and of the id, by which the texts behind them are told apart
 unfoldable pub set_mark : SetValue → ℕ
-set_mark g = sip.finish (fed_set sip.initial g)
+set_mark g = sip.finish (fold sip.write sip.initial (pair_bytes (length g.namespace) (length g.id) ∷ g.namespace ∷ g.id ∷ g.relation ∷ []))
 
 -- an id is its own mark
 abbrev pub user_mark : User → ℕ
@@ -26,7 +23,7 @@ user_mark (Set g) = set_mark g
 
 -- of two marks, in this order
 unfoldable pub pair_mark : ℕ → ℕ → ℕ
-pair_mark m n = sip.finish (sip.write (sip.write sip.initial (to_le_bytes w64 m)) (to_le_bytes w64 n))
+pair_mark m n = sip.finish (sip.write sip.initial (pair_bytes m n))
 
 abbrev pub tuple_mark : TupleValue → ℕ
 tuple_mark t = pair_mark (set_mark t.set) (user_mark t.user)

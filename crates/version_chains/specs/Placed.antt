@@ -1,5 +1,9 @@
 -- Places in a list that grows, counted from 1, and walks from the newest back.
-use Rattle.std.specs.Prelude.{◌≡◌, ◌≤◌, ℕ, zero, suc, Bool, false, List, [], ◌∷◌, length, slice_get, Option, None, Some, cond}
+use Rattle.std.specs.Prelude.{◌≡◌, ◌≤◌, ◌-◌, ◌^◌, ℕ, zero, suc, Bool, false, List, [], ◌∷◌, length, slice_get, Option, None, Some, cond}
+
+-- how many places there may be, so that each is a number of 32 bits
+abbrev pub most : ℕ
+most = 2 ^ 32 - 1
 
 abbrev pub passes : {X : Type 0} → (X → Bool) → Option X → Bool
 passes p None = false

@@ -8,11 +8,11 @@ ghost use Rattle.version_chains.specs.Arena.{AreApartAt, AreUpTo, Extends, IsNum
 ghost use Rattle.version_chains.specs.Commits.{Touch, touches_to, until, last_live};
 ghost use Rattle.version_chains.specs.Given.{AreTouchesKnown, Gives, IsTouchAt, IsUnnumbered, IsUntouched, LeadsBack, has_mark_of, is_given, is_stored_by, newest_of};
 ghost use Rattle.version_chains.specs.Marks.{is_userset};
-ghost use Rattle.version_chains.specs.Placed.{last_place};
+ghost use Rattle.version_chains.specs.Placed.{last_place, most};
 
 use crate::marks::{MarkedSet, MarkedUser, is_userset, kind_mark, tuple_mark};
 use crate::node::{Node, at_place, next_links};
-use crate::places::Places;
+use crate::places::{MOST_PLACES, Places};
 use std::alloc::{AllocError, Global};
 use std::marker::Model;
 use tuple_text::{SetRef, Tuple, UserRef};
@@ -27,25 +27,26 @@ pub struct Arena {
     tuples: Vec<Tuple>,
     // the marks of their users
     users: Vec<u64>,
-    latest: Vec<usize>,
+    latest: Vec<u32>,
     named: Places,
     held: Places,
     nodes: Vec<Node>,
 }
 
 impl Model for Arena {
-    ghost use Rattle.std.specs.Prelude.{map, ◌-◌, vec_len, vec_capacity};
-    ghost use Rattle.version_chains.specs.Arena.{Held};
+    ghost use Rattle.std.specs.Prelude.{map, vec_len, vec_capacity};
+    ghost use Rattle.version_chains.specs.Arena.{Held, room_of};
 
     ghost Value = { Held };
 
-    ghost use Rattle.std.specs.Prelude.{◌≡◌};
+    ghost use Rattle.std.specs.Prelude.{◌≡◌, ◌≤◌, length};
     ghost use Rattle.version_chains.specs.Arena.{IsLinked, touch_of};
     ghost use Rattle.version_chains.specs.Marks.{user_mark};
+    ghost use Rattle.version_chains.specs.Placed.{most};
 
-    ghost view = { λ a. record { tuples = a.tuples.items; touches = map (touch_of a.tuples.items) a.nodes.items; room = vec_capacity a.nodes - vec_len a.nodes } };
+    ghost view = { λ a. record { tuples = a.tuples.items; touches = map (touch_of a.tuples.items) a.nodes.items; room = room_of (vec_capacity a.nodes) (vec_len a.nodes) } };
 
-    ghost invariant = { λ a. IsLinked a.tuples.items a.latest.items a.named a.held a.nodes.items × (a.users.items ≡ map (λ t. user_mark t.user) a.tuples.items) };
+    ghost invariant = { λ a. IsLinked a.tuples.items a.latest.items a.named a.held a.nodes.items × (a.users.items ≡ map (λ t. user_mark t.user) a.tuples.items) × (length a.tuples.items ≤ most) };
 }
 
 /// Whether the tuple has this userset and this user.
@@ -118,7 +119,7 @@ impl Arena {
         ensures { (t : TupleValue) → IsNumber self.now.tuples t number → result ≡ newest_of t self.now.touches (length self.now.touches) }
     {
         match self.latest.get(number) {
-            Some(place) => *place,
+            Some(place) => *place as usize,
             None => 0,
         }
     }
@@ -149,8 +150,8 @@ impl Arena {
             return 0;
         };
         match at_place(self.nodes.as_slice(), touch.jump) {
-            Some(far) if far.at > at && touch.jump <= index => touch.jump,
-            _ => touch.older,
+            Some(far) if far.at > at && touch.jump as usize <= index => touch.jump as usize,
+            _ => touch.older as usize,
         }
     }
 
@@ -216,6 +217,9 @@ impl Arena {
             return Ok(number);
         }
         let number = self.tuples.len();
+        if number >= MOST_PLACES {
+            return Err(AllocError);
+        }
         let copy = tuple.clone()?;
         self.tuples.reserve(1)?;
         self.users.reserve(1)?;
@@ -236,6 +240,7 @@ impl Arena {
 
     /// Makes room for more touches.
     pub fn reserve(&mut self, touches: usize) -> Result<(), AllocError>
+        requires few { length self.old.touches + touches ≤ most }
         ensures tuples { self.new.tuples ≡ self.old.tuples }
         ensures touches { self.new.touches ≡ self.old.touches }
         ensures room { OnOk result (touches ≤ self.new.room) }
@@ -258,7 +263,7 @@ impl Arena {
         let node = Node {
             at,
             live,
-            tuple: number,
+            tuple: number as u32,
             older,
             depth,
             jump,
@@ -266,6 +271,6 @@ impl Arena {
         if self.nodes.push(node).is_err() {
             unreachable!();
         }
-        self.latest[number] = self.nodes.len();
+        self.latest[number] = self.nodes.len() as u32;
     }
 }

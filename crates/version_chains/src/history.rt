@@ -43,7 +43,7 @@ impl<'a> Iterator for History<'a> {
             return None;
         }
         let touch = self.arena.touch(self.place - 1)?;
-        self.place = touch.older;
+        self.place = touch.older as usize;
         Some((touch.at, touch.live))
     }
 }

@@ -26,19 +26,14 @@ pub(crate) struct MarkedUser<'a> {
     ghost is_its_mark: { mark ≡ marks.user_mark (user_value user) },
 }
 
-fn feed_text(hasher: &mut DefaultHasher, text: &str)
-    ensures { hasher.new ≡ marks.fed_text hasher.old text.now }
+/// The bytes of two numbers, in this order.
+fn pair_bytes(first: u64, second: u64) -> [u8; 16]
+    ensures { result ≡ marks.pair_bytes first second }
 {
-    hasher.write(text.as_bytes());
-    hasher.write(&[0xff]);
-}
-
-fn feed_set(hasher: &mut DefaultHasher, set: SetRef<'_>)
-    ensures { hasher.new ≡ marks.fed_set hasher.old (set_value set.entry) }
-{
-    feed_text(hasher, set.namespace);
-    feed_text(hasher, set.id);
-    feed_text(hasher, set.relation);
+    let mut bytes = [0u8; 16];
+    bytes[..8].copy_from_slice(&first.to_le_bytes());
+    bytes[8..].copy_from_slice(&second.to_le_bytes());
+    bytes
 }
 
 #[tactic(auto, unfolding(crate::specs::Marks::set_mark))]
@@ -46,7 +41,10 @@ fn set_mark(set: SetRef<'_>) -> u64
     ensures { result ≡ marks.set_mark (set_value set.entry) }
 {
     let mut hasher = DefaultHasher::new();
-    feed_set(&mut hasher, set);
+    hasher.write(&pair_bytes(set.namespace.len() as u64, set.id.len() as u64));
+    hasher.write(set.namespace.as_bytes());
+    hasher.write(set.id.as_bytes());
+    hasher.write(set.relation.as_bytes());
     hasher.finish()
 }
 
@@ -64,8 +62,7 @@ fn pair_mark(first: u64, second: u64) -> u64
     ensures { result ≡ marks.pair_mark first second }
 {
     let mut hasher = DefaultHasher::new();
-    hasher.write(&first.to_le_bytes());
-    hasher.write(&second.to_le_bytes());
+    hasher.write(&pair_bytes(first, second));
     hasher.finish()
 }
 

@@ -1,7 +1,8 @@
 //! One touch as it is kept, and its links.
 
-ghost use Rattle.std.specs.Prelude.{◌≡◌, ℕ, suc, ◌≤◌, ◌<◌, ◌^◌, length, slice_get, Some, None, MatchOption, IfSome};
+ghost use Rattle.std.specs.Prelude.{◌≡◌, ℕ, suc, ◌≤◌, ◌<◌, length, slice_get, Some, None, MatchOption, IfSome};
 ghost use Rattle.version_chains.specs.Jumps.{AreJumps, IsBack, StandsAt};
+ghost use Rattle.version_chains.specs.Placed.{most};
 ghost use Rattle.version_chains.specs.declared.node.Node.{Node};
 
 /// A touch: its timestamp, whether it adds, the number of its tuple, and the place of the touch of the same tuple
@@ -14,24 +15,24 @@ ghost use Rattle.version_chains.specs.declared.node.Node.{Node};
 pub struct Node {
     pub at: u64,
     pub live: bool,
-    pub tuple: usize,
-    pub older: usize,
-    pub depth: usize,
-    pub jump: usize,
+    pub tuple: u32,
+    pub older: u32,
+    pub depth: u32,
+    pub jump: u32,
 }
 
 /// The touch at a place, which counts from 1.
-pub fn at_place(nodes: &[Node], place: usize) -> Option<&Node>
+pub fn at_place(nodes: &[Node], place: u32) -> Option<&Node>
     ensures { MatchOption result ((i : ℕ) → place ≡ suc i → length nodes.now ≤ i) (λ n. StandsAt nodes.now place n.now) }
 {
     if place == 0 {
         return None;
     }
-    nodes.get(place - 1)
+    nodes.get((place - 1) as usize)
 }
 
 /// Where the second jump from a touch leads, where it is as long as the first.
-fn second_jump(nodes: &[Node], node: &Node) -> Option<usize>
+fn second_jump(nodes: &[Node], node: &Node) -> Option<u32>
     ensures { AreJumps nodes.now → (i : ℕ) → slice_get nodes.now i ≡ Some node.now
         → IfSome result (λ place. IsBack nodes.now node.now.tuple i place) }
 {
@@ -45,14 +46,14 @@ fn second_jump(nodes: &[Node], node: &Node) -> Option<usize>
 }
 
 /// The depth and the jump of the next touch of a tuple, whose touch before it stands at the place `older`.
-pub fn next_links(nodes: &[Node], older: usize) -> (usize, usize)
-    requires { length nodes.now < 2 ^ 63 }
+pub fn next_links(nodes: &[Node], older: u32) -> (u32, u32)
+    requires { length nodes.now < most }
     ensures first { older ≡ 0 → result.1 ≡ suc (length nodes.now) }
     ensures later { AreJumps nodes.now → (i : ℕ) (n : Node) → older ≡ suc i → slice_get nodes.now i ≡ Some n
         → IsBack nodes.now n.tuple i result.1 }
 {
     let Some(node) = at_place(nodes, older) else {
-        return (0, nodes.len() + 1);
+        return (0, nodes.len() as u32 + 1);
     };
     let depth = node.depth.saturating_add(1);
     match second_jump(nodes, node) {

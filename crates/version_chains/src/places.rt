@@ -1,17 +1,20 @@
 //! Places of a list that grows, found by their marks.
 
-ghost use Rattle.std.specs.Prelude.{◌≡◌, ℕ, ◌∷◌, ◌++◌, [], Some, length, slice_get, nat_eq, OnOk, OnErr, List};
+ghost use Rattle.std.specs.Prelude.{◌≡◌, ℕ, ◌∷◌, ◌++◌, [], Some, length, slice_get, nat_eq, IfOk, OnOk, OnErr, List};
 ghost use Rattle.version_chains.specs.Placed.{last_place};
 
 use crate::table::Table;
 use std::alloc::{AllocError, Global};
 use std::marker::Model;
 
+/// How many places there may be, so that each is a number of 32 bits.
+pub const MOST_PLACES: usize = u32::MAX as usize;
+
 /// A place's mark, and the place before it with the same mark.
 #[derive(Clone, Copy, Drop)]
 pub struct Link {
     pub mark: u64,
-    pub older: usize,
+    pub older: u32,
 }
 
 /// A list of marks, from each of which a walk leads back over the places with this mark. Places count from 1, and 0
@@ -30,11 +33,13 @@ impl Model for Places {
 
     ghost Value = { List ℕ };
 
+    ghost use Rattle.std.specs.Prelude.{◌≤◌, length};
     ghost use Rattle.version_chains.specs.Links.{AreLinked};
+    ghost use Rattle.version_chains.specs.Placed.{most};
 
     ghost view = { λ p. map (λ l. l.mark) p.links.items };
 
-    ghost invariant = { λ p. AreLinked p.links.items p.newest };
+    ghost invariant = { λ p. AreLinked p.links.items p.newest × (length p.links.items ≤ most) };
 }
 
 impl Places {
@@ -47,11 +52,22 @@ impl Places {
         }
     }
 
+    /// No place, and memory for so many: until they are more, no push moves what is there. A mark whose chain is full wants
+    /// memory nevertheless.
+    pub fn with_room(alloc: Global, count: usize) -> Result<Places, AllocError>
+        ensures { IfOk result (λ places. places ≡ []) }
+    {
+        Ok(Places {
+            links: Vec::with_capacity(alloc, count)?,
+            newest: Table::with_room(alloc, count)?,
+        })
+    }
+
     /// The newest place with the mark.
     pub fn newest(&self, mark: u64) -> usize
         ensures { result ≡ last_place (nat_eq mark) self.now (length self.now) }
     {
-        self.newest.newest(mark)
+        self.newest.newest(mark) as usize
     }
 
     /// The place before the one at this index, with the same mark.
@@ -59,7 +75,7 @@ impl Places {
         ensures { (mark : ℕ) → slice_get self.now index ≡ Some mark → result ≡ last_place (nat_eq mark) self.now index }
     {
         match self.links.get(index) {
-            Some(link) => link.older,
+            Some(link) => link.older as usize,
             None => 0,
         }
     }
@@ -69,10 +85,12 @@ impl Places {
         ensures ok { OnOk result (self.new ≡ self.old ++ mark ∷ []) }
         ensures err { OnErr result (self.new ≡ self.old) }
     {
-        let older = self.newest(mark);
+        if self.links.len() >= MOST_PLACES {
+            return Err(AllocError);
+        }
         self.links.reserve(1)?;
         self.newest.spread(*self.links.allocator(), &self.links)?;
-        self.newest.set(mark, self.links.len() + 1)?;
+        let older = self.newest.set(mark, self.links.len() as u32 + 1)?;
         if self.links.push(Link { mark, older }).is_err() {
             unreachable!();
         }

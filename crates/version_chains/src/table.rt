@@ -1,21 +1,18 @@
 //! The newest place of each mark, in a table of chains.
 
-ghost use Rattle.std.specs.Prelude.{◌≡◌, ◌<◌, ◌%◌, ◌-◌, ℕ, true, None, map, length, cond, nat_eq, IfOk, OnOk, OnErr};
+ghost use Rattle.std.specs.Prelude.{◌≡◌, ◌<◌, ◌≤◌, ◌%◌, ◌-◌, ℕ, true, None, map, length, cond, nat_eq, IfOk, OnOk, OnErr};
 ghost use Rattle.std.specs.Bool.{OnTrue};
 ghost use Rattle.std.specs.BTreeMap.{get};
 ghost use Rattle.std.specs.Ordering.{nat_cmp};
 ghost use Rattle.version_chains.specs.Links.{IsTable, ends, entry_for, entry_in, head_of, longest, newest_of};
-ghost use Rattle.version_chains.specs.Placed.{last_place};
+ghost use Rattle.version_chains.specs.Placed.{last_place, most};
 
-use crate::places::Link;
+use crate::places::{Link, MOST_PLACES};
 use std::alloc::{AllocError, Global};
 use std::collections::BTreeMap;
 
 /// How many entries a chain may have.
 const LONGEST: usize = 16;
-
-/// How many entries there are for each chain, before there are more chains.
-const MOST: usize = 2;
 
 /// How many chains there are at first.
 const FEWEST: usize = 8;
@@ -24,8 +21,8 @@ const FEWEST: usize = 8;
 #[derive(Clone, Copy, Drop)]
 pub struct Entry {
     pub mark: u64,
-    pub place: usize,
-    pub next: usize,
+    pub place: u32,
+    pub next: u32,
 }
 
 /// The newest place of each mark. 0 is no place.
@@ -33,9 +30,9 @@ pub struct Entry {
 /// A mark stands in the chain that its remainder names, or in a tree where that chain is full.
 #[derive(Drop)]
 pub struct Table {
-    heads: Vec<usize>,
+    heads: Vec<u32>,
     entries: Vec<Entry>,
-    rest: BTreeMap<u64, usize>,
+    rest: BTreeMap<u64, u32>,
 }
 
 /// The index of a mark's chain.
@@ -48,7 +45,7 @@ fn chain_of(mark: u64, chains: usize) -> usize
 }
 
 /// The first entry of a mark's chain.
-fn head(heads: &[usize], mark: u64) -> usize
+fn head(heads: &[u32], mark: u64) -> u32
     ensures { result ≡ head_of heads.now mark }
 {
     if heads.is_empty() {
@@ -58,7 +55,7 @@ fn head(heads: &[usize], mark: u64) -> usize
 }
 
 /// The mark's entry in the chain that begins here.
-fn entry_of(entries: &[Entry], mark: u64, head: usize) -> usize
+fn entry_of(entries: &[Entry], mark: u64, head: u32) -> u32
     ensures { result ≡ entry_in entries.now mark longest head }
 {
     let mut at = head;
@@ -66,7 +63,7 @@ fn entry_of(entries: &[Entry], mark: u64, head: usize) -> usize
         if at == 0 {
             return 0;
         }
-        match entries.get(at - 1) {
+        match entries.get((at - 1) as usize) {
             Some(entry) => {
                 if entry.mark == mark {
                     return at;
@@ -80,7 +77,7 @@ fn entry_of(entries: &[Entry], mark: u64, head: usize) -> usize
 }
 
 /// Whether one more entry may stand before the chain that begins here.
-fn has_room(entries: &[Entry], head: usize) -> bool
+fn has_room(entries: &[Entry], head: u32) -> bool
     ensures { result ≡ ends entries.now (longest - 1) head }
 {
     let mut at = head;
@@ -88,7 +85,7 @@ fn has_room(entries: &[Entry], head: usize) -> bool
         if at == 0 {
             return true;
         }
-        match entries.get(at - 1) {
+        match entries.get((at - 1) as usize) {
             Some(entry) => at = entry.next,
             None => return true,
         }
@@ -96,25 +93,15 @@ fn has_room(entries: &[Entry], head: usize) -> bool
     at == 0
 }
 
-fn empty_table(alloc: Global, chains: usize) -> Result<Table, AllocError>
-    ensures table { IfOk result IsTable }
-    ensures none { IfOk result (λ t. (mark : ℕ) → newest_of t mark ≡ 0) }
-{
-    Ok(Table {
-        heads: vec![in alloc; 0usize; chains]?,
-        entries: Vec::new(alloc),
-        rest: BTreeMap::new(alloc),
-    })
-}
-
 /// So many chains, with the newest place of each mark of the links.
 fn table_of(alloc: Global, links: &[Link], chains: usize) -> Result<Table, AllocError>
+    requires { length links.now ≤ most }
     ensures table { IfOk result IsTable }
     ensures newest { IfOk result (λ t. (mark : ℕ) → newest_of t mark ≡ last_place (nat_eq mark) (map (λ l. l.mark) links.now) (length links.now)) }
 {
-    let mut table = empty_table(alloc, chains)?;
+    let mut table = Table::with_room(alloc, chains)?;
     for (index, link) in links.iter().enumerate() {
-        table.set(link.mark, index + 1)?;
+        table.set(link.mark, index as u32 + 1)?;
     }
     Ok(table)
 }
@@ -131,8 +118,20 @@ impl Table {
         }
     }
 
+    /// So many chains, and room for as many marks.
+    pub fn with_room(alloc: Global, chains: usize) -> Result<Table, AllocError>
+        ensures table { IfOk result IsTable }
+        ensures none { IfOk result (λ t. (mark : ℕ) → newest_of t mark ≡ 0) }
+    {
+        Ok(Table {
+            heads: vec![in alloc; 0u32; chains]?,
+            entries: Vec::with_capacity(alloc, chains)?,
+            rest: BTreeMap::new(alloc),
+        })
+    }
+
     /// The mark's entry.
-    fn entry(&self, mark: u64) -> usize
+    fn entry(&self, mark: u64) -> u32
         ensures { result ≡ entry_for self.now mark }
     {
         entry_of(&self.entries, mark, head(&self.heads, mark))
@@ -142,27 +141,31 @@ impl Table {
     fn may_chain(&self, mark: u64) -> bool
         ensures some { OnTrue result (0 < length self.now.heads.items) }
         ensures room { OnTrue result (ends self.now.entries.items (longest - 1) (head_of self.now.heads.items mark) ≡ true) }
+        ensures few { OnTrue result (length self.now.entries.items < most) }
         ensures none { OnTrue result (get nat_cmp self.now.rest mark ≡ None) }
     {
         !self.heads.is_empty()
+            && self.entries.len() < MOST_PLACES
             && !self.rest.contains_key(&mark)
             && has_room(&self.entries, head(&self.heads, mark))
     }
 
     /// The newest place of the mark, or 0 where it has none.
-    pub fn newest(&self, mark: u64) -> usize
+    pub fn newest(&self, mark: u64) -> u32
         ensures { result ≡ newest_of self.now mark }
     {
         let entry = self.entry(mark);
         if entry > 0 {
-            return self.entries[entry - 1].place;
+            return self.entries[(entry - 1) as usize].place;
         }
         self.rest.get(&mark).copied().unwrap_or(0)
     }
 
-    /// Makes a place the mark's newest. Where the mark has one already, no memory is wanted.
-    pub fn set(&mut self, mark: u64, place: usize) -> Result<(), AllocError>
+    /// Makes a place the mark's newest, and gives the one that was its newest before. Where the mark has one already, no
+    /// memory is wanted.
+    pub fn set(&mut self, mark: u64, place: u32) -> Result<u32, AllocError>
         requires { IsTable self.old }
+        ensures older { IfOk result (λ older. older ≡ newest_of self.old mark) }
         ensures table { IsTable self.new }
         ensures ok { OnOk result ((m : ℕ) → newest_of self.new m ≡ cond (nat_eq m mark) place (newest_of self.old m)) }
         ensures err { OnErr result ((m : ℕ) → newest_of self.new m ≡ newest_of self.old m) }
@@ -170,27 +173,32 @@ impl Table {
     {
         let entry = self.entry(mark);
         if entry > 0 {
-            self.entries[entry - 1].place = place;
+            let found = &mut self.entries[(entry - 1) as usize];
+            let older = found.place;
+            found.place = place;
+            Ok(older)
         } else if self.may_chain(mark) {
             let next = head(&self.heads, mark);
             self.entries.push(Entry { mark, place, next })?;
             let chain = chain_of(mark, self.heads.len());
-            self.heads[chain] = self.entries.len();
+            self.heads[chain] = self.entries.len() as u32;
+            Ok(0)
         } else {
-            self.rest.insert(mark, place)?;
+            Ok(self.rest.insert(mark, place)?.unwrap_or(0))
         }
-        Ok(())
     }
 
-    /// Makes more chains where there are many entries for each. What is found stays.
+    /// Makes more chains where there is no more than one for each entry, and then twice as many, so that a list which grows
+    /// is spread seldom. What is found stays.
     pub fn spread(&mut self, alloc: Global, links: &[Link]) -> Result<(), AllocError>
         requires newest { (mark : ℕ) → newest_of self.old mark ≡ last_place (nat_eq mark) (map (λ l. l.mark) links.now) (length links.now) }
         requires table { IsTable self.old }
+        requires few { length links.now ≤ most }
         ensures table { IsTable self.new }
         ensures same { (mark : ℕ) → newest_of self.new mark ≡ newest_of self.old mark }
     {
-        if self.heads.len() <= self.entries.len() / MOST {
-            *self = table_of(alloc, links, self.entries.len() + FEWEST)?;
+        if self.heads.len() <= self.entries.len() {
+            *self = table_of(alloc, links, (self.entries.len() * 2).max(FEWEST))?;
         }
         Ok(())
     }

@@ -39,18 +39,18 @@ fn linked(rt: &HostRuntime) -> Result<Chains, Fail> {
     Ok(chains)
 }
 
-fn older_of(chains: &Chains, index: usize) -> Option<usize> {
+fn older_of(chains: &Chains, index: usize) -> Option<u32> {
     Some(chains.arena().touch(index)?.older)
 }
 
-fn jump_of(chains: &Chains, index: usize) -> Option<usize> {
+fn jump_of(chains: &Chains, index: usize) -> Option<u32> {
     Some(chains.arena().touch(index)?.jump)
 }
 
 #[test]
 fn links_between_touches(rt: HostRuntime) -> Result<(), Fail> {
     let chains = linked(&rt)?;
-    for (index, older) in [(0usize, 0usize), (1, 1), (2, 2), (3, 0)] {
+    for (index, older) in [(0usize, 0u32), (1, 1), (2, 2), (3, 0)] {
         assert!(rt; older_of(&chains, index) == Some(older), "of touch {index}");
     }
     assert!(rt; chains.arena().sibling(0) == 0);
@@ -61,7 +61,7 @@ fn links_between_touches(rt: HostRuntime) -> Result<(), Fail> {
 #[test]
 fn jumps_along_a_chain(rt: HostRuntime) -> Result<(), Fail> {
     let chains = turned(&rt, &[10, 20, 30, 40, 50, 60, 70, 80])?;
-    for (index, jump) in [1usize, 1, 2, 1, 4, 5, 4, 1].iter().enumerate() {
+    for (index, jump) in [1u32, 1, 2, 1, 4, 5, 4, 1].iter().enumerate() {
         assert!(rt; jump_of(&chains, index) == Some(*jump), "of touch {index}");
     }
     Ok(())

@@ -7,9 +7,9 @@ use Rattle.version_chains.specs.Placed.{IsWalk}
 use Rattle.judgement.proofs.facts.is_found.Given as goal
 
 abbrev pub invariant-loop-place : goal.invariant-loop-place
-invariant-loop-place l =
+invariant-loop-place g l =
     let tuple = fact_tuple (fact_of (set_value l.set.set) l.user) in
-    IsWalk (λ t. nat_eq (tuple_mark tuple) (tuple_mark t)) (λ t. tuple_eq t tuple) (map fact_tuple l.facts) l.place
+    IsWalk (λ t. nat_eq (tuple_mark tuple) (tuple_mark t)) (λ t. tuple_eq t tuple) (map fact_tuple (map g.F.KnownFact.fact l.facts)) l.place
 
 abbrev pub decreases-loop-place : goal.decreases-loop-place
-decreases-loop-place l = l.place
+decreases-loop-place g l = l.place

@@ -11,7 +11,7 @@ use Rattle.judgement.proofs.PassLemmas.{barred_by_sets}
 use Rattle.judgement.proofs.stored.is_barred.Goals as goal
 
 pub returns : goal.returns
-returns c =
+returns g c =
     let both = barred_by_sets c.args.trace.now.commits c.args.at (set_value c.args.set.set) c.usersets-sets.result
     (λ g. subst (λ (cs : List Commit). list_any (set_eq g) c.usersets-sets.result ≡ is_stored cs c.args.at (tuple_of (set_value c.args.set.set) (Set g))) c.chains.ensures (c.usersets-sets.ensures.stored g))
     c.args.known.now (option_map (λ s. s.now) c.args.relation) c.args.user (rule_at c.args.trace.now.declarations c.args.at) in

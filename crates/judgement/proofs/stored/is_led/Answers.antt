@@ -10,7 +10,7 @@ use Rattle.judgement.proofs.PassLemmas.{led_by_sets}
 use Rattle.judgement.proofs.stored.is_led.Goals as goal
 
 pub returns : goal.returns
-returns c =
+returns g c =
     let both = led_by_sets c.args.trace.now.commits c.args.at (set_value c.args.set.set) c.usersets-sets.result
     (λ g. subst (λ (cs : List Commit). list_any (set_eq g) c.usersets-sets.result ≡ is_stored cs c.args.at (tuple_of (set_value c.args.set.set) (Set g))) c.chains.ensures (c.usersets-sets.ensures.stored g))
     c.args.known.now (option_map (λ s. s.now) c.args.relation) c.args.user in

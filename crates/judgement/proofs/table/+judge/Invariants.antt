@@ -8,27 +8,27 @@ use Rattle.judgement.specs.Judgement.{Established, SomeEstablished, EachEstablis
 use Rattle.judgement.proofs.table.+judge.Given as goal
 
 abbrev pub decreases-established : goal.decreases-established
-decreases-established l = goal.size-established l
+decreases-established g l = goal.size-established g l
 
 abbrev pub decreases-refuted : goal.decreases-refuted
-decreases-refuted l = goal.size-refuted l
+decreases-refuted g l = goal.size-refuted g l
 
 abbrev pub invariant-established-loop-child : goal.invariant-established-loop-child
-invariant-established-loop-child l =
+invariant-established-loop-child g l =
     SomeEstablished (rule_at l.trace.declarations l.at) (store_at l.trace.commits l.at) l.known (fact_of (set_value l.set.set) l.user) (expressions_of (drop l.child-index l.child-items))
     ↔ Established (rule_at l.trace.declarations l.at) (store_at l.trace.commits l.at) l.known (fact_of (set_value l.set.set) l.user) (expression_of l.fn.rewrite)
 
 abbrev pub invariant-established-loop-child-2 : goal.invariant-established-loop-child-2
-invariant-established-loop-child-2 l =
+invariant-established-loop-child-2 g l =
     EachEstablished (rule_at l.trace.declarations l.at) (store_at l.trace.commits l.at) l.known (fact_of (set_value l.set.set) l.user) (expressions_of (drop l.child-index l.child-items))
     ↔ Established (rule_at l.trace.declarations l.at) (store_at l.trace.commits l.at) l.known (fact_of (set_value l.set.set) l.user) (expression_of l.fn.rewrite)
 
 abbrev pub invariant-refuted-loop-child : goal.invariant-refuted-loop-child
-invariant-refuted-loop-child l =
+invariant-refuted-loop-child g l =
     EachRefuted (rule_at l.trace.declarations l.at) (store_at l.trace.commits l.at) l.known (fact_of (set_value l.set.set) l.user) (expressions_of (drop l.child-index l.child-items))
     ↔ Refuted (rule_at l.trace.declarations l.at) (store_at l.trace.commits l.at) l.known (fact_of (set_value l.set.set) l.user) (expression_of l.fn.rewrite)
 
 abbrev pub invariant-refuted-loop-child-2 : goal.invariant-refuted-loop-child-2
-invariant-refuted-loop-child-2 l =
+invariant-refuted-loop-child-2 g l =
     SomeRefuted (rule_at l.trace.declarations l.at) (store_at l.trace.commits l.at) l.known (fact_of (set_value l.set.set) l.user) (expressions_of (drop l.child-index l.child-items))
     ↔ Refuted (rule_at l.trace.declarations l.at) (store_at l.trace.commits l.at) l.known (fact_of (set_value l.set.set) l.user) (expression_of l.fn.rewrite)

@@ -2,13 +2,13 @@ use Rattle.std.proofs.Common.{◌∙◌, rules}
 use Rattle.trace_lines.proofs.Sampling.{edges_step, unbroken_at}
 use Rattle.trace_lines.proofs.sample.check_all.Goals as goal
 
-pub returns-in_err-check_tuple_again : goal.returns-in_err-check_tuple_again
-returns-in_err-check_tuple_again c =
+pub returns-in_err-check_tuple_by : goal.returns-in_err-check_tuple_by
+returns-in_err-check_tuple_by c =
     let was = unbroken_at c.requires.before c.args.tuples.now c.loop-tuple.tuple-index c.tuple-item.result c.loop-tuple-test.true c.tuple-item.is c.requires.unbroken in
     rw (
       c.loop-tuple.invariant,
       edges_step c.args.rules.now c.args.tuples.now c.loop-tuple.tuple-index c.tuple-item.result c.loop-tuple-test.true c.tuple-item.is,
-      ← c.in_err-check_tuple_again.ensures c.requires.before c.requires.again was,
+      ← c.in_err-check_tuple_by.ensures c.requires.before c.requires.again was,
     ) (search rules)
 
 pub loop-tuple-preserved : goal.loop-tuple-preserved
@@ -16,4 +16,4 @@ loop-tuple-preserved c =
     let was = unbroken_at c.requires.before c.args.tuples.now c.loop-tuple.tuple-index c.tuple-item.result c.loop-tuple-test.true c.tuple-item.is c.requires.unbroken in
     c.loop-tuple.invariant
     ∙ edges_step c.args.rules.now c.args.tuples.now c.loop-tuple.tuple-index c.tuple-item.result c.loop-tuple-test.true c.tuple-item.is
-    ∙ rw (← c.in_ok-check_tuple_again.ensures c.requires.before c.requires.again was) (search rules)
+    ∙ rw (← c.in_ok-check_tuple_by.ensures c.requires.before c.requires.again was) (search rules)

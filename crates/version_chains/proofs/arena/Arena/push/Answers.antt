@@ -23,4 +23,4 @@ invariant_of-self c =
     let is = read_item c.self.inside.latest.items c.self.inside.latest.items c.args.number c.index-older.result.now (λ i. c.self.inside.latest.items) within c.index-older.ensures in
     let on = subst (λ (ns : List Node). Goes ns c.index-older.result.now c.next_links-depth.result.1) c.as_slice.ensures.value (c.next_links-depth.ensures.first, c.next_links-depth.ensures.later) in
     let late = up_to_nodes c.self.inside.tuples.items c.self.inside.nodes.items c.args.at (subst (λ (h : Held). AreUpTo c.args.at h.touches) (sym c.self.view_is) c.requires.late) in
-    (rw (items, count) (more_touches c.self.inside.tuples.items c.self.inside.latest.items c.self.inside.named c.self.inside.held c.self.inside.nodes.items c.self.invariant.0 node known is on late), c.self.invariant.1)
+    (rw (items, count) (more_touches c.self.inside.tuples.items c.self.inside.latest.items c.self.inside.named c.self.inside.held c.self.inside.nodes.items c.self.invariant.0 node known is on late), c.self.invariant.1, c.self.invariant.2)

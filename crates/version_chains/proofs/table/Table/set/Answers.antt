@@ -2,25 +2,33 @@ use Rattle.std.proofs.Common.{rules, ◌≡◌, ◌∙◌, ◌-◌, ◌<◌, sym
 use Rattle.std.specs.BTreeMap.{get}
 use Rattle.std.specs.Ordering.{nat_cmp}
 use Rattle.version_chains.specs.declared.table.Entry.{Entry}
-use Rattle.version_chains.specs.Links.{head_of, longest, newest_in}
+use Rattle.version_chains.specs.Links.{head_of, longest, newest_in, place_in}
 use Rattle.version_chains.proofs.PlacedLemmas.{read_item}
-use Rattle.version_chains.proofs.TableLemmas.{entry_within, newest-placed, chained-placed, newest-in_rest, newest-of_rest, newest-same_rest, newest-written, chained-written, on_err}
+use Rattle.version_chains.proofs.TableLemmas.{entry_within, newest_at_entry, newest-placed, chained-placed, newest-in_rest, newest-of_rest, newest-same_rest, newest-written, chained-written, on_err}
 use Rattle.version_chains.proofs.table.Table.set.Goals as goal
 
-pub index_mut-requires : goal.index_mut-requires
-index_mut-requires c =
+pub index_mut-found-requires : goal.index_mut-found-requires
+index_mut-found-requires c =
     let some : 0 < c.entry-entry.result = search rules in
     let within = entry_within c.args.self.now.entries.items c.args.mark longest (head_of c.args.self.now.heads.items c.args.mark) c.entry-entry.result c.entry-entry.ensures some in
     let less : c.entry-entry.result - 1 < length c.args.self.now.entries.items = omega (arith, some, within) in
     search rules
+
+pub returns-then-entry-gt0-clause-older : goal.returns-then-entry-gt0-clause-older
+returns-then-entry-gt0-clause-older c =
+    let some : 0 < c.entry-entry.result = search rules in
+    let within = entry_within c.args.self.now.entries.items c.args.mark longest (head_of c.args.self.now.heads.items c.args.mark) c.entry-entry.result c.entry-entry.ensures some in
+    let less : c.entry-entry.result - 1 < length c.args.self.now.entries.items = omega (arith, some, within) in
+    newest_at_entry longest c.args.self.now.heads.items c.args.self.now.entries.items c.args.self.now.rest c.args.mark c.entry-entry.result c.index_mut-found.result.now c.entry-entry.ensures some
+    (read_item c.args.self.now.entries.items c.args.self.now.entries.items (c.entry-entry.result - 1) c.index_mut-found.result.now refl less (search rules))
 
 pub returns-then-entry-gt0-clause-table : goal.returns-then-entry-gt0-clause-table
 returns-then-entry-gt0-clause-table c =
     let some : 0 < c.entry-entry.result = search rules in
     let within = entry_within c.args.self.now.entries.items c.args.mark longest (head_of c.args.self.now.heads.items c.args.mark) c.entry-entry.result c.entry-entry.ensures some in
     let less : c.entry-entry.result - 1 < length c.args.self.now.entries.items = omega (arith, some, within) in
-    chained-placed c.args.self.now.entries.items (c.entry-entry.result - 1) c.args.place c.index_mut.result.now
-    (read_item c.args.self.now.entries.items c.args.self.now.entries.items (c.entry-entry.result - 1) c.index_mut.result.now refl less (search rules))
+    chained-placed c.args.self.now.entries.items (c.entry-entry.result - 1) c.args.place c.index_mut-found.result.now
+    (read_item c.args.self.now.entries.items c.args.self.now.entries.items (c.entry-entry.result - 1) c.index_mut-found.result.now refl less (search rules))
     c.args.self.now.heads.items c.requires
 
 pub returns-then-entry-gt0-clause-ok : goal.returns-then-entry-gt0-clause-ok
@@ -29,9 +37,15 @@ returns-then-entry-gt0-clause-ok c =
     let within = entry_within c.args.self.now.entries.items c.args.mark longest (head_of c.args.self.now.heads.items c.args.mark) c.entry-entry.result c.entry-entry.ensures some in
     let is : c.entry-entry.result ≡ suc (c.entry-entry.result - 1) = omega (arith, some) in
     let less : c.entry-entry.result - 1 < length c.args.self.now.entries.items = omega (arith, some, within) in
-    newest-placed c.args.self.now.entries.items (c.entry-entry.result - 1) c.args.place c.index_mut.result.now
-    (read_item c.args.self.now.entries.items c.args.self.now.entries.items (c.entry-entry.result - 1) c.index_mut.result.now refl less (search rules))
+    newest-placed c.args.self.now.entries.items (c.entry-entry.result - 1) c.args.place c.index_mut-found.result.now
+    (read_item c.args.self.now.entries.items c.args.self.now.entries.items (c.entry-entry.result - 1) c.index_mut-found.result.now refl less (search rules))
     c.args.self.now.heads.items c.args.self.now.rest c.args.mark longest (sym c.entry-entry.ensures ∙ is)
+
+pub returns-in_ok-insert-clause-older : goal.returns-in_ok-insert-clause-older
+returns-in_ok-insert-clause-older c =
+    let none : 0 ≡ c.entry-entry.result = search rules in
+    let rest : c.unwrap_or.result ≡ place_in c.args.self.now.entries.items c.args.self.now.rest c.args.mark 0 = search rules in
+    rest ∙ ap (place_in c.args.self.now.entries.items c.args.self.now.rest c.args.mark) (none ∙ c.entry-entry.ensures)
 
 pub returns-in_ok-insert-clause-ok : goal.returns-in_ok-insert-clause-ok
 returns-in_ok-insert-clause-ok c =
@@ -59,6 +73,11 @@ returns-in_err-insert-clause-unknown c =
     let absent : get nat_cmp c.args.self.now.rest c.args.mark ≡ None = search rules in
     on_err c.from_residual-in_err-insert.result
     (newest-of_rest longest c.args.self.now.heads.items c.args.self.now.entries.items c.args.self.now.rest c.args.mark (sym c.entry-entry.ensures ∙ none) absent)
+
+pub returns-in_ok-push-clause-older : goal.returns-in_ok-push-clause-older
+returns-in_ok-push-clause-older c =
+    let none : c.entry-entry.result ≡ 0 = search rules in
+    sym (newest-of_rest longest c.args.self.now.heads.items c.args.self.now.entries.items c.args.self.now.rest c.args.mark (sym c.entry-entry.ensures ∙ none) c.if-may_chain.ensures.none)
 
 pub returns-in_ok-push-clause-table : goal.returns-in_ok-push-clause-table
 returns-in_ok-push-clause-table c =

@@ -1,7 +1,0 @@
-use Rattle.std.proofs.Common.{◌∙◌}
-use Rattle.std.proofs.lemmas.List.Sorted.{searched}
-use Rattle.evidence_check.proofs.Places.{never_falls, found_place}
-use Rattle.evidence_check.proofs.recorder.place_of.Goals as goal
-
-pub returns : goal.returns
-returns c = c.ok.ensures.value ∙ found_place c.args.lines.now c.requires c.args.line c.binary_search.result (searched c.args.lines.now c.args.line c.binary_search.result c.binary_search.ensures.position (never_falls c.args.lines.now c.requires))

@@ -1,0 +1,131 @@
+//! Judging the records as they are read.
+
+ghost use Rattle.std.specs.Prelude.{◌≡◌, replicate, slice_get, IfOk};
+ghost use Rattle.json_lines.specs.Data.{line_data};
+ghost use Rattle.evidence_check.specs.Causes.{Gives};
+ghost use Rattle.evidence_check.specs.Judging.{is_judged, judge_line, judged_by, no_judgements, put_judged};
+ghost use Rattle.evidence_check.specs.Steps.{step_values};
+ghost use Rattle.evidence_check.specs.declared.judged.Judged.TheVariants.{Missing};
+
+use crate::cause::EvidenceCause;
+use crate::judged::{Judged, judge_steps};
+use crate::placed::{lines_of, placed_steps};
+use crate::records::has_too_many;
+use crate::step::Steps;
+use json_lines::{JsonLine, TakeJson};
+use std::alloc::{AllocError, Global};
+use std::marker::Model;
+use trace_lines::Trace;
+
+/// How the entries of a trace are judged by the records read so far, none of which is kept.
+#[derive(Drop)]
+pub(crate) struct Judging<'t> {
+    alloc: Global,
+    trace: &'t Trace,
+    lines: Vec<u64>,
+    judgements: Vec<Judged>,
+}
+
+impl<'t> Model for Judging<'t> {
+    ghost use Rattle.evidence_check.specs.Records.{Judgements};
+    ghost use Rattle.evidence_check.specs.EvidenceCode.{judgements_code};
+
+    ghost Value = { Judgements };
+
+    ghost coded = { judgements_code };
+
+    ghost use Rattle.std.specs.List.Sorted.{IsStrictlyIncreasing};
+
+    ghost view = { λ j. record { trace = j.trace.now; lines = j.lines.items; judgements = j.judgements.items } };
+
+    ghost invariant = { λ j. IsStrictlyIncreasing j.lines.items };
+}
+
+fn none_judged(alloc: Global, count: usize) -> Result<Vec<Judged>, AllocError>
+    ensures { IfOk result (λ v. v.items ≡ replicate count Missing) }
+{
+    vec![in alloc; Judged::Missing; count]
+}
+
+impl<'t> Judging<'t> {
+    pub(crate) fn new(alloc: Global, trace: &'t Trace) -> Result<Judging<'t>, AllocError>
+        ensures { IfOk result (λ j. j ≡ no_judgements trace.now) }
+    {
+        let lines = lines_of(alloc, trace)?;
+        let judgements = none_judged(alloc, trace.len())?;
+        Ok(Judging {
+            alloc,
+            trace,
+            lines,
+            judgements,
+        })
+    }
+
+    /// How each entry is judged.
+    pub(crate) fn into_judgements(self) -> Vec<Judged>
+        ensures { result.items ≡ self.entry.judgements }
+    {
+        self.judgements
+    }
+
+    fn is_judged(&self, place: usize) -> bool
+        ensures { result ≡ is_judged (slice_get self.now.judgements place) }
+    {
+        match self.judgements.get(place) {
+            Some(Judged::Missing) => false,
+            Some(_) => true,
+            None => false,
+        }
+    }
+
+    /// The judgement of an entry by steps.
+    fn judgement(&self, place: usize, steps: &Steps) -> Result<Judged, AllocError>
+        ensures { IfOk result (λ j. j ≡ judged_by self.now.trace (slice_get self.now.trace.entries place) (step_values steps.now.items)) }
+    {
+        if place < self.trace.len() {
+            judge_steps(self.trace, self.trace.entry(place), steps)
+        } else {
+            Ok(Judged::Missing)
+        }
+    }
+
+    #[tactic(auto, unfolding(crate::specs::Judging::put_judged))]
+    fn put(&mut self, place: usize, steps: &Steps) -> Result<(), EvidenceCause>
+        ensures { Gives (λ _. self.new) result (put_judged self.old place (step_values steps.now.items)) }
+    {
+        if self.is_judged(place) {
+            return Err(EvidenceCause::RepeatedLine);
+        }
+        if has_too_many(steps) {
+            return Err(EvidenceCause::TooMany);
+        }
+        let judgement = self.judgement(place, steps)?;
+        if place < self.judgements.len() {
+            self.judgements[place] = judgement;
+        }
+        Ok(())
+    }
+
+    #[tactic(auto, unfolding(crate::specs::Judging::judge_line))]
+    fn take_record(&mut self, json: &JsonLine<'_>) -> Result<(), EvidenceCause>
+        ensures { Gives (λ _. self.new) result (judge_line self.old (line_data json.now)) }
+    {
+        let (place, steps) = placed_steps(self.alloc, &self.lines, json)?;
+        self.put(place, &steps)
+    }
+}
+
+impl<'t> TakeJson for Judging<'t> {
+    ghost use Rattle.std.specs.Prelude.{ℕ};
+    ghost use Rattle.evidence_check.specs.Judging.{judge_line};
+
+    type Cause = EvidenceCause;
+
+    ghost next = { λ _. 0 };
+
+    ghost taken = { λ _. judge_line };
+
+    fn take_value(&mut self, _number: u64, line: &JsonLine<'_>) -> Result<(), EvidenceCause> {
+        self.take_record(line)
+    }
+}

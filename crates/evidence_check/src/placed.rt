@@ -1,0 +1,58 @@
+//! The places of records among the entries of a trace.
+
+ghost use Rattle.std.specs.Prelude.{◌≡◌, IfOk};
+ghost use Rattle.std.specs.List.Sorted.{IsStrictlyIncreasing};
+ghost use Rattle.json_lines.specs.Data.{line_data};
+ghost use Rattle.trace_lines.specs.Values.{entry_lines};
+ghost use Rattle.evidence_check.specs.Causes.{Gives};
+ghost use Rattle.evidence_check.specs.Reading.{place_of, placed_steps};
+ghost use Rattle.evidence_check.specs.Steps.{step_values};
+
+use crate::cause::EvidenceCause;
+use crate::records::{are_known, steps_at, steps_in};
+use crate::step::Steps;
+use json_lines::JsonLine;
+use json_lines::fields::number_at;
+use std::alloc::{AllocError, Global};
+use trace_lines::Trace;
+
+/// The lines that the entries of a trace stand on.
+pub(crate) fn lines_of(alloc: Global, trace: &Trace) -> Result<Vec<u64>, AllocError>
+    ensures lines { IfOk result (λ v. v.items ≡ entry_lines trace.now.entries) }
+    ensures rising { IfOk result (λ v. IsStrictlyIncreasing v.items) }
+{
+    let mut lines = Vec::new(alloc);
+    for i in 0..trace.len() {
+        lines.push(trace.entry(i).line)?;
+    }
+    Ok(lines)
+}
+
+/// The place of a line among lines that rise.
+fn place_of(lines: &[u64], line: u64) -> Option<usize>
+    requires { IsStrictlyIncreasing lines.now }
+    ensures { result ≡ place_of line lines.now }
+{
+    lines.binary_search(&line).ok()
+}
+
+/// The place of the entry that a record names, and the steps of the record.
+#[tactic(auto, unfolding(crate::specs::Reading::placed_steps))]
+pub(crate) fn placed_steps(
+    alloc: Global,
+    lines: &[u64],
+    json: &JsonLine<'_>,
+) -> Result<(usize, Steps), EvidenceCause>
+    requires { IsStrictlyIncreasing lines.now }
+    ensures { Gives (λ p. (p.0, step_values p.1.items)) result (placed_steps lines.now (line_data json.now)) }
+{
+    let record = json.root();
+    let line = number_at(&record, "line").ok_or(EvidenceCause::Shape)?;
+    let list = steps_at(&record).ok_or(EvidenceCause::Shape)?;
+    let steps = steps_in(alloc, &list)?;
+    if !are_known(list.items()) {
+        return Err(EvidenceCause::UnknownStep);
+    }
+    let place = place_of(lines, line).ok_or(EvidenceCause::StrayLine)?;
+    Ok((place, steps))
+}

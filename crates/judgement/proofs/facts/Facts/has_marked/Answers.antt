@@ -1,0 +1,15 @@
+use Rattle.std.proofs.Common.{◌≡◌, ◌∙◌, List, map, ap, sym, subst, ◌↔◌, IsTrue, Bool}
+use Rattle.std.specs.Prelude.{Contains}
+use Rattle.std.specs.List.{list_any}
+use Rattle.tuple_text.specs.Order.{fact_eq}
+use Rattle.tuple_text.specs.Refs.{set_value}
+use Rattle.tuple_text.specs.Tuples.{FactValue, fact_of}
+use Rattle.judgement.proofs.MarkedLemmas.{there_if_any}
+use Rattle.judgement.proofs.facts.Facts.has_marked.Goals as goal
+
+pub returns-else-self : goal.returns-else-self
+returns-else-self g c =
+    let fact = fact_of (set_value c.args.set.set) c.args.user in
+    let kept : map g.F.KnownFact.fact c.deref-else-self.result.now ≡ c.args.self.now = ap (map g.F.KnownFact.fact) c.deref-else-self.ensures.value ∙ c.self.view_is in
+    let test : c.is_marked_among.result ≡ list_any (fact_eq fact) c.args.self.now = c.is_marked_among.ensures ∙ ap (list_any (fact_eq fact)) kept in
+    subst (λ (b : Bool). IsTrue b ↔ Contains c.args.self.now fact) (sym test) (there_if_any c.args.self.now fact)

@@ -1,0 +1,83 @@
+//! Facts that may be known: owned ones, and borrowed ones with a mark.
+
+ghost use Rattle.std.specs.Prelude.{◌≡◌};
+ghost use Rattle.tuple_text.specs.Order.{fact_eq};
+ghost use Rattle.tuple_text.specs.Refs.{set_value};
+ghost use Rattle.tuple_text.specs.Tuples.{fact_of, fact_tuple};
+ghost use Rattle.version_chains.specs.Marks.{tuple_mark};
+ghost use Rattle.judgement.specs.Facts.{marked_fact};
+
+use tuple_text::{Fact, SetRef};
+use version_chains::{MarkedSet, fact_mark};
+
+/// A fact whose userset has its mark. Contracts see the fact by `marked_fact`.
+#[derive(Clone, Copy, Drop)]
+pub struct MarkedFact<'a> {
+    pub set: MarkedSet<'a>,
+    pub user: u64,
+}
+
+/// A fact as it is kept where it is known.
+pub trait KnownFact: Drop {
+    ghost use Rattle.tuple_text.specs.Tuples.{FactValue};
+
+    ghost fact: { Self → FactValue };
+
+    /// Whether it is the fact of this userset and this user id.
+    fn is_of(&self, set: SetRef<'_>, user: u64) -> bool
+        ensures { result ≡ fact_eq (fact_of (set_value set.entry) user) (fact self.now) };
+
+    /// The same for a userset whose mark is at hand.
+    fn is_of_marked(&self, set: MarkedSet<'_>, user: u64) -> bool
+        ensures { result ≡ fact_eq (fact_of (set_value set.entry.set) user) (fact self.now) };
+
+    /// The mark of the fact's tuple.
+    fn mark(&self) -> u64
+        ensures { result ≡ tuple_mark (fact_tuple (fact self.now)) };
+}
+
+impl KnownFact for Fact {
+    ghost fact = { λ f. f };
+
+    fn is_of(&self, set: SetRef<'_>, user: u64) -> bool {
+        set == self.set() && user == self.user()
+    }
+
+    fn is_of_marked(&self, set: MarkedSet<'_>, user: u64) -> bool {
+        self.is_of(set.set, user)
+    }
+
+    fn mark(&self) -> u64 {
+        fact_mark(MarkedSet::of(self.set()), self.user())
+    }
+}
+
+impl<'a> KnownFact for MarkedFact<'a> {
+    ghost use Rattle.judgement.specs.Facts.{marked_fact};
+
+    ghost fact = { marked_fact };
+
+    fn is_of(&self, set: SetRef<'_>, user: u64) -> bool {
+        set == self.set.set && user == self.user
+    }
+
+    fn is_of_marked(&self, set: MarkedSet<'_>, user: u64) -> bool {
+        set.mark == self.set.mark && self.is_of(set.set, user)
+    }
+
+    fn mark(&self) -> u64 {
+        fact_mark(self.set, self.user)
+    }
+}
+
+impl<'a> MarkedFact<'a> {
+    /// The fact with its userset's mark.
+    pub fn of(fact: &'a Fact) -> MarkedFact<'a>
+        ensures { marked_fact result ≡ fact.now }
+    {
+        MarkedFact {
+            set: MarkedSet::of(fact.set()),
+            user: fact.user(),
+        }
+    }
+}
