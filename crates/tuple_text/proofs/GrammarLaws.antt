@@ -12,7 +12,7 @@ use Rattle.tuple_text.specs.Sets.{SetValue}
 use Rattle.tuple_text.specs.Tuples.{TupleValue, FactValue, tuple_of, fact_of}
 use Rattle.tuple_text.specs.Forms.{IsUserset, is_name, is_object_id, is_user_relation, plain_number}
 use Rattle.tuple_text.specs.Grammar.{IsUser, IsHead, IsTuple, IsFact, userset_text, user_text, tuple_text, fact_text}
-use Rattle.tuple_text.specs.Faults.{Gives}
+use Rattle.tuple_text.specs.Faults.{Gives, Tells}
 use Rattle.refusals.specs.Refusals.{◌>>=◌}
 use Rattle.tuple_text.specs.Reading.{part_at, userset_at, id_or, id_only, user_at, head_at, tuple_at, fact_at}
 use Rattle.tuple_text.proofs.Numbers.{plain_takes, plain_again}
@@ -169,6 +169,6 @@ pub tuple_found : (text : List ℕ) (r : Result TupleValue TupleFault) → Gives
 tuple_found text (Ok t) h = tuple_takes text t h
 tuple_found text (Err e) h = tt
 
-pub fact_found : (text : List ℕ) (r : Result FactValue TupleFault) → Gives (λ f. f) r (fact_at text) → IfOk r (λ f. IsFact f × (text ≡ fact_text f))
-fact_found text (Ok f) h = fact_takes text f h
-fact_found text (Err e) h = tt
+pub fact_found : {X : Type 0} (view : X → FactValue) (text : List ℕ) (r : Result X TupleFault) → Tells view r (fact_at text) → IfOk r (λ x. IsFact (view x) × (text ≡ fact_text (view x)))
+fact_found view text (Ok x) h = fact_takes text (view x) h
+fact_found view text (Err e) h = tt

@@ -1,3 +1,4 @@
+pub mod FactRefs
 pub mod Faults
 pub mod Forms
 pub mod Grammar

@@ -1,14 +1,15 @@
 //! Facts.
 
-ghost use Rattle.std.specs.Prelude.{◌≡◌, ◌↔◌, ◌<◌, ◌^◌, IsTrue, Ok, true};
+ghost use Rattle.std.specs.Prelude.{◌≡◌, ◌↔◌, ◌<◌, ◌^◌, IfOk, IsTrue};
 ghost use Rattle.std.specs.Ordering.{as_partial_cmp};
+ghost use Rattle.tuple_text.specs.FactRefs.{fact_value};
 ghost use Rattle.tuple_text.specs.Faults.{Gives};
-ghost use Rattle.tuple_text.specs.Forms.{IsUserset, is_name};
 ghost use Rattle.tuple_text.specs.Grammar.{IsHead};
 ghost use Rattle.tuple_text.specs.Parts.{checked_fact};
 ghost use Rattle.tuple_text.specs.Refs.{set_value};
 ghost use Rattle.tuple_text.specs.Tuples.{fact_of};
 
+use crate::fact_refs::FactRef;
 use crate::fault::TupleFault;
 use crate::forms::{is_name, is_object_id};
 use crate::sets::{SetRef, Userset};
@@ -118,17 +119,23 @@ impl Fact {
                 at: set.namespace.len() + 1 + set.id.len() + 1,
             });
         }
-        Fact::from_parts(alloc, set, user)
+        Ok(Fact::from_parts(alloc, set, user)?)
     }
 
     /// The fact of parts that are known to be in form.
-    pub(crate) fn from_parts(alloc: Global, set: SetRef<'_>, user: u64) -> Result<Fact, TupleFault>
-        requires set { IsUserset (set_value set) }
-        requires relation { is_name set.relation.now ≡ true }
-        ensures { Gives (λ f. f) result (Ok (fact_of (set_value set.entry) user)) }
+    pub(crate) fn from_parts(alloc: Global, set: SetRef<'_>, user: u64) -> Result<Fact, AllocError>
+        requires { IsHead (set_value set) }
+        ensures { IfOk result (λ f. f ≡ fact_of (set_value set.entry) user) }
     {
         let set = Userset::from_parts(alloc, set)?;
         Ok(Fact { set, user })
+    }
+
+    /// The fact, borrowed.
+    pub fn as_ref(&self) -> FactRef<'_>
+        ensures { fact_value result ≡ self.now }
+    {
+        FactRef::from_parts(self.set(), self.user)
     }
 
     /// The userset that the user is in.

@@ -4,13 +4,14 @@
 //! A [`Userset`], a [`Tuple`] and a [`Fact`] are valid by their type: whoever holds one knows that each of
 //! its parts is in the form of the grammar. Contracts see them as records of byte lists: a userset as
 //! `SetValue`, a tuple as `TupleValue`, a fact as `FactValue`, and a user as the enum itself.
-//! [`SetRef`] and [`UserRef`] borrow the parts and promise nothing of them.
+//! [`SetRef`] and [`UserRef`] borrow the parts and promise nothing of them. A [`FactRef`] borrows the parts of a
+//! fact that are in form; contracts see it by `fact_value` as the fact.
 //!
 //! Callers may rely on this: reading answers a value exactly where the text is the value's text, each
 //! value has one spelling, a refusal names the leftmost part that fails and the byte at which it begins,
 //! and writing appends the text or changes nothing. Equality is equality of values. The order goes by the
 //! bytes of namespace, object id and relation, and then by the user, ids first and as numbers.
-//! Memory is asked for by reading, `of`, clones and writing alone.
+//! Memory is asked for by parsing, `of`, `to_fact`, clones and writing alone: [`read_fact`] asks for none.
 //!
 //! ```text
 //! let tuple = parse_tuple(alloc, "doc:plan#viewer@20")?;
@@ -18,6 +19,7 @@
 //! ```
 #![tactic(auto)]
 
+mod fact_refs;
 mod facts;
 mod fault;
 mod forms;
@@ -27,10 +29,11 @@ mod tuples;
 mod users;
 mod writing;
 
+pub use fact_refs::FactRef;
 pub use facts::Fact;
 pub use fault::TupleFault;
 pub use forms::is_name;
-pub use reading::{parse_fact, parse_tuple, parse_userset};
+pub use reading::{parse_fact, parse_tuple, parse_userset, read_fact};
 pub use sets::{SetRef, Userset};
 pub use tuples::Tuple;
 pub use users::{User, UserRef};

@@ -1,6 +1,7 @@
 //! Reading texts.
 
 ghost use Rattle.std.specs.Prelude.{◌≡◌, ◌≤◌, IfOk, Ok, true, length};
+ghost use Rattle.tuple_text.specs.FactRefs.{fact_value};
 ghost use Rattle.tuple_text.specs.Faults.{Gives, Tells};
 ghost use Rattle.tuple_text.specs.Forms.{IsUserset, is_name};
 ghost use Rattle.tuple_text.specs.Grammar.{userset_text, tuple_text, fact_text, IsHead, IsTuple, IsFact};
@@ -9,6 +10,7 @@ ghost use Rattle.tuple_text.specs.Refs.{set_value};
 ghost use Rattle.tuple_text.specs.Sets.{SetValue};
 ghost use Rattle.tuple_text.specs.Tuples.{TupleValue, FactValue};
 
+use crate::fact_refs::FactRef;
 use crate::facts::Fact;
 use crate::fault::TupleFault;
 use crate::forms::{id_before, is_user_relation, name_before, plain_number};
@@ -40,7 +42,7 @@ fn userset_from(text: &str) -> Result<SetRef<'_>, TupleFault>
 fn set_from(alloc: Global, text: &str) -> Result<Userset, TupleFault>
     ensures { Gives (λ s. s) result (userset_at text.now) }
 {
-    Userset::from_parts(alloc, userset_from(text)?)
+    Ok(Userset::from_parts(alloc, userset_from(text)?)?)
 }
 
 #[tactic(auto, unfolding(crate::specs::Reading::user_at))]
@@ -82,17 +84,17 @@ fn tuple_from(alloc: Global, text: &str) -> Result<Tuple, TupleFault>
 {
     let (set, user) = head_from(text)?;
     let user = user_from(alloc, user, text.len() - user.len())?;
-    Tuple::from_parts(alloc, set, user)
+    Ok(Tuple::from_parts(alloc, set, user)?)
 }
 
 #[tactic(auto, unfolding(crate::specs::Reading::fact_at))]
-fn fact_from(alloc: Global, text: &str) -> Result<Fact, TupleFault>
-    ensures { Gives (λ f. f) result (fact_at text.now) }
+fn fact_from(text: &str) -> Result<FactRef<'_>, TupleFault>
+    ensures { Tells fact_value result (fact_at text.now) }
 {
     let (set, user) = head_from(text)?;
     let at = text.len() - user.len();
     match plain_number(user) {
-        Some(user) => Fact::from_parts(alloc, set, user),
+        Some(user) => Ok(FactRef::from_parts(set, user)),
         None => Err(TupleFault::User { at }),
     }
 }
@@ -123,11 +125,21 @@ pub fn parse_userset(alloc: Global, text: &str) -> Result<Userset, TupleFault>
     set_from(alloc, text)
 }
 
-/// Reads a tuple whose user is an id. Another user, also a userset in form, is refused as `User`.
+/// Reads a tuple whose user is an id, and borrows its parts. Another user, also a userset in form, is refused as `User`.
+pub fn read_fact(text: &str) -> Result<FactRef<'_>, TupleFault>
+    ensures found { IfOk result (λ f. IsFact (fact_value f) × (text.now ≡ fact_text (fact_value f))) }
+    // What is spelled so is read: no memory is asked for.
+    ensures only { (f : FactValue) → IsFact f → text.now ≡ fact_text f → Tells fact_value result (Ok f) }
+    ensures exact { Tells fact_value result (fact_at text.now) }
+{
+    fact_from(text)
+}
+
+/// Reads a fact as [`read_fact`] does, and copies its parts.
 pub fn parse_fact(alloc: Global, text: &str) -> Result<Fact, TupleFault>
     ensures found { IfOk result (λ f. IsFact f × (text.now ≡ fact_text f)) }
     ensures only { (f : FactValue) → IsFact f → text.now ≡ fact_text f → Gives (λ f. f) result (Ok f) }
     ensures exact { Gives (λ f. f) result (fact_at text.now) }
 {
-    fact_from(alloc, text)
+    Ok(read_fact(text)?.to_fact(alloc)?)
 }

@@ -130,13 +130,13 @@ impl Userset {
                 at: set.namespace.len() + 1 + set.id.len() + 1,
             });
         }
-        Userset::from_parts(alloc, set)
+        Ok(Userset::from_parts(alloc, set)?)
     }
 
     /// The userset of parts that are known to be in form.
-    pub(crate) fn from_parts(alloc: Global, set: SetRef<'_>) -> Result<Userset, TupleFault>
+    pub(crate) fn from_parts(alloc: Global, set: SetRef<'_>) -> Result<Userset, AllocError>
         requires { IsUserset (set_value set) }
-        ensures { Gives (λ s. s) result (Ok (set_value set.entry)) }
+        ensures { IfOk result (λ s. s ≡ set_value set.entry) }
     {
         let len = set.namespace.len() + set.id.len() + set.relation.len();
         let mut text = String::with_capacity(alloc, len)?;

@@ -1,14 +1,12 @@
 //! Tuples.
 
-ghost use Rattle.std.specs.Prelude.{◌≡◌, ◌↔◌, IsTrue, Ok, true};
+ghost use Rattle.std.specs.Prelude.{◌≡◌, ◌↔◌, IfOk, IsTrue, true};
 ghost use Rattle.std.specs.Ordering.{as_partial_cmp};
-ghost use Rattle.tuple_text.specs.Faults.{Gives};
 ghost use Rattle.tuple_text.specs.Forms.{IsUserset, is_name};
 ghost use Rattle.tuple_text.specs.Grammar.{IsHead, IsUser};
 ghost use Rattle.tuple_text.specs.Refs.{set_value, user_value};
 ghost use Rattle.tuple_text.specs.Tuples.{tuple_of};
 
-use crate::fault::TupleFault;
 use crate::sets::{SetRef, Userset};
 use crate::users::{User, UserRef};
 use std::alloc::{AllocError, Global};
@@ -103,10 +101,10 @@ impl Tuple {
         alloc: Global,
         set: SetRef<'_>,
         user: User,
-    ) -> Result<Tuple, TupleFault>
+    ) -> Result<Tuple, AllocError>
         requires set { IsUserset (set_value set) }
         requires relation { is_name set.relation.now ≡ true }
-        ensures { Gives (λ t. t) result (Ok (tuple_of (set_value set.entry) user)) }
+        ensures { IfOk result (λ t. t ≡ tuple_of (set_value set.entry) user) }
     {
         let set = Userset::from_parts(alloc, set)?;
         Ok(Tuple { set, user })
