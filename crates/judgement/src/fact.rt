@@ -1,13 +1,14 @@
 //! Facts that may be known: owned ones, and borrowed ones with a mark.
 
 ghost use Rattle.std.specs.Prelude.{◌≡◌};
+ghost use Rattle.tuple_text.specs.FactRefs.{fact_value};
 ghost use Rattle.tuple_text.specs.Order.{fact_eq};
 ghost use Rattle.tuple_text.specs.Refs.{set_value};
 ghost use Rattle.tuple_text.specs.Tuples.{fact_of, fact_tuple};
 ghost use Rattle.version_chains.specs.Marks.{tuple_mark};
 ghost use Rattle.judgement.specs.Facts.{marked_fact};
 
-use tuple_text::{Fact, SetRef};
+use tuple_text::{Fact, FactRef, SetRef};
 use version_chains::{MarkedSet, fact_mark};
 
 /// A fact whose userset has its mark. Contracts see the fact by `marked_fact`.
@@ -72,8 +73,8 @@ impl<'a> KnownFact for MarkedFact<'a> {
 
 impl<'a> MarkedFact<'a> {
     /// The fact with its userset's mark.
-    pub fn of(fact: &'a Fact) -> MarkedFact<'a>
-        ensures { marked_fact result ≡ fact.now }
+    pub fn of(fact: FactRef<'a>) -> MarkedFact<'a>
+        ensures { marked_fact result ≡ fact_value fact.entry }
     {
         MarkedFact {
             set: MarkedSet::of(fact.set()),

@@ -65,11 +65,11 @@ fn is_marked_among<F: KnownFact>(facts: &[F], set: MarkedSet<'_>, user: u64) -> 
     false
 }
 
-/// The marks of facts, in order, with room for as many again.
-fn marks_of<F: KnownFact>(alloc: Global, facts: &[F]) -> Result<Places, AllocError>
+/// The marks of facts, in order, with room for so many.
+fn marks_of<F: KnownFact>(alloc: Global, facts: &[F], room: usize) -> Result<Places, AllocError>
     ensures { IfOk result (λ marks. marks ≡ map tuple_mark (map fact_tuple (map F.fact facts.now))) }
 {
-    let mut marks = Places::with_room(alloc, facts.len().saturating_mul(2))?;
+    let mut marks = Places::with_room(alloc, room)?;
     for fact in facts {
         marks.push(fact.mark())?;
     }
@@ -103,12 +103,25 @@ impl<F: KnownFact> Facts<F> {
         }
     }
 
+    /// No fact, and memory for so many. Their marks want memory nevertheless.
+    pub(crate) fn with_room(alloc: Global, count: usize) -> Result<Facts<F>, AllocError>
+        ensures { IfOk result (λ s. s ≡ []) }
+    {
+        Ok(Facts {
+            facts: Vec::with_capacity(alloc, count)?,
+            is_marked: false,
+            marks: Places::new(alloc),
+        })
+    }
+
     /// Finds all facts by their marks from now on. For want of memory nothing changes.
     fn mark(&mut self) -> Result<(), AllocError>
         ensures same { self.new ≡ self.old }
     {
         if !self.is_marked {
-            self.marks = marks_of(*self.facts.allocator(), &self.facts)?;
+            // as many marks as there is room for facts, and at least as many again as there are
+            let room = self.facts.len().saturating_mul(2).max(self.facts.capacity());
+            self.marks = marks_of(*self.facts.allocator(), &self.facts, room)?;
             self.is_marked = true;
         }
         Ok(())

@@ -1,6 +1,6 @@
 //! What is known.
 
-ghost use Rattle.std.specs.Prelude.{◌≡◌, ◌∷◌, ◌++◌, [], OnOk, OnErr, IsTrue, ◌↔◌, Contains};
+ghost use Rattle.std.specs.Prelude.{◌≡◌, ◌∷◌, ◌++◌, [], IfOk, OnOk, OnErr, IsTrue, ◌↔◌, Contains};
 ghost use Rattle.tuple_text.specs.Refs.{set_value};
 ghost use Rattle.tuple_text.specs.Tuples.{fact_of};
 
@@ -41,6 +41,16 @@ impl<F: KnownFact> Known<F> {
             yes: Facts::new(alloc),
             no: Facts::new(alloc),
         }
+    }
+
+    /// Nothing is known, and there is memory for so many facts that are known to hold, and so many that are known not to.
+    pub fn with_room(alloc: Global, yes: usize, no: usize) -> Result<Known<F>, AllocError>
+        ensures { IfOk result (λ k. k ≡ record { yes = []; no = [] }) }
+    {
+        Ok(Known {
+            yes: Facts::with_room(alloc, yes)?,
+            no: Facts::with_room(alloc, no)?,
+        })
     }
 
     /// From now on the fact is known to hold. For want of memory it is dropped, and what is known stays.
