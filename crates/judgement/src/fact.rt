@@ -4,6 +4,7 @@ ghost use Rattle.std.specs.Prelude.{◌≡◌};
 ghost use Rattle.tuple_text.specs.FactRefs.{fact_value};
 ghost use Rattle.tuple_text.specs.Order.{fact_eq};
 ghost use Rattle.tuple_text.specs.Refs.{set_value};
+ghost use Rattle.tuple_text.specs.Sets.{set_eq};
 ghost use Rattle.tuple_text.specs.Tuples.{fact_of, fact_tuple};
 ghost use Rattle.version_chains.specs.Marks.{tuple_mark};
 ghost use Rattle.judgement.specs.Facts.{marked_fact};
@@ -16,6 +17,13 @@ use version_chains::{MarkedSet, fact_mark};
 pub struct MarkedFact<'a> {
     pub set: MarkedSet<'a>,
     pub user: u64,
+}
+
+/// Whether two usersets are one. They differ by their ids more often than by the rest.
+fn are_same(one: SetRef<'_>, other: SetRef<'_>) -> bool
+    ensures { result ≡ set_eq (set_value one.entry) (set_value other.entry) }
+{
+    one.id == other.id && one.relation == other.relation && one.namespace == other.namespace
 }
 
 /// A fact as it is kept where it is known.
@@ -41,7 +49,7 @@ impl KnownFact for Fact {
     ghost fact = { λ f. f };
 
     fn is_of(&self, set: SetRef<'_>, user: u64) -> bool {
-        set == self.set() && user == self.user()
+        are_same(set, self.set()) && user == self.user()
     }
 
     fn is_of_marked(&self, set: MarkedSet<'_>, user: u64) -> bool {
@@ -59,7 +67,7 @@ impl<'a> KnownFact for MarkedFact<'a> {
     ghost fact = { marked_fact };
 
     fn is_of(&self, set: SetRef<'_>, user: u64) -> bool {
-        set == self.set.set && user == self.user
+        are_same(set, self.set.set) && user == self.user
     }
 
     fn is_of_marked(&self, set: MarkedSet<'_>, user: u64) -> bool {

@@ -14,7 +14,7 @@ use tuple_text::SetRef;
 use version_chains::{MarkedSet, Places, fact_mark};
 
 /// How many facts are looked at one after the other, which needs neither marks nor memory for them.
-const FEW: usize = 8;
+const FEW: usize = 16;
 
 /// Facts, which contracts see as the list of them in the order in which they were added.
 ///
