@@ -1,8 +1,11 @@
 -- Steps of evidence, without where they lie in memory.
 use Rattle.std.specs.Prelude.{List, map}
+use Rattle.tuple_text.specs.FactRefs.{fact_value}
 use Rattle.tuple_text.specs.Tuples.{FactValue}
 use Rattle.evidence_check.specs.declared.step.Step.{Step}
 use Rattle.evidence_check.specs.declared.step.Step.TheVariants.{Yes, No}
+use Rattle.evidence_check.specs.declared.step.StepRef.{StepRef}
+use Rattle.evidence_check.specs.declared.step.StepRef.TheVariants.{Yes as RefYes, No as RefNo}
 
 pub data StepValue : Type 0 where
   yes_step : FactValue → StepValue
@@ -14,3 +17,11 @@ step_value (No fs) = no_step fs.items
 
 abbrev pub step_values : List Step → List StepValue
 step_values steps = map step_value steps
+
+-- the step that a borrowed one stands for
+abbrev pub borrowed_step : StepRef → StepValue
+borrowed_step (RefYes f) = yes_step (fact_value f)
+borrowed_step (RefNo fs) = no_step (map fact_value fs.items)
+
+abbrev pub borrowed_steps : List StepRef → List StepValue
+borrowed_steps steps = map borrowed_step steps

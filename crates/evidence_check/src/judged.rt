@@ -2,6 +2,7 @@
 
 ghost use Rattle.std.specs.Prelude.{◌≡◌, ◌<◌, ◌↔◌, None, Some, IsTrue, IfOk, OnOk, length, slice_get, option_map, map};
 ghost use Rattle.std.specs.List.{AllByRecursion};
+ghost use Rattle.tuple_text.specs.FactRefs.{fact_value};
 ghost use Rattle.tuple_text.specs.Refs.{set_value};
 ghost use Rattle.namespaces.specs.Lookup.{rule_at};
 ghost use Rattle.version_chains.specs.Commits.{store_at};
@@ -11,16 +12,17 @@ ghost use Rattle.evidence_check.specs.Accepted.{IsProved, IsDisproved, with_no, 
 ghost use Rattle.evidence_check.specs.Evidences.{evidence_value, steps_of};
 ghost use Rattle.evidence_check.specs.Judged.{is_accepted, first_bad, by_reply, by_goal, judged};
 ghost use Rattle.evidence_check.specs.Members.{IsMemberAt};
-ghost use Rattle.evidence_check.specs.Steps.{yes_step, no_step, step_value, step_values};
+ghost use Rattle.evidence_check.specs.Steps.{yes_step, no_step, step_values, borrowed_step, borrowed_steps};
 ghost use Rattle.evidence_check.specs.declared.judged.Judged.TheVariants.{Supported, Contradicted};
 
 use crate::evidence::Evidence;
-use crate::step::{Step, Steps};
+use crate::step::{StepRef, Steps};
+use crate::steps::borrowed_steps;
 use judgement::{Known, KnownFact, MarkedFact, established, refuted};
 use std::alloc::{AllocError, Global};
 use trace_lines::laws::valid_strata;
 use trace_lines::{Entry, Trace};
-use tuple_text::Fact;
+use tuple_text::{Fact, FactRef};
 
 /// How evidence judges an entry.
 #[derive(Clone, Copy, Debug, PartialEq, Eq)]
@@ -41,7 +43,7 @@ pub enum Judged {
 pub fn is_proved<F: KnownFact>(trace: &Trace, at: u64, known: &Known<F>, fact: &Fact) -> bool
     ensures { IsTrue result ↔ IsProved (rule_at trace.now.declarations at) (store_at trace.now.commits at) known.now fact.now }
 {
-    is_given(trace, at, known, MarkedFact::of(fact))
+    is_given(trace, at, known, MarkedFact::of(fact.as_ref()))
 }
 
 /// The same of a fact whose mark is at hand.
@@ -81,15 +83,19 @@ fn are_disproved(
     true
 }
 
-/// The facts with the marks of their usersets, each of which is made once.
-fn marked<'a>(alloc: Global, facts: &'a [Fact]) -> Result<Vec<MarkedFact<'a>>, AllocError>
-    ensures { IfOk result (λ v. map marked_fact v.items ≡ facts.now) }
+/// Puts the facts with the marks of their usersets, each of which is made once, in the place of what was there.
+fn mark_each<'a>(
+    marked: &mut Vec<MarkedFact<'a>>,
+    facts: &[FactRef<'a>],
+) -> Result<(), AllocError>
+    ensures { OnOk result (map marked_fact marked.new.items ≡ map fact_value facts.now) }
 {
-    let mut marked = Vec::with_capacity(alloc, facts.len())?;
+    marked.clear();
+    marked.reserve(facts.len())?;
     for fact in facts {
-        marked.push(MarkedFact::of(fact))?;
+        marked.push(MarkedFact::of(*fact))?;
     }
-    Ok(marked)
+    Ok(())
 }
 
 /// From now on none of the facts is known to hold.
@@ -136,23 +142,23 @@ fn take_no<'a>(
     Ok(are_disproved(trace, at, known, facts))
 }
 
-/// Whether a step is accepted. From now on its facts are known.
+/// Whether a step is accepted. From now on its facts are known. The facts that it denies are marked in `marked`.
 fn take_step<'a>(
-    alloc: Global,
     trace: &Trace,
     at: u64,
     known: &mut Known<MarkedFact<'a>>,
-    step: &'a Step,
+    marked: &mut Vec<MarkedFact<'a>>,
+    step: &StepRef<'a>,
 ) -> Result<bool, AllocError>
     ensures accepted { IfOk result (λ r. r
-        ≡ is_accepted (rule_at trace.now.declarations at) (store_at trace.now.commits at) known.old (step_value step.now)) }
-    ensures known { OnOk result (known.new ≡ after_step known.old (step_value step.now)) }
+        ≡ is_accepted (rule_at trace.now.declarations at) (store_at trace.now.commits at) known.old (borrowed_step step.now)) }
+    ensures known { OnOk result (known.new ≡ after_step known.old (borrowed_step step.now)) }
 {
     match step {
-        Step::Yes(fact) => take_yes(trace, at, known, MarkedFact::of(fact)),
-        Step::No(facts) => {
-            let facts = marked(alloc, facts)?;
-            take_no(trace, at, known, &facts)
+        StepRef::Yes(fact) => take_yes(trace, at, known, MarkedFact::of(*fact)),
+        StepRef::No(facts) => {
+            mark_each(marked, facts)?;
+            take_no(trace, at, known, marked)
         }
     }
 }
@@ -163,14 +169,15 @@ fn first_bad<'a>(
     trace: &Trace,
     at: u64,
     known: &mut Known<MarkedFact<'a>>,
-    steps: &'a [Step],
+    steps: &[StepRef<'a>],
 ) -> Result<Option<u64>, AllocError>
     ensures first { IfOk result (λ r. r
-        ≡ first_bad (rule_at trace.now.declarations at) (store_at trace.now.commits at) known.old 1 (step_values steps.now)) }
-    ensures known { IfOk result (λ r. r ≡ None → known.new ≡ after_steps known.old (step_values steps.now)) }
+        ≡ first_bad (rule_at trace.now.declarations at) (store_at trace.now.commits at) known.old 1 (borrowed_steps steps.now)) }
+    ensures known { IfOk result (λ r. r ≡ None → known.new ≡ after_steps known.old (borrowed_steps steps.now)) }
 {
+    let mut marked = Vec::new(alloc);
     for k in 0..steps.len() {
-        if !take_step(alloc, trace, at, known, &steps[k])? {
+        if !take_step(trace, at, known, &mut marked, &steps[k])? {
             return Ok(Some(k as u64 + 1));
         }
     }
@@ -200,16 +207,46 @@ fn by_goal(known: &Known<MarkedFact<'_>>, goal: &Fact, reply: bool) -> Judged
     }
 }
 
+/// Nothing is known, and there is room for the facts of the steps.
+fn room_for<'a>(
+    alloc: Global,
+    steps: &[StepRef<'a>],
+) -> Result<Known<MarkedFact<'a>>, AllocError>
+    ensures { IfOk result (λ known. known ≡ nothing_known) }
+{
+    let mut yes = 0usize;
+    let mut no = 0usize;
+    for step in steps {
+        match step {
+            StepRef::Yes(_) => yes = yes.saturating_add(1),
+            StepRef::No(facts) => no = no.saturating_add(facts.len()),
+        }
+    }
+    Known::with_room(alloc, yes, no)
+}
+
+/// How borrowed steps judge an entry.
+pub(crate) fn judge_borrowed(
+    alloc: Global,
+    trace: &Trace,
+    entry: &Entry,
+    steps: &[StepRef<'_>],
+) -> Result<Judged, AllocError>
+    ensures { IfOk result (λ j. j ≡ judged trace.now (entry_value entry.now) (Some (borrowed_steps steps.now))) }
+{
+    let mut known = room_for(alloc, steps)?;
+    match first_bad(alloc, trace, entry.snapshot, &mut known, steps)? {
+        Some(step) => Ok(Judged::Bad { step }),
+        None => Ok(by_goal(&known, &entry.goal, entry.reply)),
+    }
+}
+
 /// How steps judge an entry, whether or not evidence has them.
 pub fn judge_steps(trace: &Trace, entry: &Entry, steps: &Steps) -> Result<Judged, AllocError>
     ensures { IfOk result (λ j. j ≡ judged trace.now (entry_value entry.now) (Some (step_values steps.now.items))) }
 {
     let alloc = *steps.allocator();
-    let mut known = Known::new(alloc);
-    match first_bad(alloc, trace, entry.snapshot, &mut known, steps)? {
-        Some(step) => Ok(Judged::Bad { step }),
-        None => Ok(by_goal(&known, &entry.goal, entry.reply)),
-    }
+    judge_borrowed(alloc, trace, entry, &borrowed_steps(alloc, steps)?)
 }
 
 fn judge(trace: &Trace, entry: &Entry, steps: Option<&Steps>) -> Result<Judged, AllocError>

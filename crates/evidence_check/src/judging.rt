@@ -4,14 +4,14 @@ ghost use Rattle.std.specs.Prelude.{◌≡◌, replicate, slice_get, IfOk};
 ghost use Rattle.json_lines.specs.Data.{line_data};
 ghost use Rattle.evidence_check.specs.Causes.{Gives};
 ghost use Rattle.evidence_check.specs.Judging.{is_judged, judge_line, judged_by, no_judgements, put_judged};
-ghost use Rattle.evidence_check.specs.Steps.{step_values};
+ghost use Rattle.evidence_check.specs.Steps.{borrowed_steps};
 ghost use Rattle.evidence_check.specs.declared.judged.Judged.TheVariants.{Missing};
 
 use crate::cause::EvidenceCause;
-use crate::judged::{Judged, judge_steps};
+use crate::judged::{Judged, judge_borrowed};
 use crate::placed::{lines_of, placed_steps};
-use crate::records::has_too_many;
-use crate::step::Steps;
+use crate::records::are_too_many;
+use crate::step::StepRef;
 use json_lines::{JsonLine, TakeJson};
 use std::alloc::{AllocError, Global};
 use std::marker::Model;
@@ -79,24 +79,24 @@ impl<'t> Judging<'t> {
     }
 
     /// The judgement of an entry by steps.
-    fn judgement(&self, place: usize, steps: &Steps) -> Result<Judged, AllocError>
-        ensures { IfOk result (λ j. j ≡ judged_by self.now.trace (slice_get self.now.trace.entries place) (step_values steps.now.items)) }
+    fn judgement(&self, place: usize, steps: &[StepRef<'_>]) -> Result<Judged, AllocError>
+        ensures { IfOk result (λ j. j ≡ judged_by self.now.trace (slice_get self.now.trace.entries place) (borrowed_steps steps.now)) }
     {
         if place < self.trace.len() {
-            judge_steps(self.trace, self.trace.entry(place), steps)
+            judge_borrowed(self.alloc, self.trace, self.trace.entry(place), steps)
         } else {
             Ok(Judged::Missing)
         }
     }
 
     #[tactic(auto, unfolding(crate::specs::Judging::put_judged))]
-    fn put(&mut self, place: usize, steps: &Steps) -> Result<(), EvidenceCause>
-        ensures { Gives (λ _. self.new) result (put_judged self.old place (step_values steps.now.items)) }
+    fn put(&mut self, place: usize, steps: &[StepRef<'_>]) -> Result<(), EvidenceCause>
+        ensures { Gives (λ _. self.new) result (put_judged self.old place (borrowed_steps steps.now)) }
     {
         if self.is_judged(place) {
             return Err(EvidenceCause::RepeatedLine);
         }
-        if has_too_many(steps) {
+        if are_too_many(steps) {
             return Err(EvidenceCause::TooMany);
         }
         let judgement = self.judgement(place, steps)?;

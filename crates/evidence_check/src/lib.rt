@@ -24,6 +24,7 @@ mod read;
 mod recorder;
 mod records;
 mod step;
+mod steps;
 
 pub use cause::{EvidenceCause, EvidenceFault};
 pub use evidence::Evidence;

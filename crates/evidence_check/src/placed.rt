@@ -6,11 +6,11 @@ ghost use Rattle.json_lines.specs.Data.{line_data};
 ghost use Rattle.trace_lines.specs.Values.{entry_lines};
 ghost use Rattle.evidence_check.specs.Causes.{Gives};
 ghost use Rattle.evidence_check.specs.Reading.{place_of, placed_steps};
-ghost use Rattle.evidence_check.specs.Steps.{step_values};
+ghost use Rattle.evidence_check.specs.Steps.{borrowed_steps};
 
 use crate::cause::EvidenceCause;
 use crate::records::{are_known, steps_at, steps_in};
-use crate::step::Steps;
+use crate::step::StepRef;
 use json_lines::JsonLine;
 use json_lines::fields::number_at;
 use std::alloc::{AllocError, Global};
@@ -38,13 +38,13 @@ fn place_of(lines: &[u64], line: u64) -> Option<usize>
 
 /// The place of the entry that a record names, and the steps of the record.
 #[tactic(auto, unfolding(crate::specs::Reading::placed_steps))]
-pub(crate) fn placed_steps(
+pub(crate) fn placed_steps<'a>(
     alloc: Global,
     lines: &[u64],
-    json: &JsonLine<'_>,
-) -> Result<(usize, Steps), EvidenceCause>
+    json: &JsonLine<'a>,
+) -> Result<(usize, Vec<StepRef<'a>>), EvidenceCause>
     requires { IsStrictlyIncreasing lines.now }
-    ensures { Gives (λ p. (p.0, step_values p.1.items)) result (placed_steps lines.now (line_data json.now)) }
+    ensures { Gives (λ p. (p.0, borrowed_steps p.1.items)) result (placed_steps lines.now (line_data json.now)) }
 {
     let record = json.root();
     let line = number_at(&record, "line").ok_or(EvidenceCause::Shape)?;

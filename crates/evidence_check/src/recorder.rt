@@ -7,12 +7,13 @@ ghost use Rattle.trace_lines.specs.Values.{entry_lines};
 ghost use Rattle.evidence_check.specs.Causes.{Gives};
 ghost use Rattle.evidence_check.specs.Reading.{place_of, is_taken, put_steps, record_line, no_records};
 ghost use Rattle.evidence_check.specs.Evidences.{shown_steps, all_shown};
-ghost use Rattle.evidence_check.specs.Steps.{step_values};
+ghost use Rattle.evidence_check.specs.Steps.{step_values, borrowed_steps};
 
 use crate::cause::EvidenceCause;
 use crate::placed::{lines_of, placed_steps};
-use crate::records::has_too_many;
-use crate::step::Steps;
+use crate::records::are_too_many;
+use crate::step::{StepRef, Steps};
+use crate::steps::copied_steps;
 use json_lines::{JsonLine, TakeJson};
 use std::alloc::{AllocError, Global};
 use std::marker::Model;
@@ -90,15 +91,16 @@ impl Recorder {
     }
 
     #[tactic(auto, unfolding(crate::specs::Reading::put_steps))]
-    fn put(&mut self, place: usize, steps: Steps) -> Result<(), EvidenceCause>
-        ensures { Gives (λ _. self.new) result (put_steps self.old place (step_values steps.items)) }
+    fn put(&mut self, place: usize, steps: &[StepRef<'_>]) -> Result<(), EvidenceCause>
+        ensures { Gives (λ _. self.new) result (put_steps self.old place (borrowed_steps steps.now)) }
     {
         if self.is_taken(place) {
             return Err(EvidenceCause::RepeatedLine);
         }
-        if has_too_many(&steps) {
+        if are_too_many(steps) {
             return Err(EvidenceCause::TooMany);
         }
+        let steps = copied_steps(self.alloc, steps)?;
         self.set(place, steps);
         Ok(())
     }
@@ -108,7 +110,7 @@ impl Recorder {
         ensures { Gives (λ _. self.new) result (record_line self.old (line_data json.now)) }
     {
         let (place, steps) = placed_steps(self.alloc, &self.lines, json)?;
-        self.put(place, steps)
+        self.put(place, &steps)
     }
 }
 

@@ -3,17 +3,18 @@
 ghost use Rattle.std.specs.Prelude.{◌≡◌, option_map, map, nat_lt};
 ghost use Rattle.json_lines.specs.Data.{value_data, items_data};
 ghost use Rattle.json_lines.specs.Places.{items_in};
+ghost use Rattle.tuple_text.specs.FactRefs.{fact_value};
 ghost use Rattle.tuple_text.specs.Reading.{fact_at};
 ghost use Rattle.evidence_check.specs.Causes.{Gives, text_cause};
-ghost use Rattle.evidence_check.specs.Reading.{at_only, is_text_list, is_step, are_shaped, is_known, are_known, fact_in, facts_in, step_in, steps_in, steps_at, count_of, fact_count};
-ghost use Rattle.evidence_check.specs.Steps.{step_value, step_values};
+ghost use Rattle.evidence_check.specs.Reading.{at_only, is_text_list, is_step, are_shaped, is_known, are_known, fact_in, facts_in, step_in, steps_in, steps_at, fact_count};
+ghost use Rattle.evidence_check.specs.Steps.{step_values, borrowed_step, borrowed_steps};
 
 use crate::cause::EvidenceCause;
-use crate::step::{Step, Steps};
+use crate::step::{AnyStep, Step, StepRef};
 use json_lines::fields::are_strings;
 use json_lines::{JsonItems, JsonRef};
 use std::alloc::Global;
-use tuple_text::{Fact, TupleFault, parse_fact};
+use tuple_text::{FactRef, read_fact};
 
 /// How many facts a record may have.
 pub const MAX_FACTS: usize = 100000;
@@ -82,21 +83,20 @@ pub(crate) fn are_known(steps: JsonItems<'_, '_>) -> bool
     true
 }
 
-fn fact_of(alloc: Global, text: &str) -> Result<Fact, EvidenceCause>
-    ensures { Gives (λ f. f) result (text_cause (fact_at text.now)) }
+fn fact_of(text: &str) -> Result<FactRef<'_>, EvidenceCause>
+    ensures { Gives fact_value result (text_cause (fact_at text.now)) }
 {
-    match parse_fact(alloc, text) {
+    match read_fact(text) {
         Ok(fact) => Ok(fact),
-        Err(TupleFault::OutOfMemory) => Err(EvidenceCause::OutOfMemory),
         Err(fault) => Err(EvidenceCause::Text(fault)),
     }
 }
 
-fn fact_in(alloc: Global, value: &JsonRef<'_, '_>) -> Result<Fact, EvidenceCause>
-    ensures { Gives (λ f. f) result (fact_in (value_data value.now)) }
+fn fact_in<'a>(value: &JsonRef<'_, 'a>) -> Result<FactRef<'a>, EvidenceCause>
+    ensures { Gives fact_value result (fact_in (value_data value.now)) }
 {
     let text = value.as_str().ok_or(EvidenceCause::Shape)?;
-    fact_of(alloc, text)
+    fact_of(text)
 }
 
 /// How many items there are, so that room is made for them and no more.
@@ -110,27 +110,30 @@ fn count_items(items: JsonItems<'_, '_>) -> usize {
 }
 
 /// The facts that texts are, up to the first that is none, with room for `count`.
-fn facts_in(
+fn facts_in<'a>(
     alloc: Global,
-    items: JsonItems<'_, '_>,
+    items: JsonItems<'_, 'a>,
     count: usize,
-) -> Result<Vec<Fact>, EvidenceCause>
-    ensures { Gives (λ v. v.items) result (facts_in (items_data items.entry)) }
+) -> Result<Vec<FactRef<'a>>, EvidenceCause>
+    ensures { Gives (λ v. map fact_value v.items) result (facts_in (items_data items.entry)) }
 {
     let mut rest = items;
     let mut facts = Vec::with_capacity(alloc, count)?;
     while let Some(item) = rest.next() {
-        facts.push(fact_in(alloc, &item)?)?;
+        facts.push(fact_in(&item)?)?;
     }
     Ok(facts)
 }
 
 /// The step that a value is, where it is known.
-fn step_in(alloc: Global, step: &JsonRef<'_, '_>) -> Result<Option<Step>, EvidenceCause>
-    ensures { Gives (option_map step_value) result (step_in (value_data step.now)) }
+fn step_in<'a>(
+    alloc: Global,
+    step: &JsonRef<'_, 'a>,
+) -> Result<Option<StepRef<'a>>, EvidenceCause>
+    ensures { Gives (option_map borrowed_step) result (step_in (value_data step.now)) }
 {
     if let Some(fact) = at_only(step, "yes", "no") {
-        return Ok(Some(Step::Yes(fact_in(alloc, &fact)?)));
+        return Ok(Some(StepRef::Yes(fact_in(&fact)?)));
     }
     match at_only(step, "no", "yes") {
         Some(facts) => {
@@ -138,15 +141,18 @@ fn step_in(alloc: Global, step: &JsonRef<'_, '_>) -> Result<Option<Step>, Eviden
                 return Err(EvidenceCause::Shape);
             }
             let count = count_items(facts.items());
-            Ok(Some(Step::No(facts_in(alloc, facts.items(), count)?)))
+            Ok(Some(StepRef::No(facts_in(alloc, facts.items(), count)?)))
         }
         None => Ok(None),
     }
 }
 
 /// The steps of a list that are known, up to the first text that is no fact.
-pub(crate) fn steps_in(alloc: Global, list: &JsonRef<'_, '_>) -> Result<Steps, EvidenceCause>
-    ensures { Gives (λ v. step_values v.items) result (steps_in (items_in (value_data list.now))) }
+pub(crate) fn steps_in<'a>(
+    alloc: Global,
+    list: &JsonRef<'_, 'a>,
+) -> Result<Vec<StepRef<'a>>, EvidenceCause>
+    ensures { Gives (λ v. borrowed_steps v.items) result (steps_in (items_in (value_data list.now))) }
 {
     let mut rest = list.items();
     let mut steps = Vec::with_capacity(alloc, count_items(list.items()))?;
@@ -172,27 +178,24 @@ pub(crate) fn steps_at<'t, 'a>(record: &JsonRef<'t, 'a>) -> Option<JsonRef<'t, '
     }
 }
 
-/// How many facts a step has.
-fn count_of(step: &Step) -> usize
-    ensures { result ≡ count_of (step_value step.now) }
-{
-    match step {
-        Step::Yes(_) => 1,
-        Step::No(facts) => facts.len(),
-    }
-}
-
-/// Whether the steps have more facts than a record may have.
-pub fn has_too_many(steps: &[Step]) -> bool
-    ensures { result ≡ nat_lt MAX_FACTS (fact_count (step_values steps.now)) }
+/// Whether the steps, kept or borrowed, have more facts than a record may have.
+pub(crate) fn are_too_many<S: AnyStep>(steps: &[S]) -> bool
+    ensures { result ≡ nat_lt MAX_FACTS (fact_count (map S.step steps.now)) }
 {
     let mut room = MAX_FACTS;
     for step in steps {
-        let count = count_of(step);
+        let count = step.count();
         if count > room {
             return true;
         }
         room -= count;
     }
     false
+}
+
+/// Whether the steps have more facts than a record may have.
+pub fn has_too_many(steps: &[Step]) -> bool
+    ensures { result ≡ nat_lt MAX_FACTS (fact_count (step_values steps.now)) }
+{
+    are_too_many(steps)
 }
