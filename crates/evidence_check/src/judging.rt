@@ -9,7 +9,7 @@ ghost use Rattle.evidence_check.specs.declared.judged.Judged.TheVariants.{Missin
 
 use crate::cause::EvidenceCause;
 use crate::judged::{Judged, judge_borrowed};
-use crate::placed::{lines_of, placed_steps};
+use crate::placed::{EntryLines, placed_steps};
 use crate::records::are_too_many;
 use crate::step::StepRef;
 use json_lines::{JsonLine, TakeJson};
@@ -22,7 +22,7 @@ use trace_lines::Trace;
 pub(crate) struct Judging<'t> {
     alloc: Global,
     trace: &'t Trace,
-    lines: Vec<u64>,
+    lines: EntryLines,
     judgements: Vec<Judged>,
 }
 
@@ -34,11 +34,7 @@ impl<'t> Model for Judging<'t> {
 
     ghost coded = { judgements_code };
 
-    ghost use Rattle.std.specs.List.Sorted.{IsStrictlyIncreasing};
-
-    ghost view = { λ j. record { trace = j.trace.now; lines = j.lines.items; judgements = j.judgements.items } };
-
-    ghost invariant = { λ j. IsStrictlyIncreasing j.lines.items };
+    ghost view = { λ j. record { trace = j.trace.now; lines = j.lines; judgements = j.judgements.items } };
 }
 
 fn none_judged(alloc: Global, count: usize) -> Result<Vec<Judged>, AllocError>
@@ -51,7 +47,7 @@ impl<'t> Judging<'t> {
     pub(crate) fn new(alloc: Global, trace: &'t Trace) -> Result<Judging<'t>, AllocError>
         ensures { IfOk result (λ j. j ≡ no_judgements trace.now) }
     {
-        let lines = lines_of(alloc, trace)?;
+        let lines = EntryLines::of(alloc, trace)?;
         let judgements = none_judged(alloc, trace.len())?;
         Ok(Judging {
             alloc,
@@ -110,7 +106,7 @@ impl<'t> Judging<'t> {
     fn take_record(&mut self, json: &JsonLine<'_>) -> Result<(), EvidenceCause>
         ensures { Gives (λ _. self.new) result (judge_line self.old (line_data json.now)) }
     {
-        let (place, steps) = placed_steps(self.alloc, &self.lines, json)?;
+        let (place, steps) = placed_steps(self.alloc, &mut self.lines, json)?;
         self.put(place, &steps)
     }
 }

@@ -14,10 +14,29 @@ use crate::step::StepRef;
 use json_lines::JsonLine;
 use json_lines::fields::number_at;
 use std::alloc::{AllocError, Global};
+use std::marker::Model;
 use trace_lines::Trace;
 
-/// The lines that the entries of a trace stand on.
-pub(crate) fn lines_of(alloc: Global, trace: &Trace) -> Result<Vec<u64>, AllocError>
+/// The lines that the entries of a trace stand on. Contracts see the list of them.
+#[derive(Drop)]
+pub(crate) struct EntryLines {
+    lines: Vec<u64>,
+    // behind the place that was found last: records mostly come in order
+    next: usize,
+}
+
+impl Model for EntryLines {
+    ghost use Rattle.std.specs.Prelude.{List, ℕ};
+    ghost use Rattle.std.specs.List.Sorted.{IsStrictlyIncreasing};
+
+    ghost Value = { List ℕ };
+
+    ghost view = { λ l. l.lines.items };
+
+    ghost invariant = { λ l. IsStrictlyIncreasing l.lines.items };
+}
+
+fn lines_of(alloc: Global, trace: &Trace) -> Result<Vec<u64>, AllocError>
     ensures lines { IfOk result (λ v. v.items ≡ entry_lines trace.now.entries) }
     ensures rising { IfOk result (λ v. IsStrictlyIncreasing v.items) }
 {
@@ -28,23 +47,47 @@ pub(crate) fn lines_of(alloc: Global, trace: &Trace) -> Result<Vec<u64>, AllocEr
     Ok(lines)
 }
 
-/// The place of a line among lines that rise.
-fn place_of(lines: &[u64], line: u64) -> Option<usize>
+/// The place of a line among lines that rise. Where it stands at `likely`, it is not sought.
+fn place_of(lines: &[u64], likely: usize, line: u64) -> Option<usize>
     requires { IsStrictlyIncreasing lines.now }
     ensures { result ≡ place_of line lines.now }
 {
+    if likely < lines.len() && lines[likely] == line {
+        return Some(likely);
+    }
     lines.binary_search(&line).ok()
+}
+
+impl EntryLines {
+    pub(crate) fn of(alloc: Global, trace: &Trace) -> Result<EntryLines, AllocError>
+        ensures { IfOk result (λ l. l ≡ entry_lines trace.now.entries) }
+    {
+        Ok(EntryLines {
+            lines: lines_of(alloc, trace)?,
+            next: 0,
+        })
+    }
+
+    /// The place of a line.
+    fn place(&mut self, line: u64) -> Option<usize>
+        ensures place { result ≡ place_of line self.old }
+        ensures same { self.new ≡ self.old }
+    {
+        let place = place_of(&self.lines, self.next, line)?;
+        self.next = place.saturating_add(1);
+        Some(place)
+    }
 }
 
 /// The place of the entry that a record names, and the steps of the record.
 #[tactic(auto, unfolding(crate::specs::Reading::placed_steps))]
 pub(crate) fn placed_steps<'a>(
     alloc: Global,
-    lines: &[u64],
+    lines: &mut EntryLines,
     json: &JsonLine<'a>,
 ) -> Result<(usize, Vec<StepRef<'a>>), EvidenceCause>
-    requires { IsStrictlyIncreasing lines.now }
-    ensures { Gives (λ p. (p.0, borrowed_steps p.1.items)) result (placed_steps lines.now (line_data json.now)) }
+    ensures placed { Gives (λ p. (p.0, borrowed_steps p.1.items)) result (placed_steps lines.old (line_data json.now)) }
+    ensures same { lines.new ≡ lines.old }
 {
     let record = json.root();
     let line = number_at(&record, "line").ok_or(EvidenceCause::Shape)?;
@@ -53,6 +96,6 @@ pub(crate) fn placed_steps<'a>(
     if !are_known(list.items()) {
         return Err(EvidenceCause::UnknownStep);
     }
-    let place = place_of(lines, line).ok_or(EvidenceCause::StrayLine)?;
+    let place = lines.place(line).ok_or(EvidenceCause::StrayLine)?;
     Ok((place, steps))
 }

@@ -1,7 +1,6 @@
 //! The records that are read so far.
 
 ghost use Rattle.std.specs.Prelude.{◌≡◌, ◌≤◌, ℕ, length, replicate, map, option_map, slice_get, slice_set, None, Some, IfOk, IfErr, OnOk};
-ghost use Rattle.std.specs.List.Sorted.{IsStrictlyIncreasing};
 ghost use Rattle.json_lines.specs.Data.{line_data};
 ghost use Rattle.trace_lines.specs.Values.{entry_lines};
 ghost use Rattle.evidence_check.specs.Causes.{Gives};
@@ -10,7 +9,7 @@ ghost use Rattle.evidence_check.specs.Evidences.{shown_steps, all_shown};
 ghost use Rattle.evidence_check.specs.Steps.{step_values, borrowed_steps};
 
 use crate::cause::EvidenceCause;
-use crate::placed::{lines_of, placed_steps};
+use crate::placed::{EntryLines, placed_steps};
 use crate::records::are_too_many;
 use crate::step::{StepRef, Steps};
 use crate::steps::copied_steps;
@@ -23,12 +22,11 @@ use trace_lines::Trace;
 #[derive(Drop)]
 pub(crate) struct Recorder {
     alloc: Global,
-    lines: Vec<u64>,
+    lines: EntryLines,
     steps: Vec<Option<Steps>>,
 }
 
 impl Model for Recorder {
-    ghost use Rattle.std.specs.List.Sorted.{IsStrictlyIncreasing};
     ghost use Rattle.evidence_check.specs.Records.{Records};
     ghost use Rattle.evidence_check.specs.EvidenceCode.{records_code};
     ghost use Rattle.evidence_check.specs.Evidences.{all_shown};
@@ -37,9 +35,7 @@ impl Model for Recorder {
 
     ghost coded = { records_code };
 
-    ghost view = { λ r. record { lines = r.lines.items; steps = all_shown r.steps.items } };
-
-    ghost invariant = { λ r. IsStrictlyIncreasing r.lines.items };
+    ghost view = { λ r. record { lines = r.lines; steps = all_shown r.steps.items } };
 }
 
 fn no_steps(alloc: Global, count: usize) -> Result<Vec<Option<Steps>>, AllocError>
@@ -56,7 +52,7 @@ impl Recorder {
     pub(crate) fn new(alloc: Global, trace: &Trace) -> Result<Recorder, AllocError>
         ensures { IfOk result (λ r. r ≡ no_records trace.now.entries) }
     {
-        let lines = lines_of(alloc, trace)?;
+        let lines = EntryLines::of(alloc, trace)?;
         let steps = no_steps(alloc, trace.len())?;
         Ok(Recorder {
             alloc,
@@ -109,7 +105,7 @@ impl Recorder {
     fn take_record(&mut self, json: &JsonLine<'_>) -> Result<(), EvidenceCause>
         ensures { Gives (λ _. self.new) result (record_line self.old (line_data json.now)) }
     {
-        let (place, steps) = placed_steps(self.alloc, &self.lines, json)?;
+        let (place, steps) = placed_steps(self.alloc, &mut self.lines, json)?;
         self.put(place, &steps)
     }
 }
