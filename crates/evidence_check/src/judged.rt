@@ -3,7 +3,6 @@
 ghost use Rattle.std.specs.Prelude.{◌≡◌, ◌<◌, ◌↔◌, None, Some, IsTrue, IfOk, OnOk, length, slice_get, option_map, map};
 ghost use Rattle.std.specs.List.{AllByRecursion};
 ghost use Rattle.tuple_text.specs.FactRefs.{fact_value};
-ghost use Rattle.tuple_text.specs.Refs.{set_value};
 ghost use Rattle.namespaces.specs.Lookup.{rule_at};
 ghost use Rattle.version_chains.specs.Commits.{store_at};
 ghost use Rattle.judgement.specs.Facts.{marked_fact};
@@ -84,10 +83,7 @@ fn are_disproved(
 }
 
 /// Puts the facts with the marks of their usersets, each of which is made once, in the place of what was there.
-fn mark_each<'a>(
-    marked: &mut Vec<MarkedFact<'a>>,
-    facts: &[FactRef<'a>],
-) -> Result<(), AllocError>
+fn mark_each<'a>(marked: &mut Vec<MarkedFact<'a>>, facts: &[FactRef<'a>]) -> Result<(), AllocError>
     ensures { OnOk result (map marked_fact marked.new.items ≡ map fact_value facts.now) }
 {
     marked.clear();
@@ -208,7 +204,7 @@ fn by_goal(known: &Known<MarkedFact<'_>>, goal: &Fact, reply: bool) -> Judged
 }
 
 /// Nothing is known, and there is room for the facts of the steps.
-fn room_for<'a>(
+fn nothing_known<'a>(
     alloc: Global,
     steps: &[StepRef<'a>],
 ) -> Result<Known<MarkedFact<'a>>, AllocError>
@@ -234,7 +230,7 @@ pub(crate) fn judge_borrowed(
 ) -> Result<Judged, AllocError>
     ensures { IfOk result (λ j. j ≡ judged trace.now (entry_value entry.now) (Some (borrowed_steps steps.now))) }
 {
-    let mut known = room_for(alloc, steps)?;
+    let mut known = nothing_known(alloc, steps)?;
     match first_bad(alloc, trace, entry.snapshot, &mut known, steps)? {
         Some(step) => Ok(Judged::Bad { step }),
         None => Ok(by_goal(&known, &entry.goal, entry.reply)),

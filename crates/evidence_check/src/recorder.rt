@@ -1,11 +1,10 @@
 //! The records that are read so far.
 
-ghost use Rattle.std.specs.Prelude.{◌≡◌, ◌≤◌, ℕ, length, replicate, map, option_map, slice_get, slice_set, None, Some, IfOk, IfErr, OnOk};
+ghost use Rattle.std.specs.Prelude.{◌≡◌, replicate, slice_get, slice_set, None, Some, IfOk};
 ghost use Rattle.json_lines.specs.Data.{line_data};
-ghost use Rattle.trace_lines.specs.Values.{entry_lines};
 ghost use Rattle.evidence_check.specs.Causes.{Gives};
-ghost use Rattle.evidence_check.specs.Reading.{place_of, is_taken, put_steps, record_line, no_records};
-ghost use Rattle.evidence_check.specs.Evidences.{shown_steps, all_shown};
+ghost use Rattle.evidence_check.specs.Reading.{is_taken, put_steps, record_line, no_records};
+ghost use Rattle.evidence_check.specs.Evidences.{all_shown};
 ghost use Rattle.evidence_check.specs.Steps.{step_values, borrowed_steps};
 
 use crate::cause::EvidenceCause;

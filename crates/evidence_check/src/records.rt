@@ -126,10 +126,7 @@ fn facts_in<'a>(
 }
 
 /// The step that a value is, where it is known.
-fn step_in<'a>(
-    alloc: Global,
-    step: &JsonRef<'_, 'a>,
-) -> Result<Option<StepRef<'a>>, EvidenceCause>
+fn step_in<'a>(alloc: Global, step: &JsonRef<'_, 'a>) -> Result<Option<StepRef<'a>>, EvidenceCause>
     ensures { Gives (option_map borrowed_step) result (step_in (value_data step.now)) }
 {
     if let Some(fact) = at_only(step, "yes", "no") {

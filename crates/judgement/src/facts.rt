@@ -114,13 +114,13 @@ impl<F: KnownFact> Facts<F> {
         })
     }
 
-    /// Finds all facts by their marks from now on. For want of memory nothing changes.
+    /// Finds all facts by their marks from now on. There is room for as many marks as for facts. For want of memory nothing
+    /// changes.
     fn mark(&mut self) -> Result<(), AllocError>
         ensures same { self.new ≡ self.old }
     {
         if !self.is_marked {
-            // as many marks as there is room for facts, and at least as many again as there are
-            let room = self.facts.len().saturating_mul(2).max(self.facts.capacity());
+            let room = self.facts.capacity().max(2 * FEW);
             self.marks = marks_of(*self.facts.allocator(), &self.facts, room)?;
             self.is_marked = true;
         }
