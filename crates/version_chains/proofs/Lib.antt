@@ -7,6 +7,7 @@ pub mod CommitLemmas
 pub mod FindLemmas
 pub mod HistoryLemmas
 pub mod KindLemmas
+pub mod MarkLemmas
 pub mod NewestLemmas
 pub mod PlacedLemmas
 pub mod LinkLemmas
