@@ -1,5 +1,5 @@
 -- Marks of usersets, users and tuples: SipHash of their texts, or of two marks. Equal ones have equal marks, and no more is used.
-use Rattle.std.specs.Prelude.{ℕ, ◌-◌, ◌%◌, Bool, true, false, List, [], ◌∷◌, ◌++◌, length, replicate, fold, cond}
+use Rattle.std.specs.Prelude.{ℕ, ◌-◌, ◌%◌, ◌^◌, Bool, true, false, List, [], ◌∷◌, ◌++◌, length, replicate, fold, cond}
 use Rattle.std.specs.Hash.DefaultHasher as sip
 use Rattle.std.specs.Int.{w64, to_le_bytes, rotate_left}
 use Rattle.std.specs.Int.Bits.{bit_xor}
@@ -43,7 +43,7 @@ is_userset (Set g) = true
 
 -- of a userset with this mark and one kind of its users, which are usersets or ids
 abbrev pub kind_mark : ℕ → Bool → ℕ
-kind_mark mark usersets = cond usersets mark (bit_xor mark 1)
+kind_mark mark usersets = cond usersets mark (bit_xor mark (2 ^ 63))
 
 -- of a tuple's userset and the kind of its user
 abbrev pub held_mark : TupleValue → ℕ

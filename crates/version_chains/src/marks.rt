@@ -138,7 +138,12 @@ impl<'a> MarkedUser<'a> {
 pub(crate) fn kind_mark(set: MarkedSet<'_>, usersets: bool) -> u64
     ensures { result ≡ marks.kind_mark (marks.set_mark (set_value set.entry.set)) usersets }
 {
-    if usersets { set.mark } else { set.mark ^ 1 }
+    if usersets {
+        set.mark
+    } else {
+        // another upper bit, so that the two kinds are in chains of their own
+        set.mark ^ 1 << 63
+    }
 }
 
 /// The mark of a tuple: equal tuples have equal marks.
