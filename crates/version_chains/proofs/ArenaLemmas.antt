@@ -23,6 +23,10 @@ item_within xs i h = elim (slice_get_cases xs i).1 [
   | inr past ↦ absurd (let p = past.0 in omega (arith, h, p))
 ]
 
+-- what an item is to a function
+pub item_of : {X Y : Type 0} (f : X → Y) (xs : List X) (i : ℕ) (x : X) → slice_get xs i ≡ Some x → slice_get (map f xs) i ≡ Some (f x)
+item_of f xs i x at = slice_get-map f xs i ∙ ap (option_map f) at
+
 -- tuples are equal where their numbers are
 pub tuples_by_number : (tuples : List TupleValue) → AreApartAt tuples → (a b : ℕ) (t u : TupleValue) → slice_get tuples a ≡ Some t → slice_get tuples b ≡ Some u → nat_eq a b ≡ tuple_eq t u
 tuples_by_number tuples apart a b t u at bt = by_tests (nat_eq a b) (tuple_eq t u) refl refl
@@ -40,7 +44,14 @@ tuples_by_number tuples apart a b t u at bt = by_tests (nat_eq a b) (tuple_eq t 
 
 -- no touch is after a timestamp, and so no node
 pub up_to_nodes : (tuples : List TupleValue) (nodes : List Node) (at : ℕ) → AreUpTo at (map (touch_of tuples) nodes) → (i : ℕ) (n : Node) → slice_get nodes i ≡ Some n → n.at ≤ at
-up_to_nodes tuples nodes at up i n here = up i (touch_of tuples n) (slice_get-map (touch_of tuples) nodes i ∙ ap (option_map (touch_of tuples)) here)
+up_to_nodes tuples nodes at up i n here = up i (touch_of tuples n) (item_of (touch_of tuples) nodes i n here)
+
+-- one more touch
+pub touches-more : (tuples : List TupleValue) (nodes : List Node) (n : Node) (t : TupleValue) → slice_get tuples n.tuple ≡ Some t
+    → map (touch_of tuples) (nodes ++ n ∷ []) ≡ map (touch_of tuples) nodes ++ record { at = n.at; live = n.live; tuple = t } ∷ []
+touches-more tuples nodes n t at =
+    map-append (touch_of tuples) nodes (n ∷ [])
+    ∙ ap (λ (o : Option TupleValue). map (touch_of tuples) nodes ++ record { at = n.at; live = n.live; tuple = unwrap_or o nobody } ∷ []) at
 
 module _ (tuples : List TupleValue) (latest named held : List ℕ) (nodes : List Node) (is : IsLinked tuples latest named held nodes) where
   -- a touch is one of this tuple where it has the tuple's number
@@ -76,7 +87,7 @@ module _ (tuples : List TupleValue) (latest named held : List ℕ) (nodes : List
       let w = item_within tuples n.tuple (is.known i n here) in
       let e : (touch_of tuples n).tuple ≡ w.0 = ap (λ (o : Option TupleValue). unwrap_or o nobody) w.1 in (
         touch_of tuples n,
-        slice_get-map (touch_of tuples) nodes i ∙ ap (option_map (touch_of tuples)) here,
+        item_of (touch_of tuples) nodes i n here,
         refl,
         refl,
         is.earlier i n here ∙ sym (last_touch n.tuple w.0 w.1 i) ∙ ap (λ (t : TupleValue). last_place (λ y. tuple_eq y.tuple t) (map (touch_of tuples) nodes) i) (sym e),

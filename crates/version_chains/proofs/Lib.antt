@@ -7,10 +7,12 @@ pub mod CommitLemmas
 pub mod FindLemmas
 pub mod HistoryLemmas
 pub mod KindLemmas
+pub mod MarkLemmas
 pub mod NewestLemmas
 pub mod PlacedLemmas
 pub mod LinkLemmas
 pub mod RepeatLemmas
+pub mod RowLemmas
 pub mod StoreLemmas
 pub mod TableLemmas
 pub mod UserLemmas

@@ -1,5 +1,5 @@
 -- The table in which the newest place of each mark is found.
-use Rattle.std.proofs.Common.{◌≡◌, ◌≢◌, ℕ, zero, suc, ◌%◌, ◌-◌, ◌<◌, ◌≤◌, Bool, true, false, cond, List, [], ◌∷◌, ◌++◌, length, refl, sym, ◌∙◌, ap, subst, Option, None, Some, arith, nat_eq, eqb-true, false-eqb, eq-eqb, inl, inr, Result, Ok, Err, OnErr}
+use Rattle.std.proofs.Common.{◌≡◌, ◌≢◌, ℕ, zero, suc, ◌-◌, ◌<◌, ◌≤◌, Bool, true, false, cond, List, [], ◌∷◌, ◌++◌, length, refl, sym, ◌∙◌, ap, subst, Option, None, Some, arith, nat_eq, eqb-true, false-eqb, eq-eqb, inl, inr, Result, Ok, Err, OnErr}
 use Rattle.std.specs.Prelude.{slice_get, slice_set, unwrap_or}
 use Rattle.std.specs.Ordering.{nat_cmp, eq_by_cmp}
 use Rattle.std.specs.BTreeMap.{BTreeMap, get, Updates, is_at}
@@ -7,7 +7,7 @@ use Rattle.std.specs.Cmp.{eq_by_cmp_equiv, nat_cmp_total}
 use Rattle.std.proofs.lemmas.Map.Lookups.{exact_unsigned}
 use Rattle.std.proofs.lemmas.Map.Views.{tells_apart}
 use Rattle.std.proofs.lemmas.Option.{slice_get_within}
-use Rattle.version_chains.specs.Links.{next_of, place_of, entry_in, ends, head_of, place_in, newest_in, AreChained}
+use Rattle.version_chains.specs.Links.{chain_of, next_of, place_of, entry_in, ends, head_of, place_in, newest_in, AreChained}
 use Rattle.version_chains.specs.Placed.{passes}
 use Rattle.version_chains.specs.declared.table.Entry.{Entry}
 use Rattle.version_chains.proofs.PlacedLemmas.{length-set, length-more, slice_get-cases, slice_get-front, slice_get-next, slice_get-set}
@@ -230,43 +230,40 @@ module _ (longest : ℕ) (heads : List ℕ) (entries : List Entry) (rest : BTree
       next_within (Some e) at = are.nexts_within i e at
 
   head_within : (m : ℕ) → head_of heads m ≤ length entries
-  head_within m = by_head (slice_get heads (m % length heads)) refl
+  head_within m = by_head (slice_get heads (chain_of m (length heads))) refl
     where
-      by_head : (o : Option ℕ) → slice_get heads (m % length heads) ≡ o → unwrap_or o 0 ≤ length entries
+      by_head : (o : Option ℕ) → slice_get heads (chain_of m (length heads)) ≡ o → unwrap_or o 0 ≤ length entries
       by_head None e = omega arith
-      by_head (Some h) e = are.heads_within (m % length heads) h e
+      by_head (Some h) e = are.heads_within (chain_of m (length heads)) h e
 
   place-more : (m entry : ℕ) → entry_in entries m longest (head_of heads m) ≡ entry → place_in more rest m entry ≡ place_in entries rest m entry
   place-more m zero h = refl
   place-more m (suc i) h = let w = entry_is entries m longest (head_of heads m) i h in ap place_of (slice_get-front entries (x ∷ []) i (slice_get_within entries i w.0 w.1))
 
   -- the table with it
-  module _ (n : ℕ) (one_less : longest ≡ suc n) (some : 0 < length heads) (next_is : x.next ≡ head_of heads x.mark) (room : ends entries n (head_of heads x.mark) ≡ true) where
+  module _ (n : ℕ) (one_less : longest ≡ suc n) (chain_within : chain_of x.mark (length heads) < length heads) (next_is : x.next ≡ head_of heads x.mark) (room : ends entries n (head_of heads x.mark) ≡ true) where
     abbrev chain : ℕ
-    chain = x.mark % length heads
+    chain = chain_of x.mark (length heads)
 
     abbrev led : List ℕ
     led = slice_set heads chain (suc (length entries))
 
-    chain_within : chain < length heads
-    chain_within = omega (arith, some)
-
-    head_led : (m : ℕ) → m % length heads ≡ chain → head_of led m ≡ suc (length entries)
+    head_led : (m : ℕ) → chain_of m (length heads) ≡ chain → head_of led m ≡ suc (length entries)
     head_led m same =
-        ap (λ k. unwrap_or (slice_get led (m % k)) 0) (length-set heads chain (suc (length entries)))
+        ap (λ k. unwrap_or (slice_get led (chain_of m k)) 0) (length-set heads chain (suc (length entries)))
         ∙ ap (λ k. unwrap_or (slice_get led k) 0) same
         ∙ ap (λ o. unwrap_or o 0) (set_at_index heads chain (suc (length entries)) chain_within)
 
-    head_kept : (m : ℕ) → m % length heads ≢ chain → head_of led m ≡ head_of heads m
+    head_kept : (m : ℕ) → chain_of m (length heads) ≢ chain → head_of led m ≡ head_of heads m
     head_kept m other =
-        ap (λ k. unwrap_or (slice_get led (m % k)) 0) (length-set heads chain (suc (length entries)))
-        ∙ ap (λ o. unwrap_or o 0) (set_else heads chain (m % length heads) (suc (length entries)) other)
+        ap (λ k. unwrap_or (slice_get led (chain_of m k)) 0) (length-set heads chain (suc (length entries)))
+        ∙ ap (λ o. unwrap_or o 0) (set_else heads chain (chain_of m (length heads)) (suc (length entries)) other)
 
     -- another mark
     kept : (m : ℕ) → entry_in more m longest (head_of led m) ≡ entry_in entries m longest (head_of heads m) → newest_in longest led more rest m ≡ newest_in longest heads entries rest m
     kept m same = ap (place_in more rest m) same ∙ place-more m (entry_in entries m longest (head_of heads m)) refl
 
-    in_chain : (m : ℕ) → m % length heads ≡ chain → nat_eq x.mark m ≡ false → entry_in more m longest (head_of led m) ≡ entry_in entries m longest (head_of heads m)
+    in_chain : (m : ℕ) → chain_of m (length heads) ≡ chain → nat_eq x.mark m ≡ false → entry_in more m longest (head_of led m) ≡ entry_in entries m longest (head_of heads m)
     in_chain m same other =
         let heads_same : head_of heads x.mark ≡ head_of heads m = ap (λ k. unwrap_or (slice_get heads k) 0) (sym same) in
         ap (λ k. entry_in more m k (head_of led m)) one_less
@@ -276,7 +273,7 @@ module _ (longest : ℕ) (heads : List ℕ) (entries : List Entry) (rest : BTree
         ∙ sym (entry-ended entries m n (head_of heads m) (subst (λ (h : ℕ). ends entries n h ≡ true) heads_same room))
         ∙ ap (λ k. entry_in entries m k (head_of heads m)) (sym one_less)
 
-    elsewhere : (m : ℕ) → m % length heads ≢ chain → entry_in more m longest (head_of led m) ≡ entry_in entries m longest (head_of heads m)
+    elsewhere : (m : ℕ) → chain_of m (length heads) ≢ chain → entry_in more m longest (head_of led m) ≡ entry_in entries m longest (head_of heads m)
     elsewhere m other = ap (entry_in more m longest) (head_kept m other) ∙ entry-more m longest (head_of heads m) (head_within m)
 
     newest_here : newest_in longest led more rest x.mark ≡ x.place
@@ -288,12 +285,12 @@ module _ (longest : ℕ) (heads : List ℕ) (entries : List Entry) (rest : BTree
         ∙ ap place_of (slice_get-next entries x)
 
     pub newest-more : (m : ℕ) → newest_in longest led more rest m ≡ cond (nat_eq m x.mark) x.place (newest_in longest heads entries rest m)
-    newest-more m = by_tests (nat_eq m x.mark) refl (nat_eq (m % length heads) chain) refl
+    newest-more m = by_tests (nat_eq m x.mark) refl (nat_eq (chain_of m (length heads)) chain) refl
       where
-        by_tests : (b : Bool) → nat_eq m x.mark ≡ b → (c : Bool) → nat_eq (m % length heads) chain ≡ c → newest_in longest led more rest m ≡ cond b x.place (newest_in longest heads entries rest m)
+        by_tests : (b : Bool) → nat_eq m x.mark ≡ b → (c : Bool) → nat_eq (chain_of m (length heads)) chain ≡ c → newest_in longest led more rest m ≡ cond b x.place (newest_in longest heads entries rest m)
         by_tests true t c u = ap (newest_in longest led more rest) (eqb-true m x.mark t) ∙ newest_here
-        by_tests false t true u = kept m (in_chain m (eqb-true (m % length heads) chain u) (nat_eq-other x.mark m (λ e. false-eqb m x.mark (sym t) (sym e))))
-        by_tests false t false u = kept m (elsewhere m (false-eqb (m % length heads) chain (sym u)))
+        by_tests false t true u = kept m (in_chain m (eqb-true (chain_of m (length heads)) chain u) (nat_eq-other x.mark m (λ e. false-eqb m x.mark (sym t) (sym e))))
+        by_tests false t false u = kept m (elsewhere m (false-eqb (chain_of m (length heads)) chain (sym u)))
 
     pub chained-more : AreChained led more
     chained-more = record {

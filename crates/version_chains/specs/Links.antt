@@ -1,5 +1,5 @@
 -- How places are linked by their marks, and found in the table of marks. No public clause cites this module.
-use Rattle.std.specs.Prelude.{◌≡◌, ◌≤◌, ◌%◌, ℕ, zero, suc, Bool, true, false, cond, List, map, length, slice_get, Option, None, Some, nat_eq, unwrap_or}
+use Rattle.std.specs.Prelude.{◌≡◌, ◌≤◌, ◌*◌, ◌/◌, ◌^◌, ℕ, zero, suc, Bool, true, false, cond, List, map, length, slice_get, Option, None, Some, nat_eq, unwrap_or}
 use Rattle.std.specs.Ordering.{nat_cmp}
 use Rattle.std.specs.BTreeMap.{BTreeMap, get}
 use Rattle.version_chains.specs.Placed.{last_place, passes}
@@ -27,8 +27,13 @@ ends entries n zero = true
 ends entries zero (suc i) = false
 ends entries (suc n) (suc i) = ends entries n (next_of (slice_get entries i))
 
+-- the index of a mark's chain: as far among so many chains as the mark is among all of 64 bits
+abbrev pub chain_of : ℕ → ℕ → ℕ
+chain_of mark chains = mark * chains / 2 ^ 64
+
+-- the first entry of a mark's chain
 abbrev pub head_of : List ℕ → ℕ → ℕ
-head_of heads mark = unwrap_or (slice_get heads (mark % length heads)) 0
+head_of heads mark = unwrap_or (slice_get heads (chain_of mark (length heads))) 0
 
 -- the place at the mark's entry, or where it has no entry in the tree of the rest; 0 is no place
 abbrev pub place_in : List Entry → BTreeMap ℕ ℕ → ℕ → ℕ → ℕ

@@ -1,7 +1,7 @@
 -- Marks of usersets, users and tuples: SipHash of their texts, or of two marks. Equal ones have equal marks, and no more is used.
-use Rattle.std.specs.Prelude.{ℕ, Bool, true, false, List, [], ◌∷◌, ◌++◌, length, fold, cond}
+use Rattle.std.specs.Prelude.{ℕ, ◌-◌, ◌%◌, ◌^◌, Bool, true, false, List, [], ◌∷◌, ◌++◌, length, replicate, fold, cond}
 use Rattle.std.specs.Hash.DefaultHasher as sip
-use Rattle.std.specs.Int.{w64, to_le_bytes}
+use Rattle.std.specs.Int.{w64, to_le_bytes, rotate_left}
 use Rattle.std.specs.Int.Bits.{bit_xor}
 use Rattle.tuple_text.specs.Sets.{SetValue}
 use Rattle.tuple_text.specs.Tuples.{TupleValue}
@@ -12,9 +12,17 @@ use Rattle.tuple_text.specs.declared.users.User.TheVariants.{Id, Set}
 abbrev pub pair_bytes : ℕ → ℕ → List ℕ
 pair_bytes m n = to_le_bytes w64 m ++ to_le_bytes w64 n
 
--- first the lengths of the namespace and of the id, by which the texts behind them are told apart
+-- a text in whole words of eight bytes, the last of them filled with zeros
+abbrev pub padded : List ℕ → List ℕ
+padded text = text ++ replicate ((8 - length text % 8) % 8) 0
+
+-- the lengths of the texts in one word, each in a third of it; a third has room for 2 MiB
+abbrev pub lengths : SetValue → ℕ
+lengths g = bit_xor (bit_xor (length g.namespace) (rotate_left w64 (length g.id) 21)) (rotate_left w64 (length g.relation) 42)
+
+-- first the lengths, by which the texts behind them are told apart
 unfoldable pub set_mark : SetValue → ℕ
-set_mark g = sip.finish (fold sip.write sip.initial (pair_bytes (length g.namespace) (length g.id) ∷ g.namespace ∷ g.id ∷ g.relation ∷ []))
+set_mark g = sip.finish (fold sip.write sip.initial (to_le_bytes w64 (lengths g) ∷ padded g.namespace ∷ padded g.id ∷ padded g.relation ∷ []))
 
 -- an id is its own mark
 abbrev pub user_mark : User → ℕ
@@ -35,7 +43,7 @@ is_userset (Set g) = true
 
 -- of a userset with this mark and one kind of its users, which are usersets or ids
 abbrev pub kind_mark : ℕ → Bool → ℕ
-kind_mark mark usersets = cond usersets mark (bit_xor mark 1)
+kind_mark mark usersets = cond usersets mark (bit_xor mark (2 ^ 63))
 
 -- of a tuple's userset and the kind of its user
 abbrev pub held_mark : TupleValue → ℕ

@@ -13,6 +13,7 @@ ghost use Rattle.version_chains.specs.Placed.{last_place, most};
 use crate::marks::{MarkedSet, MarkedUser, is_userset, kind_mark, tuple_mark};
 use crate::node::{Node, at_place, next_links};
 use crate::places::{MOST_PLACES, Places};
+use crate::row::Row;
 use std::alloc::{AllocError, Global};
 use std::marker::Model;
 use tuple_text::{SetRef, Tuple, UserRef};
@@ -24,10 +25,7 @@ use tuple_text::{SetRef, Tuple, UserRef};
 /// the same userset whose user is of the same kind, a userset or an id, so that each question is a walk back from the newest.
 #[derive(Drop)]
 pub struct Arena {
-    tuples: Vec<Tuple>,
-    // the marks of their users
-    users: Vec<u64>,
-    latest: Vec<u32>,
+    rows: Vec<Row>,
     named: Places,
     held: Places,
     nodes: Vec<Node>,
@@ -35,18 +33,17 @@ pub struct Arena {
 
 impl Model for Arena {
     ghost use Rattle.std.specs.Prelude.{map, vec_len, vec_capacity};
-    ghost use Rattle.version_chains.specs.Arena.{Held, room_of};
+    ghost use Rattle.version_chains.specs.Arena.{Held, room_of, tuples_of};
 
     ghost Value = { Held };
 
-    ghost use Rattle.std.specs.Prelude.{◌≡◌, ◌≤◌, length};
-    ghost use Rattle.version_chains.specs.Arena.{IsLinked, touch_of};
-    ghost use Rattle.version_chains.specs.Marks.{user_mark};
+    ghost use Rattle.std.specs.Prelude.{◌≤◌, length};
+    ghost use Rattle.version_chains.specs.Arena.{AreMarked, IsLinked, latest_of, touch_of};
     ghost use Rattle.version_chains.specs.Placed.{most};
 
-    ghost view = { λ a. record { tuples = a.tuples.items; touches = map (touch_of a.tuples.items) a.nodes.items; room = room_of (vec_capacity a.nodes) (vec_len a.nodes) } };
+    ghost view = { λ a. record { tuples = tuples_of a.rows.items; touches = map (touch_of (tuples_of a.rows.items)) a.nodes.items; room = room_of (vec_capacity a.nodes) (vec_len a.nodes) } };
 
-    ghost invariant = { λ a. IsLinked a.tuples.items a.latest.items a.named a.held a.nodes.items × (a.users.items ≡ map (λ t. user_mark t.user) a.tuples.items) × (length a.tuples.items ≤ most) };
+    ghost invariant = { λ a. IsLinked (tuples_of a.rows.items) (latest_of a.rows.items) a.named a.held a.nodes.items × AreMarked a.rows.items × (length a.rows.items ≤ most) };
 }
 
 /// Whether the tuple has this userset and this user.
@@ -62,9 +59,7 @@ impl Arena {
         ensures touches { result.touches ≡ [] }
     {
         Arena {
-            tuples: Vec::new(alloc),
-            users: Vec::new(alloc),
-            latest: Vec::new(alloc),
+            rows: Vec::new(alloc),
             named: Places::new(alloc),
             held: Places::new(alloc),
             nodes: Vec::new(alloc),
@@ -88,7 +83,7 @@ impl Arena {
         let mut place = self.named.newest(tuple_mark(set, user));
         while place > 0 {
             let number = place - 1;
-            if names(&self.tuples[number], set.set, user.user) {
+            if names(&self.rows[number].tuple, set.set, user.user) {
                 return Some(number);
             }
             place = self.named.older(number);
@@ -118,8 +113,8 @@ impl Arena {
     pub fn newest(&self, number: usize) -> usize
         ensures { (t : TupleValue) → IsNumber self.now.tuples t number → result ≡ newest_of t self.now.touches (length self.now.touches) }
     {
-        match self.latest.get(number) {
-            Some(place) => *place as usize,
+        match self.rows.get(number) {
+            Some(row) => row.latest as usize,
             None => 0,
         }
     }
@@ -193,12 +188,12 @@ impl Arena {
         ensures { (t : TupleValue) → IsNumber self.now.tuples t number
             → Gives result (is_given (set_value set.entry) usersets at self.now.touches t) t.user }
     {
-        let tuple = self.tuples.get(number)?;
-        let user = tuple.user();
-        if tuple.set() == set && is_userset(user) == usersets && self.is_live(number, at) {
+        let row = self.rows.get(number)?;
+        let user = row.tuple.user();
+        if row.tuple.set() == set && is_userset(user) == usersets && self.is_live(number, at) {
             Some(MarkedUser {
                 user,
-                mark: self.users[number],
+                mark: row.user_mark,
             })
         } else {
             None
@@ -216,23 +211,22 @@ impl Arena {
         if let Some(number) = self.find(set, user) {
             return Ok(number);
         }
-        let number = self.tuples.len();
+        let number = self.rows.len();
         if number >= MOST_PLACES {
             return Err(AllocError);
         }
-        let copy = tuple.clone()?;
-        self.tuples.reserve(1)?;
-        self.users.reserve(1)?;
-        self.latest.reserve(1)?;
+        let row = Row {
+            tuple: tuple.clone()?,
+            user_mark: user.mark,
+            latest: 0,
+        };
+        self.rows.reserve(1)?;
         self.named.push(tuple_mark(set, user))?;
         if let Err(fault) = self.held.push(kind_mark(set, is_userset(user.user))) {
             self.named.pop();
             return Err(fault);
         }
-        if self.tuples.push(copy).is_err()
-            || self.users.push(user.mark).is_err()
-            || self.latest.push(0).is_err()
-        {
+        if self.rows.push(row).is_err() {
             unreachable!();
         }
         Ok(number)
@@ -258,7 +252,7 @@ impl Arena {
             → self.new.touches ≡ self.old.touches ++ record { at = at; live = live; tuple = t } ∷ [] }
         ensures room { self.old.room ≤ self.new.room + 1 }
     {
-        let older = self.latest[number];
+        let older = self.rows[number].latest;
         let (depth, jump) = next_links(self.nodes.as_slice(), older);
         let node = Node {
             at,
@@ -271,6 +265,6 @@ impl Arena {
         if self.nodes.push(node).is_err() {
             unreachable!();
         }
-        self.latest[number] = self.nodes.len() as u32;
+        self.rows[number].latest = self.nodes.len() as u32;
     }
 }

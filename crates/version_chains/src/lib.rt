@@ -33,6 +33,7 @@ mod marks;
 mod node;
 mod places;
 mod repeats;
+mod row;
 mod table;
 #[cfg(test)]
 mod tests;

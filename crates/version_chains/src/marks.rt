@@ -1,6 +1,7 @@
 //! Marks by which tuples and usersets are found.
 
-ghost use Rattle.std.specs.Prelude.{◌≡◌};
+ghost use Rattle.std.specs.Prelude.{◌≡◌, ◌<◌, ◌-◌, ◌++◌, length, replicate};
+ghost use Rattle.std.specs.Hash.DefaultHasher.{write};
 ghost use Rattle.tuple_text.specs.Refs.{set_value, user_value};
 ghost use Rattle.tuple_text.specs.Tuples.{tuple_of};
 ghost use Rattle.tuple_text.specs.declared.users.User.TheVariants.{Id};
@@ -8,6 +9,9 @@ ghost use Rattle.version_chains.specs.Marks as marks;
 
 use std::hash::{DefaultHasher, Hasher};
 use tuple_text::{SetRef, UserRef};
+
+/// The bytes of a word, as the hasher takes them.
+const WORD: usize = 8;
 
 /// A userset with its mark, which is a hash of its texts: equal usersets have equal marks. Whoever asks for a userset
 /// more than once makes its mark once.
@@ -36,15 +40,46 @@ fn pair_bytes(first: u64, second: u64) -> [u8; 16]
     bytes
 }
 
+/// A word that begins with these bytes, and is filled with zeros.
+fn last_word(bytes: &[u8]) -> [u8; WORD]
+    requires { length bytes.now < 8 }
+    ensures { result ≡ bytes.now ++ replicate (8 - length bytes.now) 0 }
+{
+    let mut word = [0u8; WORD];
+    word[..bytes.len()].copy_from_slice(bytes);
+    word
+}
+
+/// Hashes a text in whole words, which is quick: where writes end inside a word, each of its bytes is taken by itself.
+fn write_padded(hasher: &mut DefaultHasher, text: &str)
+    ensures { hasher.new ≡ write hasher.old (marks.padded text.now) }
+{
+    let bytes = text.as_bytes();
+    let (words, rest) = bytes.split_at(bytes.len() - bytes.len() % WORD);
+    hasher.write(words);
+    if !rest.is_empty() {
+        hasher.write(&last_word(rest));
+    }
+}
+
+/// The lengths of the texts in one word.
+fn lengths(set: SetRef<'_>) -> u64
+    ensures { result ≡ marks.lengths (set_value set.entry) }
+{
+    set.namespace.len() as u64
+        ^ (set.id.len() as u64).rotate_left(21)
+        ^ (set.relation.len() as u64).rotate_left(42)
+}
+
 #[tactic(auto, unfolding(crate::specs::Marks::set_mark))]
 fn set_mark(set: SetRef<'_>) -> u64
     ensures { result ≡ marks.set_mark (set_value set.entry) }
 {
     let mut hasher = DefaultHasher::new();
-    hasher.write(&pair_bytes(set.namespace.len() as u64, set.id.len() as u64));
-    hasher.write(set.namespace.as_bytes());
-    hasher.write(set.id.as_bytes());
-    hasher.write(set.relation.as_bytes());
+    hasher.write(&lengths(set).to_le_bytes());
+    write_padded(&mut hasher, set.namespace);
+    write_padded(&mut hasher, set.id);
+    write_padded(&mut hasher, set.relation);
     hasher.finish()
 }
 
@@ -103,7 +138,12 @@ impl<'a> MarkedUser<'a> {
 pub(crate) fn kind_mark(set: MarkedSet<'_>, usersets: bool) -> u64
     ensures { result ≡ marks.kind_mark (marks.set_mark (set_value set.entry.set)) usersets }
 {
-    if usersets { set.mark } else { set.mark ^ 1 }
+    if usersets {
+        set.mark
+    } else {
+        // another upper bit, so that the two kinds are in chains of their own
+        set.mark ^ 1 << 63
+    }
 }
 
 /// The mark of a tuple: equal tuples have equal marks.

@@ -1,10 +1,10 @@
 //! The newest place of each mark, in a table of chains.
 
-ghost use Rattle.std.specs.Prelude.{◌≡◌, ◌<◌, ◌≤◌, ◌%◌, ◌-◌, ℕ, true, None, map, length, cond, nat_eq, IfOk, OnOk, OnErr};
+ghost use Rattle.std.specs.Prelude.{◌≡◌, ◌<◌, ◌≤◌, ◌-◌, ℕ, true, None, map, length, cond, nat_eq, slice_get, unwrap_or, IfOk, OnOk, OnErr};
 ghost use Rattle.std.specs.Bool.{OnTrue};
 ghost use Rattle.std.specs.BTreeMap.{get};
 ghost use Rattle.std.specs.Ordering.{nat_cmp};
-ghost use Rattle.version_chains.specs.Links.{IsTable, ends, entry_for, entry_in, head_of, longest, newest_of};
+ghost use Rattle.version_chains.specs.Links.{IsTable, chain_of, ends, entry_for, entry_in, head_of, longest, newest_of};
 ghost use Rattle.version_chains.specs.Placed.{last_place, most};
 
 use crate::places::{Link, MOST_PLACES};
@@ -27,7 +27,7 @@ pub struct Entry {
 
 /// The newest place of each mark. 0 is no place.
 ///
-/// A mark stands in the chain that its remainder names, or in a tree where that chain is full.
+/// A mark stands in the chain that its upper bits name, or in a tree where that chain is full.
 #[derive(Drop)]
 pub struct Table {
     heads: Vec<u32>,
@@ -35,23 +35,19 @@ pub struct Table {
     rest: BTreeMap<u64, u32>,
 }
 
-/// The index of a mark's chain.
+/// The index of a mark's chain. A remainder would do as well, but wants a division, which is slow.
 fn chain_of(mark: u64, chains: usize) -> usize
-    requires { 0 < chains }
-    ensures value { result ≡ mark % chains }
-    ensures within { result < chains }
+    ensures value { result ≡ chain_of mark chains }
+    ensures within { 0 < chains → result < chains }
 {
-    (mark % chains as u64) as usize
+    ((mark as u128 * chains as u128) >> 64) as usize
 }
 
-/// The first entry of a mark's chain.
-fn head(heads: &[u32], mark: u64) -> u32
-    ensures { result ≡ head_of heads.now mark }
+/// The first entry of a chain.
+fn head_at(heads: &[u32], chain: usize) -> u32
+    ensures { result ≡ unwrap_or (slice_get heads.now chain) 0 }
 {
-    if heads.is_empty() {
-        return 0;
-    }
-    heads[chain_of(mark, heads.len())]
+    heads.get(chain).copied().unwrap_or(0)
 }
 
 /// The mark's entry in the chain that begins here.
@@ -130,31 +126,43 @@ impl Table {
         })
     }
 
-    /// The mark's entry.
-    fn entry(&self, mark: u64) -> u32
-        ensures { result ≡ entry_for self.now mark }
+    /// The index of the mark's chain, and its first entry.
+    fn chain(&self, mark: u64) -> (usize, u32)
+        ensures index { result.0 ≡ chain_of mark (length self.now.heads.items) }
+        ensures within { 0 < length self.now.heads.items → result.0 < length self.now.heads.items }
+        ensures head { result.1 ≡ head_of self.now.heads.items mark }
     {
-        entry_of(&self.entries, mark, head(&self.heads, mark))
+        let index = chain_of(mark, self.heads.len());
+        (index, head_at(&self.heads, index))
     }
 
-    /// Whether a new entry of the mark may stand before the mark's chain.
-    fn may_chain(&self, mark: u64) -> bool
+    /// The mark's entry in its chain, which begins here.
+    fn entry(&self, mark: u64, head: u32) -> u32
+        requires { head ≡ head_of self.now.heads.items mark }
+        ensures { result ≡ entry_for self.now mark }
+    {
+        entry_of(&self.entries, mark, head)
+    }
+
+    /// Whether a new entry of the mark may stand before the chain that begins here.
+    fn may_chain(&self, mark: u64, head: u32) -> bool
         ensures some { OnTrue result (0 < length self.now.heads.items) }
-        ensures room { OnTrue result (ends self.now.entries.items (longest - 1) (head_of self.now.heads.items mark) ≡ true) }
+        ensures room { OnTrue result (ends self.now.entries.items (longest - 1) head ≡ true) }
         ensures few { OnTrue result (length self.now.entries.items < most) }
         ensures none { OnTrue result (get nat_cmp self.now.rest mark ≡ None) }
     {
         !self.heads.is_empty()
             && self.entries.len() < MOST_PLACES
             && !self.rest.contains_key(&mark)
-            && has_room(&self.entries, head(&self.heads, mark))
+            && has_room(&self.entries, head)
     }
 
     /// The newest place of the mark, or 0 where it has none.
     pub fn newest(&self, mark: u64) -> u32
         ensures { result ≡ newest_of self.now mark }
     {
-        let entry = self.entry(mark);
+        let (_, head) = self.chain(mark);
+        let entry = self.entry(mark, head);
         if entry > 0 {
             return self.entries[(entry - 1) as usize].place;
         }
@@ -171,16 +179,19 @@ impl Table {
         ensures err { OnErr result ((m : ℕ) → newest_of self.new m ≡ newest_of self.old m) }
         ensures unknown { OnErr result (newest_of self.old mark ≡ 0) }
     {
-        let entry = self.entry(mark);
+        let (chain, head) = self.chain(mark);
+        let entry = self.entry(mark, head);
         if entry > 0 {
             let found = &mut self.entries[(entry - 1) as usize];
             let older = found.place;
             found.place = place;
             Ok(older)
-        } else if self.may_chain(mark) {
-            let next = head(&self.heads, mark);
-            self.entries.push(Entry { mark, place, next })?;
-            let chain = chain_of(mark, self.heads.len());
+        } else if self.may_chain(mark, head) {
+            self.entries.push(Entry {
+                mark,
+                place,
+                next: head,
+            })?;
             self.heads[chain] = self.entries.len() as u32;
             Ok(0)
         } else {

@@ -1,8 +1,8 @@
-use Rattle.std.proofs.Common.{rules, ◌≡◌, ◌∙◌, ◌-◌, ◌<◌, sym, ap, suc, refl, arith, length, None}
+use Rattle.std.proofs.Common.{rules, ◌≡◌, ◌∙◌, ◌-◌, ◌<◌, sym, ap, suc, refl, arith, length, true, None}
 use Rattle.std.specs.BTreeMap.{get}
 use Rattle.std.specs.Ordering.{nat_cmp}
 use Rattle.version_chains.specs.declared.table.Entry.{Entry}
-use Rattle.version_chains.specs.Links.{head_of, longest, newest_in, place_in}
+use Rattle.version_chains.specs.Links.{chain_of, ends, head_of, longest, newest_in, place_in}
 use Rattle.version_chains.proofs.PlacedLemmas.{read_item}
 use Rattle.version_chains.proofs.TableLemmas.{entry_within, newest_at_entry, newest-placed, chained-placed, newest-in_rest, newest-of_rest, newest-same_rest, newest-written, chained-written, on_err}
 use Rattle.version_chains.proofs.table.Table.set.Goals as goal
@@ -81,14 +81,16 @@ returns-in_ok-push-clause-older c =
 
 pub returns-in_ok-push-clause-table : goal.returns-in_ok-push-clause-table
 returns-in_ok-push-clause-table c =
-    let x : Entry = record { mark = c.args.mark; place = c.args.place; next = c.head-next.result } in
-    let next_is : c.head-next.result ≡ head_of c.args.self.now.heads.items c.args.mark = c.head-next.ensures ∙ ap (λ hs. head_of hs c.args.mark) c.deref.ensures.value in
-    chained-written longest c.args.self.now.heads.items c.args.self.now.entries.items c.args.self.now.rest c.requires x (longest - 1) refl c.if-may_chain.ensures.some next_is c.if-may_chain.ensures.room
-    c.chain_of-chain.result c.len-then-may_chain.result c.push.new.self.items (search rules) (search rules) (search rules)
+    let x : Entry = record { mark = c.args.mark; place = c.args.place; next = c.chain-chain.result.1 } in
+    let within : chain_of c.args.mark (length c.args.self.now.heads.items) < length c.args.self.now.heads.items = search rules in
+    let room : ends c.args.self.now.entries.items (longest - 1) (head_of c.args.self.now.heads.items c.args.mark) ≡ true = search rules in
+    chained-written longest c.args.self.now.heads.items c.args.self.now.entries.items c.args.self.now.rest c.requires x (longest - 1) refl within c.chain-chain.ensures.head room
+    c.chain-chain.result.0 c.len.result c.push.new.self.items (search rules) (search rules) (search rules)
 
 pub returns-in_ok-push-clause-ok : goal.returns-in_ok-push-clause-ok
 returns-in_ok-push-clause-ok c =
-    let x : Entry = record { mark = c.args.mark; place = c.args.place; next = c.head-next.result } in
-    let next_is : c.head-next.result ≡ head_of c.args.self.now.heads.items c.args.mark = c.head-next.ensures ∙ ap (λ hs. head_of hs c.args.mark) c.deref.ensures.value in
-    newest-written longest c.args.self.now.heads.items c.args.self.now.entries.items c.args.self.now.rest c.requires x (longest - 1) refl c.if-may_chain.ensures.some next_is c.if-may_chain.ensures.room
-    c.chain_of-chain.result c.len-then-may_chain.result c.push.new.self.items (search rules) (search rules) (search rules)
+    let x : Entry = record { mark = c.args.mark; place = c.args.place; next = c.chain-chain.result.1 } in
+    let within : chain_of c.args.mark (length c.args.self.now.heads.items) < length c.args.self.now.heads.items = search rules in
+    let room : ends c.args.self.now.entries.items (longest - 1) (head_of c.args.self.now.heads.items c.args.mark) ≡ true = search rules in
+    newest-written longest c.args.self.now.heads.items c.args.self.now.entries.items c.args.self.now.rest c.requires x (longest - 1) refl within c.chain-chain.ensures.head room
+    c.chain-chain.result.0 c.len.result c.push.new.self.items (search rules) (search rules) (search rules)
