@@ -9,4 +9,5 @@ pub mod Laws
 pub mod Members
 pub mod Reading
 pub mod Records
+pub mod Rules
 pub mod Steps

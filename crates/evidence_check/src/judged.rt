@@ -3,7 +3,10 @@
 ghost use Rattle.std.specs.Prelude.{◌≡◌, ◌<◌, ◌↔◌, None, Some, IsTrue, IfOk, OnOk, length, slice_get, option_map, map};
 ghost use Rattle.std.specs.List.{AllByRecursion};
 ghost use Rattle.tuple_text.specs.FactRefs.{fact_value};
+ghost use Rattle.tuple_text.specs.Refs.{set_value};
 ghost use Rattle.namespaces.specs.Lookup.{rule_at};
+ghost use Rattle.namespaces.specs.View.{expression_of};
+ghost use Rattle.evidence_check.specs.Rules.{IsRuleOf};
 ghost use Rattle.version_chains.specs.Commits.{store_at};
 ghost use Rattle.judgement.specs.Facts.{marked_fact};
 ghost use Rattle.trace_lines.specs.Values.{EntryValue, entry_value};
@@ -17,11 +20,12 @@ ghost use Rattle.evidence_check.specs.declared.judged.Judged.TheVariants.{Suppor
 use crate::evidence::Evidence;
 use crate::step::{StepRef, Steps};
 use crate::steps::borrowed_steps;
+use namespaces::{Rewrite, Rules};
 use judgement::{Known, KnownFact, MarkedFact, established, refuted};
 use std::alloc::{AllocError, Global};
 use trace_lines::laws::valid_strata;
 use trace_lines::{Entry, Trace};
-use tuple_text::{Fact, FactRef};
+use tuple_text::{Fact, FactRef, SetRef};
 
 /// How evidence judges an entry.
 #[derive(Clone, Copy, Debug, PartialEq, Eq)]
@@ -55,11 +59,36 @@ fn is_given<F: KnownFact>(trace: &Trace, at: u64, known: &Known<F>, fact: Marked
     }
 }
 
+/// The rule of a userset's relation, where that of another userset is at hand: facts of one relation mostly follow one another.
+fn rule_after<'t>(
+    rules: &'t Rules,
+    at: u64,
+    last: SetRef<'_>,
+    rule: Option<&'t Rewrite>,
+    set: SetRef<'_>,
+) -> Option<&'t Rewrite>
+    requires { IsRuleOf rules.now at (set_value last) (option_map (λ r. expression_of r.now) rule) }
+    ensures { IsRuleOf rules.now at (set_value set.entry) (option_map (λ r. expression_of r.now) result) }
+{
+    if set.namespace == last.namespace && set.relation == last.relation {
+        rule
+    } else {
+        rules.body(set, at)
+    }
+}
+
 /// Whether the fact's relation is undeclared, or its rule cannot give the fact by what is known.
-fn is_disproved(trace: &Trace, at: u64, known: &Known<MarkedFact<'_>>, fact: MarkedFact<'_>) -> bool
+fn is_disproved(
+    trace: &Trace,
+    at: u64,
+    known: &Known<MarkedFact<'_>>,
+    rule: Option<&Rewrite>,
+    fact: MarkedFact<'_>,
+) -> bool
+    requires { IsRuleOf trace.now.declarations at (marked_fact fact).set (option_map (λ r. expression_of r.now) rule) }
     ensures { IsTrue result ↔ IsDisproved (rule_at trace.now.declarations at) (store_at trace.now.commits at) known.now (marked_fact fact.entry) }
 {
-    match trace.rules().body(fact.set.set, at) {
+    match rule {
         Some(rule) => refuted(rule, fact.set, fact.user, trace, at, known),
         None => true,
     }
@@ -74,8 +103,16 @@ fn are_disproved(
     ensures { IsTrue result
         ↔ AllByRecursion (IsDisproved (rule_at trace.now.declarations at) (store_at trace.now.commits at) known.now) (map marked_fact facts.now) }
 {
+    let Some(first) = facts.first() else {
+        return true;
+    };
+    let rules = trace.rules();
+    let mut last = first.set.set;
+    let mut rule = rules.body(last, at);
     for fact in facts {
-        if !is_disproved(trace, at, known, *fact) {
+        rule = rule_after(rules, at, last, rule, fact.set.set);
+        last = fact.set.set;
+        if !is_disproved(trace, at, known, rule, *fact) {
             return false;
         }
     }
