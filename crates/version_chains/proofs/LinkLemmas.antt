@@ -1,14 +1,15 @@
 -- One more link, and one less.
-use Rattle.std.proofs.Common.{◌≡◌, ◌≢◌, ℕ, suc, ◌+◌, ◌≤◌, Bool, true, false, cond, List, [], ◌∷◌, ◌++◌, length, map, refl, sym, ◌∙◌, ap, subst, Option, Some, ◌⊎◌, inl, inr, arith, nat_eq}
+use Rattle.std.proofs.Common.{◌≡◌, ◌≢◌, ℕ, suc, ◌+◌, ◌-◌, ◌≤◌, Bool, true, false, cond, List, [], ◌∷◌, ◌++◌, length, map, take, refl, sym, ◌∙◌, ap, subst, Option, Some, ◌⊎◌, inl, inr, arith, nat_eq, None}
 use Rattle.std.specs.Prelude.{slice_get, option_map}
-use Rattle.std.proofs.lemmas.List.{map-append}
+use Rattle.std.proofs.lemmas.List.{append-nil, map-append}
 use Rattle.std.proofs.lemmas.Option.{slice_get_within, slice_get-map}
 use Rattle.std.proofs.lemmas.Bool.{eqb-true, eq-eqb}
 use Rattle.version_chains.specs.Placed.{last_place}
-use Rattle.version_chains.specs.Links.{AreLinked, IsTable, newest_of}
+use Rattle.version_chains.specs.Links.{AreLinked, IsPlaceOf, IsSet, longest, newest_of}
 use Rattle.version_chains.specs.declared.places.Link.{Link}
 use Rattle.version_chains.specs.declared.table.Table.{Table}
-use Rattle.version_chains.proofs.PlacedLemmas.{slice_get-cases, slice_get-kept, slice_get-next, last_place-front, last_place-more}
+use Rattle.version_chains.proofs.PlacedLemmas.{at_last_place, length-more, slice_get-cases, slice_get-kept, slice_get-next, last_place-front, last_place-more, last_place-within, with_last}
+use Rattle.version_chains.proofs.TableLemmas.{newest-less, probed-less}
 
 abbrev marks_of : List Link → List ℕ
 marks_of links = map (λ l. l.mark) links
@@ -41,10 +42,19 @@ one_further links i link mark new old is before at =
     let here : slice_get (marks_of links) i ≡ Some link.mark = slice_get-map (λ (l : Link). l.mark) links i ∙ ap (λ (o : Option Link). option_map (λ (l : Link). l.mark) o) at in
     is ∙ ap (λ (n : ℕ). cond (nat_eq mark link.mark) (i + 1) n) before ∙ rw (next, here) refl
 
+-- a place of the links that are there
+pub place_there : (links : List Link) (i : ℕ) (link : Link) → slice_get links i ≡ Some link → IsPlaceOf links link.mark (i + 1)
+place_there links i link at j is = let same : i ≡ j = omega (arith, is) in (link, subst (λ (k : ℕ). slice_get links k ≡ Some link) same at, refl)
+
+pub set_there : (links : List Link) (old new : Table) (mark place : ℕ) → IsPlaceOf links mark place
+    → ((more : List Link) → IsPlaceOf (links ++ more) mark place → IsSet links (links ++ more) old new mark place) → IsSet links links old new mark place
+set_there links old new mark place is set =
+    subst (λ (more : List Link). IsSet links more old new mark place) (append-nil links)
+    (set [] (subst (λ (more : List Link). IsPlaceOf more mark place) (sym (append-nil links)) is))
+
 -- one more link
 module _ (links : List Link) (newest new : Table) (link : Link) (are : AreLinked links newest)
-    (newest_is : link.older ≡ newest_of newest link.mark)
-    (sets : (m : ℕ) → newest_of new m ≡ cond (nat_eq m link.mark) (length links + 1) (newest_of newest m)) (chained : IsTable new) where
+    (newest_is : link.older ≡ newest_of links newest link.mark) (set : IsSet links (links ++ link ∷ []) newest new link.mark (length links + 1)) where
   earlier : (i : ℕ) (l : Link) → (slice_get links i ≡ Some l) ⊎ ((i ≡ length links) × (link ≡ l)) → l.older ≡ last_place (nat_eq l.mark) (marks_of (links ++ link ∷ [])) i
   earlier i l (inl h) = let within = slice_get_within links i l h in are.earlier i l h ∙ sym (before_link links link l.mark i (omega (arith, within)))
   earlier i l (inr h) =
@@ -54,36 +64,76 @@ module _ (links : List Link) (newest new : Table) (link : Link) (are : AreLinked
 
   pub more_links : AreLinked (links ++ link ∷ []) new
   more_links = record {
-    chained = chained;
+    probed = set.table;
     earlier = λ i l h. earlier i l (slice_get-cases links link i l h);
     latest = λ mark.
-        sets mark
+        set.newest mark
         ∙ ap (λ (n : ℕ). cond (nat_eq mark link.mark) (length links + 1) n) (are.latest mark)
         ∙ ap (λ (n : ℕ). cond (nat_eq mark link.mark) n (last_place (nat_eq mark) (marks_of links) (length links))) (let e : length links + 1 ≡ suc (length links) = omega arith in e)
         ∙ sym (with_link links link mark);
   }
 
+-- the place of the link that comes
+pub next_place : (links : List Link) (link : Link) → IsPlaceOf (links ++ link ∷ []) link.mark (length links + 1)
+next_place links link i is = let last : length links ≡ i = omega (arith, is) in (link, subst (λ (k : ℕ). slice_get (links ++ link ∷ []) k ≡ Some link) last (slice_get-next links link), refl)
+
+-- the links before the last
+pub split_last : (links : List Link) (link : Link) → slice_get links (length links - 1) ≡ Some link → links ≡ take (length links - 1) links ++ link ∷ []
+split_last links link there = let within = slice_get_within links (length links - 1) link there in with_last links (length links - 1) link there (omega (arith, within))
+
+last-apart : (xs ys : List ℕ) (x y : ℕ) → xs ++ x ∷ [] ≡ ys ++ y ∷ [] → xs ≡ ys
+last-apart [] [] x y e = refl
+last-apart [] (b ∷ ys) x y e = let long : 1 ≡ suc (length (ys ++ y ∷ [])) = ap length e in let more = length-more ys y in absurd (omega (arith, long, more))
+last-apart (a ∷ xs) [] x y e = let long : suc (length (xs ++ x ∷ [])) ≡ 1 = ap length e in let more = length-more xs x in absurd (omega (arith, long, more))
+last-apart (a ∷ xs) (b ∷ ys) x y e =
+    let first : a ≡ b = cc in
+    let others : xs ++ x ∷ [] ≡ ys ++ y ∷ [] = cc in
+    let same = last-apart xs ys x y others in
+    rw (first, same) refl
+
+pub marks_before : (links front : List Link) (link : Link) (marks : List ℕ) (mark : ℕ) → links ≡ front ++ link ∷ [] → marks_of links ≡ marks ++ mark ∷ [] → marks_of front ≡ marks
+marks_before links front link marks mark split is = last-apart (marks_of front) marks link.mark mark (sym (marks-more front link) ∙ ap marks_of (sym split) ∙ is)
+
 -- one link less
 module _ (links : List Link) (link : Link) (newest : Table) (are : AreLinked (links ++ link ∷ []) newest) where
-  newest_of_last : newest_of newest link.mark ≡ suc (length links)
+  newest_of_last : newest_of (links ++ link ∷ []) newest link.mark ≡ suc (length links)
   newest_of_last =
       are.latest link.mark ∙ with_link links link link.mark
       ∙ ap (λ (b : Bool). cond b (suc (length links)) (last_place (nat_eq link.mark) (marks_of links) (length links))) (eq-eqb link.mark link.mark refl)
 
-  pub last_is_there : newest_of newest link.mark ≢ 0
+  pub last_is_there : newest_of (links ++ link ∷ []) newest link.mark ≢ 0
   last_is_there none = let e : 0 ≡ suc (length links) = sym none ∙ newest_of_last in omega (arith, e)
 
-  pub less_links : (new : Table) → ((m : ℕ) → newest_of new m ≡ cond (nat_eq m link.mark) link.older (newest_of newest m)) → IsTable new → AreLinked links new
-  less_links new sets chained = record {
-    chained = chained;
+  older_is : link.older ≡ last_place (nat_eq link.mark) (marks_of links) (length links)
+  older_is = are.earlier (length links) link (slice_get-next links link) ∙ before_link links link link.mark (length links) (omega arith)
+
+  -- the place before it with its mark
+  pub older_place : IsPlaceOf (links ++ link ∷ []) link.mark link.older
+  older_place i is =
+      let w = at_last_place (nat_eq link.mark) (marks_of links) (length links) i (sym older_is ∙ is) in
+      by_link w.0 (slice_get links i) refl (sym (slice_get-map (λ (l : Link). l.mark) links i) ∙ w.1) (eqb-true link.mark w.0 w.2)
+    where
+      by_link : (mark : ℕ) (o : Option Link) → slice_get links i ≡ o → option_map (λ (l : Link). l.mark) o ≡ Some mark → link.mark ≡ mark
+          → (l : Link) × (slice_get (links ++ link ∷ []) i ≡ Some l) × (l.mark ≡ link.mark)
+      by_link mark None at h same = absurd cc
+      by_link mark (Some l) at h same = (l, slice_get-kept links (link ∷ []) i l at, let e : l.mark ≡ mark = cc in e ∙ sym same)
+
+  pub less_links : (new : Table) → IsSet (links ++ link ∷ []) (links ++ link ∷ []) newest new link.mark link.older → AreLinked links new
+  less_links new set = record {
+    probed = probed-less longest links link new.slots.items new.rest set.table past;
     earlier = λ i l h. let within = slice_get_within links i l h in are.earlier i l (slice_get-kept links (link ∷ []) i l h) ∙ before_link links link l.mark i (omega (arith, within));
-    latest = λ mark. sets mark ∙ by_test mark (nat_eq mark link.mark) refl;
+    latest = λ mark. newest-less longest links link new.slots.items new.rest set.table past mark ∙ set.newest mark ∙ by_test mark (nat_eq mark link.mark) refl;
   }
     where
-      by_test : (mark : ℕ) (b : Bool) → nat_eq mark link.mark ≡ b → cond b link.older (newest_of newest mark) ≡ last_place (nat_eq mark) (marks_of links) (length links)
-      by_test mark true t =
-          are.earlier (length links) link (slice_get-next links link) ∙ before_link links link link.mark (length links) (omega arith)
-          ∙ ap (λ (m : ℕ). last_place (nat_eq m) (marks_of links) (length links)) (sym (eqb-true mark link.mark t))
+      past : newest_of (links ++ link ∷ []) new link.mark ≢ suc (length links)
+      past e =
+          let within = last_place-within (nat_eq link.mark) (marks_of links) (length links) in
+          let is : link.older ≡ suc (length links) = ap (λ (b : Bool). cond b link.older (newest_of (links ++ link ∷ []) newest link.mark)) (sym (eq-eqb link.mark link.mark refl)) ∙ sym (set.newest link.mark) ∙ e in
+          let older = older_is in
+          omega (arith, within, is, older)
+
+      by_test : (mark : ℕ) (b : Bool) → nat_eq mark link.mark ≡ b → cond b link.older (newest_of (links ++ link ∷ []) newest mark) ≡ last_place (nat_eq mark) (marks_of links) (length links)
+      by_test mark true t = older_is ∙ ap (λ (m : ℕ). last_place (nat_eq m) (marks_of links) (length links)) (sym (eqb-true mark link.mark t))
       by_test mark false t =
           are.latest mark ∙ with_link links link mark
           ∙ ap (λ (b : Bool). cond b (suc (length links)) (last_place (nat_eq mark) (marks_of links) (length links))) t

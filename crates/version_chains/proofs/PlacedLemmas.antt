@@ -1,5 +1,5 @@
 -- Places in a list that grows.
-use Rattle.std.proofs.Common.{◌≡◌, ◌≢◌, ℕ, zero, suc, ◌+◌, ◌<◌, ◌≤◌, Bool, true, false, ◌&&◌, cond, List, [], ◌∷◌, ◌++◌, length, map, refl, sym, ◌∙◌, ap, subst, Option, None, Some, ◌||◌, ◌⊎◌, inl, inr, arith, get_or}
+use Rattle.std.proofs.Common.{◌≡◌, ◌≢◌, ℕ, zero, suc, ◌+◌, ◌<◌, ◌≤◌, Bool, true, false, ◌&&◌, cond, List, [], ◌∷◌, ◌++◌, length, map, take, refl, sym, ◌∙◌, ap, subst, Option, None, Some, ◌||◌, ◌⊎◌, inl, inr, arith, get_or}
 use Rattle.std.proofs.Math.Nat.{eq-or-lt_of_le}
 use Rattle.std.specs.Prelude.{slice_get, option_map, slice_set}
 use Rattle.std.specs.List.{list_any}
@@ -70,6 +70,13 @@ map-same_items f g (x ∷ xs) same = rw (same zero x refl, map-same_items f g xs
 pub length-more : {X : Type 0} (xs : List X) (y : X) → length (xs ++ y ∷ []) ≡ suc (length xs)
 length-more [] y = refl
 length-more (x ∷ xs) y = ap suc (length-more xs y)
+
+-- a list by its last item
+pub with_last : {X : Type 0} (xs : List X) (n : ℕ) (x : X) → slice_get xs n ≡ Some x → length xs ≡ suc n → xs ≡ take n xs ++ x ∷ []
+with_last [] n x at long = absurd cc
+with_last (y ∷ []) zero x at long = cc
+with_last (y ∷ z ∷ zs) zero x at long = absurd (omega (arith, long))
+with_last (y ∷ ys) (suc n) x at long = ap (λ zs. y ∷ zs) (with_last ys n x at (omega (arith, long)))
 
 pub last_place-front : {X : Type 0} (p : X → Bool) (xs ys : List X) (n : ℕ) → n ≤ length xs → last_place p (xs ++ ys) n ≡ last_place p xs n
 last_place-front p xs ys zero h = refl

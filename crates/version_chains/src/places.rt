@@ -20,8 +20,9 @@ pub struct Link {
 /// A list of marks, from each of which a walk leads back over the places with this mark. Places count from 1, and 0
 /// is no place.
 ///
-/// The newest places are kept in a table of short chains. Marks come from texts that a stranger chose, so he can choose
-/// them for one chain; those for which it has no room stand in a tree, which finds each in the logarithm of their number.
+/// The newest places are kept in a table with short probes. Marks come from texts that a stranger chose, so he can choose
+/// them for the same slots; those for which these have no room stand in a tree, which finds each in the logarithm of their
+/// number.
 #[derive(Drop)]
 pub struct Places {
     links: Vec<Link>,
@@ -52,8 +53,8 @@ impl Places {
         }
     }
 
-    /// No place, and memory for so many: until they are more, no push moves what is there. A mark whose chain is full wants
-    /// memory nevertheless.
+    /// No place, and memory for so many: until they are more, no push moves what is there. A mark for which the
+    /// table has no slot wants memory nevertheless.
     pub fn with_room(alloc: Global, count: usize) -> Result<Places, AllocError>
         ensures { IfOk result (λ places. places ≡ []) }
     {
@@ -67,7 +68,7 @@ impl Places {
     pub fn newest(&self, mark: u64) -> usize
         ensures { result ≡ last_place (nat_eq mark) self.now (length self.now) }
     {
-        self.newest.newest(mark) as usize
+        self.newest.newest(&self.links, mark) as usize
     }
 
     /// The place before the one at this index, with the same mark.
@@ -90,7 +91,8 @@ impl Places {
         }
         self.links.reserve(1)?;
         self.newest.spread(*self.links.allocator(), &self.links)?;
-        let older = self.newest.set(mark, self.links.len() as u32 + 1)?;
+        let place = self.links.len() as u32 + 1;
+        let older = self.newest.set(&self.links, mark, place)?;
         if self.links.push(Link { mark, older }).is_err() {
             unreachable!();
         }
@@ -101,10 +103,11 @@ impl Places {
     pub fn pop(&mut self)
         ensures { (marks : List ℕ) (mark : ℕ) → self.old ≡ marks ++ mark ∷ [] → self.new ≡ marks }
     {
-        if let Some(link) = self.links.pop() {
-            if self.newest.set(link.mark, link.older).is_err() {
+        if let Some(&link) = self.links.last() {
+            if self.newest.set(&self.links, link.mark, link.older).is_err() {
                 unreachable!();
             }
+            self.links.pop();
         }
     }
 }

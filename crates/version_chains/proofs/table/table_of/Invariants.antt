@@ -5,6 +5,6 @@ use Rattle.version_chains.proofs.table.table_of.Given as goal
 
 abbrev pub invariant-loop-index : goal.invariant-loop-index
 invariant-loop-index l = record {
-  table : IsTable l.table;
-  so_far : (m : ℕ) → newest_of l.table m ≡ last_place (nat_eq m) (map (λ x. x.mark) l.links) l.index;
+  table : IsTable l.links l.table;
+  so_far : (m : ℕ) → newest_of l.links l.table m ≡ last_place (nat_eq m) (map (λ x. x.mark) l.links) l.index;
 }
