@@ -20,8 +20,8 @@ ghost use Rattle.evidence_check.specs.declared.judged.Judged.TheVariants.{Suppor
 use crate::evidence::Evidence;
 use crate::step::{StepRef, Steps};
 use crate::steps::borrowed_steps;
-use namespaces::{Rewrite, Rules};
 use judgement::{Known, KnownFact, MarkedFact, established, refuted};
+use namespaces::{Rewrite, Rules};
 use std::alloc::{AllocError, Global};
 use trace_lines::laws::valid_strata;
 use trace_lines::{Entry, Trace};
