@@ -165,9 +165,9 @@ pub userset_found : (text : List ℕ) (r : Result SetValue TupleFault) → Gives
 userset_found text (Ok s) h = userset_takes text s h
 userset_found text (Err e) h = tt
 
-pub tuple_found : (text : List ℕ) (r : Result TupleValue TupleFault) → Gives (λ t. t) r (tuple_at text) → IfOk r (λ t. IsTuple t × (text ≡ tuple_text t))
-tuple_found text (Ok t) h = tuple_takes text t h
-tuple_found text (Err e) h = tt
+pub tuple_found : {X : Type 0} (view : X → TupleValue) (text : List ℕ) (r : Result X TupleFault) → Tells view r (tuple_at text) → IfOk r (λ x. IsTuple (view x) × (text ≡ tuple_text (view x)))
+tuple_found view text (Ok x) h = tuple_takes text (view x) h
+tuple_found view text (Err e) h = tt
 
 pub fact_found : {X : Type 0} (view : X → FactValue) (text : List ℕ) (r : Result X TupleFault) → Tells view r (fact_at text) → IfOk r (λ x. IsFact (view x) × (text ≡ fact_text (view x)))
 fact_found view text (Ok x) h = fact_takes text (view x) h

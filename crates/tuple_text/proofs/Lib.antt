@@ -1,3 +1,5 @@
+pub mod Borrowed
+pub mod Fronts
 pub mod GrammarLaws
 pub mod JoinedLemmas
 pub mod Numbers

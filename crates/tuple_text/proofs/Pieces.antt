@@ -62,7 +62,7 @@ name_byte_lacks b e = (grind (arith, nat_tests), grind (arith, nat_tests))
 id_byte_lacks : (b : ℕ) → is_id_byte b ≡ true → not (eqb b 35) ≡ true
 id_byte_lacks b e = grind (arith, nat_tests)
 
-name_lacks : (bs : List ℕ) → is_name bs ≡ true → list_all is_name_byte bs ≡ true
+pub name_lacks : (bs : List ℕ) → is_name bs ≡ true → list_all is_name_byte bs ≡ true
 name_lacks [] e = refl
 name_lacks (b ∷ bs) e =
     let a = and_parts (is_ascii_lowercase b && ltb (length bs) 64) (list_all is_name_byte bs) e in

@@ -9,4 +9,5 @@ pub mod Parts
 pub mod Reading
 pub mod Refs
 pub mod Sets
+pub mod TupleRefs
 pub mod Tuples

@@ -1,8 +1,8 @@
 //! The parts of a text, and where each ends.
 
-ghost use Rattle.std.specs.Prelude.{◌≡◌, ◌<◌, ◌≤◌, length};
+ghost use Rattle.std.specs.Prelude.{◌≡◌, ◌↔◌, ◌<◌, ◌+◌, IsTrue, false, length, slice_index, take, drop};
 ghost use Rattle.std.specs.Char.{is_ascii_digit};
-ghost use Rattle.std.specs.List.{list_all};
+ghost use Rattle.std.specs.List.{list_all, prefix_len};
 ghost use Rattle.tuple_text.specs.Forms.{is_name_byte, is_name, is_id_byte, is_object_id, is_user_relation, is_plain, plain_number};
 ghost use Rattle.tuple_text.specs.Faults.{Tells};
 ghost use Rattle.tuple_text.specs.Reading.{part_at};
@@ -79,28 +79,77 @@ pub fn plain_number(text: &str) -> Option<u64>
     text.parse::<u64>().ok()
 }
 
+/// How many bytes from the front may stand in a name.
+fn name_len(bytes: &[u8]) -> usize
+    ensures { result ≡ prefix_len is_name_byte bytes.now }
+{
+    for (i, b) in bytes.iter().enumerate() {
+        if !is_name_byte(*b) {
+            return i;
+        }
+    }
+    bytes.len()
+}
+
+/// How many bytes from the front may stand in an object id.
+fn id_len(bytes: &[u8]) -> usize
+    ensures { result ≡ prefix_len is_id_byte bytes.now }
+{
+    for (i, b) in bytes.iter().enumerate() {
+        if !is_id_byte(*b) {
+            return i;
+        }
+    }
+    bytes.len()
+}
+
+/// Whether the delimiter stands at `len`.
+fn ends_at(bytes: &[u8], len: usize, delimiter: u8) -> bool
+    ensures { IsTrue result ↔ ((len < length bytes.now) × (slice_index bytes.now len ≡ delimiter)) }
+{
+    len < bytes.len() && bytes[len] == delimiter
+}
+
+/// What stands before the delimiter at `len`, and what after it.
+fn cut(text: &str, len: usize) -> (&str, &str)
+    requires within { len < length text.now }
+    requires ascii { slice_index text.now len < 128 }
+    ensures front { result.0.now ≡ take len text.now }
+    ensures rest { result.1.now ≡ drop (len + 1) text.now }
+{
+    (&text[..len], &text[len + 1..])
+}
+
 /// The name before the delimiter, and what stands after it.
-pub fn name_before(
-    text: &str,
-    delimiter: char,
-    fault: TupleFault,
-) -> Result<(&str, &str), TupleFault>
-    requires { delimiter < 128 }
+pub fn name_before(text: &str, delimiter: u8, fault: TupleFault) -> Result<(&str, &str), TupleFault>
+    requires ascii { delimiter < 128 }
+    requires ends { is_name_byte delimiter ≡ false }
     ensures { Tells (λ x. (x.0.now, x.1.now)) result (part_at is_name delimiter fault text.now) }
 {
-    match text.split_once(delimiter) {
-        Some((name, rest)) if is_name(name) => Ok((name, rest)),
-        _ => Err(fault),
+    let bytes = text.as_bytes();
+    let len = name_len(bytes);
+    if !ends_at(bytes, len, delimiter) {
+        return Err(fault);
     }
+    if len == 0 || len > 64 || !bytes[0].is_ascii_lowercase() {
+        return Err(fault);
+    }
+    Ok(cut(text, len))
 }
 
 /// The object id before the delimiter, and what stands after it.
-pub fn id_before(text: &str, delimiter: char, fault: TupleFault) -> Result<(&str, &str), TupleFault>
-    requires { delimiter < 128 }
+pub fn id_before(text: &str, delimiter: u8, fault: TupleFault) -> Result<(&str, &str), TupleFault>
+    requires ascii { delimiter < 128 }
+    requires ends { is_id_byte delimiter ≡ false }
     ensures { Tells (λ x. (x.0.now, x.1.now)) result (part_at is_object_id delimiter fault text.now) }
 {
-    match text.split_once(delimiter) {
-        Some((id, rest)) if is_object_id(id) => Ok((id, rest)),
-        _ => Err(fault),
+    let bytes = text.as_bytes();
+    let len = id_len(bytes);
+    if !ends_at(bytes, len, delimiter) {
+        return Err(fault);
     }
+    if len == 0 || len > 128 {
+        return Err(fault);
+    }
+    Ok(cut(text, len))
 }

@@ -4,10 +4,11 @@ ghost use Rattle.std.specs.Prelude.{◌≡◌, ◌≤◌, IfOk, Ok, true, length
 ghost use Rattle.tuple_text.specs.FactRefs.{fact_value};
 ghost use Rattle.tuple_text.specs.Faults.{Gives, Tells};
 ghost use Rattle.tuple_text.specs.Forms.{IsUserset, is_name};
-ghost use Rattle.tuple_text.specs.Grammar.{userset_text, tuple_text, fact_text, IsHead, IsTuple, IsFact};
+ghost use Rattle.tuple_text.specs.Grammar.{userset_text, tuple_text, fact_text, IsHead, IsTuple, IsFact, IsUser};
 ghost use Rattle.tuple_text.specs.Reading.{userset_at, user_at, head_at, tuple_at, fact_at};
-ghost use Rattle.tuple_text.specs.Refs.{set_value};
+ghost use Rattle.tuple_text.specs.Refs.{set_value, user_value};
 ghost use Rattle.tuple_text.specs.Sets.{SetValue};
+ghost use Rattle.tuple_text.specs.TupleRefs.{tuple_value};
 ghost use Rattle.tuple_text.specs.Tuples.{TupleValue, FactValue};
 
 use crate::fact_refs::FactRef;
@@ -15,8 +16,9 @@ use crate::facts::Fact;
 use crate::fault::TupleFault;
 use crate::forms::{id_before, is_user_relation, name_before, plain_number};
 use crate::sets::{SetRef, Userset};
+use crate::tuple_refs::TupleRef;
 use crate::tuples::Tuple;
-use crate::users::User;
+use crate::users::UserRef;
 use std::alloc::Global;
 
 #[tactic(auto, unfolding(crate::specs::Reading::userset_at))]
@@ -24,9 +26,9 @@ fn userset_from(text: &str) -> Result<SetRef<'_>, TupleFault>
     ensures read { Tells set_value result (userset_at text.now) }
     ensures form { IfOk result (λ s. IsUserset (set_value s)) }
 {
-    let (namespace, rest) = name_before(text, ':', TupleFault::Namespace { at: 0 })?;
+    let (namespace, rest) = name_before(text, b':', TupleFault::Namespace { at: 0 })?;
     let at = text.len() - rest.len();
-    let (id, relation) = id_before(rest, '#', TupleFault::ObjectId { at })?;
+    let (id, relation) = id_before(rest, b'#', TupleFault::ObjectId { at })?;
     if !is_user_relation(relation) {
         return Err(TupleFault::Relation {
             at: text.len() - relation.len(),
@@ -46,14 +48,15 @@ fn set_from(alloc: Global, text: &str) -> Result<Userset, TupleFault>
 }
 
 #[tactic(auto, unfolding(crate::specs::Reading::user_at))]
-fn user_from(alloc: Global, text: &str, at: usize) -> Result<User, TupleFault>
-    ensures { Gives (λ u. u) result (user_at at text.now) }
+fn user_from(text: &str, at: usize) -> Result<UserRef<'_>, TupleFault>
+    ensures read { Tells user_value result (user_at at text.now) }
+    ensures form { IfOk result (λ u. IsUser (user_value u)) }
 {
     if let Some(id) = plain_number(text) {
-        return Ok(User::Id(id));
+        return Ok(UserRef::Id(id));
     }
     match userset_from(text) {
-        Ok(set) => Ok(User::Set(Userset::from_parts(alloc, set)?)),
+        Ok(set) => Ok(UserRef::Set(set)),
         Err(_) => Err(TupleFault::User { at }),
     }
 }
@@ -65,11 +68,11 @@ fn head_from(text: &str) -> Result<(SetRef<'_>, &str), TupleFault>
     ensures within { IfOk result (λ h. length h.1.now ≤ length text.now) }
     ensures form { IfOk result (λ h. IsHead (set_value h.0)) }
 {
-    let (namespace, rest) = name_before(text, ':', TupleFault::Namespace { at: 0 })?;
+    let (namespace, rest) = name_before(text, b':', TupleFault::Namespace { at: 0 })?;
     let at = text.len() - rest.len();
-    let (id, rest) = id_before(rest, '#', TupleFault::ObjectId { at })?;
+    let (id, rest) = id_before(rest, b'#', TupleFault::ObjectId { at })?;
     let at = text.len() - rest.len();
-    let (relation, user) = name_before(rest, '@', TupleFault::Relation { at })?;
+    let (relation, user) = name_before(rest, b'@', TupleFault::Relation { at })?;
     let set = SetRef {
         namespace,
         id,
@@ -79,12 +82,12 @@ fn head_from(text: &str) -> Result<(SetRef<'_>, &str), TupleFault>
 }
 
 #[tactic(auto, unfolding(crate::specs::Reading::tuple_at))]
-fn tuple_from(alloc: Global, text: &str) -> Result<Tuple, TupleFault>
-    ensures { Gives (λ t. t) result (tuple_at text.now) }
+fn tuple_from(text: &str) -> Result<TupleRef<'_>, TupleFault>
+    ensures { Tells tuple_value result (tuple_at text.now) }
 {
     let (set, user) = head_from(text)?;
-    let user = user_from(alloc, user, text.len() - user.len())?;
-    Ok(Tuple::from_parts(alloc, set, user)?)
+    let user = user_from(user, text.len() - user.len())?;
+    Ok(TupleRef::from_parts(set, user))
 }
 
 #[tactic(auto, unfolding(crate::specs::Reading::fact_at))]
@@ -99,11 +102,22 @@ fn fact_from(text: &str) -> Result<FactRef<'_>, TupleFault>
     }
 }
 
-/// Reads a tuple, `namespace:object_id#relation@user`.
+/// Reads a tuple, `namespace:object_id#relation@user`, and borrows its parts.
 ///
 /// The namespace ends before the first `:`, the object id before the first `#` after it, the relation
 /// before the first `@` after that, and the user is the rest. Where a delimiter is missing, the part that
 /// it should end is refused.
+pub fn read_tuple(text: &str) -> Result<TupleRef<'_>, TupleFault>
+    ensures found { IfOk result (λ t. IsTuple (tuple_value t) × (text.now ≡ tuple_text (tuple_value t))) }
+    // What is spelled so is read: no memory is asked for.
+    ensures only { (t : TupleValue) → IsTuple t → text.now ≡ tuple_text t → Tells tuple_value result (Ok t) }
+    // Which part is at fault, and where it begins.
+    ensures exact { Tells tuple_value result (tuple_at text.now) }
+{
+    tuple_from(text)
+}
+
+/// Reads a tuple as [`read_tuple`] does, and copies its parts.
 pub fn parse_tuple(alloc: Global, text: &str) -> Result<Tuple, TupleFault>
     // What is read is spelled so.
     ensures found { IfOk result (λ t. IsTuple t × (text.now ≡ tuple_text t)) }
@@ -112,7 +126,7 @@ pub fn parse_tuple(alloc: Global, text: &str) -> Result<Tuple, TupleFault>
     // Which part is at fault, and where it begins.
     ensures exact { Gives (λ t. t) result (tuple_at text.now) }
 {
-    tuple_from(alloc, text)
+    Ok(read_tuple(text)?.to_tuple(alloc)?)
 }
 
 /// Reads a userset as it may stand as a user, `namespace:object_id#relation`, where the relation may be `...`.

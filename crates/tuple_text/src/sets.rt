@@ -27,8 +27,8 @@ pub struct SetRef<'a> {
 pub struct Userset {
     // the parts, one behind the other
     text: String,
-    namespace_len: usize,
-    id_len: usize,
+    namespace_len: u8,
+    id_len: u8,
 }
 
 impl Model for Userset {
@@ -145,8 +145,8 @@ impl Userset {
         text.push_str(set.relation)?;
         Ok(Userset {
             text,
-            namespace_len: set.namespace.len(),
-            id_len: set.id.len(),
+            namespace_len: set.namespace.len() as u8,
+            id_len: set.id.len() as u8,
         })
     }
 
@@ -155,8 +155,8 @@ impl Userset {
         ensures parts { set_value result ≡ self.now }
         ensures form { IsUserset self.now }
     {
-        let (namespace, rest) = self.text.split_at(self.namespace_len);
-        let (id, relation) = rest.split_at(self.id_len);
+        let (namespace, rest) = self.text.split_at(self.namespace_len as usize);
+        let (id, relation) = rest.split_at(self.id_len as usize);
         SetRef {
             namespace,
             id,

@@ -1,13 +1,14 @@
 //! Tuples.
 
-ghost use Rattle.std.specs.Prelude.{◌≡◌, ◌↔◌, IfOk, IsTrue, true};
+ghost use Rattle.std.specs.Prelude.{◌≡◌, ◌↔◌, IfOk, IsTrue};
 ghost use Rattle.std.specs.Ordering.{as_partial_cmp};
-ghost use Rattle.tuple_text.specs.Forms.{IsUserset, is_name};
 ghost use Rattle.tuple_text.specs.Grammar.{IsHead, IsUser};
 ghost use Rattle.tuple_text.specs.Refs.{set_value, user_value};
+ghost use Rattle.tuple_text.specs.TupleRefs.{tuple_value};
 ghost use Rattle.tuple_text.specs.Tuples.{tuple_of};
 
 use crate::sets::{SetRef, Userset};
+use crate::tuple_refs::TupleRef;
 use crate::users::{User, UserRef};
 use std::alloc::{AllocError, Global};
 use std::cmp::Ordering;
@@ -100,14 +101,22 @@ impl Tuple {
     pub(crate) fn from_parts(
         alloc: Global,
         set: SetRef<'_>,
-        user: User,
+        user: UserRef<'_>,
     ) -> Result<Tuple, AllocError>
-        requires set { IsUserset (set_value set) }
-        requires relation { is_name set.relation.now ≡ true }
-        ensures { IfOk result (λ t. t ≡ tuple_of (set_value set.entry) user) }
+        requires set { IsHead (set_value set) }
+        requires user { IsUser (user_value user) }
+        ensures { IfOk result (λ t. t ≡ tuple_of (set_value set.entry) (user_value user.entry)) }
     {
         let set = Userset::from_parts(alloc, set)?;
+        let user = User::from_parts(alloc, user)?;
         Ok(Tuple { set, user })
+    }
+
+    /// The tuple, borrowed.
+    pub fn as_ref(&self) -> TupleRef<'_>
+        ensures { tuple_value result ≡ self.now }
+    {
+        TupleRef::from_parts(self.set(), self.user())
     }
 
     /// The userset that the user is in.

@@ -1,10 +1,11 @@
 //! Users.
 
-ghost use Rattle.std.specs.Prelude.{◌≡◌};
+ghost use Rattle.std.specs.Prelude.{◌≡◌, IfOk};
 ghost use Rattle.tuple_text.specs.Grammar.{IsUser};
 ghost use Rattle.tuple_text.specs.Refs.{user_value};
 
 use crate::sets::{SetRef, Userset};
+use std::alloc::{AllocError, Global};
 
 /// A user, borrowed.
 #[derive(Clone, Copy, Debug, PartialEq, Eq, PartialOrd, Ord)]
@@ -21,6 +22,17 @@ pub enum User {
 }
 
 impl User {
+    /// The user of parts that are known to be in form.
+    pub(crate) fn from_parts(alloc: Global, user: UserRef<'_>) -> Result<User, AllocError>
+        requires { IsUser (user_value user) }
+        ensures { IfOk result (λ u. u ≡ user_value user.entry) }
+    {
+        match user {
+            UserRef::Id(id) => Ok(User::Id(id)),
+            UserRef::Set(set) => Ok(User::Set(Userset::from_parts(alloc, set)?)),
+        }
+    }
+
     /// The user, borrowed.
     pub fn as_ref(&self) -> UserRef<'_>
         ensures parts { user_value result ≡ self.now }
