@@ -7,7 +7,6 @@ pub mod CommitLemmas
 pub mod FindLemmas
 pub mod HistoryLemmas
 pub mod KindLemmas
-pub mod MarkLemmas
 pub mod NewestLemmas
 pub mod PlacedLemmas
 pub mod LinkLemmas
@@ -17,3 +16,4 @@ pub mod StoreLemmas
 pub mod TableLemmas
 pub mod UserLemmas
 pub mod WalkLemmas
+pub mod WordLemmas

@@ -8,3 +8,4 @@ pub mod Links
 pub mod Marks
 pub mod Placed
 pub mod Walks
+pub mod Words

@@ -1,20 +1,12 @@
 -- Marks of usersets, users and tuples: SipHash of their texts, or of two marks. Equal ones have equal marks, and no more is used.
-use Rattle.std.specs.Prelude.{ℕ, ◌-◌, ◌%◌, ◌^◌, Bool, true, false, List, [], ◌∷◌, ◌++◌, length, replicate, fold, cond}
-use Rattle.std.specs.Hash.DefaultHasher as sip
-use Rattle.std.specs.Int.{w64, to_le_bytes, rotate_left}
+use Rattle.std.specs.Prelude.{ℕ, ◌^◌, Bool, true, false, [], ◌∷◌, ◌++◌, length, cond}
+use Rattle.std.specs.Int.{w64, rotate_left}
 use Rattle.std.specs.Int.Bits.{bit_xor}
 use Rattle.tuple_text.specs.Sets.{SetValue}
 use Rattle.tuple_text.specs.Tuples.{TupleValue}
 use Rattle.tuple_text.specs.declared.users.User.{User}
 use Rattle.tuple_text.specs.declared.users.User.TheVariants.{Id, Set}
-
--- the bytes of two numbers, in this order
-abbrev pub pair_bytes : ℕ → ℕ → List ℕ
-pair_bytes m n = to_le_bytes w64 m ++ to_le_bytes w64 n
-
--- a text in whole words of eight bytes, the last of them filled with zeros
-abbrev pub padded : List ℕ → List ℕ
-padded text = text ++ replicate ((8 - length text % 8) % 8) 0
+use Rattle.version_chains.specs.Words.{words, hash_of}
 
 -- the lengths of the texts in one word, each in a third of it; a third has room for 2 MiB
 abbrev pub lengths : SetValue → ℕ
@@ -22,7 +14,7 @@ lengths g = bit_xor (bit_xor (length g.namespace) (rotate_left w64 (length g.id)
 
 -- first the lengths, by which the texts behind them are told apart
 unfoldable pub set_mark : SetValue → ℕ
-set_mark g = sip.finish (fold sip.write sip.initial (to_le_bytes w64 (lengths g) ∷ padded g.namespace ∷ padded g.id ∷ padded g.relation ∷ []))
+set_mark g = hash_of (lengths g ∷ words g.namespace ++ words g.id ++ words g.relation)
 
 -- an id is its own mark
 abbrev pub user_mark : User → ℕ
@@ -31,7 +23,7 @@ user_mark (Set g) = set_mark g
 
 -- of two marks, in this order
 unfoldable pub pair_mark : ℕ → ℕ → ℕ
-pair_mark m n = sip.finish (sip.write sip.initial (pair_bytes m n))
+pair_mark m n = hash_of (m ∷ n ∷ [])
 
 abbrev pub tuple_mark : TupleValue → ℕ
 tuple_mark t = pair_mark (set_mark t.set) (user_mark t.user)

@@ -3,6 +3,7 @@
 ghost use Rattle.std.specs.Prelude.{◌≡◌, ℕ, ◌<◌, ◌≤◌, ◌+◌, ◌∷◌, ◌++◌, [], Some, length, slice_get, IfOk, OnOk, OnErr, MatchOption, false, true, None};
 ghost use Rattle.tuple_text.specs.Order.{tuple_eq};
 ghost use Rattle.tuple_text.specs.Refs.{set_value, user_value};
+ghost use Rattle.tuple_text.specs.TupleRefs.{tuple_value};
 ghost use Rattle.tuple_text.specs.Tuples.{tuple_of, TupleValue};
 ghost use Rattle.version_chains.specs.Arena.{AreApartAt, AreUpTo, Extends, IsNumber};
 ghost use Rattle.version_chains.specs.Commits.{Touch, touches_to, until, last_live};
@@ -16,7 +17,7 @@ use crate::places::{MOST_PLACES, Places};
 use crate::row::Row;
 use std::alloc::{AllocError, Global};
 use std::marker::Model;
-use tuple_text::{SetRef, Tuple, UserRef};
+use tuple_text::{SetRef, Tuple, TupleRef, UserRef};
 
 /// Tuples, each kept once, and their touches in order. A tuple is named by its number, which counts from 0; a place
 /// counts from 1, and 0 is no place.
@@ -201,8 +202,8 @@ impl Arena {
     }
 
     /// The number of the tuple, which gets one where it has none. No touch changes.
-    pub fn number(&mut self, tuple: &Tuple) -> Result<usize, AllocError>
-        ensures ok { IfOk result (IsNumber self.new.tuples tuple.now) }
+    pub fn number(&mut self, tuple: TupleRef<'_>) -> Result<usize, AllocError>
+        ensures ok { IfOk result (IsNumber self.new.tuples (tuple_value tuple.entry)) }
         ensures extends { Extends self.old.tuples self.new.tuples }
         ensures touches { self.new.touches ≡ self.old.touches }
     {
@@ -216,7 +217,7 @@ impl Arena {
             return Err(AllocError);
         }
         let row = Row {
-            tuple: tuple.clone()?,
+            tuple: tuple.to_tuple(*self.rows.allocator())?,
             user_mark: user.mark,
             latest: 0,
         };

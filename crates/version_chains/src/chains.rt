@@ -6,6 +6,7 @@ ghost use Rattle.std.specs.List.Sorted.{IsStrictlyIncreasing};
 ghost use Rattle.tuple_text.specs.Order.{user_eq};
 ghost use Rattle.tuple_text.specs.Refs.{set_value};
 ghost use Rattle.tuple_text.specs.Sets.{SetValue, set_eq};
+ghost use Rattle.tuple_text.specs.TupleRefs.{tuple_values};
 ghost use Rattle.tuple_text.specs.Tuples.{TupleValue, tuple_of};
 ghost use Rattle.tuple_text.specs.declared.users.User.{User};
 ghost use Rattle.tuple_text.specs.declared.users.User.TheVariants.{Id, Set};
@@ -21,7 +22,7 @@ use crate::repeats::first_repeat;
 use crate::users::{Users, Usersets};
 use std::alloc::{AllocError, Global};
 use std::marker::Model;
-use tuple_text::{SetRef, Tuple, UserRef};
+use tuple_text::{SetRef, Tuple, TupleRef, UserRef};
 
 /// The commits, in order, and the tuple store that they make at each timestamp (Zanzibar, sections 2.1 and
 /// 3.1.1). A contract sees the limit on touches and the list of commits.
@@ -48,15 +49,15 @@ impl Model for Chains {
 /// Adds the numbers of these tuples, each of which gets one where it has none. No touch changes.
 fn number_all(
     arena: &mut Arena,
-    tuples: &[Tuple],
+    tuples: &[TupleRef<'_>],
     numbers: &mut Vec<usize>,
 ) -> Result<(), AllocError>
     ensures numbers { OnOk result ((ts : List TupleValue) → AreNumbersOf arena.old.tuples numbers.old.items ts
-        → AreNumbersOf arena.new.tuples numbers.new.items (ts ++ tuples.now)) }
+        → AreNumbersOf arena.new.tuples numbers.new.items (ts ++ tuple_values tuples.now)) }
     ensures touches { arena.new.touches ≡ arena.old.touches }
 {
     for tuple in tuples {
-        let number = arena.number(tuple)?;
+        let number = arena.number(*tuple)?;
         numbers.push(number)?;
     }
     Ok(())
@@ -81,10 +82,10 @@ fn push_all(arena: &mut Arena, at: u64, live: bool, numbers: &[usize])
 fn numbers_of(
     alloc: Global,
     arena: &mut Arena,
-    adds: &[Tuple],
-    removes: &[Tuple],
+    adds: &[TupleRef<'_>],
+    removes: &[TupleRef<'_>],
 ) -> Result<Vec<usize>, AllocError>
-    ensures numbers { IfOk result (λ numbers. AreNumbersOf arena.new.tuples numbers.items (adds.now ++ removes.now)) }
+    ensures numbers { IfOk result (λ numbers. AreNumbersOf arena.new.tuples numbers.items (tuple_values adds.now ++ tuple_values removes.now)) }
     ensures touches { arena.new.touches ≡ arena.old.touches }
 {
     let mut numbers = Vec::new(alloc);
@@ -104,6 +105,17 @@ fn push_commit(arena: &mut Arena, at: u64, adds: usize, numbers: &[usize])
     let (added, removed) = numbers.split_at(adds);
     push_all(arena, at, true, added);
     push_all(arena, at, false, removed);
+}
+
+/// The tuples, borrowed.
+fn borrowed(alloc: Global, tuples: &[Tuple]) -> Result<Vec<TupleRef<'_>>, AllocError>
+    ensures { IfOk result (λ refs. tuple_values refs.items ≡ tuples.now) }
+{
+    let mut refs = Vec::new(alloc);
+    for tuple in tuples {
+        refs.push(tuple.as_ref())?;
+    }
+    Ok(refs)
 }
 
 impl Chains {
@@ -146,6 +158,24 @@ impl Chains {
 
         // want of memory may come before any other refusal
         ensures refused { IfErr result (IsRefusal (append_fault self.old at adds.now removes.now)) }
+        ensures unchanged { OnErr result (self.new ≡ self.old) }
+    {
+        let adds = borrowed(self.alloc, adds)?;
+        let removes = borrowed(self.alloc, removes)?;
+        self.append_borrowed(at, adds.as_slice(), removes.as_slice())
+    }
+
+    /// Adds a commit as `append` does, of borrowed tuples. Those that the store does not know yet are copied.
+    pub fn append_borrowed(
+        &mut self,
+        at: u64,
+        adds: &[TupleRef<'_>],
+        removes: &[TupleRef<'_>],
+    ) -> Result<(), AppendFault>
+        ensures ok { OnOk result (append_fault self.old at (tuple_values adds.now) (tuple_values removes.now) ≡ None) }
+        ensures appends { OnOk result (self.new ≡ appended self.old at (tuple_values adds.now) (tuple_values removes.now)) }
+        // want of memory may come before any other refusal
+        ensures refused { IfErr result (IsRefusal (append_fault self.old at (tuple_values adds.now) (tuple_values removes.now))) }
         ensures unchanged { OnErr result (self.new ≡ self.old) }
     {
         if let Some(fault) = self.late_fault(at) {

@@ -38,6 +38,7 @@ mod table;
 #[cfg(test)]
 mod tests;
 mod users;
+mod words;
 
 pub use chains::Chains;
 pub use fault::AppendFault;

@@ -1,17 +1,13 @@
 //! Marks by which tuples and usersets are found.
 
-ghost use Rattle.std.specs.Prelude.{◌≡◌, ◌<◌, ◌-◌, ◌++◌, length, replicate};
-ghost use Rattle.std.specs.Hash.DefaultHasher.{write};
+ghost use Rattle.std.specs.Prelude.{◌≡◌};
 ghost use Rattle.tuple_text.specs.Refs.{set_value, user_value};
 ghost use Rattle.tuple_text.specs.Tuples.{tuple_of};
 ghost use Rattle.tuple_text.specs.declared.users.User.TheVariants.{Id};
 ghost use Rattle.version_chains.specs.Marks as marks;
 
-use std::hash::{DefaultHasher, Hasher};
+use crate::words::WordHasher;
 use tuple_text::{SetRef, UserRef};
-
-/// The bytes of a word, as the hasher takes them.
-const WORD: usize = 8;
 
 /// A userset with its mark, which is a hash of its texts: equal usersets have equal marks. Whoever asks for a userset
 /// more than once makes its mark once.
@@ -30,38 +26,6 @@ pub(crate) struct MarkedUser<'a> {
     ghost is_its_mark: { mark ≡ marks.user_mark (user_value user) },
 }
 
-/// The bytes of two numbers, in this order.
-fn pair_bytes(first: u64, second: u64) -> [u8; 16]
-    ensures { result ≡ marks.pair_bytes first second }
-{
-    let mut bytes = [0u8; 16];
-    bytes[..8].copy_from_slice(&first.to_le_bytes());
-    bytes[8..].copy_from_slice(&second.to_le_bytes());
-    bytes
-}
-
-/// A word that begins with these bytes, and is filled with zeros.
-fn last_word(bytes: &[u8]) -> [u8; WORD]
-    requires { length bytes.now < 8 }
-    ensures { result ≡ bytes.now ++ replicate (8 - length bytes.now) 0 }
-{
-    let mut word = [0u8; WORD];
-    word[..bytes.len()].copy_from_slice(bytes);
-    word
-}
-
-/// Hashes a text in whole words, which is quick: where writes end inside a word, each of its bytes is taken by itself.
-fn write_padded(hasher: &mut DefaultHasher, text: &str)
-    ensures { hasher.new ≡ write hasher.old (marks.padded text.now) }
-{
-    let bytes = text.as_bytes();
-    let (words, rest) = bytes.split_at(bytes.len() - bytes.len() % WORD);
-    hasher.write(words);
-    if !rest.is_empty() {
-        hasher.write(&last_word(rest));
-    }
-}
-
 /// The lengths of the texts in one word.
 fn lengths(set: SetRef<'_>) -> u64
     ensures { result ≡ marks.lengths (set_value set.entry) }
@@ -71,16 +35,15 @@ fn lengths(set: SetRef<'_>) -> u64
         ^ (set.relation.len() as u64).rotate_left(42)
 }
 
-#[tactic(auto, unfolding(crate::specs::Marks::set_mark))]
 fn set_mark(set: SetRef<'_>) -> u64
     ensures { result ≡ marks.set_mark (set_value set.entry) }
 {
-    let mut hasher = DefaultHasher::new();
-    hasher.write(&lengths(set).to_le_bytes());
-    write_padded(&mut hasher, set.namespace);
-    write_padded(&mut hasher, set.id);
-    write_padded(&mut hasher, set.relation);
-    hasher.finish()
+    WordHasher::new()
+        .with(lengths(set))
+        .with_text(set.namespace)
+        .with_text(set.id)
+        .with_text(set.relation)
+        .finish()
 }
 
 fn user_mark(user: UserRef<'_>) -> u64
@@ -92,13 +55,10 @@ fn user_mark(user: UserRef<'_>) -> u64
     }
 }
 
-#[tactic(auto, unfolding(crate::specs::Marks::pair_mark))]
 fn pair_mark(first: u64, second: u64) -> u64
     ensures { result ≡ marks.pair_mark first second }
 {
-    let mut hasher = DefaultHasher::new();
-    hasher.write(&pair_bytes(first, second));
-    hasher.finish()
+    WordHasher::new().with(first).with(second).finish()
 }
 
 /// Whether the user is a userset.

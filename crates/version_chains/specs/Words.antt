@@ -1,0 +1,26 @@
+-- A hash of words: SipHash-1-3, as std's `DefaultHasher` computes it, of whole words.
+use Rattle.std.specs.Prelude.{ℕ, zero, suc, ◌+◌, ◌-◌, ◌/◌, List, [], ◌∷◌, ◌++◌, length, take, drop, replicate, fold}
+use Rattle.std.specs.Hash.DefaultHasher as sip
+use Rattle.std.specs.declared.hash.DefaultHasher.{DefaultHasher}
+use Rattle.std.specs.Int.{w64, from_le_bytes}
+use Rattle.version_chains.specs.declared.words.WordHasher.{WordHasher}
+
+-- as std's hasher, which also counts its bytes and keeps those of a word that is not whole
+abbrev pub state_of : WordHasher → DefaultHasher
+state_of h = record { v0 = h.v0; v1 = h.v1; v2 = h.v2; v3 = h.v3; tail = 0; length = 0 }
+
+-- up to eight bytes, filled with zeros
+unfoldable pub word_of : List ℕ → ℕ
+word_of bytes = from_le_bytes w64 (bytes ++ replicate (8 - length bytes) 0)
+
+-- the first words of a text
+unfoldable pub first_words : ℕ → List ℕ → List ℕ
+first_words zero text = []
+first_words (suc n) text = word_of (take 8 text) ∷ first_words n (drop 8 text)
+
+-- all its words; the last is filled with zeros
+abbrev pub words : List ℕ → List ℕ
+words text = first_words ((length text + 7) / 8) text
+
+unfoldable pub hash_of : List ℕ → ℕ
+hash_of ws = sip.finish (fold sip.write_word sip.initial ws)

@@ -1,0 +1,96 @@
+//! A hash of words.
+
+ghost use Rattle.std.specs.Prelude.{◌≡◌, ◌<◌, ◌-◌, ◌++◌, length, replicate, fold};
+ghost use Rattle.std.specs.Hash.DefaultHasher.{initial, round, write_word, finish};
+ghost use Rattle.version_chains.specs.Words.{state_of, words};
+
+/// The bytes of a word.
+const WORD: usize = 8;
+
+/// SipHash-1-3 of whole words. std's hasher takes bytes one by one where they end inside a word, and so costs twice as much
+/// for short texts.
+#[derive(Clone, Copy, Drop)]
+pub(crate) struct WordHasher {
+    v0: u64,
+    v1: u64,
+    v2: u64,
+    v3: u64,
+}
+
+/// A word that begins with these bytes, and is filled with zeros.
+fn last_word(bytes: &[u8]) -> [u8; WORD]
+    requires { length bytes.now < 8 }
+    ensures { result ≡ bytes.now ++ replicate (8 - length bytes.now) 0 }
+{
+    let mut word = [0u8; WORD];
+    word[..bytes.len()].copy_from_slice(bytes);
+    word
+}
+
+impl WordHasher {
+    /// No words.
+    pub(crate) fn new() -> WordHasher
+        ensures { state_of result ≡ initial }
+    {
+        WordHasher {
+            v0: 0x736f_6d65_7073_6575,
+            v1: 0x646f_7261_6e64_6f6d,
+            v2: 0x6c79_6765_6e65_7261,
+            v3: 0x7465_6462_7974_6573,
+        }
+    }
+
+    fn round(self) -> WordHasher
+        ensures { state_of result ≡ round (state_of self) }
+    {
+        let v0 = self.v0.wrapping_add(self.v1);
+        let v2 = self.v2.wrapping_add(self.v3);
+        let v1 = self.v1.rotate_left(13) ^ v0;
+        let v3 = self.v3.rotate_left(16) ^ v2;
+        let mixed = v2.wrapping_add(v1);
+        let v0 = v0.rotate_left(32).wrapping_add(v3);
+        WordHasher {
+            v0,
+            v1: v1.rotate_left(17) ^ mixed,
+            v2: mixed.rotate_left(32),
+            v3: v3.rotate_left(21) ^ v0,
+        }
+    }
+
+    /// One word more.
+    pub(crate) fn with(self, word: u64) -> WordHasher
+        ensures { state_of result ≡ write_word (state_of self) word }
+    {
+        let mut state = self;
+        state.v3 ^= word;
+        let mut state = state.round();
+        state.v0 ^= word;
+        state
+    }
+
+    /// The words of a text, the last filled with zeros.
+    pub(crate) fn with_text(self, text: &str) -> WordHasher
+        ensures { state_of result ≡ fold write_word (state_of self) (words text.now) }
+    {
+        let mut state = self;
+        let mut rest = text.as_bytes();
+        while let Some((word, behind)) = rest.split_first_chunk::<WORD>() {
+            state = state.with(u64::from_le_bytes(*word));
+            rest = behind;
+        }
+        if rest.is_empty() {
+            return state;
+        }
+        state.with(u64::from_le_bytes(last_word(rest)))
+    }
+
+    /// The hash of the words so far.
+    pub(crate) fn finish(self) -> u64
+        ensures { result ≡ finish (state_of self) }
+    {
+        let mut state = self.with(0);
+        state.v2 ^= 0xFF;
+        let state = state.round().round().round();
+        state.v0 ^ state.v1 ^ state.v2 ^ state.v3
+    }
+}
