@@ -16,12 +16,12 @@ pub enum EntryKind {
 #[derive(Debug, Drop)]
 pub struct Entry {
     pub kind: EntryKind,
+    pub reply: bool,
     /// The line that it stands on, from 1.
     pub line: u64,
     pub goal: Fact,
     /// The timestamp at which it was evaluated.
     pub snapshot: u64,
-    pub reply: bool,
     /// The zookie of a check's request, or the one that a content check issued.
     pub zookie: Option<Zookie>,
     /// The label of the content's version, 1 to 128 bytes.

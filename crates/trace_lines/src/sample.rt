@@ -2,6 +2,7 @@
 
 ghost use Rattle.std.specs.Prelude.{◌≡◌, ◌≤◌, ◌∷◌, ◌++◌, [], Ok, length, take, true, OnOk};
 ghost use Rattle.tuple_text.specs.Refs.{user_value};
+ghost use Rattle.tuple_text.specs.TupleRefs.{tuple_value, tuple_values};
 ghost use Rattle.strata.specs.Edges.{first_broken, edges_of_tuples};
 ghost use Rattle.trace_lines.specs.Causes.{Gives};
 ghost use Rattle.trace_lines.specs.Declaring.{IsDeclaredOver};
@@ -14,7 +15,7 @@ use std::alloc::Global;
 use std::collections::BTreeMap;
 use std::marker::Model;
 use strata::{Edge, check_tuple, check_tuple_by, reads_tuplesets};
-use tuple_text::{SetRef, Tuple, UserRef};
+use tuple_text::{SetRef, Tuple, TupleRef, UserRef};
 
 /// Of all tuples that were ever added the first of each kind, in order, where a kind is the relations of a tuple's userset and of its user.
 /// Their edges are those of all. Now and then a kind has more than one.
@@ -45,8 +46,8 @@ fn is_user_of_kind(one: UserRef<'_>, other: UserRef<'_>) -> bool
     }
 }
 
-fn is_of_kind(one: &Tuple, other: &Tuple) -> bool
-    ensures { result ≡ is_of_kind one.now other.now }
+fn is_of_kind(one: &Tuple, other: TupleRef<'_>) -> bool
+    ensures { result ≡ is_of_kind one.now (tuple_value other.entry) }
 {
     one.set().namespace == other.set().namespace
         && one.set().relation == other.set().relation
@@ -97,8 +98,8 @@ impl Sample {
     }
 
     /// Whether a tuple of this one's kind is there.
-    fn has(&self, kind: u64, tuple: &Tuple) -> bool
-        ensures { result ≡ true → IsSomeOfKind tuple.now self.now }
+    fn has(&self, kind: u64, tuple: TupleRef<'_>) -> bool
+        ensures { result ≡ true → IsSomeOfKind (tuple_value tuple.entry) self.now }
     {
         let Some(place) = self.places.get(&kind) else {
             return false;
@@ -110,10 +111,10 @@ impl Sample {
     }
 
     /// Takes one more tuple, or refuses the first of its edges that is broken.
-    fn admit(&mut self, rules: &Rules, tuple: &Tuple) -> Result<(), Cause>
+    fn admit(&mut self, rules: &Rules, tuple: TupleRef<'_>) -> Result<(), Cause>
         requires { first_broken rules.now (edges_of_tuples rules.now self.old) ≡ Ok (tt {0}) }
-        ensures answer { Gives (λ u. u) result (tuples_checked rules.now (tuple.now ∷ [])) }
-        ensures taken { OnOk result (Represents self.new (self.old ++ tuple.now ∷ [])) }
+        ensures answer { Gives (λ u. u) result (tuples_checked rules.now (tuple_value tuple.entry ∷ [])) }
+        ensures taken { OnOk result (Represents self.new (self.old ++ tuple_value tuple.entry ∷ [])) }
         ensures kept { take (length self.old) self.new ≡ self.old }
     {
         let UserRef::Set(user) = tuple.user() else {
@@ -123,23 +124,24 @@ impl Sample {
         if self.has(kind, tuple) {
             return Ok(());
         }
-        if let Err(edge) = check_tuple(rules, tuple) {
+        let tuple = tuple.to_tuple(*self.tuples.allocator())?;
+        if let Err(edge) = check_tuple(rules, &tuple) {
             return Err(Cause::Strata(edge));
         }
         self.places.insert(kind, self.tuples.len())?;
-        self.tuples.push(tuple.clone()?)?;
+        self.tuples.push(tuple)?;
         Ok(())
     }
 
     /// Takes more tuples, or refuses the first of their edges that is broken. The tuples that were there stay in front.
-    pub(crate) fn admit_all(&mut self, rules: &Rules, tuples: &[Tuple]) -> Result<(), Cause>
+    pub(crate) fn admit_all(&mut self, rules: &Rules, tuples: &[TupleRef<'_>]) -> Result<(), Cause>
         requires { first_broken rules.now (edges_of_tuples rules.now self.old) ≡ Ok (tt {0}) }
-        ensures answer { Gives (λ u. u) result (tuples_checked rules.now tuples.now) }
-        ensures taken { OnOk result (Represents self.new (self.old ++ tuples.now)) }
+        ensures answer { Gives (λ u. u) result (tuples_checked rules.now (tuple_values tuples.now)) }
+        ensures taken { OnOk result (Represents self.new (self.old ++ tuple_values tuples.now)) }
         ensures kept { take (length self.old) self.new ≡ self.old }
     {
         for tuple in tuples {
-            self.admit(rules, tuple)?;
+            self.admit(rules, *tuple)?;
         }
         Ok(())
     }

@@ -2,6 +2,7 @@
 
 ghost use Rattle.std.specs.Prelude.{◌≡◌, option_map, string_bytes, Ok};
 ghost use Rattle.json_lines.specs.Data.{value_data, items_data};
+ghost use Rattle.tuple_text.specs.TupleRefs.{tuple_value, tuple_values};
 ghost use Rattle.trace_lines.specs.Causes.{Gives};
 ghost use Rattle.trace_lines.specs.Texts.{tuple_of_text, tuples_of, goal_of, token_of, is_label, label_at, fits_reply, version_at};
 
@@ -10,30 +11,32 @@ use crate::entry::EntryKind;
 use json_lines::fields::optional_text_at;
 use json_lines::{JsonItems, JsonRef};
 use std::alloc::Global;
-use tuple_text::{Fact, Tuple, TupleFault, parse_fact, parse_tuple};
+use tuple_text::{Fact, TupleFault, TupleRef, parse_fact, read_tuple};
 use zookie::Zookie;
 
-fn tuple_of_text(alloc: Global, text: Option<&str>) -> Result<Tuple, Cause>
-    ensures { Gives (λ t. t) result (tuple_of_text (option_map (λ s. s.now) text.entry)) }
+fn tuple_of_text(text: Option<&str>) -> Result<TupleRef<'_>, Cause>
+    ensures { Gives tuple_value result (tuple_of_text (option_map (λ s. s.now) text.entry)) }
 {
     let Some(text) = text else {
         return Err(Cause::Shape);
     };
-    match parse_tuple(alloc, text) {
+    match read_tuple(text) {
         Ok(tuple) => Ok(tuple),
-        Err(TupleFault::OutOfMemory) => Err(Cause::OutOfMemory),
         Err(fault) => Err(Cause::Text(fault)),
     }
 }
 
 /// The tuples of a list of texts.
-pub(crate) fn tuples_of(alloc: Global, items: JsonItems<'_, '_>) -> Result<Vec<Tuple>, Cause>
-    ensures { Gives (λ v. v.items) result (tuples_of (items_data items.entry)) }
+pub(crate) fn tuples_of<'a>(
+    alloc: Global,
+    items: JsonItems<'_, 'a>,
+) -> Result<Vec<TupleRef<'a>>, Cause>
+    ensures { Gives (λ v. tuple_values v.items) result (tuples_of (items_data items.entry)) }
 {
     let mut rest = items;
     let mut tuples = Vec::new(alloc);
     while let Some(item) = rest.next() {
-        tuples.push(tuple_of_text(alloc, item.as_str())?)?;
+        tuples.push(tuple_of_text(item.as_str())?)?;
     }
     Ok(tuples)
 }

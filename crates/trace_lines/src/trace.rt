@@ -5,6 +5,7 @@ ghost use Rattle.std.specs.Io.KnownBytes.{Consumes};
 ghost use Rattle.serde_json.specs.View.{view};
 ghost use Rattle.json_lines.specs.Data.{value_data, line_data};
 ghost use Rattle.tuple_text.specs.Refs.{set_value};
+ghost use Rattle.tuple_text.specs.TupleRefs.{tuple_values};
 ghost use Rattle.trace_lines.specs.Causes.{Gives};
 ghost use Rattle.trace_lines.specs.Covers.{IsCover};
 ghost use Rattle.trace_lines.specs.Values.{empty_trace, entry_value, entry_lines, next_line};
@@ -38,7 +39,7 @@ use namespaces::{Rules, RulesFault};
 use serde_json::Value;
 use std::alloc::{AllocError, Global};
 use std::marker::Model;
-use tuple_text::{SetRef, Tuple};
+use tuple_text::{SetRef, TupleRef};
 use version_chains::{AppendFault, Chains};
 
 /// A trace: its namespaces, its commits with the lines that they stand on, and its entries.
@@ -83,21 +84,21 @@ fn commit(
     cover: &mut Cover,
     chains: &mut Chains,
     at: u64,
-    adds: &[Tuple],
-    removes: &[Tuple],
+    adds: &[TupleRef<'_>],
+    removes: &[TupleRef<'_>],
 ) -> Result<(), Cause>
     requires { first_broken rules.now (edges_of_tuples rules.now sample.old) ≡ Ok (tt {0}) }
-    ensures answer { Gives (λ u. u) result (commit_checked rules.now chains.old at adds.now removes.now) }
-    ensures appended { OnOk result (chains.new ≡ appended chains.old at adds.now removes.now) }
+    ensures answer { Gives (λ u. u) result (commit_checked rules.now chains.old at (tuple_values adds.now) (tuple_values removes.now)) }
+    ensures appended { OnOk result (chains.new ≡ appended chains.old at (tuple_values adds.now) (tuple_values removes.now)) }
     ensures unchanged { OnErr result (chains.new ≡ chains.old) }
-    ensures taken { OnOk result (Represents sample.new (sample.old ++ adds.now)) }
+    ensures taken { OnOk result (Represents sample.new (sample.old ++ tuple_values adds.now)) }
     ensures kept { take (length sample.old) sample.new ≡ sample.old }
     ensures cover { OnOk result (IsCover rules.now cover.old sample.old → IsCover rules.now cover.new sample.new) }
 {
     let known = sample.len();
     sample.admit_all(rules, adds)?;
     cover.add_behind(rules, known, sample)?;
-    match chains.append(at, adds, removes) {
+    match chains.append_borrowed(at, adds, removes) {
         Ok(()) => Ok(()),
         Err(AppendFault::OutOfMemory) => Err(Cause::OutOfMemory),
         Err(fault) => Err(Cause::Commit(fault)),
@@ -184,10 +185,15 @@ impl Trace {
         self.rules.stratum(set).is_some()
     }
 
-    fn are_declared(&self, tuples: &[Tuple]) -> bool
-        ensures { result ≡ are_declared self.now.declarations tuples.now }
+    fn are_declared(&self, tuples: &[TupleRef<'_>]) -> bool
+        ensures { result ≡ are_declared self.now.declarations (tuple_values tuples.now) }
     {
-        tuples.iter().all(|tuple| self.is_declared(tuple.set()))
+        for tuple in tuples {
+            if !self.is_declared(tuple.set()) {
+                return false;
+            }
+        }
+        true
     }
 
     /// Takes a line that declares a namespace.
@@ -276,9 +282,15 @@ impl Trace {
     }
 
     #[tactic(auto, unfolding(crate::specs::Traces::with_commit))]
-    fn append(&mut self, line: u64, at: u64, adds: &[Tuple], removes: &[Tuple]) -> Result<(), Cause>
+    fn append(
+        &mut self,
+        line: u64,
+        at: u64,
+        adds: &[TupleRef<'_>],
+        removes: &[TupleRef<'_>],
+    ) -> Result<(), Cause>
         requires { next_line self.old ≤ line }
-        ensures { Gives (λ _. self.new) result (with_commit line self.old (record { at = at; adds = adds.now; removes = removes.now })) }
+        ensures { Gives (λ _. self.new) result (with_commit line self.old (record { at = at; adds = tuple_values adds.now; removes = tuple_values removes.now })) }
     {
         if !self.are_declared(adds) || !self.are_declared(removes) {
             return Err(Cause::Unknown);

@@ -1,12 +1,13 @@
 use Rattle.std.proofs.Common.{ap}
+use Rattle.tuple_text.specs.TupleRefs.{tuple_value}
 use Rattle.trace_lines.specs.Traces.{strata_cause}
 use Rattle.trace_lines.proofs.Sampling.{kind_unbroken, left_out}
 use Rattle.trace_lines.proofs.sample.Sample.admit.Goals as goal
 
 pub returns-then-has-clause-answer : goal.returns-then-has-clause-answer
 returns-then-has-clause-answer c =
-    ap strata_cause (kind_unbroken c.args.rules.now c.args.self.now c.args.tuple.now (c.has.ensures c.if-has.true) c.requires)
+    ap strata_cause (kind_unbroken c.args.rules.now c.args.self.now (tuple_value c.args.tuple) (c.has.ensures c.if-has.true) c.requires)
 
 pub returns-then-has-clause-taken : goal.returns-then-has-clause-taken
 returns-then-has-clause-taken c =
-    left_out c.args.self.now c.args.tuple.now (λ ds. kind_unbroken ds c.args.self.now c.args.tuple.now (c.has.ensures c.if-has.true))
+    left_out c.args.self.now (tuple_value c.args.tuple) (λ ds. kind_unbroken ds c.args.self.now (tuple_value c.args.tuple) (c.has.ensures c.if-has.true))

@@ -1,4 +1,5 @@
 use Rattle.std.proofs.Common.{◌≡◌, ℕ, ◌-◌, ◌^◌, None, ◌≤◌, ◌∷◌, ◌++◌, [], arith, sym, subst}
+use Rattle.tuple_text.specs.TupleRefs.{tuple_values}
 use Rattle.version_chains.specs.Appends.{append_fault}
 use Rattle.version_chains.specs.Commits.{Commit}
 use Rattle.trace_lines.specs.Values.{TraceValue, next_line}
@@ -12,7 +13,7 @@ commit-requires c = sample_unbroken c.self.inside.rules c.self.inside.chains.com
 pub invariant_of-self-2 : goal.invariant_of-self-2
 invariant_of-self-2 c =
     let room = subst (λ (t : TraceValue). next_line t ≤ c.args.line) (sym c.self.view_is) c.requires in
-    let commit : Commit = record { at = c.args.at; adds = c.args.adds.now; removes = c.args.removes.now } in
+    let commit : Commit = record { at = c.args.at; adds = tuple_values c.args.adds.now; removes = tuple_values c.args.removes.now } in
     let lines : c.push.new.self.items ≡ c.self.inside.commit_lines.items ++ c.args.line ∷ [] = rw c.in_ok-reserve.ensures.items at (rw c.if-is_err.ensures.negation at c.push.ensures.items) in
     let fine = commit_ok c.self.inside.rules c.self.inside.chains commit c.in-Ok.ensures.answer in
     let accepted : append_fault (record { limit = 2 ^ 32 - 1; commits = c.self.inside.chains.commits }) commit.at commit.adds commit.removes ≡ None =
