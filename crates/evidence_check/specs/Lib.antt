@@ -10,4 +10,5 @@ pub mod Members
 pub mod Reading
 pub mod Records
 pub mod Rules
+pub mod StepReading
 pub mod Steps

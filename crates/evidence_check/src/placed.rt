@@ -9,7 +9,7 @@ ghost use Rattle.evidence_check.specs.Reading.{place_of, placed_steps};
 ghost use Rattle.evidence_check.specs.Steps.{borrowed_steps};
 
 use crate::cause::EvidenceCause;
-use crate::records::{are_known, steps_at, steps_in};
+use crate::records::steps_of;
 use crate::step::StepRef;
 use json_lines::JsonLine;
 use json_lines::fields::number_at;
@@ -91,11 +91,7 @@ pub(crate) fn placed_steps<'a>(
 {
     let record = json.root();
     let line = number_at(&record, "line").ok_or(EvidenceCause::Shape)?;
-    let list = steps_at(&record).ok_or(EvidenceCause::Shape)?;
-    let steps = steps_in(alloc, &list)?;
-    if !are_known(list.items()) {
-        return Err(EvidenceCause::UnknownStep);
-    }
+    let steps = steps_of(alloc, &record)?;
     let place = lines.place(line).ok_or(EvidenceCause::StrayLine)?;
     Ok((place, steps))
 }
