@@ -19,6 +19,7 @@
 
 mod fault;
 mod index;
+mod lookups;
 mod number;
 mod reading;
 mod rewrite;

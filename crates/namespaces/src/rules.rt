@@ -8,6 +8,7 @@ ghost use Rattle.namespaces.specs.WellFormed.{IsWellFormed};
 
 use crate::fault::RulesFault;
 use crate::index::{Revision, note, revision_at, revision_with};
+use crate::lookups::{place_in, value_in};
 use crate::number::RelNo;
 use crate::reading::{Draft, read_draft};
 use crate::rewrite::Rewrite;
@@ -147,7 +148,7 @@ impl Rules {
             ≡ option_map (λ r. r.expression) (rule_of (rule_at self.now at) (set_value set.entry)) }
     {
         let relations = self.in_force(set.namespace, at)?;
-        let relation = relations.get(set.relation)?;
+        let relation = value_in(relations, set.relation)?;
         Some(&relation.rewrite)
     }
 
@@ -176,7 +177,7 @@ impl Rules {
             ≡ option_map (λ r. r.stratum) (relation_of set.entry.namespace.now set.entry.relation.now self.now) }
     {
         let relations = self.newest(set.namespace)?;
-        let relation = relations.get(set.relation)?;
+        let relation = value_in(relations, set.relation)?;
         Some(relation.stratum)
     }
 
@@ -185,7 +186,7 @@ impl Rules {
         ensures { result ≡ number_of set.entry.namespace.now set.entry.relation.now self.now }
     {
         let namespace = self.namespace_number(set.namespace)?;
-        let relation = self.newest(set.namespace)?.get_index_of(set.relation)?;
+        let relation = place_in(self.newest(set.namespace)?, set.relation)?;
         Some(RelNo {
             namespace,
             relation: relation as u16 + 1,
@@ -207,7 +208,7 @@ impl Rules {
     pub fn namespace_number(&self, namespace: &str) -> Option<u16>
         ensures { result ≡ place_of namespace.now (namespace_names self.now) }
     {
-        let index = self.namespaces.get_index_of(namespace)?;
+        let index = place_in(&self.namespaces, namespace)?;
         Some(index as u16 + 1)
     }
 
@@ -288,7 +289,7 @@ impl Rules {
         ensures limit { IfSome result (λ m. length m.now.entries ≤ 256) }
         ensures well_formed { IsWellFormed self.now }
     {
-        let newest = self.namespaces.get(namespace)?.last().copied()?;
+        let newest = value_in(&self.namespaces, namespace)?.last().copied()?;
         self.relations_in(newest)
     }
 
@@ -297,7 +298,7 @@ impl Rules {
         ensures relations { option_map (λ m. show_relations m.now.entries) result ≡ relations_at at namespace.now self.now }
         ensures well_formed { IsWellFormed self.now }
     {
-        let revisions = self.namespaces.get(namespace)?;
+        let revisions = value_in(&self.namespaces, namespace)?;
         let revision = revision_at(revisions.as_slice(), at)?;
         self.relations_in(revision)
     }
