@@ -14,7 +14,7 @@ use Rattle.version_chains.specs.Marks.{held_mark, tuple_mark}
 use Rattle.version_chains.specs.Arena.{IsLinked, touch_of, nobody, AreApartAt, AreUpTo}
 use Rattle.version_chains.specs.Jumps.{AreJumps, IsBack}
 use Rattle.version_chains.specs.declared.node.Node.{Node}
-use Rattle.version_chains.proofs.PlacedLemmas.{last_place-same, last_place-front, last_place-more, last_place-none, last_place-map, at_last_place, slice_get-cases, slice_get-kept, slice_get-next, slice_get-set, slice_get-front, length-more, length-set, map-same_items}
+use Rattle.version_chains.proofs.PlacedLemmas.{last_place-here, last_place-same, last_place-front, last_place-more, last_place-none, last_place-map, at_last_place, slice_get-cases, slice_get-kept, slice_get-next, slice_get-set, slice_get-front, length-more, length-set, map-same_items}
 
 -- an item within a list
 pub item_within : {X : Type 0} (xs : List X) (i : ℕ) → i < length xs → (x : X) × (slice_get xs i ≡ Some x)
@@ -67,6 +67,16 @@ module _ (tuples : List TupleValue) (latest named held : List ℕ) (nodes : List
   last_touch k t at n =
       last_place-map (touch_of tuples) (λ x. tuple_eq x.tuple t) nodes n
       ∙ last_place-same (λ m. tuple_eq (touch_of tuples m).tuple t) (λ m. nat_eq k m.tuple) nodes (touch_by_number k t at) n
+
+  -- which is the last place where the touch there is of the tuple, and else the last place of one before it
+  pub last_touch_here : (k : ℕ) (t : TupleValue) → slice_get tuples k ≡ Some t → (m : ℕ) (n : Node) → slice_get nodes m ≡ Some n → n.tuple ≡ k → suc m ≡ last_place (λ x. tuple_eq x.tuple t) (map (touch_of tuples) nodes) (suc m)
+  last_touch_here k t at m n here same = sym (last_touch k t at (suc m) ∙ last_place-here (λ (x : Node). nat_eq k x.tuple) nodes m n here (eq-eqb k n.tuple (sym same)))
+
+  pub last_touch_before : (k : ℕ) (t : TupleValue) → slice_get tuples k ≡ Some t → (m : ℕ) (n : Node) → slice_get nodes m ≡ Some n → n.tuple ≢ k
+      → last_place (λ x. tuple_eq x.tuple t) (map (touch_of tuples) nodes) m ≡ last_place (λ x. tuple_eq x.tuple t) (map (touch_of tuples) nodes) (suc m)
+  last_touch_before k t at m n here other =
+      let apart : nat_eq k n.tuple ≡ false = ne_eqb k n.tuple (λ e. other (sym e)) in
+      last_touch k t at m ∙ rw (here, apart) refl ∙ sym (last_touch k t at (suc m))
 
   pub newest_touch : (k p : ℕ) (t : TupleValue) → slice_get tuples k ≡ Some t → slice_get latest k ≡ Some p → p ≡ last_place (λ x. tuple_eq x.tuple t) (map (touch_of tuples) nodes) (length (map (touch_of tuples) nodes))
   newest_touch k p t at here =

@@ -1,24 +1,21 @@
 -- From a touch that is after a timestamp back to one before it.
-use Rattle.std.proofs.Common.{◌≡◌, ℕ, suc, ◌+◌, ◌-◌, ◌<◌, ◌≤◌, Bool, true, false, List, map, refl, sym, ◌∙◌, ap, subst, Some, None, Option, arith, ◌&&◌, leb}
+use Rattle.std.proofs.Common.{◌≡◌, ℕ, suc, ◌+◌, ◌-◌, ◌<◌, ◌≤◌, Bool, true, false, List, map, refl, sym, ◌∙◌, ap, subst, Some, None, Option, arith, ◌&&◌, leb, get_or}
 use Rattle.std.specs.Prelude.{slice_get, option_map}
-use Rattle.std.proofs.lemmas.Bool.{lt-leb}
 use Rattle.std.proofs.lemmas.List.{length-map}
-use Rattle.std.proofs.lemmas.Option.{slice_get_within, slice_get-map}
+use Rattle.std.proofs.lemmas.Bool.{le-leb, leb-true, leb-false}
+use Rattle.std.specs.List.Sorted.{IsPartitionPoint, IsPartitionedBy}
+use Rattle.std.proofs.lemmas.Option.{slice_get_within, slice_get-get_or, slice_get-map}
 use Rattle.tuple_text.specs.Tuples.{TupleValue}
 use Rattle.tuple_text.specs.Order.{tuple_eq}
 use Rattle.tuple_text.proofs.ValueLemmas.{tuple_eq-itself}
 use Rattle.version_chains.specs.Arena.{IsLinked, touch_of}
 use Rattle.version_chains.specs.Commits.{Touch}
-use Rattle.version_chains.specs.Given.{LeadsBack}
+use Rattle.version_chains.specs.Given.{AreLaterFrom, LeadsBack}
 use Rattle.version_chains.specs.Placed.{last_place, newest_first}
 use Rattle.version_chains.specs.declared.node.Node.{Node}
 use Rattle.version_chains.proofs.ArenaLemmas.{touch_at}
-use Rattle.version_chains.proofs.PlacedLemmas.{and-left, last_place-within, last_place-here, newest_first-not_here, newest_first-past}
+use Rattle.version_chains.proofs.PlacedLemmas.{after-not, and-left, last_place-within, last_place-here, newest_first-not_here, newest_first-past}
 use Rattle.version_chains.proofs.WalkLemmas.{left_older}
-
-after-not : (b : Bool) (n s : ℕ) → s < n → (b && leb n s) ≡ false
-after-not true n s h = lt-leb n s h
-after-not false n s h = refl
 
 module _ (tuples : List TupleValue) (latest named held : List ℕ) (nodes : List Node) (is : IsLinked tuples latest named held nodes) where
   abbrev touches : List Touch
@@ -30,6 +27,26 @@ module _ (tuples : List TupleValue) (latest named held : List ℕ) (nodes : List
       pick : (o : Option Node) → slice_get nodes i ≡ o → option_map (touch_of tuples) o ≡ Some x → (n : Node) × (slice_get nodes i ≡ Some n) × (touch_of tuples n ≡ x)
       pick None e h = absurd cc
       pick (Some n) e h = (n, e, cc)
+
+  -- those up to a timestamp come first
+  pub parted_by_time : (s : ℕ) (ns : List Node) → ns ≡ nodes → IsPartitionedBy (λ n. leb n.at s) ns
+  parted_by_time s ns same = subst (IsPartitionedBy (λ n. leb n.at s)) (sym same) parted
+    where
+      parted : IsPartitionedBy (λ n. leb n.at s) nodes
+      parted i j d order within before =
+          let rise = is.rising i j (get_or nodes i d) (get_or nodes j d) order (slice_get-get_or nodes i d (omega (arith, order, within))) (slice_get-get_or nodes j d within) in
+          let up_to = leb-true (get_or nodes j d).at s before in
+          le-leb (get_or nodes i d).at s (omega (arith, rise, up_to))
+
+  -- and the others are after it
+  pub later_from : (s n : ℕ) (ns : List Node) → ns ≡ nodes → IsPartitionPoint (λ x. leb x.at s ≡ true) (λ x. leb x.at s ≡ false) ns n → AreLaterFrom s touches n
+  later_from s n ns same point i x here past =
+      let node = node_of i x here in
+      let within = slice_get_within nodes i node.0 node.1 in
+      let parted : IsPartitionPoint (λ (y : Node). leb y.at s ≡ true) (λ (y : Node). leb y.at s ≡ false) nodes n = subst (λ (ys : List Node). IsPartitionPoint (λ (y : Node). leb y.at s ≡ true) (λ (y : Node). leb y.at s ≡ false) ys n) same point in
+      let item : Some (get_or nodes i node.0) ≡ Some node.0 = sym (slice_get-get_or nodes i node.0 within) ∙ node.1 in
+      let late = leb-false (get_or nodes i node.0).at s (parted.1 i node.0 past within) in
+      subst (λ (y : Touch). s < y.at) node.2 (let there : get_or nodes i node.0 ≡ node.0 = cc in subst (λ (y : Node). s < y.at) there late)
 
   module _ (s i : ℕ) (n : Node) (at : slice_get nodes i ≡ Some n) (x : Touch) (here : slice_get touches i ≡ Some x) (after : s < x.at) where
     same : touch_of tuples n ≡ x

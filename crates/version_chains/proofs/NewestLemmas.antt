@@ -1,5 +1,5 @@
 -- The touches of a tuple from the newest back, and what they say of the store and of its history.
-use Rattle.std.proofs.Common.{◌≡◌, ℕ, zero, suc, ◌≤◌, Bool, true, false, cond, List, [], ◌∷◌, ◌++◌, length, map, reverse, refl, sym, ◌∙◌, ap, subst, Some, arith, take, ◌&&◌, leb, append-nil}
+use Rattle.std.proofs.Common.{◌≡◌, ℕ, zero, suc, ◌+◌, ◌-◌, ◌≤◌, Bool, true, false, cond, List, [], ◌∷◌, ◌++◌, length, map, reverse, refl, sym, ◌∙◌, ap, subst, Some, arith, take, ◌&&◌, leb, append-nil}
 use Rattle.std.specs.Prelude.{slice_get, filter}
 use Rattle.std.specs.List.{list_any}
 use Rattle.std.proofs.Math.Seq.{take-length}
@@ -9,10 +9,10 @@ use Rattle.tuple_text.specs.Tuples.{TupleValue}
 use Rattle.tuple_text.specs.Order.{tuple_eq}
 use Rattle.tuple_text.proofs.ValueLemmas.{tuple_eq-same}
 use Rattle.version_chains.specs.Commits.{Touch, touches_to, until, last_live}
-use Rattle.version_chains.specs.Given.{LeadsBack}
+use Rattle.version_chains.specs.Given.{AreLaterFrom, LeadsBack}
 use Rattle.version_chains.specs.Placed.{in_front, last_place, newest_first, IsLinkedPlace, IsWalk}
 use Rattle.version_chains.proofs.ArenaLemmas.{item_within}
-use Rattle.version_chains.proofs.PlacedLemmas.{and-left, newest_first-here, given_at}
+use Rattle.version_chains.proofs.PlacedLemmas.{after-not, and-left, newest_first-here, newest_first-past, given_at}
 use Rattle.version_chains.proofs.WalkLemmas.{linked_item, linked_older, left_older, walk_start, walk_found, walk_end}
 
 -- the first n items and the next
@@ -118,6 +118,16 @@ module _ (t : TupleValue) (s : ℕ) (xs : List Touch) where
 
   pub live_start : (place : ℕ) → place ≡ last_place linked xs (length xs) → IsWalk linked wanted xs place
   live_start place e = walk_start linked wanted wanted_linked xs place e
+
+  -- and from the last one among the first touches, where the others are after the timestamp
+  pub live_start_among : (n place : ℕ) → n ≤ length xs → AreLaterFrom s xs n → place ≡ last_place linked xs n → IsWalk linked wanted xs place
+  live_start_among n place within later e = record {
+    on = (n, within, e);
+    left =
+        ap (newest_first wanted xs) (let all : length xs ≡ n + (length xs - n) = omega (arith, within) in all)
+        ∙ newest_first-past wanted xs n (length xs - n) (λ i x past below here. after-not (tuple_eq x.tuple t) x.at s (later i x here past))
+        ∙ left_older linked wanted wanted_linked xs n place e;
+  }
 
   pub live_end : (place : ℕ) → place ≡ 0 → IsWalk linked wanted xs place → false ≡ last_live false (touches_to t (until s xs))
   live_end place none walk = sym (live_newest t s xs ∙ ap (first_live false) (walk_end linked wanted wanted_linked xs (subst (IsWalk linked wanted xs) none walk)))

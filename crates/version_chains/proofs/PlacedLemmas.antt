@@ -1,5 +1,6 @@
 -- Places in a list that grows.
-use Rattle.std.proofs.Common.{◌≡◌, ◌≢◌, ℕ, zero, suc, ◌+◌, ◌<◌, ◌≤◌, Bool, true, false, ◌&&◌, cond, List, [], ◌∷◌, ◌++◌, length, map, take, refl, sym, ◌∙◌, ap, subst, Option, None, Some, ◌||◌, ◌⊎◌, inl, inr, arith, get_or}
+use Rattle.std.proofs.Common.{◌≡◌, ◌≢◌, ℕ, zero, suc, ◌+◌, ◌<◌, ◌≤◌, Bool, true, false, ◌&&◌, cond, List, [], ◌∷◌, ◌++◌, length, map, take, refl, sym, ◌∙◌, ap, subst, Option, None, Some, ◌||◌, ◌⊎◌, inl, inr, arith, get_or, leb}
+use Rattle.std.proofs.lemmas.Bool.{lt-leb}
 use Rattle.std.proofs.Math.Nat.{eq-or-lt_of_le}
 use Rattle.std.specs.Prelude.{slice_get, option_map, slice_set}
 use Rattle.std.specs.List.{list_any}
@@ -13,6 +14,11 @@ and-left false b h = h
 pub and-right : (a b : Bool) → (a && b) ≡ true → b ≡ true
 and-right true b h = h
 and-right false b h = cc
+
+-- what is after a number fails a test for those up to it
+pub after-not : (b : Bool) (n s : ℕ) → s < n → (b && leb n s) ≡ false
+after-not true n s h = lt-leb n s h
+after-not false n s h = refl
 
 pub or-second : (a b : Bool) → b ≡ true → (a || b) ≡ true
 or-second true b h = refl

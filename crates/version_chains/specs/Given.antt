@@ -1,5 +1,5 @@
 -- The users that the arena gives, and the commits that its touches make. No public clause cites this module.
-use Rattle.std.specs.Prelude.{◌≡◌, ℕ, Bool, false, List, [], ◌∷◌, ◌++◌, None, map, filter, length, ◌&&◌, ◌≤◌, not, nat_eq, nat_le, suc, slice_get, Some, Option, MatchOption, true}
+use Rattle.std.specs.Prelude.{◌≡◌, ℕ, Bool, false, List, [], ◌∷◌, ◌++◌, None, map, filter, length, ◌&&◌, ◌<◌, ◌≤◌, not, nat_eq, nat_le, suc, slice_get, Some, Option, MatchOption, true}
 use Rattle.std.specs.Bool.{beq}
 use Rattle.std.specs.List.{AllByRecursion}
 use Rattle.std.specs.List.Sorted.{IsStrictlyIncreasing}
@@ -12,7 +12,7 @@ use Rattle.tuple_text.specs.declared.users.User.TheVariants.{Id, Set}
 use Rattle.version_chains.specs.Appends.{first_repeat}
 use Rattle.version_chains.specs.Arena.{Held}
 use Rattle.version_chains.specs.Commits.{Commit, Touch, changelog, touches_to, until, last_live}
-use Rattle.version_chains.specs.Placed.{last_place, newest_first, IsLinkedPlace}
+use Rattle.version_chains.specs.Placed.{last_place, newest_first, IsLinkedPlace, IsWalk}
 use Rattle.version_chains.specs.Marks.{set_mark, kind_mark, held_mark, is_userset}
 use Rattle.version_chains.specs.declared.marks.MarkedUser.{MarkedUser}
 use Rattle.version_chains.specs.declared.node.Node.{Node}
@@ -79,6 +79,14 @@ pub record LeadsBack (t : TupleValue) (s : ℕ) (touches : List Touch) (index pl
   pub nearer : place ≤ index
   pub on : IsLinkedPlace (λ x. tuple_eq x.tuple t) touches place
   pub passes_none : newest_first (λ x. tuple_eq x.tuple t && nat_le x.at s) touches (suc index) ≡ newest_first (λ x. tuple_eq x.tuple t && nat_le x.at s) touches place
+
+-- each touch from an index on is after the timestamp
+abbrev pub AreLaterFrom : ℕ → List Touch → ℕ → Type 0
+AreLaterFrom s touches n = (i : ℕ) (x : Touch) → slice_get touches i ≡ Some x → n ≤ i → s < x.at
+
+-- a walk over the touches of a tuple that looks for the last one up to the timestamp
+abbrev pub IsWalkUntil : TupleValue → ℕ → List Touch → ℕ → Type 0
+IsWalkUntil t s touches place = IsWalk (λ x. tuple_eq x.tuple t) (λ x. tuple_eq x.tuple t && nat_le x.at s) touches place
 
 -- the commit of a timestamp: its touches, in order
 abbrev pub commit_at : List Touch → ℕ → Commit

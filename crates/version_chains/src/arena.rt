@@ -1,13 +1,13 @@
 //! The arena in which tuples and touches are kept.
 
-ghost use Rattle.std.specs.Prelude.{◌≡◌, ℕ, ◌<◌, ◌≤◌, ◌+◌, ◌∷◌, ◌++◌, [], Some, length, slice_get, IfOk, OnOk, OnErr, MatchOption, false, true, None};
+ghost use Rattle.std.specs.Prelude.{◌≡◌, ℕ, ◌<◌, ◌≤◌, ◌+◌, ◌∷◌, ◌++◌, [], Some, length, slice_get, IfOk, IfSome, OnOk, OnErr, MatchOption, false, true, None};
 ghost use Rattle.tuple_text.specs.Order.{tuple_eq};
 ghost use Rattle.tuple_text.specs.Refs.{set_value, user_value};
 ghost use Rattle.tuple_text.specs.TupleRefs.{tuple_value};
 ghost use Rattle.tuple_text.specs.Tuples.{tuple_of, TupleValue};
 ghost use Rattle.version_chains.specs.Arena.{AreApartAt, AreUpTo, Extends, IsNumber};
 ghost use Rattle.version_chains.specs.Commits.{Touch, touches_to, until, last_live};
-ghost use Rattle.version_chains.specs.Given.{AreTouchesKnown, Gives, IsTouchAt, IsUnnumbered, IsUntouched, LeadsBack, has_mark_of, is_given, is_stored_by, newest_of};
+ghost use Rattle.version_chains.specs.Given.{AreLaterFrom, AreTouchesKnown, Gives, IsTouchAt, IsUnnumbered, IsUntouched, IsWalkUntil, LeadsBack, has_mark_of, is_given, is_stored_by, newest_of};
 ghost use Rattle.version_chains.specs.Marks.{is_userset};
 ghost use Rattle.version_chains.specs.Placed.{last_place, most};
 
@@ -46,6 +46,12 @@ impl Model for Arena {
 
     ghost invariant = { λ a. IsLinked (tuples_of a.rows.items) (latest_of a.rows.items) a.named a.held a.nodes.items × AreMarked a.rows.items × (length a.rows.items ≤ most) };
 }
+
+/// How many touches a tuple has before its newest where the last one up to a timestamp is looked for by time.
+const MANY_TOUCHES: u32 = 16;
+
+/// At how many touches up to a timestamp, of any tuples, such a look goes on.
+const NEAR_TOUCHES: usize = 8;
 
 /// Whether the tuple has this userset and this user.
 fn names(tuple: &Tuple, set: SetRef<'_>, user: UserRef<'_>) -> bool
@@ -151,11 +157,54 @@ impl Arena {
         }
     }
 
+    /// How many touches there are up to the timestamp.
+    fn count_until(&self, at: u64) -> usize
+        ensures within { result ≤ length self.now.touches }
+        ensures later { AreLaterFrom at self.now.touches result }
+    {
+        self.nodes.partition_point(|touch| touch.at <= at)
+    }
+
+    /// The place of the tuple's last touch among the first `count`, where it is one of the last few of these.
+    fn near(&self, number: usize, count: usize) -> Option<usize>
+        requires { count ≤ length self.now.touches }
+        ensures { (t : TupleValue) → IsNumber self.now.tuples t number → IfSome result (λ place. place ≡ newest_of t self.now.touches count) }
+    {
+        for back in 0..NEAR_TOUCHES.min(count) {
+            let place = count - back;
+            if self.nodes[place - 1].tuple as usize == number {
+                return Some(place);
+            }
+        }
+        None
+    }
+
+    /// Whether the touch at the place is after the timestamp, and many of the same tuple stand before it.
+    fn is_far(&self, place: usize, at: u64) -> bool {
+        place > 0
+            && match self.touch(place - 1) {
+                Some(touch) => touch.at > at && touch.depth >= MANY_TOUCHES,
+                None => false,
+            }
+    }
+
+    /// The place from which a walk begins that looks for the tuple's last touch up to the timestamp: the newest, or
+    /// where that is far away the one that is looked for, if it is found near the last touch of any tuple up to then.
+    fn beginning(&self, number: usize, at: u64) -> usize
+        ensures { (t : TupleValue) → IsNumber self.now.tuples t number → IsWalkUntil t at self.now.touches result }
+    {
+        let newest = self.newest(number);
+        if !self.is_far(newest, at) {
+            return newest;
+        }
+        self.near(number, self.count_until(at)).unwrap_or(newest)
+    }
+
     /// Whether the last touch of the tuple, up to the timestamp, adds it.
     pub fn is_live(&self, number: usize, at: u64) -> bool
         ensures { (t : TupleValue) → IsNumber self.now.tuples t number → result ≡ is_stored_by self.now.touches at t }
     {
-        let mut place = self.newest(number);
+        let mut place = self.beginning(number, at);
         while place > 0 {
             let Some(touch) = self.touch(place - 1) else {
                 return false;

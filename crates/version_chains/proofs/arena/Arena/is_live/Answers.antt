@@ -2,12 +2,12 @@ use Rattle.std.proofs.Common.{◌≡◌, ℕ, ◌-◌, ◌<◌, ◌≤◌, suc, 
 use Rattle.std.proofs.lemmas.Bool.{le-leb}
 use Rattle.tuple_text.specs.Order.{tuple_eq}
 use Rattle.version_chains.specs.Commits.{Touch}
-use Rattle.version_chains.proofs.NewestLemmas.{live_start, live_end, live_found, live_on}
+use Rattle.version_chains.proofs.NewestLemmas.{live_end, live_found, live_on}
 use Rattle.version_chains.proofs.WalkLemmas.{linked_within}
 use Rattle.version_chains.proofs.arena.Arena.is_live.Goals as goal
 
 pub loop-place-init : goal.loop-place-init
-loop-place-init c t at = live_start t c.args.at c.args.self.now.touches c.newest-place.result (c.newest-place.ensures t at)
+loop-place-init c = c.beginning-place.ensures
 
 pub loop-place-smaller : goal.loop-place-smaller
 loop-place-smaller c =

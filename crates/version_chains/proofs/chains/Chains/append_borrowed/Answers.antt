@@ -1,4 +1,4 @@
-use Rattle.std.proofs.Common.{rules, ◌≡◌, ◌∙◌, ◌++◌, ◌∷◌, [], ◌<◌, ◌≤◌, ◌-◌, ap, sym, subst, refl, inr, List, None, Some, length, nat_eq}
+use Rattle.std.proofs.Common.{rules, ◌≡◌, ◌∙◌, ◌++◌, ◌∷◌, [], ◌<◌, ◌≤◌, ◌-◌, ap, sym, subst, inr, List, None, Some, length, nat_eq}
 use Rattle.std.proofs.lemmas.List.{length-map}
 use Rattle.tuple_text.specs.TupleRefs.{tuple_value, tuple_values}
 use Rattle.version_chains.specs.Appends.{last_at, late_fault, repeat_from}
