@@ -1,15 +1,17 @@
 -- Numbers in decimal digits.
-use Rattle.std.proofs.Common.{◌≡◌, ℕ, ◌^◌, ◌<◌, Bool, true, false, ltb, eqb, not, ◌&&◌, ◌||◌, List, length, get_or, Some, Result, Ok, Err, rules, arith, refl, sym, ap, ◌∙◌, inl, inr}
+use Rattle.std.proofs.Common.{◌≡◌, ℕ, zero, suc, ◌^◌, ◌<◌, ◌≤◌, Bool, true, false, ltb, eqb, not, ◌&&◌, ◌||◌, List, length, get_or, leb, Some, None, true≢false, Result, Ok, Err, rules, arith, refl, sym, ap, ◌∙◌, inl, inr}
 use Rattle.std.specs.Char.{is_ascii_digit}
 use Rattle.std.specs.Fmt.{decimal}
-use Rattle.std.specs.List.{list_all}
+use Rattle.std.specs.List.{list_all, AllPass}
 use Rattle.std.specs.Result.{result_ok}
-use Rattle.std.specs.Str.Parse.{digits_value, ParsesUnsigned}
-use Rattle.std.proofs.lemmas.Bool.{ltb-true, lt-ltb, eqb-false, ne_eqb, and_parts, and_from, or_cases, or_left, or_right, not_from_false, cases_Bool, cases_lt}
+use Rattle.std.specs.Str.Parse.{digits_value, HasUnsignedDigitsIfOk, ParsesUnsigned}
+use Rattle.std.proofs.lemmas.Bool.{leb-true, le-leb, ltb-true, lt-ltb, eqb-false, ne_eqb, and_parts, and_from, or_cases, or_left, or_right, not_from_false, cases_Bool, cases_lt}
 use Rattle.std.proofs.lemmas.Fmt.{digits_decimal, digits_value-decimal, decimal-digits_value, decimal_nonempty, decimal_digit, first_decimal}
+use Rattle.std.proofs.lemmas.Grind.{get_or_default_zero}
+use Rattle.std.proofs.lemmas.List.Sums.{AllPass-from_list_all, list_all-from_AllPass}
 use Rattle.std.proofs.lemmas.Option.{cond_some}
 use Rattle.std.proofs.lemmas.Str.Parse.{IsNumeralModel, numerals_by_value, parse_digits}
-use Rattle.tuple_text.specs.Forms.{is_plain, plain_number}
+use Rattle.tuple_text.specs.Forms.{begins_plainly, is_plain, plain_number}
 
 pub own : IsNumeralModel (λ ds. list_all is_ascii_digit ds ≡ true) (digits_value 10)
 own = numerals_by_value (λ ds. list_all is_ascii_digit ds ≡ true) (search rules)
@@ -67,6 +69,48 @@ number_is {E} bs (Err e) plain h =
       | inl lt ↦ absurd (o (p.some, ltb-true _ _ lt))
       | inr ge ↦ rw (plain, ge) refl
     ]
+
+digit_within : (c : ℕ) → is_ascii_digit c ≡ true → (48 ≤ c) × (c ≤ 57)
+digit_within c e = let parts = and_parts (leb 48 c) (leb c 57) e in (leb-true 48 c parts.0, leb-true c 57 parts.1)
+
+not_plain : (bs : List ℕ) → is_plain bs ≡ false → None ≡ plain_number bs
+unfolding plain_number
+not_plain bs other = rw other refl
+
+-- the same of any text in front of whose digits neither a plus nor a zero stands
+pub number_begun : {E : Type 0} (bs : List ℕ) (r : Result ℕ E) → begins_plainly bs ≡ true → ParsesUnsigned 64 10 bs r → HasUnsignedDigitsIfOk bs r → result_ok r ≡ plain_number bs
+number_begun {E} bs (Ok x) front h read =
+    let parts = and_parts (not (eqb (get_or bs 0 0) 43)) (ltb (length bs) 2 || not (eqb (get_or bs 0 0) 48)) front in
+    number_is {E = E} bs (Ok x) (is_plain_from bs (record { digits = list_all-from_AllPass is_ascii_digit bs digit; some = read.0; front = short bs read.0 parts.1 })) h
+  where
+    no_plus : get_or bs 0 0 ≡ 43 → ⊥
+    no_plus = let parts = and_parts (not (eqb (get_or bs 0 0) 43)) (ltb (length bs) 2 || not (eqb (get_or bs 0 0) 48)) front in eqb-false _ _ (not_true _ parts.0)
+
+    in_range : (k : ℕ) → k < length bs → (48 ≤ get_or bs k 0) × (get_or bs k 0 ≤ 57)
+    in_range zero within = read.1 no_plus
+    in_range (suc k) within = read.2 (suc k) (omega arith) within
+
+    digit : AllPass is_ascii_digit bs
+    digit k d within =
+        let range = in_range k within in
+        rw (get_or_default_zero bs k d within) (and_from (leb 48 (get_or bs k 0)) (leb (get_or bs k 0) 57) (le-leb _ _ range.0) (le-leb _ _ range.1))
+number_begun {E} bs (Err e) front h read =
+    elim (cases_Bool (is_plain bs)) [
+      | inl plain ↦ number_is {E = E} bs (Err e) plain h
+      | inr other ↦ not_plain bs other
+    ]
+
+-- and where one of the two stands there
+pub number_not_begun : (bs : List ℕ) → begins_plainly bs ≡ false → None ≡ plain_number bs
+number_not_begun bs front = elim (cases_Bool (is_plain bs)) [
+  | inl plain ↦ absurd (true≢false (sym (begun (plain_is bs plain)) ∙ front))
+  | inr other ↦ not_plain bs other
+]
+  where
+    begun : Plain bs → begins_plainly bs ≡ true
+    begun p =
+        let first = digit_within (get_or bs 0 0) (AllPass-from_list_all is_ascii_digit bs p.digits 0 0 p.some) in
+        and_from (not (eqb (get_or bs 0 0) 43)) (ltb (length bs) 2 || not (eqb (get_or bs 0 0) 48)) (not_from_false _ (ne_eqb _ _ (λ plus. let low = first.0 in omega (arith, low, plus)))) (one_or_other bs p.front)
 
 pub plain_takes : (bs : List ℕ) (n : ℕ) → plain_number bs ≡ Some n → (bs ≡ decimal n) × (n < 2 ^ 64)
 unfolding plain_number

@@ -30,6 +30,10 @@ is_user_relation bs = is_name bs || bytes_eq bs (codes "...")
 abbrev pub is_plain : List ℕ → Bool
 is_plain bs = list_all is_ascii_digit bs && not (length bs == 0) && (nat_lt (length bs) 2 || not (slice_index bs 0 == 48))
 
+-- with neither a plus nor a zero before other digits
+abbrev pub begins_plainly : List ℕ → Bool
+begins_plainly bs = not (slice_index bs 0 == 43) && (nat_lt (length bs) 2 || not (slice_index bs 0 == 48))
+
 -- the user id that a text writes
 unfoldable pub plain_number : List ℕ → Option ℕ
 plain_number bs = if is_plain bs && nat_lt (digits_value 10 bs) (2 ^ 64) then Some (digits_value 10 bs) else None

@@ -1,9 +1,8 @@
 //! The parts of a text, and where each ends.
 
 ghost use Rattle.std.specs.Prelude.{◌≡◌, ◌↔◌, ◌<◌, ◌+◌, IsTrue, false, length, slice_index, take, drop};
-ghost use Rattle.std.specs.Char.{is_ascii_digit};
 ghost use Rattle.std.specs.List.{list_all, prefix_len};
-ghost use Rattle.tuple_text.specs.Forms.{is_name_byte, is_name, is_id_byte, is_object_id, is_user_relation, is_plain, plain_number};
+ghost use Rattle.tuple_text.specs.Forms.{is_name_byte, is_name, is_id_byte, is_object_id, is_user_relation, begins_plainly, plain_number};
 ghost use Rattle.tuple_text.specs.Faults.{Tells};
 ghost use Rattle.tuple_text.specs.Reading.{part_at};
 
@@ -56,24 +55,21 @@ pub fn is_user_relation(text: &str) -> bool
     is_name(text) || text == "..."
 }
 
-fn are_digits(bytes: &[u8]) -> bool
-    ensures { result ≡ list_all is_ascii_digit bytes.now }
+/// Whether neither a plus nor a zero stands before other digits.
+fn begins_plainly(bytes: &[u8]) -> bool
+    ensures { result ≡ begins_plainly bytes.now }
 {
-    bytes.iter().all(|b| b.is_ascii_digit())
-}
-
-fn is_plain(bytes: &[u8]) -> bool
-    ensures { result ≡ is_plain bytes.now }
-{
-    are_digits(bytes) && !bytes.is_empty() && (bytes.len() < 2 || bytes[0] != b'0')
+    match bytes {
+        [b'+', ..] | [b'0', _, ..] => false,
+        _ => true,
+    }
 }
 
 /// A number in decimal digits, with no zero in front.
-#[tactic(auto, unfolding(crate::specs::Forms::plain_number))]
 pub fn plain_number(text: &str) -> Option<u64>
     ensures { result ≡ plain_number text.now }
 {
-    if !is_plain(text.as_bytes()) {
+    if !begins_plainly(text.as_bytes()) {
         return None;
     }
     text.parse::<u64>().ok()
