@@ -1,16 +1,15 @@
 -- Numbers in decimal digits.
-use Rattle.std.proofs.Common.{◌≡◌, ℕ, zero, suc, ◌^◌, ◌<◌, ◌≤◌, Bool, true, false, ltb, eqb, not, ◌&&◌, ◌||◌, List, length, get_or, leb, Some, None, true≢false, Result, Ok, Err, rules, arith, refl, sym, ap, ◌∙◌, inl, inr}
+use Rattle.std.proofs.Common.{◌≡◌, ℕ, ◌^◌, ◌<◌, ◌≤◌, Bool, true, false, ltb, eqb, not, ◌&&◌, ◌||◌, List, length, get_or, leb, Some, None, true≢false, Result, Ok, Err, rules, arith, refl, sym, subst, ap, ◌∙◌, inl, inr}
 use Rattle.std.specs.Char.{is_ascii_digit}
 use Rattle.std.specs.Fmt.{decimal}
-use Rattle.std.specs.List.{list_all, AllPass}
+use Rattle.std.specs.List.{list_all}
 use Rattle.std.specs.Result.{result_ok}
-use Rattle.std.specs.Str.Parse.{digits_value, HasUnsignedDigitsIfOk, ParsesUnsigned}
-use Rattle.std.proofs.lemmas.Bool.{leb-true, le-leb, ltb-true, lt-ltb, eqb-false, ne_eqb, and_parts, and_from, or_cases, or_left, or_right, not_from_false, cases_Bool, cases_lt}
+use Rattle.std.specs.Str.Parse.{digits_value, IsNumeral, ParsesUnsigned}
+use Rattle.std.proofs.lemmas.Bool.{leb-true, ltb-true, lt-ltb, eqb-false, ne_eqb, and_parts, and_from, or_cases, or_left, or_right, not_from_false, cases_Bool, cases_lt}
 use Rattle.std.proofs.lemmas.Fmt.{digits_decimal, digits_value-decimal, decimal-digits_value, decimal_nonempty, decimal_digit, first_decimal}
-use Rattle.std.proofs.lemmas.Grind.{get_or_default_zero}
-use Rattle.std.proofs.lemmas.List.Sums.{AllPass-from_list_all, list_all-from_AllPass}
+use Rattle.std.proofs.lemmas.List.Sums.{AllPass-from_list_all}
 use Rattle.std.proofs.lemmas.Option.{cond_some}
-use Rattle.std.proofs.lemmas.Str.Parse.{IsNumeralModel, numerals_by_value, parse_digits}
+use Rattle.std.proofs.lemmas.Str.Parse.{IsNumeralModel, numerals_by_value, parse_digits, without_leading_plus_none}
 use Rattle.tuple_text.specs.Forms.{begins_plainly, is_plain, plain_number}
 
 pub own : IsNumeralModel (λ ds. list_all is_ascii_digit ds ≡ true) (digits_value 10)
@@ -78,23 +77,15 @@ unfolding plain_number
 not_plain bs other = rw other refl
 
 -- the same of any text in front of whose digits neither a plus nor a zero stands
-pub number_begun : {E : Type 0} (bs : List ℕ) (r : Result ℕ E) → begins_plainly bs ≡ true → ParsesUnsigned 64 10 bs r → HasUnsignedDigitsIfOk bs r → result_ok r ≡ plain_number bs
-number_begun {E} bs (Ok x) front h read =
-    let parts = and_parts (not (eqb (get_or bs 0 0) 43)) (ltb (length bs) 2 || not (eqb (get_or bs 0 0) 48)) front in
-    number_is {E = E} bs (Ok x) (is_plain_from bs (record { digits = list_all-from_AllPass is_ascii_digit bs digit; some = read.0; front = short bs read.0 parts.1 })) h
+pub number_begun : {E : Type 0} (bs : List ℕ) (r : Result ℕ E) → begins_plainly bs ≡ true → ParsesUnsigned 64 10 bs r → result_ok r ≡ plain_number bs
+number_begun {E} bs (Ok x) front h = number_is {E = E} bs (Ok x) (is_plain_from bs (record { digits = own.from bs numeral.1; some = numeral.0; front = short bs numeral.0 parts.1 })) h
   where
-    no_plus : get_or bs 0 0 ≡ 43 → ⊥
-    no_plus = let parts = and_parts (not (eqb (get_or bs 0 0) 43)) (ltb (length bs) 2 || not (eqb (get_or bs 0 0) 48)) front in eqb-false _ _ (not_true _ parts.0)
+    parts : (not (eqb (get_or bs 0 0) 43) ≡ true) × ((ltb (length bs) 2 || not (eqb (get_or bs 0 0) 48)) ≡ true)
+    parts = and_parts (not (eqb (get_or bs 0 0) 43)) (ltb (length bs) 2 || not (eqb (get_or bs 0 0) 48)) front
 
-    in_range : (k : ℕ) → k < length bs → (48 ≤ get_or bs k 0) × (get_or bs k 0 ≤ 57)
-    in_range zero within = read.1 no_plus
-    in_range (suc k) within = read.2 (suc k) (omega arith) within
-
-    digit : AllPass is_ascii_digit bs
-    digit k d within =
-        let range = in_range k within in
-        rw (get_or_default_zero bs k d within) (and_from (leb 48 (get_or bs k 0)) (leb (get_or bs k 0) 57) (le-leb _ _ range.0) (le-leb _ _ range.1))
-number_begun {E} bs (Err e) front h read =
+    numeral : IsNumeral 10 bs
+    numeral = subst (IsNumeral 10) (without_leading_plus_none bs (eqb-false _ _ (not_true _ parts.0))) h.0.0
+number_begun {E} bs (Err e) front h =
     elim (cases_Bool (is_plain bs)) [
       | inl plain ↦ number_is {E = E} bs (Err e) plain h
       | inr other ↦ not_plain bs other

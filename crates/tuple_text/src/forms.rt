@@ -7,6 +7,7 @@ ghost use Rattle.tuple_text.specs.Faults.{Tells};
 ghost use Rattle.tuple_text.specs.Reading.{part_at};
 
 use crate::fault::TupleFault;
+use fast_float::parse_u64;
 
 fn is_name_byte(b: u8) -> bool
     ensures { result ≡ is_name_byte b }
@@ -69,10 +70,12 @@ fn begins_plainly(bytes: &[u8]) -> bool
 pub fn plain_number(text: &str) -> Option<u64>
     ensures { result ≡ plain_number text.now }
 {
-    if !begins_plainly(text.as_bytes()) {
-        return None;
+    let bytes = text.as_bytes();
+    if begins_plainly(bytes) {
+        parse_u64(bytes).ok()
+    } else {
+        None
     }
-    text.parse::<u64>().ok()
 }
 
 /// How many bytes from the front may stand in a name.
