@@ -1,10 +1,11 @@
 //! The numbers of JSON, as `serde_json` reads them.
 
-ghost use Rattle.std.specs.Prelude.{◌≡◌, true, false, is_some, length, slice_index, ◌==◌, ◌<◌, IsTrue, option_and_then};
+ghost use Rattle.std.specs.Prelude.{◌≡◌, Some, IfSome, true, false, is_some, length, slice_index, ◌==◌, ◌<◌, IsTrue, option_and_then};
 ghost use Rattle.serde_json.specs.Read.{number_of, number_from, float_of};
+ghost use Rattle.serde_json.specs.Data.{unsigned};
 ghost use Rattle.serde_json.specs.Find.{as_u64};
 
-use fast_float::Numeral;
+use fast_float::{Numeral, parse_u64};
 
 fn has_minus(bytes: &[u8]) -> bool
     ensures value { result ≡ (slice_index bytes.now 0 == 45) }
@@ -19,11 +20,31 @@ fn to_unsigned(numeral: &Numeral<'_>) -> Option<u64>
     numeral.to_u64()
 }
 
+fn has_plus(bytes: &[u8]) -> bool
+    ensures { result ≡ (slice_index bytes.now 0 == 43) }
+{
+    matches!(bytes, [b'+', ..])
+}
+
+/// The number that digits alone write, as most numbers of a line do; None where it is not known so soon.
+fn of_digits(bytes: &[u8]) -> Option<u64>
+    ensures { IfSome result (λ n. number_of bytes.now ≡ Some (unsigned n)) }
+{
+    if has_plus(bytes) {
+        None
+    } else {
+        parse_u64(bytes).ok()
+    }
+}
+
 /// The u64 that the text of a number is; None where it is another number, or none.
 pub(crate) fn unsigned(text: &str) -> Option<u64>
     ensures { result ≡ option_and_then as_u64 (number_of text.now) }
 {
     let bytes = text.as_bytes();
+    if let Some(number) = of_digits(bytes) {
+        return Some(number);
+    }
     if has_minus(bytes) {
         None
     } else {
@@ -63,6 +84,9 @@ pub(crate) fn is_number(text: &str) -> bool
     ensures { result ≡ is_some (number_of text.now) }
 {
     let bytes = text.as_bytes();
+    if of_digits(bytes).is_some() {
+        return true;
+    }
     if has_minus(bytes) {
         is_negative(&Numeral::scan(&bytes[1..]))
     } else {
