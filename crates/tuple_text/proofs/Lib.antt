@@ -4,4 +4,5 @@ pub mod GrammarLaws
 pub mod JoinedLemmas
 pub mod Numbers
 pub mod Pieces
+pub mod Tables
 pub mod ValueLemmas
