@@ -12,6 +12,7 @@ pub mod PlacedLemmas
 pub mod LinkLemmas
 pub mod RepeatLemmas
 pub mod RowLemmas
+pub mod SlotLemmas
 pub mod StoreLemmas
 pub mod TableLemmas
 pub mod UserLemmas

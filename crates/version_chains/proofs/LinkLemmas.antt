@@ -120,9 +120,9 @@ module _ (links : List Link) (link : Link) (newest : Table) (are : AreLinked (li
 
   pub less_links : (new : Table) → IsSet (links ++ link ∷ []) (links ++ link ∷ []) newest new link.mark link.older → AreLinked links new
   less_links new set = record {
-    probed = probed-less longest links link new.slots.items new.rest set.table past;
+    probed = probed-less longest links link new.slots new.rest set.table past;
     earlier = λ i l h. let within = slice_get_within links i l h in are.earlier i l (slice_get-kept links (link ∷ []) i l h) ∙ before_link links link l.mark i (omega (arith, within));
-    latest = λ mark. newest-less longest links link new.slots.items new.rest set.table past mark ∙ set.newest mark ∙ by_test mark (nat_eq mark link.mark) refl;
+    latest = λ mark. newest-less longest links link new.slots new.rest set.table past mark ∙ set.newest mark ∙ by_test mark (nat_eq mark link.mark) refl;
   }
     where
       past : newest_of (links ++ link ∷ []) new link.mark ≢ suc (length links)

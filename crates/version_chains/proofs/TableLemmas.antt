@@ -8,10 +8,11 @@ use Rattle.std.proofs.lemmas.Map.Lookups.{exact_unsigned}
 use Rattle.std.proofs.lemmas.Map.Views.{tells_apart}
 use Rattle.std.proofs.lemmas.Option.{slice_get_within}
 use Rattle.std.proofs.Math.Nat.{eq-or-lt_of_le, le-max_right}
-use Rattle.version_chains.specs.Links.{AreProbed, IsPlaceOf, first_from, has_mark, is_of, link_at, newest_in, place_in, place_of, probe_in, start_of, stops, tag_of}
+use Rattle.version_chains.specs.Links.{AreProbed, IsPlaceOf, first_from, has_mark, is_of, link_at, newest_in, place_in, probe_in, start_of, stops, tag_of}
 use Rattle.version_chains.specs.Placed.{passes}
+use Rattle.version_chains.specs.Slots.{place_of}
 use Rattle.version_chains.specs.declared.places.Link.{Link}
-use Rattle.version_chains.specs.declared.table.Slot.{Slot}
+use Rattle.version_chains.specs.declared.slots.Slot.{Slot}
 use Rattle.version_chains.proofs.PlacedLemmas.{and-right, length-more, length-set, slice_get-front, slice_get-next, slice_get-set}
 
 -- what holds in any case
@@ -119,7 +120,7 @@ set_else (y ∷ ys) (suc k) zero x h = refl
 set_else (y ∷ ys) (suc k) (suc j) x h = set_else ys k j x (λ e. h (ap suc e))
 
 tag-some : (mark : ℕ) → nat_eq (tag_of mark) 0 ≡ false
-tag-some mark = nat_eq-other (tag_of mark) 0 (λ e. let least : 1 ≤ max (mark % 2 ^ 32) 1 = le-max_right (mark % 2 ^ 32) 1 in omega (arith, e, least))
+tag-some mark = nat_eq-other (tag_of mark) 0 (λ e. let least : 1 ≤ max (mark % 2 ^ 8) 1 = le-max_right (mark % 2 ^ 8) 1 in omega (arith, e, least))
 
 -- a slot is free where a probe ends at it, or the mark's
 stopped : (links : List Link) (mark : ℕ) (s : Slot) → stops links mark s ≡ true → (s.tag ≡ 0) ⊎ (is_of links mark s ≡ true)
@@ -381,8 +382,8 @@ module _ (longest : ℕ) (links : List Link) (slots : List Slot) (rest : BTreeMa
   pub end_less : end - 1 < length slots
   end_less = let within = end_within longest links slots mark end end_is some in omega (arith, some, within)
 
-  pub place_at_end : (s : Slot) → slice_get slots (end - 1) ≡ Some s → s.place ≡ newest_in longest links slots rest mark
-  place_at_end s there = ap place_of (sym there) ∙ ap (place_in slots rest mark) (sym at_end)
+  pub place_at_end : place_of (slice_get slots (end - 1)) ≡ newest_in longest links slots rest mark
+  place_at_end = ap (place_in slots rest mark) (sym at_end)
 
   module _ (more : List Link) (are : AreProbed longest links slots rest) (place tag : ℕ) (tag_is : tag ≡ tag_of mark) (is_place : IsPlaceOf (links ++ more) mark place) where
     abbrev written : ℕ → List Slot

@@ -7,5 +7,6 @@ pub mod Jumps
 pub mod Links
 pub mod Marks
 pub mod Placed
+pub mod Slots
 pub mod Walks
 pub mod Words

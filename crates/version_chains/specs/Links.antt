@@ -3,8 +3,9 @@ use Rattle.std.specs.Prelude.{◌≡◌, ◌≤◌, ◌-◌, ◌*◌, ◌/◌, �
 use Rattle.std.specs.Ordering.{nat_cmp}
 use Rattle.std.specs.BTreeMap.{BTreeMap, get}
 use Rattle.version_chains.specs.Placed.{last_place, passes}
+use Rattle.version_chains.specs.Slots.{place_of}
 use Rattle.version_chains.specs.declared.places.Link.{Link}
-use Rattle.version_chains.specs.declared.table.Slot.{Slot}
+use Rattle.version_chains.specs.declared.slots.Slot.{Slot}
 use Rattle.version_chains.specs.declared.table.Table.{Table}
 
 -- how many slots a probe may have
@@ -17,7 +18,7 @@ start_of mark starts = mark * starts / 2 ^ 64
 
 -- a mark's tag; 0 is the tag of free slots alone
 abbrev pub tag_of : ℕ → ℕ
-tag_of mark = max (mark % 2 ^ 32) 1
+tag_of mark = max (mark % 2 ^ 8) 1
 
 -- the link at a place; places count from 1
 abbrev pub link_at : List Link → ℕ → Option Link
@@ -44,10 +45,6 @@ first_from p xs (suc n) at = cond (passes p (slice_get xs at)) (suc at) (first_f
 abbrev pub probe_in : ℕ → List Link → List Slot → ℕ → ℕ
 probe_in longest links slots mark = first_from (stops links mark) slots longest (start_of mark (length slots - (longest - 1)))
 
-abbrev pub place_of : Option Slot → ℕ
-place_of None = 0
-place_of (Some s) = s.place
-
 -- the place at a slot, or where there is none in the tree of the rest; 0 is no place
 abbrev pub place_in : List Slot → BTreeMap ℕ ℕ → ℕ → ℕ → ℕ
 place_in slots rest mark zero = unwrap_or (get nat_cmp rest mark) 0
@@ -58,7 +55,7 @@ newest_in longest links slots rest mark = place_in slots rest mark (probe_in lon
 
 -- the newest place of a mark
 abbrev pub newest_of : List Link → Table → ℕ → ℕ
-newest_of links table mark = newest_in longest links table.slots.items table.rest mark
+newest_of links table mark = newest_in longest links table.slots table.rest mark
 
 -- each slot is where the probe of its mark ends, and no mark whose probe ends at a slot is in the tree
 pub record AreProbed (longest : ℕ) (links : List Link) (slots : List Slot) (rest : BTreeMap ℕ ℕ) : Type 0 where
@@ -68,7 +65,7 @@ pub record AreProbed (longest : ℕ) (links : List Link) (slots : List Slot) (re
   pub apart : (mark i : ℕ) → probe_in longest links slots mark ≡ suc i → get nat_cmp rest mark ≡ None
 
 abbrev pub IsTable : List Link → Table → Type 0
-IsTable links table = AreProbed longest links table.slots.items table.rest
+IsTable links table = AreProbed longest links table.slots table.rest
 
 -- a place is of a mark, or no place
 abbrev pub IsPlaceOf : List Link → ℕ → ℕ → Type 0

@@ -34,6 +34,7 @@ mod node;
 mod places;
 mod repeats;
 mod row;
+mod slots;
 mod table;
 #[cfg(test)]
 mod tests;

@@ -6,6 +6,7 @@ ghost use Rattle.version_chains.specs.Placed.{last_place, most, passes};
 ghost use Rattle.version_chains.specs.declared.places.Link.{Link};
 
 use crate::places::Link;
+use crate::slots::{Slot, Slots};
 use std::alloc::{AllocError, Global};
 use std::collections::BTreeMap;
 
@@ -16,14 +17,7 @@ const LONGEST: usize = 16;
 const FEWEST: usize = 8;
 
 /// How many tags there are.
-const TAGS: u64 = 1 << 32;
-
-/// The tag of a mark, and its newest place. A slot with the tag 0 is free.
-#[derive(Clone, Copy, Drop)]
-pub struct Slot {
-    pub tag: u32,
-    pub place: u32,
-}
+const TAGS: u64 = 1 << 8;
 
 /// The newest place of each mark. 0 is no place.
 ///
@@ -32,7 +26,7 @@ pub struct Slot {
 /// ends earlier than it did.
 #[derive(Drop)]
 pub struct Table {
-    slots: Vec<Slot>,
+    slots: Slots,
     /// How many more slots may be taken before the table is spread.
     spare: usize,
     rest: BTreeMap<u64, u32>,
@@ -47,10 +41,10 @@ fn start_of(mark: u64, starts: usize) -> usize
 }
 
 /// The lower bits of a mark, since the upper ones choose its slot.
-fn tag_of(mark: u64) -> u32
+fn tag_of(mark: u64) -> u8
     ensures { result ≡ tag_of mark }
 {
-    ((mark % TAGS) as u32).max(1)
+    ((mark % TAGS) as u8).max(1)
 }
 
 /// Whether there is a link with the mark at this place.
@@ -67,18 +61,17 @@ fn has_mark(links: &[Link], place: u32, mark: u64) -> bool
 }
 
 /// Whether the mark's probe ends at this slot.
-fn ends_at(slots: &[Slot], at: usize, links: &[Link], mark: u64) -> bool
+fn ends_at(slots: &Slots, at: usize, links: &[Link], mark: u64) -> bool
     ensures { result ≡ passes (stops links.now mark) (slice_get slots.now at) }
 {
-    match slots.get(at) {
-        Some(slot) => slot.tag == 0
-            || slot.tag == tag_of(mark) && has_mark(links, slot.place, mark),
+    match slots.tag(at) {
+        Some(tag) => tag == 0 || tag == tag_of(mark) && has_mark(links, slots.place(at), mark),
         None => false,
     }
 }
 
 /// The slot at which the mark's probe ends, counted from 1; 0 where it meets neither the mark's slot nor a free one.
-fn probe(slots: &[Slot], links: &[Link], mark: u64) -> usize
+fn probe(slots: &Slots, links: &[Link], mark: u64) -> usize
     ensures { result ≡ probe_in longest links.now slots.now mark }
 {
     let start = start_of(mark, slots.len().saturating_sub(LONGEST - 1));
@@ -109,7 +102,7 @@ impl Table {
         ensures none { (links : List Link) (mark : ℕ) → newest_of links result mark ≡ 0 }
     {
         Table {
-            slots: Vec::new(alloc),
+            slots: Slots::new(alloc),
             spare: 0,
             rest: BTreeMap::new(alloc),
         }
@@ -122,7 +115,7 @@ impl Table {
     {
         let slots = count.saturating_mul(2).saturating_add(LONGEST - 1);
         Ok(Table {
-            slots: vec![in alloc; Slot { tag: 0, place: 0 }; slots]?,
+            slots: Slots::all_free(alloc, slots)?,
             spare: count,
             rest: BTreeMap::new(alloc),
         })
@@ -134,7 +127,7 @@ impl Table {
     {
         let end = probe(&self.slots, links, mark);
         if end > 0 {
-            return self.slots[end - 1].place;
+            return self.slots.place(end - 1);
         }
         self.rest.get(&mark).copied().unwrap_or(0)
     }
@@ -153,15 +146,16 @@ impl Table {
         if end == 0 {
             return Ok(self.rest.insert(mark, place)?.unwrap_or(0));
         }
-        let slot = &mut self.slots[end - 1];
-        if slot.tag == 0 {
+        let at = end - 1;
+        if self.slots.tag(at) == Some(0) {
             self.spare = self.spare.saturating_sub(1);
         }
-        let older = slot.place;
-        *slot = Slot {
+        let older = self.slots.place(at);
+        let slot = Slot {
             tag: tag_of(mark),
             place,
         };
+        self.slots.set(at, slot);
         Ok(older)
     }
 
