@@ -4,6 +4,7 @@ pub mod Folds
 pub mod Given
 pub mod JsonLines
 pub mod Lookups
+pub mod Members
 pub mod NodeWalk
 pub mod NumberTexts
 pub mod Places

@@ -1,17 +1,34 @@
 //! The fields of an object of JSON, by their types. Nothing here takes memory.
 
-ghost use Rattle.std.specs.Prelude.{◌≡◌, option_map};
+ghost use Rattle.std.specs.Prelude.{◌≡◌, option_map, option_copied};
 ghost use Rattle.json_lines.specs.Data.{value_data, items_data};
-ghost use Rattle.json_lines.specs.Fields.{number_at, flag_at, text_at, optional_text_at, optional_number_at, are_strings, strings_at};
+ghost use Rattle.json_lines.specs.Fields.{number_at, number_of, flag_at, flag_of, text_at, text_of, optional_text_at, optional_text_of, optional_number_at, are_strings, strings_at, strings_of};
 
 use crate::refs::{JsonItems, JsonRef};
+
+/// The u64 that a field is; None where it is absent or of another shape.
+pub fn number_of(field: Option<&JsonRef<'_, '_>>) -> Option<u64>
+    ensures { result ≡ number_of (option_map value_data (option_copied field.entry)) }
+{
+    match field {
+        Some(found) => found.as_u64(),
+        None => None,
+    }
+}
 
 /// The u64 under a key; None where it is absent or of another shape.
 pub fn number_at(value: &JsonRef<'_, '_>, name: &str) -> Option<u64>
     ensures { result ≡ number_at name.now (value_data value.now) }
 {
-    match value.get(name) {
-        Some(found) => found.as_u64(),
+    number_of(value.get(name).as_ref())
+}
+
+/// The truth value that a field is; None where it is absent or of another shape.
+pub fn flag_of(field: Option<&JsonRef<'_, '_>>) -> Option<bool>
+    ensures { result ≡ flag_of (option_map value_data (option_copied field.entry)) }
+{
+    match field {
+        Some(found) => found.as_bool(),
         None => None,
     }
 }
@@ -20,8 +37,15 @@ pub fn number_at(value: &JsonRef<'_, '_>, name: &str) -> Option<u64>
 pub fn flag_at(value: &JsonRef<'_, '_>, name: &str) -> Option<bool>
     ensures { result ≡ flag_at name.now (value_data value.now) }
 {
-    match value.get(name) {
-        Some(found) => found.as_bool(),
+    flag_of(value.get(name).as_ref())
+}
+
+/// The text that a field is; None where it is absent or of another shape.
+pub fn text_of<'a>(field: Option<&JsonRef<'_, 'a>>) -> Option<&'a str>
+    ensures { option_map (λ s. s.now) result ≡ text_of (option_map value_data (option_copied field.entry)) }
+{
+    match field {
+        Some(found) => found.as_str(),
         None => None,
     }
 }
@@ -30,18 +54,15 @@ pub fn flag_at(value: &JsonRef<'_, '_>, name: &str) -> Option<bool>
 pub fn text_at<'a>(value: &JsonRef<'_, 'a>, name: &str) -> Option<&'a str>
     ensures { option_map (λ s. s.now) result ≡ text_at name.now (value_data value.now) }
 {
-    match value.get(name) {
-        Some(found) => found.as_str(),
-        None => None,
-    }
+    text_of(value.get(name).as_ref())
 }
 
-/// The text under a key, which may be absent or null; None where it is of another shape.
-#[tactic(auto, unfolding(crate::specs::Fields::optional_text_at))]
-pub fn optional_text_at<'a>(value: &JsonRef<'_, 'a>, name: &str) -> Option<Option<&'a str>>
-    ensures { option_map (option_map (λ s. s.now)) result ≡ optional_text_at name.now (value_data value.now) }
+/// The text that a field is, which may be absent or null; None where it is of another shape.
+#[tactic(auto, unfolding(crate::specs::Fields::optional_text_of))]
+pub fn optional_text_of<'a>(field: Option<&JsonRef<'_, 'a>>) -> Option<Option<&'a str>>
+    ensures { option_map (option_map (λ s. s.now)) result ≡ optional_text_of (option_map value_data (option_copied field.entry)) }
 {
-    match value.get(name) {
+    match field {
         None => Some(None),
         Some(found) => {
             if found.is_null() {
@@ -53,6 +74,13 @@ pub fn optional_text_at<'a>(value: &JsonRef<'_, 'a>, name: &str) -> Option<Optio
             }
         }
     }
+}
+
+/// The text under a key, which may be absent or null; None where it is of another shape.
+pub fn optional_text_at<'a>(value: &JsonRef<'_, 'a>, name: &str) -> Option<Option<&'a str>>
+    ensures { option_map (option_map (λ s. s.now)) result ≡ optional_text_at name.now (value_data value.now) }
+{
+    optional_text_of(value.get(name).as_ref())
 }
 
 /// The u64 under a key, which may be absent or null; None where it is of another shape.
@@ -87,12 +115,12 @@ pub fn are_strings(items: JsonItems<'_, '_>) -> bool
     true
 }
 
-/// The list of texts under a key, where an absent one and null are empty; None where it is of another shape.
-#[tactic(auto, unfolding(crate::specs::Fields::strings_at))]
-pub fn strings_at<'t, 'a>(value: &JsonRef<'t, 'a>, name: &str) -> Option<JsonItems<'t, 'a>>
-    ensures { option_map items_data result ≡ strings_at name.now (value_data value.now) }
+/// The list of texts that a field is, where an absent one and null are empty; None where it is of another shape.
+#[tactic(auto, unfolding(crate::specs::Fields::strings_of))]
+pub fn strings_of<'t, 'a>(field: Option<&JsonRef<'t, 'a>>) -> Option<JsonItems<'t, 'a>>
+    ensures { option_map items_data result ≡ strings_of (option_map value_data (option_copied field.entry)) }
 {
-    match value.get(name) {
+    match field {
         None => Some(JsonItems::none()),
         Some(found) => {
             if found.is_null() {
@@ -105,4 +133,11 @@ pub fn strings_at<'t, 'a>(value: &JsonRef<'t, 'a>, name: &str) -> Option<JsonIte
             }
         }
     }
+}
+
+/// The list of texts under a key, where an absent one and null are empty; None where it is of another shape.
+pub fn strings_at<'t, 'a>(value: &JsonRef<'t, 'a>, name: &str) -> Option<JsonItems<'t, 'a>>
+    ensures { option_map items_data result ≡ strings_at name.now (value_data value.now) }
+{
+    strings_of(value.get(name).as_ref())
 }

@@ -1,6 +1,8 @@
 //! Values inside a line of JSON.
 
-ghost use Rattle.std.specs.Prelude.{◌≡◌, true};
+ghost use Rattle.std.specs.Prelude.{◌≡◌, true, None, map};
+ghost use Rattle.std.specs.List.{position};
+ghost use Rattle.std.specs.Str.{bytes_eq};
 ghost use Rattle.json_lines.specs.Places.{is_value, are_items_or_none};
 
 use crate::numbers::unsigned;
@@ -20,8 +22,26 @@ pub struct JsonItems<'t, 'a> {
     ghost are_some: { are_items_or_none next ≡ true },
 }
 
+/// Takes out what is in each place.
+fn clear(found: &mut [Option<JsonRef<'_, '_>>])
+    ensures { found.new ≡ map (λ _. None) found.old }
+{
+    for place in found.iter_mut() {
+        *place = None;
+    }
+}
+
+/// The first place of a name.
+fn place_of(names: &[&str], key: &str) -> Option<usize>
+    ensures { result ≡ position (λ name. bytes_eq name.now key.now) names.now }
+{
+    names.iter().position(|name| *name == key)
+}
+
 impl<'t, 'a> JsonRef<'t, 'a> {
-    ghost use Rattle.std.specs.Prelude.{is_some, option_map, option_and_then};
+    ghost use Rattle.std.specs.Prelude.{is_some, option_map, option_and_then, length, map};
+    ghost use Rattle.std.specs.List.{IsDistinct};
+    ghost use Rattle.std.specs.Str.{bytes_eq};
     ghost use Rattle.serde_json.specs.Find.{get, as_str, as_number, as_u64, as_bool, as_null, as_array, as_object};
     ghost use Rattle.json_lines.specs.Places.{is_value, data_at, items_in};
     ghost use Rattle.json_lines.specs.Data.{value_data, items_data};
@@ -40,6 +60,23 @@ impl<'t, 'a> JsonRef<'t, 'a> {
         match self.element.get(name) {
             Some(element) => Some(JsonRef { element }),
             None => None,
+        }
+    }
+
+    /// The values under distinct keys, as [`get`](JsonRef::get) has each, in one walk over the members.
+    pub fn get_all(&self, names: &[&str], found: &mut [Option<JsonRef<'t, 'a>>])
+        requires places { length found.old ≡ length names.now }
+        requires distinct { IsDistinct bytes_eq (map (λ name. name.now) names.now) }
+        ensures { map (option_map value_data) found.new ≡ map (λ name. get name.now (value_data self.now)) names.now }
+    {
+        clear(found);
+        let Some(mut members) = self.element.members() else {
+            return;
+        };
+        while let Some((key, element)) = members.next() {
+            if let Some(place) = place_of(names, key) {
+                found[place] = Some(JsonRef { element });
+            }
         }
     }
 
