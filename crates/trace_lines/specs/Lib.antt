@@ -3,6 +3,7 @@ pub mod Covers
 pub mod Declaring
 pub mod Issued
 pub mod Kept
+pub mod LineFields
 pub mod Recorded
 pub mod Results
 pub mod Texts

@@ -1,12 +1,12 @@
 -- The texts in a line of a trace.
 use Rattle.std.specs.Prelude.{ℕ, ◌&&◌, Bool, true, false, is_some, is_none, List, [], ◌∷◌, length, nat_le, Option, None, Some, option_and_then, Result, Ok, Err, codes, if◌then◌else◌}
 use Rattle.serde_json.specs.Data.{Data, Items, no_items, item}
-use Rattle.serde_json.specs.Find.{as_str}
+use Rattle.serde_json.specs.Find.{get, as_str}
 use Rattle.tuple_text.specs.Tuples.{TupleValue, FactValue}
 use Rattle.tuple_text.specs.Reading.{tuple_at, fact_at}
 use Rattle.zookie.specs.Tokens.{Token}
 use Rattle.zookie.specs.Reading.{token_at}
-use Rattle.json_lines.specs.Fields.{optional_text_at}
+use Rattle.json_lines.specs.Fields.{optional_text_of}
 use Rattle.refusals.specs.Refusals.{◌>>=◌}
 use Rattle.trace_lines.specs.Causes.{needed, text_cause, token_cause}
 use Rattle.trace_lines.specs.declared.cause.Cause.{Cause}
@@ -40,8 +40,8 @@ abbrev pub label_or_none : Option (List ℕ) → Option (Option (List ℕ))
 label_or_none None = Some None
 label_or_none (Some text) = if is_label text then Some (Some text) else None
 
-unfoldable pub label_at : Data → Option (Option (List ℕ))
-label_at d = option_and_then label_or_none (optional_text_at (codes "version") d)
+unfoldable pub label_in : Option Data → Option (Option (List ℕ))
+label_in field = option_and_then label_or_none (optional_text_of field)
 
 -- a content check issues a version exactly where its reply is true
 abbrev pub fits_reply : EntryKind → Bool → Option (List ℕ) → Bool
@@ -52,6 +52,9 @@ fits_reply Content false label = is_none label
 abbrev pub if_fits : EntryKind → Bool → Option (List ℕ) → Option (Option (List ℕ))
 if_fits kind reply label = if fits_reply kind reply label then Some label else None
 
+unfoldable pub version_in : EntryKind → Bool → Option Data → Option (Option (List ℕ))
+version_in kind reply field = option_and_then (if_fits kind reply) (label_in field)
+
 -- the label in a line of this kind with this reply
-unfoldable pub version_at : EntryKind → Bool → Data → Option (Option (List ℕ))
-version_at kind reply d = option_and_then (if_fits kind reply) (label_at d)
+abbrev pub version_at : EntryKind → Bool → Data → Option (Option (List ℕ))
+version_at kind reply d = version_in kind reply (get (codes "version") d)

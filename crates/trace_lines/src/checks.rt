@@ -1,20 +1,21 @@
 //! Lines that record a check, of content or not.
 
-ghost use Rattle.std.specs.Prelude.{◌≡◌};
+ghost use Rattle.std.specs.Prelude.{◌≡◌, map, option_map};
+ghost use Rattle.serde_json.specs.Data.{Data};
 ghost use Rattle.json_lines.specs.Data.{value_data};
 ghost use Rattle.trace_lines.specs.Causes.{Gives};
 ghost use Rattle.trace_lines.specs.Values.{entry_value};
 ghost use Rattle.trace_lines.specs.Traces.{entry_of};
+ghost use Rattle.trace_lines.specs.LineFields.{check_fields};
 
 use crate::cause::Cause;
 use crate::entry::{Entry, EntryKind};
-use crate::texts::{goal_of, label_of, token_of, version_at};
+use crate::texts::{goal_of, label_of, token_of, version_in};
 use json_lines::JsonRef;
-use json_lines::fields::{flag_at, number_at, optional_text_at, text_at};
+use json_lines::fields::{flag_of, number_of, optional_text_of, text_of};
 use std::alloc::Global;
 
 /// The check that a line records.
-#[tactic(auto, unfolding(crate::specs::Traces::entry_of))]
 pub(crate) fn entry_of(
     alloc: Global,
     kind: EntryKind,
@@ -24,11 +25,32 @@ pub(crate) fn entry_of(
 ) -> Result<Entry, Cause>
     ensures { Gives entry_value result (entry_of kind line before (value_data value.now)) }
 {
-    let text = text_at(value, "goal").ok_or(Cause::Shape)?;
-    let snapshot = number_at(value, "snapshot").ok_or(Cause::Shape)?;
-    let reply = flag_at(value, "reply").ok_or(Cause::Shape)?;
-    let token = optional_text_at(value, "zookie").ok_or(Cause::Shape)?;
-    let label = version_at(kind, reply, value).ok_or(Cause::Shape)?;
+    let names = ["goal", "snapshot", "reply", "zookie", "version"];
+    let mut places = [None, None, None, None, None];
+    let found: &mut [Option<JsonRef<'_, '_>>] = &mut places;
+    value.get_all(&names, found);
+    entry_in(alloc, kind, line, before, found)
+}
+
+/// The check that fields record.
+#[tactic(auto, unfolding(crate::specs::Traces::entry_of))]
+fn entry_in(
+    alloc: Global,
+    kind: EntryKind,
+    line: u64,
+    before: usize,
+    fields: &[Option<JsonRef<'_, '_>>],
+) -> Result<Entry, Cause>
+    ensures { (d : Data) → map (option_map value_data) fields.now ≡ check_fields d → Gives entry_value result (entry_of kind line before d) }
+{
+    let [goal, snapshot, reply, zookie, version] = fields else {
+        return Err(Cause::Shape);
+    };
+    let text = text_of(goal.as_ref()).ok_or(Cause::Shape)?;
+    let snapshot = number_of(snapshot.as_ref()).ok_or(Cause::Shape)?;
+    let reply = flag_of(reply.as_ref()).ok_or(Cause::Shape)?;
+    let token = optional_text_of(zookie.as_ref()).ok_or(Cause::Shape)?;
+    let label = version_in(kind, reply, version.as_ref()).ok_or(Cause::Shape)?;
     let goal = goal_of(alloc, text)?;
     let zookie = token_of(token)?;
     let version = label_of(alloc, label)?;

@@ -1,14 +1,14 @@
 //! The texts in a line of a trace.
 
-ghost use Rattle.std.specs.Prelude.{◌≡◌, option_map, string_bytes, Ok};
+ghost use Rattle.std.specs.Prelude.{◌≡◌, option_map, option_copied, string_bytes, Ok};
 ghost use Rattle.json_lines.specs.Data.{value_data, items_data};
 ghost use Rattle.tuple_text.specs.TupleRefs.{tuple_value, tuple_values};
 ghost use Rattle.trace_lines.specs.Causes.{Gives};
-ghost use Rattle.trace_lines.specs.Texts.{tuple_of_text, tuples_of, goal_of, token_of, is_label, label_at, fits_reply, version_at};
+ghost use Rattle.trace_lines.specs.Texts.{tuple_of_text, tuples_of, goal_of, token_of, is_label, label_in, fits_reply, version_in};
 
 use crate::cause::Cause;
 use crate::entry::EntryKind;
-use json_lines::fields::optional_text_at;
+use json_lines::fields::optional_text_of;
 use json_lines::{JsonItems, JsonRef};
 use std::alloc::Global;
 use tuple_text::{Fact, TupleFault, TupleRef, parse_fact, read_tuple};
@@ -71,12 +71,12 @@ fn is_label(text: &str) -> bool
     1 <= text.len() && text.len() <= 128
 }
 
-/// The label of a version, where there is one; None where it is of another shape.
-#[tactic(auto, unfolding(crate::specs::Texts::label_at))]
-fn label_at<'a>(value: &JsonRef<'_, 'a>) -> Option<Option<&'a str>>
-    ensures { option_map (option_map (λ s. s.now)) result ≡ label_at (value_data value.now) }
+/// The label that a field is, where there is one; None where it is of another shape.
+#[tactic(auto, unfolding(crate::specs::Texts::label_in))]
+fn label_in<'a>(field: Option<&JsonRef<'_, 'a>>) -> Option<Option<&'a str>>
+    ensures { option_map (option_map (λ s. s.now)) result ≡ label_in (option_map value_data (option_copied field.entry)) }
 {
-    match optional_text_at(value, "version") {
+    match optional_text_of(field) {
         None => None,
         Some(None) => Some(None),
         Some(Some(text)) => if is_label(text) {
@@ -96,16 +96,16 @@ fn fits_reply(kind: EntryKind, reply: bool, label: Option<&str>) -> bool
     }
 }
 
-/// The label in a line of this kind with this reply, where there is one; None where it is of another shape.
-#[tactic(auto, unfolding(crate::specs::Texts::version_at))]
-pub(crate) fn version_at<'a>(
+/// The label that the field for it is in a line of this kind with this reply, where there is one; None where it is of another shape.
+#[tactic(auto, unfolding(crate::specs::Texts::version_in))]
+pub(crate) fn version_in<'a>(
     kind: EntryKind,
     reply: bool,
-    value: &JsonRef<'_, 'a>,
+    field: Option<&JsonRef<'_, 'a>>,
 ) -> Option<Option<&'a str>>
-    ensures { option_map (option_map (λ s. s.now)) result ≡ version_at kind reply (value_data value.now) }
+    ensures { option_map (option_map (λ s. s.now)) result ≡ version_in kind reply (option_map value_data (option_copied field.entry)) }
 {
-    let label = label_at(value)?;
+    let label = label_in(field)?;
     if fits_reply(kind, reply, label) {
         Some(label)
     } else {

@@ -1,13 +1,15 @@
 //! Traces.
 
-ghost use Rattle.std.specs.Prelude.{◌≡◌, ◌+◌, ◌<◌, ◌≤◌, Some, None, slice_get, ◌^◌, ◌&&◌, [], length, take, drop, All, true, false, ℕ, ◌++◌, option_map, option_and_then, Ok, IfOk, OnOk, OnErr, IfErr, IfSome, IsErr};
+ghost use Rattle.std.specs.Prelude.{◌≡◌, ◌+◌, ◌<◌, ◌≤◌, Some, None, slice_get, ◌^◌, ◌&&◌, [], length, take, drop, All, true, false, ℕ, ◌++◌, map, option_map, option_and_then, Ok, IfOk, OnOk, OnErr, IfErr, IfSome, IsErr};
 ghost use Rattle.std.specs.Io.KnownBytes.{Consumes};
+ghost use Rattle.serde_json.specs.Data.{Data};
 ghost use Rattle.serde_json.specs.View.{view};
 ghost use Rattle.json_lines.specs.Data.{value_data, line_data};
 ghost use Rattle.tuple_text.specs.Refs.{set_value};
 ghost use Rattle.tuple_text.specs.TupleRefs.{tuple_values};
 ghost use Rattle.trace_lines.specs.Causes.{Gives};
 ghost use Rattle.trace_lines.specs.Covers.{IsCover};
+ghost use Rattle.trace_lines.specs.LineFields.{commit_fields};
 ghost use Rattle.trace_lines.specs.Values.{empty_trace, entry_value, entry_lines, next_line};
 ghost use Rattle.trace_lines.specs.Traces.{is_declared, are_declared, is_begun, namespace_line, change_line, declaration_line, commit_checked, commit_of, with_commit, commit_line, entry_of, recorded, with_entry, entry_line, value_line};
 ghost use Rattle.trace_lines.specs.Versions.{entry_version, version_issued, issuer, content_among, content_of};
@@ -33,7 +35,7 @@ use crate::recorded::Recorded;
 use crate::sample::Sample;
 use crate::texts::tuples_of;
 use crate::versions::{Versions, version_of};
-use json_lines::fields::{number_at, optional_number_at, strings_at, text_at};
+use json_lines::fields::{number_of, optional_number_at, strings_of, text_at};
 use json_lines::{JsonLine, JsonRef, TakeJson};
 use namespaces::{Rules, RulesFault};
 use serde_json::Value;
@@ -268,14 +270,29 @@ impl Trace {
     }
 
     /// Takes a line that commits changes.
-    #[tactic(auto, unfolding(crate::specs::Traces::commit_of, crate::specs::Traces::with_commit))]
     fn take_commit(&mut self, line: u64, value: &JsonRef<'_, '_>) -> Result<(), Cause>
         requires { next_line self.old ≤ line }
         ensures { Gives (λ _. self.new) result (commit_line line self.old (value_data value.now)) }
     {
-        let at = number_at(value, "at").ok_or(Cause::Shape)?;
-        let add = strings_at(value, "add").ok_or(Cause::Shape)?;
-        let remove = strings_at(value, "remove").ok_or(Cause::Shape)?;
+        let names = ["at", "add", "remove"];
+        let mut places = [None, None, None];
+        let found: &mut [Option<JsonRef<'_, '_>>] = &mut places;
+        value.get_all(&names, found);
+        self.take_changes(line, found)
+    }
+
+    /// Takes the changes that fields commit.
+    #[tactic(auto, unfolding(crate::specs::Traces::commit_of, crate::specs::Traces::with_commit))]
+    fn take_changes(&mut self, line: u64, fields: &[Option<JsonRef<'_, '_>>]) -> Result<(), Cause>
+        requires { next_line self.old ≤ line }
+        ensures { (d : Data) → map (option_map value_data) fields.now ≡ commit_fields d → Gives (λ _. self.new) result (commit_line line self.old d) }
+    {
+        let [at, add, remove] = fields else {
+            return Err(Cause::Shape);
+        };
+        let at = number_of(at.as_ref()).ok_or(Cause::Shape)?;
+        let add = strings_of(add.as_ref()).ok_or(Cause::Shape)?;
+        let remove = strings_of(remove.as_ref()).ok_or(Cause::Shape)?;
         let adds = tuples_of(self.alloc, add)?;
         let removes = tuples_of(self.alloc, remove)?;
         self.append(line, at, &adds, &removes)
