@@ -23,6 +23,7 @@ mod devices;
 pub mod fields;
 mod held;
 mod history;
+mod joined;
 mod line;
 mod lines;
 mod numbers;
@@ -35,6 +36,7 @@ mod taking;
 
 pub use devices::{Counted, Failing};
 pub use held::Held;
+pub use joined::{Front, Rest, read_front};
 pub use line::JsonLine;
 pub use lines::{CHUNK, InputFault, line_end};
 pub use reading::{LineFault, MAX_INPUT, read_lines};

@@ -1,0 +1,53 @@
+-- The two parts of joined input, and what reading takes of them.
+use Rattle.std.specs.Prelude.{◌≡◌, ℕ, ◌+◌, ◌<◌, ◌≤◌, Bool, true, false, List, [], ◌∷◌, ◌++◌, length, Option, None, Some, option_map, codes, bytes_eq, if◌then◌else◌}
+use Rattle.std.specs.List.{flat_map, join_with_byte}
+use Rattle.json_lines.specs.Lines.{Takes}
+use Rattle.json_lines.specs.Reading.{parts}
+
+abbrev pub is_marker : List ℕ → Bool
+is_marker line = bytes_eq line (codes "---")
+
+-- the lines before the first that is exactly `---`, and those behind it
+abbrev pub lines_joined : List (List ℕ) → Option (List (List ℕ) × List (List ℕ))
+lines_joined [] = None
+lines_joined (l ∷ ls) = if is_marker l then Some ([], ls) else option_map (λ p. (l ∷ p.0, p.1)) (lines_joined ls)
+
+-- the bytes of lines, each with its newline
+abbrev pub with_newlines : List (List ℕ) → List ℕ
+with_newlines ls = flat_map (λ l. l ++ 10 ∷ []) ls
+
+-- the bytes of both: newlines stand behind the lines of the front, and between those behind it
+abbrev pub bytes_of : List (List ℕ) × List (List ℕ) → List ℕ × List ℕ
+bytes_of p = (with_newlines p.0, join_with_byte 10 p.1)
+
+-- the two parts of joined input
+abbrev pub joined_of : List ℕ → Option (List ℕ × List ℕ)
+joined_of input = option_map bytes_of (lines_joined (parts input))
+
+-- what is left of joined input: the bytes that came and were not taken, how many more may be taken, and whether the reader was at its end
+pub record RestValue : Type 0 where
+  pub at_hand : List ℕ
+  pub room : ℕ
+  pub ended : Bool
+
+-- ---- what was read: `given` has all that the reader had given before, and `now` what it has given since, too
+
+-- the bytes at hand and those that came behind them, all of which were taken, are an input of which P holds
+abbrev pub IsTaken : (given now at_hand : List ℕ) → (List ℕ → Type 0) → Type 0
+IsTaken given now at_hand P = (input : List ℕ) × Takes given now at_hand [] input × P input
+
+-- What came begins with a first part, of which P holds, and the marker; whatever comes behind these, with what is at hand, is the second
+-- part, which is empty where the reader was at its end.
+abbrev pub IsFront : (given now : List ℕ) → RestValue → (List ℕ → Type 0) → Type 0
+IsFront given now rest P =
+    (passed : List ℕ) × (front : List ℕ) × (now ≡ given ++ (passed ++ rest.at_hand)) × (length passed + rest.room ≡ 2 ^ 30)
+    × ((more : List ℕ) → (rest.ended ≡ true → more ≡ []) → joined_of (passed ++ more) ≡ Some (front, more)) × P front
+
+-- those at hand, and what came behind them, are more bytes than there is room for
+abbrev pub ComesPast : (room : ℕ) → (given now at_hand : List ℕ) → Type 0
+ComesPast room given now at_hand = (before : List ℕ) → given ≡ before ++ at_hand → (bytes : List ℕ) × (now ≡ before ++ bytes) × (room < length bytes)
+
+-- how often a reader has to be at its end yet
+abbrev pub ends_left : Bool → ℕ
+ends_left true = 0
+ends_left false = 1

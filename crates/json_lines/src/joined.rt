@@ -1,0 +1,116 @@
+//! Joined input: a front of lines, a line that is exactly `---`, and what stands behind it.
+
+ghost use Rattle.std.specs.Prelude.{◌≡◌, ◌≢◌, ◌+◌, ◌≤◌, ◌<◌, ℕ, length, Option, None, Some, Ok, Err, IfOk, IfErr, OnOk, IfSome, true};
+ghost use Rattle.json_lines.specs.Given.{OfBytes, OfWhole, AreNext};
+ghost use Rattle.json_lines.specs.Joined.{joined_of, IsTaken, IsFront, ComesPast, ends_left};
+ghost use Rattle.json_lines.specs.Json.{taken_line};
+ghost use Rattle.json_lines.specs.Lines.{ComeAtMost};
+ghost use Rattle.json_lines.specs.Reading.{read_all, Reads, IsOfSomeLine, IsOfLine};
+ghost use Rattle.json_lines.specs.declared.lines.InputFault.TheVariants.{Read, TooLong};
+
+use crate::lines::{CHUNK, InputFault, Lines};
+use crate::reading::{LineFault, MAX_INPUT};
+use crate::source::Source;
+use crate::taking::TakeJson;
+use std::alloc::Global;
+use std::marker::Model;
+
+/// What the lines in front of the marker were.
+#[derive(Drop)]
+pub struct Front<C> {
+    /// The first of them that is refused.
+    pub read: Result<(), LineFault<C>>,
+    /// What stands behind the marker; none where the input ended without one.
+    pub rest: Option<Rest>,
+}
+
+/// What stands behind the marker.
+#[derive(Drop)]
+pub struct Rest {
+    lines: Lines,
+    room: usize,
+    ended: bool,
+}
+
+impl Model for Rest {
+    ghost use Rattle.std.specs.Prelude.{◌≡◌, [], true};
+    ghost use Rattle.json_lines.specs.Joined.{RestValue};
+
+    ghost Value = { RestValue };
+
+    ghost view = { λ s. record { at_hand = s.lines; room = s.room; ended = s.ended } };
+
+    ghost invariant = { λ s. s.ended ≡ true → s.lines ≡ [] };
+}
+
+/// Hands the lines of a reader up to the first that is exactly `---`, from number 1 on, to `value`, up to the first that is refused. The
+/// others are passed over.
+///
+/// An error is of the whole input: the reader failed, there are more than 2^30 bytes, or memory ran out.
+pub fn read_front<R: Source, T: TakeJson>(
+    alloc: Global,
+    reader: &mut R,
+    value: &mut T,
+) -> Result<Front<T::Cause>, InputFault>
+    requires { T.next value.old ≤ 1 }
+    // Where there is a marker: what the lines before it made of the value, or which is the first that is refused.
+    ensures front { IfOk result (λ f. IfSome f.rest (λ rest. IsFront (R.given reader.old) (R.given reader.new) rest (λ front.
+        Reads f.read value.new (read_all (taken_line T.Cause.not_json T.taken) true value.old front)))) }
+    ensures none { IfOk result (λ f. f.rest ≡ None → OfWhole R.given R.ends reader.old reader.new (λ came. joined_of came ≡ None)) }
+    ensures refused { IfOk result (λ f. IfErr f.read (λ e. IsOfLine e.stop × IsOfSomeLine (taken_line T.Cause.not_json T.taken) e)) }
+    ensures ended { IfOk result (λ f. IfSome f.rest (λ rest. R.ends reader.new + ends_left rest.ended ≡ R.ends reader.old + 1)) }
+    ensures long { result ≡ Err TooLong → OfBytes R.given reader.old reader.new (λ came. MAX_INPUT < length came) }
+    // Also of a reader that never ends.
+    ensures most { OfBytes R.given reader.old reader.new (λ came. length came ≤ MAX_INPUT + CHUNK) }
+    ensures known { AreNext R.given R.ends R.remaining reader.old reader.new }
+    // A reader's failure alone gives this error.
+    ensures failed { result ≡ Err Read → R.failures reader.new ≡ R.failures reader.old + 1 }
+    ensures kept { result ≢ Err Read → R.failures reader.new ≡ R.failures reader.old }
+{
+    unreachable!()
+}
+
+impl Rest {
+    /// Hands the lines behind the marker, from number 1 on, to `value`, up to the first that is refused, and reads the others to the
+    /// reader's end. The reader is that of the front.
+    ///
+    /// An error is of the whole input: the reader failed, there are more than 2^30 bytes with those of the front, or memory ran out.
+    pub fn read<R: Source, T: TakeJson>(
+        self,
+        alloc: Global,
+        reader: &mut R,
+        value: &mut T,
+    ) -> Result<Result<(), LineFault<T::Cause>>, InputFault>
+        requires { T.next value.old ≤ 1 }
+        // What the lines made of the value, or which is the first that is refused.
+        ensures exact { IfOk result (λ read. IsTaken (R.given reader.old) (R.given reader.new) self.at_hand (λ input. (length input ≤ self.room)
+            × Reads read value.new (read_all (taken_line T.Cause.not_json T.taken) true value.old input))) }
+        ensures refused { IfOk result (λ read. IfErr read (λ e. IsOfLine e.stop × IsOfSomeLine (taken_line T.Cause.not_json T.taken) e)) }
+        ensures ended { OnOk result (R.ends reader.new ≡ R.ends reader.old + ends_left self.ended) }
+        // A reader that was at its end is not asked again.
+        ensures over { self.ended ≡ true → R.given reader.new ≡ R.given reader.old }
+        ensures long { result ≡ Err TooLong → ComesPast self.room (R.given reader.old) (R.given reader.new) self.at_hand }
+        // Also of a reader that never ends.
+        ensures most { ComeAtMost (self.room + CHUNK) (R.given reader.old) (R.given reader.new) self.at_hand }
+        ensures known { AreNext R.given R.ends R.remaining reader.old reader.new }
+        // A reader's failure alone gives this error.
+        ensures failed { result ≡ Err Read → R.failures reader.new ≡ R.failures reader.old + 1 }
+        ensures kept { result ≢ Err Read → R.failures reader.new ≡ R.failures reader.old }
+    {
+        unreachable!()
+    }
+
+    /// Passes over what stands behind the marker, to the reader's end. The errors are those of [`Rest::read`].
+    pub fn pass<R: Source>(self, alloc: Global, reader: &mut R) -> Result<(), InputFault>
+        ensures taken { OnOk result (IsTaken (R.given reader.old) (R.given reader.new) self.at_hand (λ input. length input ≤ self.room)) }
+        ensures ended { OnOk result (R.ends reader.new ≡ R.ends reader.old + ends_left self.ended) }
+        ensures over { self.ended ≡ true → R.given reader.new ≡ R.given reader.old }
+        ensures long { result ≡ Err TooLong → ComesPast self.room (R.given reader.old) (R.given reader.new) self.at_hand }
+        ensures most { ComeAtMost (self.room + CHUNK) (R.given reader.old) (R.given reader.new) self.at_hand }
+        ensures known { AreNext R.given R.ends R.remaining reader.old reader.new }
+        ensures failed { result ≡ Err Read → R.failures reader.new ≡ R.failures reader.old + 1 }
+        ensures kept { result ≢ Err Read → R.failures reader.new ≡ R.failures reader.old }
+    {
+        unreachable!()
+    }
+}
