@@ -105,6 +105,7 @@ impl Lines {
     fn ready<R: Source>(&mut self, reader: &mut R) -> io::Result<bool>
         ensures came { Takes (R.given reader.old) (R.given reader.new) self.old self.new [] }
         ensures few { length self.new ≤ CHUNK }
+        ensures held { line_len self.old ≤ line_len self.new }
         ensures known { AreNext R.given R.ends R.remaining reader.old reader.new }
         ensures some { result ≡ Ok true → 0 < length self.new }
         ensures none { result ≢ Ok true → self.new ≡ [] }
@@ -125,7 +126,8 @@ impl Lines {
             × (found ≡ has_newline self.old) × (self.new ≡ after_line self.old)) }
         ensures bound { OnOk result (vec_len line.new ≤ max) }
         ensures whole { result ≡ Ok false → vec_len line.new ≡ vec_len line.old + length self.old }
-        ensures long { result ≡ Err TooLong → max < vec_len line.old + line_len self.old }
+        ensures long { result ≡ Err TooLong → (max < vec_len line.old + line_len self.old)
+            × (line.new.items ≡ line.old.items) × (self.new ≡ self.old) }
         ensures causes { IfErr result (λ e. (e ≡ TooLong) ⊎ (e ≡ OutOfMemory)) }
     {
         let pending = self.pending();
@@ -151,7 +153,11 @@ impl Lines {
             × Takes (R.given reader.old) (R.given reader.new) self.old self.new (line.new.items ++ line_ending more)) }
         ensures last { result ≡ Ok false → self.new ≡ [] }
         ensures bound { OnOk result (vec_len line.new ≤ max) }
+        ensures reached { OnOk result (line_len self.old ≤ vec_len line.new) }
         ensures long { result ≡ Err TooLong → BeginsTooLong max (R.given reader.old) (R.given reader.new) self.old }
+        // The line is then what was taken of it, and more of it is at hand.
+        ensures stuck { result ≡ Err TooLong → Takes (R.given reader.old) (R.given reader.new) self.old self.new line.new.items
+            × (lacks line.new.items ≡ true) × (vec_len line.new ≤ max) × (max < vec_len line.new + line_len self.new) × (max < vec_len line.new + CHUNK) }
         // Where the reader fails, the line is what came of it before.
         ensures cut { result ≡ Err Read → Takes (R.given reader.old) (R.given reader.new) self.old [] line.new.items
             × (lacks line.new.items ≡ true) × (vec_len line.new ≤ max) }
