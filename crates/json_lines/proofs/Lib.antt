@@ -5,6 +5,7 @@ pub mod Given
 pub mod JsonLines
 pub mod Lookups
 pub mod Members
+pub mod NextLines
 pub mod NodeWalk
 pub mod NumberTexts
 pub mod Places

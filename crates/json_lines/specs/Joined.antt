@@ -1,7 +1,7 @@
 -- The two parts of joined input, and what reading takes of them.
-use Rattle.std.specs.Prelude.{◌≡◌, ℕ, ◌+◌, ◌<◌, ◌≤◌, Bool, true, false, List, [], ◌∷◌, ◌++◌, length, Option, None, Some, option_map, codes, bytes_eq, if◌then◌else◌}
+use Rattle.std.specs.Prelude.{◌≡◌, ℕ, ◌+◌, ◌^◌, ◌<◌, ◌≤◌, Bool, not, true, false, List, [], ◌∷◌, ◌++◌, length, Option, None, Some, option_map, codes, bytes_eq, if◌then◌else◌}
 use Rattle.std.specs.List.{flat_map, join_with_byte}
-use Rattle.json_lines.specs.Lines.{Takes}
+use Rattle.json_lines.specs.Lines.{Takes, lacks, line_ending}
 use Rattle.json_lines.specs.Reading.{parts}
 
 abbrev pub is_marker : List ℕ → Bool
@@ -41,7 +41,7 @@ IsTaken given now at_hand P = (input : List ℕ) × Takes given now at_hand [] i
 abbrev pub IsFront : (given now : List ℕ) → RestValue → (List ℕ → Type 0) → Type 0
 IsFront given now rest P =
     (passed : List ℕ) × (front : List ℕ) × (now ≡ given ++ (passed ++ rest.at_hand)) × (length passed + rest.room ≡ 2 ^ 30)
-    × ((more : List ℕ) → (rest.ended ≡ true → more ≡ []) → joined_of (passed ++ more) ≡ Some (front, more)) × P front
+    × (rest.ended ≡ true → rest.at_hand ≡ []) × ((more : List ℕ) → (rest.ended ≡ true → more ≡ []) → joined_of (passed ++ more) ≡ Some (front, more)) × P front
 
 -- those at hand, and what came behind them, are more bytes than there is room for
 abbrev pub ComesPast : (room : ℕ) → (given now at_hand : List ℕ) → Type 0
@@ -51,3 +51,16 @@ ComesPast room given now at_hand = (before : List ℕ) → given ≡ before ++ a
 abbrev pub ends_left : Bool → ℕ
 ends_left true = 0
 ends_left false = 1
+
+-- a line is all there, or has more bytes than a line may have
+abbrev pub IsHeld : (whole : Bool) → (bytes line : List ℕ) → Type 0
+IsHeld true bytes line = (line ≡ bytes) × (length bytes ≤ 2 ^ 20)
+IsHeld false bytes line = 2 ^ 20 < length bytes
+
+-- the next line, and its newline where it has one, were taken
+pub record IsNextLine (given now : List ℕ) (old new : RestValue) (whole : Bool) (line : List ℕ) : Type 0 where
+  pub bytes : List ℕ
+  pub lacking : lacks bytes ≡ true
+  pub takes : Takes given now old.at_hand new.at_hand (bytes ++ line_ending (not new.ended))
+  pub size : length (bytes ++ line_ending (not new.ended)) + new.room ≡ old.room
+  pub held : IsHeld whole bytes line

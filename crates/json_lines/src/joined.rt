@@ -1,15 +1,15 @@
 //! Joined input: a front of lines, a line that is exactly `---`, and what stands behind it.
 
-ghost use Rattle.std.specs.Prelude.{◌≡◌, ◌≢◌, ◌+◌, ◌≤◌, ◌<◌, ℕ, length, Option, None, Some, Ok, Err, IfOk, IfErr, OnOk, IfSome, true};
+ghost use Rattle.std.specs.Prelude.{◌≡◌, ◌≢◌, ◌+◌, ◌≤◌, ◌<◌, ℕ, length, Option, None, Some, Ok, Err, IfOk, IfErr, OnOk, IfSome, true, false};
 ghost use Rattle.json_lines.specs.Given.{OfBytes, OfWhole, AreNext};
-ghost use Rattle.json_lines.specs.Joined.{joined_of, IsTaken, IsFront, ComesPast, ends_left};
+ghost use Rattle.json_lines.specs.Joined.{joined_of, IsTaken, IsFront, IsNextLine, ComesPast, ends_left};
 ghost use Rattle.json_lines.specs.Json.{taken_line};
 ghost use Rattle.json_lines.specs.Lines.{ComeAtMost};
 ghost use Rattle.json_lines.specs.Reading.{read_all, Reads, IsOfSomeLine, IsOfLine};
 ghost use Rattle.json_lines.specs.declared.lines.InputFault.TheVariants.{Read, TooLong};
 
 use crate::lines::{CHUNK, InputFault, Lines};
-use crate::reading::{LineFault, MAX_INPUT};
+use crate::reading::{LineFault, MAX_INPUT, MAX_LINE, is_over};
 use crate::source::Source;
 use crate::taking::TakeJson;
 use std::alloc::Global;
@@ -33,14 +33,14 @@ pub struct Rest {
 }
 
 impl Model for Rest {
-    ghost use Rattle.std.specs.Prelude.{◌≡◌, [], true};
+    ghost use Rattle.std.specs.Prelude.{◌≡◌, ◌^◌, ◌≤◌, [], true};
     ghost use Rattle.json_lines.specs.Joined.{RestValue};
 
     ghost Value = { RestValue };
 
     ghost view = { λ s. record { at_hand = s.lines; room = s.room; ended = s.ended } };
 
-    ghost invariant = { λ s. s.ended ≡ true → s.lines ≡ [] };
+    ghost invariant = { λ s. (s.ended ≡ true → s.lines ≡ []) × (s.room ≤ 2 ^ 30) };
 }
 
 /// Hands the lines of a reader up to the first that is exactly `---`, from number 1 on, to `value`, up to the first that is refused. The
@@ -112,5 +112,38 @@ impl Rest {
         ensures kept { result ≢ Err Read → R.failures reader.new ≡ R.failures reader.old }
     {
         unreachable!()
+    }
+
+    /// Takes the next line, and says whether all of it is in `line`. One with more than 2^20 bytes is passed over.
+    fn next<R: Source>(&mut self, reader: &mut R, line: &mut Vec<u8>) -> Result<bool, InputFault>
+        requires { self.old.ended ≡ false }
+        ensures line { IfOk result (λ whole. IsNextLine (R.given reader.old) (R.given reader.new) self.old self.new whole line.new.items) }
+        ensures long { result ≡ Err TooLong → ComesPast self.old.room (R.given reader.old) (R.given reader.new) self.old.at_hand }
+        ensures most { ComeAtMost (self.old.room + CHUNK) (R.given reader.old) (R.given reader.new) self.old.at_hand }
+        ensures ended { OnOk result (R.ends reader.new + ends_left self.new.ended ≡ R.ends reader.old + 1) }
+        ensures known { AreNext R.given R.ends R.remaining reader.old reader.new }
+        ensures failed { result ≡ Err Read → R.failures reader.new ≡ R.failures reader.old + 1 }
+        ensures kept { result ≢ Err Read → R.failures reader.new ≡ R.failures reader.old }
+    {
+        let mut whole = true;
+        'pieces: loop {
+            match self.lines.next(reader, self.room.min(MAX_LINE), line) {
+                Ok(more) => {
+                    if is_over(more, line.len(), self.room) {
+                        return Err(InputFault::TooLong);
+                    }
+                    self.room -= line.len() + usize::from(more);
+                    self.ended = !more;
+                    return Ok(whole);
+                }
+                Err(fault) => {
+                    if fault != InputFault::TooLong || self.room < MAX_LINE {
+                        return Err(fault);
+                    }
+                    self.room -= line.len();
+                    whole = false;
+                }
+            }
+        }
     }
 }

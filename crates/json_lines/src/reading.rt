@@ -40,13 +40,13 @@ impl<C: LineCause> LineFault<C> {
 }
 
 /// How many bytes a line may have, without its newline.
-const MAX_LINE: usize = 1 << 20;
+pub(crate) const MAX_LINE: usize = 1 << 20;
 
 /// How many bytes an input may have.
 pub const MAX_INPUT: usize = 1 << 30;
 
 /// Whether the newline of a line is past the end of what may come.
-fn is_over(more: bool, len: usize, room: usize) -> bool
+pub(crate) fn is_over(more: bool, len: usize, room: usize) -> bool
     ensures { result ≡ (more && (len == room)) }
 {
     more && len == room

@@ -1,0 +1,75 @@
+use Rattle.std.proofs.Common.{◌≡◌, ◌+◌, ◌-◌, ◌≤◌, ◌^◌, not, true, false, Err, ap, arith, refl, rules, sym, ◌∙◌, length}
+use denote.Enum.Bare.{sameb}
+use Rattle.json_lines.specs.contracts.lines.InputFault.{the_type}
+use Rattle.json_lines.specs.declared.lines.InputFault.{InputFault}
+use Rattle.json_lines.specs.declared.lines.InputFault.TheVariants.{Read, TooLong, OutOfMemory}
+use Rattle.json_lines.proofs.Given.{next-trans}
+use Rattle.json_lines.proofs.NextLines.{most_behind, passed_line, passed_long, passed_on, passed_over, room_after}
+use Rattle.json_lines.proofs.joined.Rest.next.Goals as goal
+use Rattle.json_lines.proofs.joined.Rest.next.Goals.{then-ne-via-then-ne, then-ne-via-else-ne+then-self-lt-MAX_LINE}
+
+is_too_long : (fault : InputFault) → not (sameb the_type fault TooLong) ≡ false → fault ≡ TooLong
+is_too_long Read e = absurd cc
+is_too_long TooLong e = refl
+is_too_long OutOfMemory e = absurd cc
+
+other_fault : (fault : InputFault) → fault ≡ TooLong → not (sameb the_type fault TooLong) ≡ true → ⊥
+other_fault fault is e =
+    let same : not (sameb the_type fault TooLong) ≡ false = rw is refl in
+    cc (e, same)
+
+pub returns-then-is_over-clause-long : goal.returns-then-is_over-clause-long
+returns-then-is_over-clause-long g c = λ _.
+    let len : length c.next.new.line.items ≡ c.len.result = omega (arith, c.len.ensures, c.next.new.line.ok.0) in
+    passed_over _ _ _ _ _ c.pieces.self-inside.lines c.next.new.self c.next.new.line.items c.pieces.self-inside.room c.pieces.whole c.in-Ok.more c.pieces.invariant.passed c.in-Ok.ensures.line.1
+    (rw len (sym c.is_over.ensures ∙ c.if-is_over.true))
+
+pub returns-then-is_over-clause-most : goal.returns-then-is_over-clause-most
+returns-then-is_over-clause-most g c =
+    most_behind _ _ _ _ c.pieces.self-inside.lines c.pieces.invariant.passed.bytes _ c.pieces.self-inside.room c.min.result 65536 c.pieces.invariant.passed.takes c.pieces.invariant.passed.size (omega (arith, c.min.ensures)) c.next.ensures.most
+
+pub returns-in-Ok-clause-line : goal.returns-in-Ok-clause-line
+returns-in-Ok-clause-line g c =
+    let len : length c.next.new.line.items ≡ c.len.result = omega (arith, c.len.ensures, c.next.new.line.ok.0) in
+    let size : length c.next.new.line.items ≡ c.len-in-Ok.result = omega (arith, c.len-in-Ok.ensures, c.next.new.line.ok.0) in
+    let bound : length c.next.new.line.items ≤ c.min.result = omega (arith, c.in-Ok.ensures.bound, c.next.new.line.ok.0) in
+    let after = room_after (length c.next.new.line.items) c.pieces.self-inside.room c.in-Ok.more c.from.result (omega (arith, bound, c.min.ensures)) (rw len (sym c.is_over.ensures ∙ c.if-is_over.false)) c.from.ensures in
+    passed_line _ _ _ _ _ c.pieces.self-inside.lines c.next.new.self c.next.new.line.items c.pieces.self-inside.room c.pieces.whole c.in-Ok.more (c.pieces.self-inside.room - (c.len-in-Ok.result + c.from.result)) c.pieces.invariant.passed c.in-Ok.ensures.line.1 c.in-Ok.ensures.line.0
+    (omega (arith, c.in-Ok.ensures.reached, c.next.new.line.ok.0)) (omega (arith, bound, c.min.ensures)) (omega (arith, after.0, after.1, size)) c.args.self.now refl refl
+
+pub returns-in-Ok-clause-most : goal.returns-in-Ok-clause-most
+returns-in-Ok-clause-most g c =
+    most_behind _ _ _ _ c.pieces.self-inside.lines c.pieces.invariant.passed.bytes _ c.pieces.self-inside.room c.min.result 65536 c.pieces.invariant.passed.takes c.pieces.invariant.passed.size (omega (arith, c.min.ensures)) c.next.ensures.most
+
+pub returns-in-Ok-clause-known : goal.returns-in-Ok-clause-known
+returns-in-Ok-clause-known g c = next-trans g.R.Source.given g.R.Source.ends g.R.Read.remaining c.args.reader.now c.pieces.reader c.next.new.reader c.pieces.invariant.known c.next.ensures.known
+
+pub pieces-preserved : goal.pieces-preserved
+pieces-preserved g c =
+    let stuck = c.next.ensures.stuck (c.in-Err.is ∙ ap Err (is_too_long c.in-Err.fault (sym c.ne.ensures ∙ c.if-ne.false))) in
+    let size : length c.next.new.line.items ≡ c.len-in-Err.result = omega (arith, c.len-in-Err.ensures, c.next.new.line.ok.0) in
+    let whole_line : c.min.result ≡ 2 ^ 20 = omega (arith, c.min.ensures, c.if-self-lt-MAX_LINE.false) in
+    record {
+      passed = rw (← size) (passed_on _ _ _ _ _ c.pieces.self-inside.lines c.next.new.self c.next.new.line.items c.pieces.self-inside.room c.pieces.whole c.pieces.invariant.passed stuck.0 stuck.1
+      (omega (arith, stuck.2, c.next.new.line.ok.0, c.min.ensures)) (omega (arith, stuck.3, whole_line, c.next.new.line.ok.0)));
+      within = omega (arith, c.pieces.invariant.within);
+      unended = c.pieces.invariant.unended;
+      known = next-trans g.R.Source.given g.R.Source.ends g.R.Read.remaining c.args.reader.now c.pieces.reader c.next.new.reader c.pieces.invariant.known c.next.ensures.known;
+      going = search rules;
+      kept = search rules;
+    }
+
+pub returns-then-ne-clause-long : goal.returns-then-ne-clause-long
+returns-then-ne-clause-long g c = λ e.
+    let is : c.in-Err.fault ≡ TooLong = cc (e) in
+    let low : c.pieces.self-inside.room ≤ c.min.result =
+    elim c.then-ne.branch [
+      | then-ne-via-then-ne w ↦ absurd (other_fault c.in-Err.fault is (sym c.ne.ensures ∙ w.if-ne.true))
+      | then-ne-via-else-ne+then-self-lt-MAX_LINE w ↦ omega (arith, c.min.ensures, w.if-self-lt-MAX_LINE.true)
+    ]
+    in
+    passed_long _ _ _ _ _ c.pieces.self-inside.lines c.pieces.self-inside.room c.min.result c.pieces.whole c.pieces.invariant.passed (c.next.ensures.long (c.in-Err.is ∙ ap Err is)) low
+
+pub returns-then-ne-clause-most : goal.returns-then-ne-clause-most
+returns-then-ne-clause-most g c =
+    most_behind _ _ _ _ c.pieces.self-inside.lines c.pieces.invariant.passed.bytes _ c.pieces.self-inside.room c.min.result 65536 c.pieces.invariant.passed.takes c.pieces.invariant.passed.size (omega (arith, c.min.ensures)) c.next.ensures.most
