@@ -43,11 +43,11 @@ over : (room : ℕ) (line : List ℕ) (more : Bool) → (more && eqb (length lin
 over room line more e = or_right (ltb (min room (2 ^ 20)) (length line)) (more && eqb (length line) room) e
 
 -- the lines behind one that ends so
-abbrev later : Bool → List ℕ → List (List ℕ)
+abbrev pub later : Bool → List ℕ → List (List ℕ)
 later true ys = parts ys
 later false ys = []
 
-parts_of_line : (line : List ℕ) (more : Bool) (ys : List ℕ) → lacks line ≡ true → (more ≡ false → ys ≡ []) → parts ((line ++ line_ending more) ++ ys) ≡ line ∷ later more ys
+pub parts_of_line : (line : List ℕ) (more : Bool) (ys : List ℕ) → lacks line ≡ true → (more ≡ false → ys ≡ []) → parts ((line ++ line_ending more) ++ ys) ≡ line ∷ later more ys
 parts_of_line line true ys h e = ap parts (append_assoc line (10 ∷ []) ys) ∙ slice_split_at (λ b. eqb b 10) line 10 ys (none_passes line h) refl
 parts_of_line line false ys h e = rw (e refl) (ap parts (append-nil (line ++ []) ∙ append-nil line) ∙ slice_split_none (λ b. eqb b 10) line (none_passes line h))
 
@@ -77,16 +77,16 @@ module _ {S C : Type 0} (taken : ℕ → S → List ℕ → Result S C) (start :
   pub goes_first : GoesFrom 1 (2 ^ 30) start []
   goes_first = record { same = λ whole ys. refl }
 
-  abbrev stopped : ℕ → Stop C → Result S (LineFault C)
+  abbrev pub stopped : ℕ → Stop C → Result S (LineFault C)
   stopped n stop = Err (record { line = n; stop = stop })
 
   -- what a line says, and those behind it
-  abbrev told : Bool → ℕ → ℕ → S → List ℕ → Bool → List ℕ → Result S (LineFault C)
+  abbrev pub told : Bool → ℕ → ℕ → S → List ℕ → Bool → List ℕ → Result S (LineFault C)
   told whole n room s line more ys =
       cond (passes_limit room line more) (stopped n (Input TooLong)) (cond (not whole && not more) (stopped n (Input Read))
       (at_line n (taken n s line) >>= λ t. read_from taken whole (n + 1) (room - (length line + 1)) t (later more ys)))
 
-  reads_line : (whole : Bool) (n room : ℕ) (s : S) (line : List ℕ) (more : Bool) (ys : List ℕ) → lacks line ≡ true → (more ≡ false → ys ≡ [])
+  pub reads_line : (whole : Bool) (n room : ℕ) (s : S) (line : List ℕ) (more : Bool) (ys : List ℕ) → lacks line ≡ true → (more ≡ false → ys ≡ [])
       → read_from taken whole n room s (parts ((line ++ line_ending more) ++ ys)) ≡ told whole n room s line more ys
   reads_line whole n room s line more ys h e = rw (parts_of_line line more ys h e, none_later more ys, not_not more) refl
 

@@ -11,6 +11,7 @@ pub mod NumberTexts
 pub mod Places
 pub mod InRange
 pub mod ReadFaults
+pub mod RestLines
 pub mod Sent
 pub mod Simulated
 pub mod Steps

@@ -23,8 +23,8 @@ pub passed_start : (given at_hand : List ℕ) (all : ℕ) → Passed given given
 passed_start given at_hand all = record { bytes = []; lacking = refl; takes = λ before is. is; size = omega arith; started = refl }
 
 -- what is taken behind the bytes so far
-both : (a b c at_hand mid left one two : List ℕ) → Takes a b at_hand mid one → Takes b c mid left two → Takes a c at_hand left (one ++ two)
-both a b c at_hand mid left one two t u before is =
+pub takes_both : (a b c at_hand mid left one two : List ℕ) → Takes a b at_hand mid one → Takes b c mid left two → Takes a c at_hand left (one ++ two)
+takes_both a b c at_hand mid left one two t u before is =
     u (before ++ one) (t before is ∙ sym (append_assoc before one mid)) ∙ append_assoc before one (two ++ left) ∙ ap (λ (l : List ℕ). before ++ l) (sym (append_assoc one two left))
 
 pub passed_on : (a b c at_hand : List ℕ) (all : ℕ) (lines left line : List ℕ) (room : ℕ) (whole : Bool) → Passed a b at_hand all lines room whole
@@ -34,7 +34,7 @@ passed_on a b c at_hand all lines left line room whole p t h le lt =
     record {
       bytes = p.bytes ++ line;
       lacking = lacks_more p.bytes line p.lacking h;
-      takes = both a b c at_hand lines left p.bytes line p.takes t;
+      takes = takes_both a b c at_hand lines left p.bytes line p.takes t;
       size = omega (arith, size, p.size, le);
       started = omega (arith, size, lt);
     }
@@ -58,7 +58,7 @@ passed_line a b c at_hand all lines left line room whole more after p t h reache
     record {
       bytes = bytes;
       lacking = lacks_more p.bytes line p.lacking h;
-      takes = rw (← ending_is more, grouped, is_at_hand) (both a b c at_hand lines left p.bytes (line ++ line_ending more) p.takes t);
+      takes = rw (← ending_is more, grouped, is_at_hand) (takes_both a b c at_hand lines left p.bytes (line ++ line_ending more) p.takes t);
       size = rw (← ending_is more, is_room) (omega (arith, length-append bytes (line_ending more), length-append p.bytes line, p.size, size));
       held = held_at whole p.bytes lines line p.started le reached;
     }
@@ -76,7 +76,7 @@ passed_over a b c at_hand all lines left line room whole true p t e before is =
     let taken = p.bytes ++ (line ++ 10 ∷ []) in
     let full : length line ≡ room = eqb-true _ _ e in (
       taken ++ left,
-      both a b c at_hand lines left p.bytes (line ++ 10 ∷ []) p.takes t before is,
+      takes_both a b c at_hand lines left p.bytes (line ++ 10 ∷ []) p.takes t before is,
       omega (arith, length-append taken left, length-append p.bytes (line ++ 10 ∷ []), length-append line (10 ∷ []), p.size, full),
     )
 

@@ -1,8 +1,11 @@
 -- The two parts of joined input, and what reading takes of them.
-use Rattle.std.specs.Prelude.{◌≡◌, ℕ, ◌+◌, ◌^◌, ◌<◌, ◌≤◌, Bool, not, true, false, List, [], ◌∷◌, ◌++◌, length, Option, None, Some, option_map, codes, bytes_eq, if◌then◌else◌}
+use Rattle.std.specs.Prelude.{◌≡◌, ℕ, ◌+◌, ◌^◌, ◌<◌, ◌≤◌, Bool, not, true, false, List, [], ◌∷◌, ◌++◌, length, Option, None, Some, option_map, codes, bytes_eq, if◌then◌else◌, Result, Err}
 use Rattle.std.specs.List.{flat_map, join_with_byte}
 use Rattle.json_lines.specs.Lines.{Takes, lacks, line_ending}
-use Rattle.json_lines.specs.Reading.{parts}
+use Rattle.json_lines.specs.Reading.{parts, at_line, read_all, Reads}
+use Rattle.json_lines.specs.declared.lines.InputFault.TheVariants.{TooLong}
+use Rattle.json_lines.specs.declared.reading.Stop.TheVariants.{Input}
+use Rattle.json_lines.specs.declared.reading.LineFault.{LineFault}
 
 abbrev pub is_marker : List ℕ → Bool
 is_marker line = bytes_eq line (codes "---")
@@ -64,3 +67,19 @@ pub record IsNextLine (given now : List ℕ) (old new : RestValue) (whole : Bool
   pub takes : Takes given now old.at_hand new.at_hand (bytes ++ line_ending (not new.ended))
   pub size : length (bytes ++ line_ending (not new.ended)) + new.room ≡ old.room
   pub held : IsHeld whole bytes line
+
+-- what a line makes of s, where one that is too long was passed over
+abbrev pub line_taken : {S C : Type 0} → (ℕ → S → List ℕ → Result S C) → (whole : Bool) → ℕ → S → List ℕ → Result S (LineFault C)
+line_taken taken true n s line = at_line n (taken n s line)
+line_taken taken false n s line = Err (record { line = n; stop = Input TooLong })
+
+-- the lines up to a marker that was found, or to the end, were taken: `front` has those that were read
+pub record IsPart {S C T : Type 0} (taken : ℕ → S → List ℕ → Result S C) (given now : List ℕ) (old new : RestValue) (start s : S) (marked : Bool) (read : Result T (LineFault C)) (found : Bool) : Type 0 where
+  pub passed : List ℕ
+  pub front : List ℕ
+  pub takes : Takes given now old.at_hand new.at_hand passed
+  pub size : length passed + new.room ≡ old.room
+  pub reads : Reads read s (read_all taken true start front)
+  pub at_marker : found ≡ true → (more : List ℕ) → (new.ended ≡ true → more ≡ []) → joined_of (passed ++ more) ≡ Some (front, more)
+  pub at_end : found ≡ false → (front ≡ passed) × (new.ended ≡ true) × (new.at_hand ≡ []) × (marked ≡ true → joined_of passed ≡ None)
+  pub sought : found ≡ true → marked ≡ true

@@ -101,7 +101,7 @@ impl Rest {
     }
 
     /// Passes over what stands behind the marker, to the reader's end. The errors are those of [`Rest::read`].
-    pub fn pass<R: Source>(self, alloc: Global, reader: &mut R) -> Result<(), InputFault>
+    pub fn pass<R: Source>(mut self, alloc: Global, reader: &mut R) -> Result<(), InputFault>
         ensures taken { OnOk result (IsTaken (R.given reader.old) (R.given reader.new) self.at_hand (λ input. length input ≤ self.room)) }
         ensures ended { OnOk result (R.ends reader.new ≡ R.ends reader.old + ends_left self.ended) }
         ensures over { self.ended ≡ true → R.given reader.new ≡ R.given reader.old }
@@ -111,7 +111,11 @@ impl Rest {
         ensures failed { result ≡ Err Read → R.failures reader.new ≡ R.failures reader.old + 1 }
         ensures kept { result ≢ Err Read → R.failures reader.new ≡ R.failures reader.old }
     {
-        unreachable!()
+        let mut line = Vec::new(alloc);
+        while !self.ended {
+            self.next(reader, &mut line)?;
+        }
+        Ok(())
     }
 
     /// Takes the next line, and says whether all of it is in `line`. One with more than 2^20 bytes is passed over.
