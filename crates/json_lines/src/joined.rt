@@ -1,17 +1,18 @@
 //! Joined input: a front of lines, a line that is exactly `---`, and what stands behind it.
 
-ghost use Rattle.std.specs.Prelude.{◌≡◌, ◌≢◌, ◌+◌, ◌≤◌, ◌<◌, ℕ, length, Option, None, Some, Ok, Err, IfOk, IfErr, OnOk, IfSome, true, false};
+ghost use Rattle.std.specs.Prelude.{◌≡◌, ◌≢◌, ◌+◌, ◌≤◌, ◌<◌, ℕ, length, Option, None, Some, Ok, Err, IfOk, IfErr, OnOk, IfSome, true, false, ◌&&◌};
 ghost use Rattle.json_lines.specs.Given.{OfBytes, OfWhole, AreNext};
-ghost use Rattle.json_lines.specs.Joined.{joined_of, IsTaken, IsFront, IsNextLine, ComesPast, ends_left};
+ghost use Rattle.json_lines.specs.Joined.{is_marker, joined_of, line_taken, IsTaken, IsFront, IsNextLine, IsPart, ComesPast, ends_left};
 ghost use Rattle.json_lines.specs.Json.{taken_line};
 ghost use Rattle.json_lines.specs.Lines.{ComeAtMost};
 ghost use Rattle.json_lines.specs.Reading.{read_all, Reads, IsOfSomeLine, IsOfLine};
-ghost use Rattle.json_lines.specs.declared.lines.InputFault.TheVariants.{Read, TooLong};
+ghost use Rattle.json_lines.specs.declared.lines.InputFault.TheVariants.{Read, TooLong, OutOfMemory};
 
 use crate::lines::{CHUNK, InputFault, Lines};
-use crate::reading::{LineFault, MAX_INPUT, MAX_LINE, is_over};
+use crate::reading::{LineFault, MAX_INPUT, MAX_LINE, Stop, is_over};
 use crate::source::Source;
-use crate::taking::TakeJson;
+use crate::taking::{TakeJson, take_line};
+use json::Scratch;
 use std::alloc::Global;
 use std::marker::Model;
 
@@ -43,6 +44,44 @@ impl Model for Rest {
     ghost invariant = { λ s. (s.ended ≡ true → s.lines ≡ []) × (s.room ≤ 2 ^ 30) };
 }
 
+/// Whether a line that was read is the marker.
+fn is_marker(whole: bool, line: &[u8]) -> bool
+    ensures { result ≡ (whole && is_marker line.now) }
+{
+    whole && line == b"---".as_slice()
+}
+
+/// Takes a line of which all is there, and refuses another.
+fn take_whole<T: TakeJson>(
+    alloc: Global,
+    value: &mut T,
+    number: u64,
+    line: &[u8],
+    whole: bool,
+    scratch: &mut Scratch,
+) -> Result<Result<(), LineFault<T::Cause>>, InputFault>
+    requires { T.next value.old ≤ number }
+    ensures exact { IfOk result (λ read. Reads read value.new (line_taken (taken_line T.Cause.not_json T.taken) whole number value.old line.now)) }
+    ensures refused { IfOk result (λ read. IfErr read (λ e. IsOfLine e.stop × IsOfSomeLine (taken_line T.Cause.not_json T.taken) e)) }
+    ensures further { IfOk result (λ read. OnOk read (T.next value.new ≤ number + 1)) }
+    ensures memory { IfErr result (λ e. e ≡ OutOfMemory) }
+{
+    if !whole {
+        return Ok(Err(LineFault {
+            line: number,
+            stop: Stop::Input(InputFault::TooLong),
+        }));
+    }
+    match take_line(alloc, value, number, line, scratch) {
+        Ok(()) => Ok(Ok(())),
+        Err(Stop::Line(cause)) => Ok(Err(LineFault {
+            line: number,
+            stop: Stop::Line(cause),
+        })),
+        Err(Stop::Input(_)) => Err(InputFault::OutOfMemory),
+    }
+}
+
 /// Hands the lines of a reader up to the first that is exactly `---`, from number 1 on, to `value`, up to the first that is refused. The
 /// others are passed over.
 ///
@@ -67,7 +106,16 @@ pub fn read_front<R: Source, T: TakeJson>(
     ensures failed { result ≡ Err Read → R.failures reader.new ≡ R.failures reader.old + 1 }
     ensures kept { result ≢ Err Read → R.failures reader.new ≡ R.failures reader.old }
 {
-    unreachable!()
+    let mut rest = Rest {
+        lines: Lines::new(alloc)?,
+        room: MAX_INPUT,
+        ended: false,
+    };
+    let (read, found) = rest.part(alloc, reader, value, true)?;
+    Ok(Front {
+        read,
+        rest: found.then_some(rest),
+    })
 }
 
 impl Rest {
@@ -76,7 +124,7 @@ impl Rest {
     ///
     /// An error is of the whole input: the reader failed, there are more than 2^30 bytes with those of the front, or memory ran out.
     pub fn read<R: Source, T: TakeJson>(
-        self,
+        mut self,
         alloc: Global,
         reader: &mut R,
         value: &mut T,
@@ -97,7 +145,11 @@ impl Rest {
         ensures failed { result ≡ Err Read → R.failures reader.new ≡ R.failures reader.old + 1 }
         ensures kept { result ≢ Err Read → R.failures reader.new ≡ R.failures reader.old }
     {
-        unreachable!()
+        if self.ended {
+            return Ok(Ok(()));
+        }
+        let (read, _) = self.part(alloc, reader, value, false)?;
+        Ok(read)
     }
 
     /// Passes over what stands behind the marker, to the reader's end. The errors are those of [`Rest::read`].
@@ -149,5 +201,43 @@ impl Rest {
                 }
             }
         }
+    }
+
+    /// Hands lines to `value`, up to the first that is refused: those before the marker, where it is sought, or those to the reader's end.
+    /// Says what they were, and whether the marker was found.
+    fn part<R: Source, T: TakeJson>(
+        &mut self,
+        alloc: Global,
+        reader: &mut R,
+        value: &mut T,
+        marked: bool,
+    ) -> Result<(Result<(), LineFault<T::Cause>>, bool), InputFault>
+        requires first { T.next value.old ≤ 1 }
+        requires unended { self.old.ended ≡ false }
+        requires room { self.old.room ≤ MAX_INPUT }
+        ensures part { IfOk result (λ p. IsPart (taken_line T.Cause.not_json T.taken) (R.given reader.old) (R.given reader.new) self.old self.new value.old value.new marked p.0 p.1) }
+        ensures refused { IfOk result (λ p. IfErr p.0 (λ e. IsOfLine e.stop × IsOfSomeLine (taken_line T.Cause.not_json T.taken) e)) }
+        ensures ended { OnOk result (R.ends reader.new + ends_left self.new.ended ≡ R.ends reader.old + 1) }
+        ensures long { result ≡ Err TooLong → ComesPast self.old.room (R.given reader.old) (R.given reader.new) self.old.at_hand }
+        ensures most { ComeAtMost (self.old.room + CHUNK) (R.given reader.old) (R.given reader.new) self.old.at_hand }
+        ensures known { AreNext R.given R.ends R.remaining reader.old reader.new }
+        ensures failed { result ≡ Err Read → R.failures reader.new ≡ R.failures reader.old + 1 }
+        ensures kept { result ≢ Err Read → R.failures reader.new ≡ R.failures reader.old }
+    {
+        let mut line = Vec::new(alloc);
+        let mut scratch = Scratch::new(alloc);
+        let mut read = Ok(());
+        let mut number = 1;
+        while !self.ended {
+            let whole = self.next(reader, &mut line)?;
+            if marked && is_marker(whole, &line) {
+                return Ok((read, true));
+            }
+            if read.is_ok() {
+                read = take_whole(alloc, value, number, &line, whole, &mut scratch)?;
+                number += 1;
+            }
+        }
+        Ok((read, false))
     }
 }

@@ -51,7 +51,7 @@ pieces-preserved g c =
     let whole_line : c.min.result ≡ 2 ^ 20 = omega (arith, c.min.ensures, c.if-self-lt-MAX_LINE.false) in
     record {
       passed = rw (← size) (passed_on _ _ _ _ _ c.pieces.self-inside.lines c.next.new.self c.next.new.line.items c.pieces.self-inside.room c.pieces.whole c.pieces.invariant.passed stuck.0 stuck.1
-      (omega (arith, stuck.2, c.next.new.line.ok.0, c.min.ensures)) (omega (arith, stuck.3, whole_line, c.next.new.line.ok.0)));
+          (omega (arith, stuck.2, c.next.new.line.ok.0, c.min.ensures)) (omega (arith, stuck.3, whole_line, c.next.new.line.ok.0)));
       within = omega (arith, c.pieces.invariant.within);
       unended = c.pieces.invariant.unended;
       known = next-trans g.R.Source.given g.R.Source.ends g.R.Read.remaining c.args.reader.now c.pieces.reader c.next.new.reader c.pieces.invariant.known c.next.ensures.known;
