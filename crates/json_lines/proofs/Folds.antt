@@ -43,7 +43,7 @@ over : (room : ℕ) (line : List ℕ) (more : Bool) → (more && eqb (length lin
 over room line more e = or_right (ltb (min room (2 ^ 20)) (length line)) (more && eqb (length line) room) e
 
 -- the lines behind one that ends so
-abbrev pub later : Bool → List ℕ → List (List ℕ)
+abbrev later : Bool → List ℕ → List (List ℕ)
 later true ys = parts ys
 later false ys = []
 
@@ -77,7 +77,7 @@ module _ {S C : Type 0} (taken : ℕ → S → List ℕ → Result S C) (start :
   pub goes_first : GoesFrom 1 (2 ^ 30) start []
   goes_first = record { same = λ whole ys. refl }
 
-  abbrev pub stopped : ℕ → Stop C → Result S (LineFault C)
+  abbrev stopped : ℕ → Stop C → Result S (LineFault C)
   stopped n stop = Err (record { line = n; stop = stop })
 
   -- what a line says, and those behind it

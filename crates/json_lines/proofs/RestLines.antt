@@ -13,7 +13,7 @@ use Rattle.json_lines.specs.declared.lines.InputFault.TheVariants.{TooLong, Read
 use Rattle.json_lines.specs.declared.reading.Stop.{Stop}
 use Rattle.json_lines.specs.declared.reading.Stop.TheVariants.{Input, Line}
 use Rattle.json_lines.specs.declared.reading.LineFault.{LineFault}
-use Rattle.json_lines.proofs.Folds.{later, parts_of_line, reads_line, told, within_from, Within}
+use Rattle.json_lines.proofs.Folds.{parts_of_line, reads_line, told, within_from, Within}
 use Rattle.json_lines.proofs.NextLines.{most_behind, takes_both}
 
 -- what the exit of a `?` says of the call

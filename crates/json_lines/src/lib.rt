@@ -17,6 +17,18 @@
 //! let mut trace = Trace::new(alloc);
 //! read_lines(alloc, reader, &mut trace)?;
 //! ```
+//!
+//! Joined input has a front of lines, a line that is exactly `---`, and more lines, and is read in one pass too: [`read_front`] hands the
+//! front to one value, and [`Rest::read`] what stands behind the marker to another. Both parts are `joined_of` the bytes that came, and what
+//! each makes of its value is `read_all` of that part. A refused line does not end the reading, so that a reader that fails, more than 2^30
+//! bytes in all, or a missing marker come before any line's fault.
+//!
+//! ```text
+//! let front = read_front(alloc, reader, &mut trace)?;
+//! if let Some(rest) = front.rest {
+//!     let read = rest.read(alloc, reader, &mut evidence)?;
+//! }
+//! ```
 #![tactic(auto)]
 
 mod devices;
