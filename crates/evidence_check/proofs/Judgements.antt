@@ -201,7 +201,7 @@ refused_by_evidence t whole input e = by_both (read_all (taken_line causes.NotJs
 
 -- ---- of every input that a reader may have
 
-unless_also : (b : Bool) (P Q : Type 0) → (P → Q) → Unless b P → Unless b Q
+pub unless_also : (b : Bool) (P Q : Type 0) → (P → Q) → Unless b P → Unless b Q
 unless_also true P Q f h = tt
 unless_also false P Q f h = f h
 

@@ -1,3 +1,4 @@
+pub mod BehindLemmas
 pub mod JudgedLemmas
 pub mod Judgements
 pub mod LineCauses

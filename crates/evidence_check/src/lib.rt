@@ -5,8 +5,9 @@
 //! may lean on one another. Contracts see [`Evidence`] by `evidence_value` as the list of the steps given for each entry.
 //!
 //! Callers may rely on this: [`read_evidence`] answers the evidence that its input says, or its first fault, also of a reader that
-//! fails. [`judge_entry`] is the definition `judged`. Whoever made the evidence, a supported reply is what the rules mean at the
-//! entry's snapshot (Zanzibar, section 2.3), and a contradicted one is not. The laws in [`laws`] say the same of each accepted step.
+//! fails. [`judge_evidence`] judges by it as it is read, and [`judge_evidence_behind`] by that behind the marker of joined input.
+//! [`judge_entry`] is the definition `judged`. Whoever made the evidence, a supported reply is what the rules mean at the entry's snapshot
+//! (Zanzibar, section 2.3), and a contradicted one is not. The laws in [`laws`] say the same of each accepted step.
 //!
 //! ```text
 //! let evidence = read_evidence(alloc, &mut reader, &trace)?;
@@ -14,6 +15,7 @@
 //! ```
 #![tactic(auto)]
 
+mod behind;
 mod cause;
 mod evidence;
 mod judged;
@@ -26,6 +28,7 @@ mod records;
 mod step;
 mod steps;
 
+pub use behind::judge_evidence_behind;
 pub use cause::{EvidenceCause, EvidenceFault};
 pub use evidence::Evidence;
 pub use judged::{Judged, is_proved, judge_entry, judge_steps};

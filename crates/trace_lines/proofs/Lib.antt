@@ -1,6 +1,7 @@
 pub mod Answers
 pub mod Covering
 pub mod Declared
+pub mod FrontLemmas
 pub mod IssuedVersions
 pub mod IssuerWalk
 pub mod Keeping

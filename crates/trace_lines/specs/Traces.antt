@@ -167,6 +167,11 @@ abbrev pub faulted : Result TraceValue (LineFault Cause) → Result TraceValue T
 faulted (Ok t) = Ok t
 faulted (Err e) = Err (record { line = e.line; cause = cause_of of_input e.stop })
 
+-- the trace that lines made, or the first of them that is refused
+abbrev pub made_of : TraceValue → Result (Unit {0}) (LineFault Cause) → Result TraceValue TraceFault
+made_of t (Ok u) = Ok t
+made_of t (Err e) = faulted (Err e)
+
 -- The trace that an input says, or its first fault. Whole says that the input ended, and did not fail.
 abbrev pub trace_of : Bool → List ℕ → Result TraceValue TraceFault
 trace_of whole input = faulted (read_all (taken_line causes.NotJson value_line) whole empty_trace input)

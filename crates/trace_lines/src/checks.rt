@@ -27,6 +27,7 @@ pub(crate) fn entry_of(
 {
     let names = ["goal", "snapshot", "reply", "zookie", "version"];
     let mut places = [None, None, None, None, None];
+    // A slice: the proof knows what a call leaves in one, and not in an array.
     let found: &mut [Option<JsonRef<'_, '_>>] = &mut places;
     value.get_all(&names, found);
     entry_in(alloc, kind, line, before, found)

@@ -1,6 +1,7 @@
 //! Traces: the lines of a reader, and what they say.
 //!
-//! [`read_trace`] makes a [`Trace`] of the lines of a source. Contracts see a trace as `TraceValue`: its declarations, its commits with
+//! [`read_trace`] makes a [`Trace`] of the lines of a source, and [`read_trace_front`] of those in front of the marker of joined input,
+//! with what stands behind it still to be read. Contracts see a trace as `TraceValue`: its declarations, its commits with
 //! the lines that they stand on, and its entries.
 //!
 //! Callers may rely on this: what is read is `trace_of` the bytes, value or first fault, with its line, also of a reader that fails. Input
@@ -19,6 +20,7 @@ mod checks;
 mod cover;
 mod declaring;
 mod entry;
+mod front;
 pub mod laws;
 mod read;
 mod recorded;
@@ -30,6 +32,7 @@ mod versions;
 
 pub use cause::{Cause, TraceFault};
 pub use entry::{Entry, EntryKind};
+pub use front::{TraceFront, read_trace_front};
 pub use json_lines::{Counted, Failing, Sink, Source, Unsent, send};
 pub use read::read_trace;
 pub use trace::Trace;

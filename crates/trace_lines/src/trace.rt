@@ -276,6 +276,7 @@ impl Trace {
     {
         let names = ["at", "add", "remove"];
         let mut places = [None, None, None];
+        // A slice: the proof knows what a call leaves in one, and not in an array.
         let found: &mut [Option<JsonRef<'_, '_>>] = &mut places;
         value.get_all(&names, found);
         self.take_changes(line, found)

@@ -1,0 +1,55 @@
+//! Judging by the evidence behind the marker of joined input.
+
+ghost use Rattle.std.specs.Prelude.{◌≡◌, ◌≢◌, ◌+◌, ◌≤◌, length, true, Err, IfOk, IfErr, OnOk};
+ghost use Rattle.json_lines.specs.Given.{AreNext};
+ghost use Rattle.json_lines.specs.Joined.{IsTaken, ComesPast, ends_left};
+ghost use Rattle.json_lines.specs.Lines.{ComeAtMost};
+ghost use Rattle.json_lines.specs.declared.lines.TheConstants.{CHUNK};
+ghost use Rattle.json_lines.specs.declared.lines.InputFault.TheVariants as input;
+ghost use Rattle.evidence_check.specs.Judging.{GivesJudged};
+ghost use Rattle.evidence_check.specs.Reading.{evidence_of};
+ghost use Rattle.evidence_check.specs.declared.cause.EvidenceCause.TheVariants.{Read};
+
+use crate::cause::EvidenceFault;
+use crate::judged::Judged;
+use crate::judging::Judging;
+use json_lines::{InputFault, Rest, Source};
+use std::alloc::Global;
+use trace_lines::Trace;
+
+/// Judges the entries of a trace by the evidence behind the marker of joined input, as [`judge_evidence`](crate::judge_evidence) does by
+/// that of a whole input.
+///
+/// An outer error is of the whole input: the reader failed, there are more than 2^30 bytes, or memory ran out.
+pub fn judge_evidence_behind<R: Source>(
+    alloc: Global,
+    rest: Rest,
+    reader: &mut R,
+    trace: &Trace,
+) -> Result<Result<Vec<Judged>, EvidenceFault>, InputFault>
+    // The evidence that stands there judges so, or its first fault is answered.
+    ensures exact { IfOk result (λ judged. IsTaken (R.given reader.old) (R.given reader.new) rest.at_hand (λ b. (length b ≤ rest.room)
+        × GivesJudged trace.now judged (evidence_of trace.now.entries true b))) }
+    ensures refused { IfOk result (λ judged. IfErr judged (λ e. e.cause ≢ Read)) }
+    ensures ended { OnOk result (R.ends reader.new ≡ R.ends reader.old + ends_left rest.ended) }
+    // A reader that was at its end is not asked again.
+    ensures over { rest.ended ≡ true → R.given reader.new ≡ R.given reader.old }
+    ensures long { result ≡ Err input.TooLong → ComesPast rest.room (R.given reader.old) (R.given reader.new) rest.at_hand }
+    // Also of a reader that never ends.
+    ensures most { ComeAtMost (rest.room + CHUNK) (R.given reader.old) (R.given reader.new) rest.at_hand }
+    ensures known { AreNext R.given R.ends R.remaining reader.old reader.new }
+    // A reader's failure alone gives this error.
+    ensures failed { result ≡ Err input.Read → R.failures reader.new ≡ R.failures reader.old + 1 }
+    ensures kept { result ≢ Err input.Read → R.failures reader.new ≡ R.failures reader.old }
+{
+    let Ok(mut judging) = Judging::new(alloc, trace) else {
+        return Err(InputFault::OutOfMemory);
+    };
+    match rest.read(alloc, reader, &mut judging)? {
+        Ok(()) => Ok(Ok(judging.into_judgements())),
+        Err(refused) => Ok(Err(EvidenceFault {
+            line: refused.line,
+            cause: refused.cause(),
+        })),
+    }
+}
