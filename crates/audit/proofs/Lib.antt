@@ -1,9 +1,8 @@
 pub mod EarlyLemmas
-pub mod JoinedParts
+pub mod JoinedLemmas
 pub mod MadeRecords
 pub mod MadeReadBack
 pub mod MadeAuditLemmas
-pub mod ReadWhole
 pub mod Readers
 pub mod SharedLemmas
 pub mod TraceSync

@@ -109,18 +109,6 @@ pub all_unfailed : (r : Result Verdict AuditFault) (trace evidence out : Type 0)
 all_unfailed (Ok v) trace evidence out a b c = tt
 all_unfailed (Err f) trace evidence out a b c = λ h. (a, b, c (unwritten_without_device f h))
 
--- readers that do not fail are not blamed
-pub never_read : (r : Result Verdict AuditFault) (input trace evidence out : Type 0) → (trace → ⊥) → (evidence → ⊥) → IfErr r (IsOfDevices ⊥ trace evidence out)
-    → IfErr r (IsOfDevices input ⊥ ⊥ out)
-never_read (Ok v) input trace evidence out n m at = tt
-never_read (Err (faults.Trace f)) input trace evidence out n m at = λ e. n (at e)
-never_read (Err (faults.Evidence f)) input trace evidence out n m at = λ e. m (at e)
-never_read (Err (faults.Write k)) input trace evidence out n m at = at
-never_read (Err faults.OutOfMemory) input trace evidence out n m at = tt
-never_read (Err faults.Limits) input trace evidence out n m at = tt
-never_read (Err faults.Joined) input trace evidence out n m at = tt
-never_read (Err faults.Input) input trace evidence out n m at = absurd at
-
 -- of the reply that a finding F10 calls wrong, where both readers gave all
 pub named_if : {V E A B : Type 0} (r : Result V E) (given_a : A → List ℕ) (ends_a : A → ℕ) (a0 a1 : A) (given_b : B → List ℕ) (ends_b : B → ℕ) (b0 b1 : B) (t : TraceValue) (given : List (Option (List StepValue)))
     → OfWhole given_a ends_a a0 a1 (λ a. trace_of true a ≡ Ok t) → OfWhole given_b ends_b b0 b1 (λ b. evidence_of t.entries true b ≡ Ok given)

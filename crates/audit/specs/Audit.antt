@@ -119,9 +119,18 @@ IsOfJoined (faults.Evidence f) = f.cause ≢ evidence_causes.OutOfMemory
 IsOfJoined faults.Limits = ⊥
 IsOfJoined _ = ⊤
 
--- a fault of reading joined input whole
-abbrev pub IsOfReading : AuditFault → Type 0
-IsOfReading faults.OutOfMemory = ⊤
-IsOfReading faults.Joined = ⊤
-IsOfReading faults.Input = ⊤
-IsOfReading _ = ⊥
+-- a fault of reading the trace of joined input
+abbrev pub IsOfFront : AuditFault → Type 0
+IsOfFront (faults.Trace f) = f.cause ≢ causes.OutOfMemory
+IsOfFront faults.OutOfMemory = ⊤
+IsOfFront faults.Joined = ⊤
+IsOfFront faults.Input = ⊤
+IsOfFront _ = ⊥
+
+-- a fault of reading the evidence behind it
+abbrev pub IsOfBehind : AuditFault → Type 0
+IsOfBehind (faults.Evidence f) = f.cause ≢ evidence_causes.OutOfMemory
+IsOfBehind faults.OutOfMemory = ⊤
+IsOfBehind faults.Joined = ⊤
+IsOfBehind faults.Input = ⊤
+IsOfBehind _ = ⊥

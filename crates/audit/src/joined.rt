@@ -1,82 +1,92 @@
 //! The audit of joined input.
 
-ghost use Rattle.std.specs.Prelude.{◌≡◌, ◌≢◌, ◌⊎◌, ℕ, ◌+◌, ◌<◌, ◌≤◌, length, drop, option_map, Ok, Err, IfOk, IfErr, OnOk};
+ghost use Rattle.std.specs.Prelude.{◌≡◌, ◌≢◌, ◌⊎◌, ℕ, ◌+◌, ◌≤◌, length, true, Ok, Err, IfOk, IfErr, OnOk};
 ghost use Rattle.json_lines.specs.Given.{OfBytes, OfWhole, OfInput, AreNext, StandBehind};
+ghost use Rattle.json_lines.specs.Joined.{ends_left, ComesPast, IsFront};
+ghost use Rattle.json_lines.specs.Lines.{ComeAtMost};
+ghost use Rattle.trace_lines.specs.Traces.{trace_of};
 ghost use Rattle.trace_lines.specs.declared.cause.TraceFault.{TraceFault};
+ghost use Rattle.evidence_check.specs.Judging.{GivesJudged};
+ghost use Rattle.evidence_check.specs.Reading as evidence;
+ghost use Rattle.evidence_check.specs.Reading.{evidence_of};
 ghost use Rattle.evidence_check.specs.declared.cause.EvidenceFault.{EvidenceFault};
-ghost use Rattle.audit.specs.Audit.{Audits, Breaks, RefusesTrace, RefusesEvidence, HasRisen, IsOfDevices, IsUnwritten, IsOfReading, IsOfJoined};
+ghost use Rattle.audit.specs.Audit.{Audits, Breaks, RefusesTrace, RefusesEvidence, HasRisen, IsOfDevices, IsUnwritten, IsOfFront, IsOfBehind, IsOfJoined};
 ghost use Rattle.findings.specs.Headline.{IsTraceRightAndFresh};
-ghost use Rattle.audit.specs.Joined.{is_marker, joined_of, OfParts, HasNoParts};
+ghost use Rattle.audit.specs.Joined.{OfParts, HasNoParts, IsRead, of_input};
 ghost use Rattle.findings.specs.WrongReplies.{NamesOnlyWrongReplies};
 ghost use Rattle.audit.specs.declared.plain.AuditFault.TheVariants as faults;
 ghost use Rattle.audit.specs.declared.plain.Verdict.TheVariants.{Clean};
 
-use crate::plain::{AuditFault, Verdict, audit_plain};
-use json_lines::{CHUNK, Held, MAX_INPUT, Sink, Source, line_end};
+use crate::plain::{AuditFault, Verdict, audit_judged, of_evidence, of_trace};
+use evidence_check::{Judged, judge_evidence_behind};
+use json_lines::{CHUNK, InputFault, MAX_INPUT, Rest, Sink, Source};
 use std::alloc::Global;
+use trace_lines::{Trace, TraceFront, read_trace_front};
 
-/// All bytes of a reader.
-fn read_whole<R: Source>(alloc: Global, input: &mut R) -> Result<Vec<u8>, AuditFault>
-    ensures whole { IfOk result (λ v. (length v.items ≤ MAX_INPUT) × OfWhole R.given R.ends input.old input.new (λ came. v.items ≡ came)) }
-    ensures long { result ≡ Err faults.Joined → OfBytes R.given input.old input.new (λ came. MAX_INPUT < length came) }
+impl From<InputFault> for AuditFault {
+    ghost from_gives = { λ fault e. e ≡ of_input fault };
+
+    fn from(fault: InputFault) -> AuditFault {
+        match fault {
+            InputFault::Read => AuditFault::Input,
+            InputFault::TooLong => AuditFault::Joined,
+            InputFault::OutOfMemory => AuditFault::OutOfMemory,
+        }
+    }
+}
+
+/// The trace in front of the marker of joined input, and what stands behind it. Where the trace is refused, that is read to its end.
+fn trace_of_front<R: Source>(alloc: Global, input: &mut R) -> Result<(Trace, Rest), AuditFault>
+    ensures given { IfOk result (λ r. IsFront (R.given input.old) (R.given input.new) r.1 (λ a. trace_of true a ≡ Ok r.0)) }
+    ensures ended { IfOk result (λ r. R.ends input.new + ends_left r.1.ended ≡ R.ends input.old + 1) }
+    ensures trace { (f : TraceFault) → result ≡ Err (faults.Trace f) → OfWhole R.given R.ends input.old input.new (OfParts (λ a b. RefusesTrace a f)) }
+    ensures joined { result ≡ Err faults.Joined → OfInput R.given R.ends input.old input.new HasNoParts }
     ensures most { OfBytes R.given input.old input.new (λ came. length came ≤ MAX_INPUT + CHUNK) }
     ensures known { AreNext R.given R.ends R.remaining input.old input.new }
-    ensures device { result ≡ Err faults.Input → HasRisen (R.failures input.old) (R.failures input.new) }
+    ensures devices { IfErr result (IsOfDevices (HasRisen (R.failures input.old) (R.failures input.new)) ⊥ ⊥ ⊥) }
     ensures kept { result ≢ Err faults.Input → R.failures input.new ≡ R.failures input.old }
-    ensures causes { IfErr result IsOfReading }
+    ensures faults { IfErr result IsOfFront }
 {
-    let mut bytes: Vec<u8> = Vec::new(alloc);
-    let mut chunk = vec![in alloc; 0u8; CHUNK]?;
-    for _turn in 0..u64::MAX {
-        let given = match input.give(&mut chunk) {
-            Ok(given) => given,
-            Err(_) => return Err(AuditFault::Input),
-        };
-        if given == 0 {
-            return Ok(bytes);
+    let TraceFront { trace, rest } = read_trace_front(alloc, input)?;
+    let Some(rest) = rest else {
+        return Err(AuditFault::Joined);
+    };
+    match trace {
+        Ok(trace) => Ok((trace, rest)),
+        Err(fault) => {
+            rest.pass(alloc, input)?;
+            Err(of_trace(fault))
         }
-        if given > MAX_INPUT - bytes.len() {
-            return Err(AuditFault::Joined);
-        }
-        bytes.extend_from_slice(&chunk[..given])?;
     }
-    unreachable!()
 }
 
-fn is_marker(line: &[u8]) -> bool
-    ensures { result ≡ is_marker line.now }
+/// How the evidence behind the marker judges each entry of the trace in front of it.
+fn judgements_behind<R: Source>(
+    alloc: Global,
+    rest: Rest,
+    input: &mut R,
+    trace: &Trace,
+) -> Result<Vec<Judged>, AuditFault>
+    ensures given { IfOk result (λ v. IsRead R.given R.ends input.old input.new rest (λ b. GivesJudged trace.now (Ok v) (evidence_of trace.now.entries true b))) }
+    ensures evidence { (f : EvidenceFault) → result ≡ Err (faults.Evidence f) → IsRead R.given R.ends input.old input.new rest (λ b. evidence.FailsBy f.cause f (evidence_of trace.now.entries true b)) }
+    ensures joined { result ≡ Err faults.Joined → ComesPast rest.room (R.given input.old) (R.given input.new) rest.at_hand }
+    ensures most { ComeAtMost (rest.room + CHUNK) (R.given input.old) (R.given input.new) rest.at_hand }
+    ensures known { AreNext R.given R.ends R.remaining input.old input.new }
+    ensures devices { IfErr result (IsOfDevices (HasRisen (R.failures input.old) (R.failures input.new)) ⊥ ⊥ ⊥) }
+    ensures kept { result ≢ Err faults.Input → R.failures input.new ≡ R.failures input.old }
+    ensures faults { IfErr result IsOfBehind }
 {
-    line == b"---".as_slice()
-}
-
-/// What stands behind the first `n` bytes.
-fn behind(bytes: &[u8], n: usize) -> &[u8]
-    ensures { result.now ≡ drop n bytes.now }
-{
-    bytes.get(n..).unwrap_or(&[])
-}
-
-/// What stands before the first line `---`, and what stands behind it.
-fn parts_of(bytes: &[u8]) -> Option<(&[u8], &[u8])>
-    ensures { option_map (λ p. (p.0.now, p.1.now)) result ≡ joined_of bytes.now }
-{
-    let mut from = 0;
-    while from < bytes.len() {
-        let rest = behind(bytes, from);
-        let len = line_end(rest);
-        if is_marker(&rest[..len]) {
-            return Some((&bytes[..from], behind(rest, len + 1)));
-        }
-        from += len + 1;
+    match judge_evidence_behind(alloc, rest, input, trace)? {
+        Ok(judgements) => Ok(judgements),
+        Err(fault) => Err(of_evidence(fault)),
     }
-    None
 }
 
 /// Audits joined input: the trace, a line that is exactly `---`, and the evidence. The first such line counts, and
 /// each of the two parts has lines from 1.
 ///
 /// `Input` is a failure of the reader, and `Joined` is input without such a line, or with more than 2^30 bytes. Nothing
-/// is written then. Its two parts are held in memory, so neither of them is refused as `Read`.
+/// is written then. Neither of its parts is refused as `Read`, and no text of it is kept once it is read.
 pub fn audit_joined<R: Source, W: Sink>(
     alloc: Global,
     input: &mut R,
@@ -108,7 +118,10 @@ pub fn audit_joined<R: Source, W: Sink>(
     ensures out_unfailed { IfErr result (λ e. IsUnwritten e → W.failures out.new ≡ W.failures out.old) }
     ensures faults { IfErr result IsOfJoined }
 {
-    let bytes = read_whole(alloc, input)?;
-    let (trace, evidence) = parts_of(&bytes).ok_or(AuditFault::Joined)?;
-    audit_plain(alloc, &mut Held::new(trace), &mut Held::new(evidence), out)
+    let (trace, rest) = trace_of_front(alloc, input)?;
+    let judgements = match judgements_behind(alloc, rest, input, &trace) {
+        Ok(judgements) => judgements,
+        Err(fault) => return Err(fault),
+    };
+    audit_judged(alloc, &trace, &judgements, out)
 }

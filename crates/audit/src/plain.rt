@@ -146,7 +146,7 @@ pub(crate) fn audit_values_by<W: Sink, F: Finder>(
 }
 
 /// Writes the report on a trace whose entries are judged so by some evidence.
-fn audit_judged<W: Sink>(
+pub(crate) fn audit_judged<W: Sink>(
     alloc: Global,
     trace: &Trace,
     judgements: &[Judged],
@@ -211,18 +211,24 @@ pub(crate) fn trace_from<R: Source>(alloc: Global, reader: &mut R) -> Result<Tra
 {
     match read_trace(alloc, reader) {
         Ok(trace) => Ok(trace),
-        Err(
-            TraceFault {
-                cause: Cause::OutOfMemory,
-                ..
-            },
-        ) => Err(AuditFault::OutOfMemory),
-        Err(fault) => Err(AuditFault::Trace(fault)),
+        Err(fault) => Err(of_trace(fault)),
+    }
+}
+
+/// A fault of the trace, where want of memory is told as such.
+pub(crate) fn of_trace(fault: TraceFault) -> AuditFault
+    ensures same { (f : TraceFault) → result ≡ faults.Trace f → f ≡ fault }
+    ensures device { IsOfNoDevice result → fault.cause ≢ causes.Read }
+    ensures faults { IsOfTrace result }
+{
+    match fault.cause {
+        Cause::OutOfMemory => AuditFault::OutOfMemory,
+        _ => AuditFault::Trace(fault),
     }
 }
 
 /// A fault of the evidence, where want of memory is told as such.
-fn of_evidence(fault: EvidenceFault) -> AuditFault
+pub(crate) fn of_evidence(fault: EvidenceFault) -> AuditFault
     ensures same { (f : EvidenceFault) → result ≡ faults.Evidence f → f ≡ fault }
     ensures device { IsOfNoDevice result → fault.cause ≢ evidence_causes.Read }
     ensures faults { IsOfEvidence result }

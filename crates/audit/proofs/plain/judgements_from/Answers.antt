@@ -1,4 +1,4 @@
-use Rattle.std.proofs.Common.{◌≡◌, true, Ok}
+use Rattle.std.proofs.Common.{true, Ok}
 use Rattle.json_lines.proofs.Given.{of_ended}
 use Rattle.evidence_check.specs.Judging.{GivesJudged}
 use Rattle.evidence_check.specs.Reading.{evidence_of}
