@@ -2,7 +2,7 @@
 
 ghost use Rattle.std.specs.Prelude.{◌≡◌, option_map, option_copied};
 ghost use Rattle.json_lines.specs.Data.{value_data, items_data};
-ghost use Rattle.json_lines.specs.Fields.{number_at, number_of, flag_at, flag_of, text_at, text_of, optional_text_at, optional_text_of, optional_number_at, are_strings, strings_at, strings_of};
+ghost use Rattle.json_lines.specs.Fields.{number_at, number_of, flag_of, text_at, text_of, optional_text_of, optional_number_at, are_strings, strings_of};
 
 use crate::refs::{JsonItems, JsonRef};
 
@@ -31,13 +31,6 @@ pub fn flag_of(field: Option<&JsonRef<'_, '_>>) -> Option<bool>
         Some(found) => found.as_bool(),
         None => None,
     }
-}
-
-/// The truth value under a key; None where it is absent or of another shape.
-pub fn flag_at(value: &JsonRef<'_, '_>, name: &str) -> Option<bool>
-    ensures { result ≡ flag_at name.now (value_data value.now) }
-{
-    flag_of(value.get(name).as_ref())
 }
 
 /// The text that a field is; None where it is absent or of another shape.
@@ -74,13 +67,6 @@ pub fn optional_text_of<'a>(field: Option<&JsonRef<'_, 'a>>) -> Option<Option<&'
             }
         }
     }
-}
-
-/// The text under a key, which may be absent or null; None where it is of another shape.
-pub fn optional_text_at<'a>(value: &JsonRef<'_, 'a>, name: &str) -> Option<Option<&'a str>>
-    ensures { option_map (option_map (λ s. s.now)) result ≡ optional_text_at name.now (value_data value.now) }
-{
-    optional_text_of(value.get(name).as_ref())
 }
 
 /// The u64 under a key, which may be absent or null; None where it is of another shape.
@@ -133,11 +119,4 @@ pub fn strings_of<'t, 'a>(field: Option<&JsonRef<'t, 'a>>) -> Option<JsonItems<'
             }
         }
     }
-}
-
-/// The list of texts under a key, where an absent one and null are empty; None where it is of another shape.
-pub fn strings_at<'t, 'a>(value: &JsonRef<'t, 'a>, name: &str) -> Option<JsonItems<'t, 'a>>
-    ensures { option_map items_data result ≡ strings_at name.now (value_data value.now) }
-{
-    strings_of(value.get(name).as_ref())
 }
