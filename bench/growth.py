@@ -1,9 +1,9 @@
 #!/usr/bin/env python3
 """How the cost of an input grows: kinds of a generator of this folder at two sizes, as a table.
 
-    python3 bench/growth.py PROGRAM trace|hostile SMALL LARGE [KIND ..] > table
+    python3 bench/growth.py [--runs N] PROGRAM trace|hostile SMALL LARGE [KIND ..] > table
 
-Sizes are megabytes. Seconds are processor time, the least of three runs; memory is the most that the program held, in MB. The column behind a size
+Sizes are megabytes. Seconds are processor time, the least of N runs, or of three; memory is the most that the program held, in MB. The column behind a size
 says what a megabyte costs there; the last one how many times more a megabyte costs at the large size: 1 is in proportion.
 """
 import argparse
@@ -30,12 +30,12 @@ def run(program, path):
     return used.ru_utime + used.ru_stime, used.ru_maxrss / 1000
 
 
-def cost(program, generator, kind, megabytes):
-    """Megabytes of the input, the least seconds of three runs, and the most memory. A process of its own makes the input: what this one holds
+def cost(program, generator, kind, megabytes, count):
+    """Megabytes of the input, the least seconds of so many runs, and the most memory. A process of its own makes the input: what this one holds
     would count as memory of the program that it starts."""
     with tempfile.NamedTemporaryFile() as file:
         subprocess.run([sys.executable, generator.__file__, kind, megabytes], stdout=file, check=True)
-        runs = [run(program, file.name) for _ in range(3)]
+        runs = [run(program, file.name) for _ in range(count)]
         return os.path.getsize(file.name) / 10**6, min(seconds for seconds, _ in runs), max(memory for _, memory in runs)
 
 
@@ -49,6 +49,7 @@ def row(kind, small, large):
 
 def main():
     parser = argparse.ArgumentParser(description=__doc__, formatter_class=argparse.RawDescriptionHelpFormatter)
+    parser.add_argument("--runs", type=int, default=3)
     parser.add_argument("program", metavar="PROGRAM")
     parser.add_argument("generator", choices=GENERATORS)
     parser.add_argument("small", metavar="SMALL")
@@ -59,7 +60,8 @@ def main():
     print("| Kind | MB | s | s per MB | memory | MB | s | s per MB | memory | Grows |")
     print("|---|---|---|---|---|---|---|---|---|---|")
     for kind in given.kinds or generator.KINDS:
-        print(row(kind, cost(given.program, generator, kind, given.small), cost(given.program, generator, kind, given.large)), flush=True)
+        small, large = (cost(given.program, generator, kind, size, given.runs) for size in (given.small, given.large))
+        print(row(kind, small, large), flush=True)
 
 
 if __name__ == "__main__":
