@@ -1,10 +1,10 @@
 """The command line: its files and its faults of usage."""
 import argparse
-import re
 import sys
-from typing import NoReturn, Optional
+from typing import NoReturn, Optional, TextIO
 
 from lib.ids import Ids, TableFault
+from lib.progress import Progress
 from lib.trace import Fault, Trace, read_trace
 
 
@@ -30,22 +30,36 @@ def read_bytes(path: str) -> bytes:
 
 def split_joined(data: bytes) -> tuple[bytes, Optional[bytes]]:
     """The trace of joined input, and the evidence behind its line `---`; None where there is no such line."""
-    found = re.search(rb"(?:^|(?<=\n))---(?:\n|\Z)", data)
-    return (data[:found.start()], data[found.end():]) if found else (data, None)
+    if data.startswith(b"---\n") or data == b"---":
+        return b"", data[4:]
+    at = data.find(b"\n---\n")
+    if at >= 0:
+        return data[:at + 1], data[at + 5:]
+    return (data[:-3], b"") if data.endswith(b"\n---") else (data, None)
 
 
-def say_fault(fault: Fault, stream) -> None:
+def say_fault(fault: Fault, stream: TextIO) -> None:
     """The program's line, and what else is to be said of it."""
     stream.write("%s\n%s" % (fault, "".join("  %s\n" % detail for detail in fault.details)))
 
 
-def traced(path: str) -> Trace:
-    """The trace of a file, which may be joined input; one that is refused ends the program with status 2."""
+def read_trace_of(data: bytes, progress: Optional[Progress] = None) -> Trace:
+    """The trace of bytes; one that is refused ends the program with status 2."""
+    shown = progress or Progress()
     try:
-        return read_trace(split_joined(read_bytes(path))[0])
+        return read_trace(data, lambda line: shown.step("read %s lines", line))
     except Fault as fault:
+        shown.end()
         say_fault(fault, sys.stderr)
         sys.exit(2)
+    finally:
+        if progress is None:
+            shown.end()
+
+
+def traced(path: str, progress: Optional[Progress] = None) -> Trace:
+    """The trace of a file, which may be joined input; one that is refused ends the program with status 2."""
+    return read_trace_of(split_joined(read_bytes(path))[0], progress)
 
 
 def read_ids(path: Optional[str]) -> Optional[Ids]:

@@ -6,6 +6,7 @@ FINDING = re.compile(r"line ([0-9]+): (F(?:[1-9]|10)) ([a-z ]+?)(?:, see line ([
 FORMS = {"F1": ("stale", None), "F2": ("old token", "line"), "F3": ("not latest", "line"), "F4": ("open snapshot", "line"),
          "F5": ("wrong token", None), "F6": ("unknown version", None), "F7": ("no evidence", None),
          "F8": ("bad evidence", "step"), "F9": ("silent evidence", None), "F10": ("wrong reply", None)}
+ON_TOKENS = ("F1", "F2", "F3", "F4", "F5", "F6")
 
 
 class ReportFault(Exception):
@@ -18,6 +19,11 @@ class Finding(NamedTuple):
     text: str
     related: Optional[int]
     step: Optional[int]
+
+    @property
+    def is_on_tokens(self) -> bool:
+        """Whether it is on snapshots and tokens, and not on evidence."""
+        return self.finding in ON_TOKENS
 
 
 class Report(NamedTuple):

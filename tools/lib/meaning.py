@@ -19,9 +19,8 @@ class Link(NamedTuple):
 
 def links(rules: Rules, store: Store, of: Userset, at: int) -> list[Link]:
     """What the rule of a userset reads, declared usersets alone."""
-    rewrite = rules.rewrite_at(of.namespace, of.relation, at)
     found = []
-    for place in places(rewrite) if rewrite else ():
+    for place in rules.places_during(of.namespace, of.relation, at, at):
         for to in read_by(store, of, place, at):
             if rules.rewrite_at(to.namespace, to.relation, at) is not None:
                 found.append(Link(to, " ".join((place.form,) + place.names), place.strict))

@@ -134,7 +134,8 @@ class Rules:
         self.current: dict[str, Declaration] = {}
         self.changes = 0
         self._strata: dict[tuple[str, str], int] = {}
-        self._rewrites: dict[tuple[str, str], list[tuple[int, dict]]] = {}
+        # of each relation its rules with their leaves, and since when each is in force
+        self._rewrites: dict[tuple[str, str], list[tuple[int, dict, tuple[Place, ...]]]] = {}
 
     def add(self, value: dict) -> Declaration:
         """Takes a namespace line; raises RulesFault, and then changes nothing."""
@@ -156,7 +157,8 @@ class Rules:
         for relation in declaration.relations:
             key = (declaration.name, relation.name)
             self._strata[key] = relation.stratum
-            self._rewrites.setdefault(key, []).append((declaration.at or 0, relation.rewrite))
+            self._rewrites.setdefault(key, []).append(
+                (declaration.at or 0, relation.rewrite, tuple(places(relation.rewrite))))
 
     @staticmethod
     def _refuse_names(declaration: Declaration) -> None:
@@ -219,14 +221,24 @@ class Rules:
 
     def rewrites(self, namespace: str, relation: str) -> list[dict]:
         """All rules that a relation ever had, by time."""
-        return [rewrite for _, rewrite in self._rewrites.get((namespace, relation), [])]
+        return [rewrite for _, rewrite, _ in self._rewrites.get((namespace, relation), [])]
 
     def rewrite_at(self, namespace: str, relation: str, at: int) -> Optional[dict]:
         """The rule in force at a timestamp; None where the relation is not declared then."""
         found = None
-        for since, rewrite in self._rewrites.get((namespace, relation), []):
+        for since, rewrite, _ in self._rewrites.get((namespace, relation), ()):
             if since <= at:
                 found = rewrite
+        return found
+
+    def places_during(self, namespace: str, relation: str, low: int, high: int) -> list[Place]:
+        """The leaves of the rule in force at a timestamp, and of those that came up to another."""
+        found: list[Place] = []
+        for since, _, leaves in self._rewrites.get((namespace, relation), ()):
+            if since <= low:
+                found = list(leaves)
+            elif since <= high:
+                found += leaves
         return found
 
     def relations(self, namespace: str) -> list[str]:

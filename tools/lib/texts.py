@@ -55,7 +55,7 @@ def number_of(text: str) -> Optional[int]:
     return None
 
 
-def _userset_of(text: str) -> Userset:
+def userset_of(text: str) -> Userset:
     """A userset as it may stand as a user; raises TextFault where it is none."""
     namespace, colon, rest = text.partition(":")
     if not colon or not is_name(namespace):
@@ -83,7 +83,7 @@ def parse_tuple(text: str) -> Tuple:
     if number is not None:
         return Tuple(Userset(namespace, id_text, relation), number)
     try:
-        return Tuple(Userset(namespace, id_text, relation), _userset_of(user))
+        return Tuple(Userset(namespace, id_text, relation), userset_of(user))
     except TextFault:
         raise TextFault("user", at) from None
 
