@@ -65,6 +65,10 @@ class Trace:
         place = self.commits.before(line)
         return self.commits.ats[place] if self.commits.lines[place:place + 1] == [line] else None
 
+    def line_that_issues(self, of: Userset, version: str) -> Optional[int]:
+        """The line that issues a version for an object."""
+        return self._versions.get(_label(of, version))
+
     def take_quickly(self, line: int, raw: bytes) -> bool:
         """Takes a line of the form that importers write, whose names were seen before; False where it has to be looked at."""
         entry = quick_entry(raw)
