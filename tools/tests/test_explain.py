@@ -2,9 +2,13 @@
 import json
 import os
 import re
+import shutil
 import subprocess
+import unittest
+import xml.etree.ElementTree
 from collections import Counter
 from random import Random
+from unittest import mock
 
 from hostile.inputs import worked_cases
 from lib.evidence import check_evidence
@@ -346,20 +350,58 @@ class Refused(Case):
 class Drawings(Case):
     def test_a_goal(self):
         self.put("trace", NAMESPACES + [commit(1, "doc:1#parent@doc:\"2\\#...", "doc:\"2\\#viewer@7",
-                                               "doc:1#banned@group:g#member"), entry("check", 1, True)])
+                                               "doc:1#banned@group:g&amp;#member"), entry("check", 1, True)])
         run = self.run_tool("draw", "trace", "4")
         self.assertEqual(run.stdout.splitlines(), [
-            'digraph goal {', '  label="doc:1#viewer@7 at 1, reply true";',
+            'digraph goal {', '  label="doc:1#viewer@7 at 1\\nline 4, the service looked at 1 and said yes\\n'
+            'green: by the rules, 7 is in it";',
             '  rankdir=LR; node [shape=box, fontname=monospace]; edge [fontname=monospace];',
-            '  "doc:1#viewer" [label="doc:1#viewer", style=filled, fillcolor=palegreen];',
-            '  "doc:1#banned" [label="doc:1#banned"];',
-            '  "group:g#member" [label="group:g#member"];',
-            '  "doc:\\"2\\\\#viewer" [label="doc:\\"2\\\\#viewer (stored)", style=filled, fillcolor=palegreen];',
-            '  "doc:\\"2\\\\#banned" [label="doc:\\"2\\\\#banned"];',
-            '  "doc:1#viewer" -> "doc:\\"2\\\\#viewer" [label="tuple_to parent viewer"];',
-            '  "doc:1#viewer" -> "doc:1#banned" [label="computed banned", style=dashed];',
-            '  "doc:1#banned" -> "group:g#member" [label="this"];',
-            '  "doc:\\"2\\\\#viewer" -> "doc:\\"2\\\\#banned" [label="computed banned", style=dashed];', '}'])
+            '  reply [shape=note, style=filled, fillcolor=palegreen, label="the service said yes\\nthe rules say yes"];',
+            '  reply -> "doc:1#viewer" [label="right"];',
+            '  "doc:1#viewer" [label="doc:1#viewer", style=filled, fillcolor=palegreen, penwidth=2];',
+            '  "doc:1#banned" [label="doc:1#banned", style=filled, fillcolor=white, penwidth=2];',
+            '  "group:g&amp;#member" [label="group:g&amp;amp;#member", style=filled, fillcolor=white, penwidth=2];',
+            '  "doc:\\"2\\\\#viewer" [label="doc:\\"2\\\\#viewer\\n(stored)", style=filled, fillcolor=palegreen, penwidth=2];',
+            '  "doc:\\"2\\\\#banned" [label="doc:\\"2\\\\#banned", style=filled, fillcolor=white, penwidth=2];',
+            '  "doc:1#viewer" -> "doc:\\"2\\\\#viewer" [label="tuple_to parent viewer", penwidth=2];',
+            '  "doc:1#viewer" -> "doc:1#banned" [label="computed banned", style=dashed, penwidth=2];',
+            '  "doc:1#banned" -> "group:g&amp;#member" [label="this", penwidth=2];',
+            '  "doc:\\"2\\\\#viewer" -> "doc:\\"2\\\\#banned" [label="computed banned", style=dashed, penwidth=2];', '}'])
+
+    def test_a_wrong_reply(self):
+        """What the service said has its own node, green where it said yes, and red round it where the rules say otherwise."""
+        self.put("trace", NAMESPACES + [commit(1, "doc:1#viewer@7"), commit(2, remove=["doc:1#viewer@7"]), entry("check", 2, True)])
+        lines = self.run_tool("draw", "trace", "5").stdout.splitlines()
+        self.assertEqual(lines[3:6], [
+            '  reply [shape=note, style=filled, fillcolor=palegreen, label="the service said yes\\nthe rules say no", color=red, penwidth=2];',
+            '  reply -> "doc:1#viewer" [label="wrong", color=red, penwidth=2];',
+            '  "doc:1#viewer" [label="doc:1#viewer", style=filled, fillcolor=white, penwidth=2];'])
+        lines = self.run_tool("draw", "--at", "1", "trace", "5").stdout.splitlines()
+        self.assertEqual(lines[4:6], ['  reply -> "doc:1#viewer" [label="right"];', '  "doc:1#viewer" [label="doc:1#viewer\\n(stored)", '
+                                      'style=filled, fillcolor=palegreen, penwidth=2];'])
+
+    def test_many_usersets(self):
+        self.put("trace", NAMESPACES + [commit(1, *("group:g#member@group:%d#member" % one for one in range(700)),
+                                               "group:7#member@7"), entry("check", 1, True, "group:g#member@7")])
+        lines = self.run_tool("draw", "trace", "4").stdout.splitlines()
+        self.assertEqual(sum(" -> " in line for line in lines), 500)
+        self.assertIn('  "group:g#member" -> "group:7#member" [label="this", penwidth=2];', lines)
+        self.assertEqual(lines[-2], '  more [shape=plaintext, label="and 201 usersets more"];')
+
+    @unittest.skipUnless(shutil.which("dot"), "Graphviz is not installed")
+    def test_svg(self):
+        self.put("trace", NAMESPACES + [commit(1, 'doc:1#parent@doc:"<&amp;\\N#...'), entry("check", 1, True)])
+        drawn = xml.etree.ElementTree.fromstring(self.run_process("draw", "--form", "svg", "trace", "4").stdout.encode())
+        texts = [one.text for one in drawn.iter("{http://www.w3.org/2000/svg}text")]
+        for text in ("the service said yes", "the rules say no", "wrong", 'doc:"<&amp;\\N#viewer'):
+            self.assertIn(text, texts)
+
+    def test_no_graphviz(self):
+        self.put("trace", NAMESPACES + [entry("check", 1, True)])
+        with mock.patch.dict(os.environ, {"PATH": self.room}):
+            run = self.run_tool("draw", "--form", "svg", "trace", "3")
+        self.assertEqual((run.returncode, run.stdout, run.stderr), (
+            5, "", "Graphviz is not installed: there is no program `dot`; without --form svg its text is written\n"))
 
     def test_as_processes(self):
         path = os.path.join(EXAMPLES, "one_proved_check")
