@@ -1,7 +1,7 @@
 """The command line: its files and its faults of usage."""
 import argparse
 import sys
-from typing import NoReturn, Optional, TextIO
+from typing import Any, NoReturn, Optional, TextIO
 
 from lib.ids import Ids, TableFault
 from lib.progress import Progress
@@ -9,7 +9,10 @@ from lib.trace import Fault, Trace, read_trace
 
 
 class Parser(argparse.ArgumentParser):
-    """Ends with status 3 on a fault of usage, as the program does."""
+    """Keeps the paragraphs of a description, and ends with status 3 on a fault of usage, as the program does."""
+
+    def __init__(self, **words: Any):
+        super().__init__(**{"formatter_class": argparse.RawDescriptionHelpFormatter, **words})
 
     def error(self, message: str) -> NoReturn:
         self.print_usage(sys.stderr)

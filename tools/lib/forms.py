@@ -4,7 +4,9 @@ from typing import Callable, Iterator, NamedTuple, Optional
 from xml.sax.saxutils import escape, quoteattr
 
 from lib import texts
+from lib.baseline import key_of
 from lib.effects import Told
+from lib.kept import Entry
 from lib.telling import Telling
 
 Row = dict[str, object]
@@ -24,9 +26,9 @@ def logged(source: Optional[str]) -> Optional[Place]:
     return Place(file, int(line)) if colon and file and line.isdecimal() and line.isascii() and int(line) else None
 
 
-def place_of(telling: Telling, told: Told) -> Place:
-    """Where a finding is shown: in the log, or where that was not kept, in the trace."""
-    return logged(told.entry.source) or Place(telling.path, told.finding.line)
+def place_of(telling: Telling, entry: Entry) -> Place:
+    """Where an entry is shown: in the log, or where that was not kept, in the trace."""
+    return logged(entry.source) or Place(telling.path, entry.line)
 
 
 def row_of(telling: Telling, told: Told) -> Row:
@@ -34,7 +36,7 @@ def row_of(telling: Telling, told: Told) -> Row:
     finding, entry, effect = told.finding, told.entry, told.effect
     log = logged(entry.source)
     row = {"line": finding.line, "finding": finding.finding, "text": finding.text, "effect": effect.word,
-           "severity": effect.severity, "outcome": told.outcome, "seen": effect.seen, "kind": entry.kind,
+           "severity": effect.severity, "key": key_of(told, telling.ids), "outcome": told.outcome, "seen": effect.seen, "kind": entry.kind,
            "goal": str(entry.goal), "named": telling.ids.tuple_of(entry.goal) if telling.ids else None,
            "snapshot": entry.snapshot, "reply": entry.reply, "zookie": entry.zookie,
            "zookie_at": texts.parse_zookie(entry.zookie)[0] if entry.zookie is not None else None,
@@ -46,8 +48,9 @@ def row_of(telling: Telling, told: Told) -> Row:
 
 def sums_row(telling: Telling) -> Row:
     report = telling.report
-    return {"sums": {**telling.sums._asdict(), "text": str(telling.sums)}, "entries": report.entries,
-            "findings": len(report.findings), "told": len(telling.told), "verdict": report.verdict}
+    return {"sums": {**telling.sums._asdict(), "text": telling.said}, "entries": report.entries,
+            "findings": len(report.findings), "told": len(telling.told), "ignored": len(telling.ignored),
+            "known": len(telling.known), "verdict": report.verdict, "named": telling.ids is not None}
 
 
 def _json(value: Row) -> str:
@@ -70,36 +73,40 @@ def sentence(row: Row) -> str:
 
 
 def text(telling: Telling) -> Iterator[str]:
-    yield str(telling.sums)
+    yield telling.said
     for told in telling.told:
         yield "line %d: %s" % (told.finding.line, sentence(row_of(telling, told)))
 
 
 def junit(telling: Telling) -> Iterator[str]:
-    """A test for each finding, and behind them one for each entry without a finding."""
-    trace, ids = telling.trace, telling.ids
+    """A test for each finding, those that are not told as skipped, and behind them one for each entry without a finding."""
+    trace = telling.trace
     found = {finding.line for finding in telling.report.findings}
-    count = len(telling.told) + len(trace.entries) - len(found)
+    skipped = [(told, "ignored: " + row.reason) for told, row in telling.ignored]
+    skipped += [(told, "known from the baseline") for told in telling.known]
     yield '<?xml version="1.0" encoding="UTF-8"?>'
-    yield '<testsuites><testsuite name="new_enemy" tests="%d" failures="%d" errors="0">' % (count, len(telling.told))
-    yield '<properties><property name="sums" value=%s/></properties>' % quoteattr(str(telling.sums))
+    yield '<testsuites><testsuite name="new_enemy" tests="%d" failures="%d" errors="0" skipped="%d">' % (
+        len(telling.report.findings) + len(trace.entries) - len(found), len(telling.told), len(skipped))
+    yield '<properties><property name="sums" value=%s/></properties>' % quoteattr(telling.said)
     for told in telling.told:
-        row, place = row_of(telling, told), place_of(telling, told)
-        yield "<testcase %s><failure type=%s message=%s>%s</failure></testcase>" % (
-            _case(telling.path, told.finding.line, str(row.get("named", row["goal"])), place),
-            quoteattr(told.finding.finding), quoteattr("%s %s, effect %s" % (row["finding"], row["text"], row["effect"])),
+        row = row_of(telling, told)
+        yield "%s><failure type=%s message=%s>%s</failure></testcase>" % (
+            _case(telling, told.entry), quoteattr(told.finding.finding),
+            quoteattr("%s %s, effect %s" % (row["finding"], row["text"], row["effect"])),
             escape(_xml("%s: %s" % (row["severity"], sentence(row)))))
+    for told, why in skipped:
+        yield "%s><skipped message=%s/></testcase>" % (_case(telling, told.entry), quoteattr(_xml(why)))
     for line in trace.entries:
         if line not in found:
-            entry = trace.entries[line]
-            yield "<testcase %s/>" % _case(telling.path, line, ids.tuple_of(entry.goal) if ids else str(entry.goal),
-                                           logged(entry.source) or Place(telling.path, line))
+            yield _case(telling, trace.entries[line]) + "/>"
     yield "</testsuite></testsuites>"
 
 
-def _case(path: str, line: int, goal: str, place: Place) -> str:
-    return "classname=%s name=%s file=%s line=%s" % (
-        quoteattr(_xml(path)), quoteattr(_xml("line %d: %s" % (line, goal))), quoteattr(_xml(place.file)),
+def _case(telling: Telling, entry: Entry) -> str:
+    place = place_of(telling, entry)
+    goal = telling.ids.tuple_of(entry.goal) if telling.ids else str(entry.goal)
+    return "<testcase classname=%s name=%s file=%s line=%s" % (
+        quoteattr(_xml(telling.path)), quoteattr(_xml("line %d: %s" % (entry.line, goal))), quoteattr(_xml(place.file)),
         quoteattr(str(place.line)))
 
 
@@ -110,9 +117,9 @@ def _xml(text: str) -> str:
 
 def annotations(telling: Telling) -> Iterator[str]:
     """Workflow commands, as GitHub's and Gitea's runners read them."""
-    yield "::notice title=new_enemy::%s" % str(telling.sums)
+    yield "::notice title=new_enemy::%s" % _data(telling.said)
     for told in telling.told:
-        row, place = row_of(telling, told), place_of(telling, told)
+        row, place = row_of(telling, told), place_of(telling, told.entry)
         title = "%s %s, effect %s" % (row["finding"], row["text"], row["effect"])
         yield "::%s file=%s,line=%d,title=%s::%s" % (LEVELS[told.effect.severity], _property(place.file), place.line,
                                                      _property(title), _data(sentence(row)))

@@ -1,9 +1,13 @@
-"""What is to be told of an audit: its findings with their entries and effects, and their sums."""
+"""What is to be told of an audit: its findings with their entries and effects, their sums, and what is left out."""
+from collections import Counter
+from datetime import date
 from typing import Callable, NamedTuple, Optional
 
+from lib.baseline import key_of
 from lib.effects import Effects, Sums, Told, by_effect, sums_of
 from lib.findings import Finding, Report, ReportFault
 from lib.ids import Ids
+from lib.ignoring import Row
 from lib.kept import Entry
 from lib.order import order_findings
 from lib.trace import Trace
@@ -13,11 +17,25 @@ class Telling(NamedTuple):
     """The worst findings come first."""
 
     told: list[Told]
-    sums: Sums
+    # with the row that hides each
+    ignored: list[tuple[Told, Row]]
+    # those of the baseline
+    known: list[Told]
     trace: Trace
     ids: Optional[Ids]
     path: str
     report: Report
+
+    @property
+    def sums(self) -> Sums:
+        return sums_of(self.told)
+
+    @property
+    def said(self) -> str:
+        """The sums as a sentence, with what is not told."""
+        left = [("%d ignored", len(self.ignored)), ("%d known from the baseline", len(self.known))]
+        not_told = ", ".join(words % count for words, count in left if count)
+        return str(self.sums) + ("; not told: " + not_told if not_told else "")
 
 
 def _entry_of(number: int, finding: Finding, trace: Trace) -> Entry:
@@ -46,5 +64,51 @@ def told_of(trace: Trace, report: Report, step: Callable[[int], None] = lambda c
     return by_effect(told)
 
 
-def telling_of(told: list[Told], trace: Trace, ids: Optional[Ids], path: str, report: Report) -> Telling:
-    return Telling(told, sums_of(told), trace, ids, path, report)
+class LeftOut(NamedTuple):
+    """What a report is asked not to tell."""
+
+    rows: list[Row]
+    baseline: Counter[str]
+    today: date
+
+
+def parts_of(told: Told, ids: Optional[Ids]) -> dict[str, str]:
+    """What a finding is found by, with names in place of numbers where there is a table of ids."""
+    goal, user = told.entry.goal.set, told.entry.goal.user
+    assert isinstance(user, int)
+    parts = {"finding": told.finding.finding, "effect": told.effect.word, "kind": told.entry.kind, "key": key_of(told, ids)}
+    if ids is None:
+        return {**parts, "namespace": goal.namespace, "object": goal.id, "relation": goal.relation, "user": str(user)}
+    return {**parts, "namespace": ids.name_of("namespace", goal.namespace), "object": ids.id_of("object", goal.id),
+            "relation": ids.name_of("relation", goal.relation), "user": ids.user_of(user)}
+
+
+def telling_of(told: list[Told], trace: Trace, ids: Optional[Ids], path: str, report: Report,
+               out: Optional[LeftOut] = None) -> Telling:
+    """Each finding is told, ignored, or known from the baseline; a key that stands there once is known once."""
+    telling = Telling([], [], [], trace, ids, path, report)
+    rows = [] if out is None else [row for row in out.rows if row.until >= out.today]
+    left = Counter() if out is None else Counter(out.baseline)
+    for one in told:
+        parts = parts_of(one, ids) if rows or left else {}
+        row = next((row for row in rows if row.hides(parts)), None)
+        if row is not None:
+            telling.ignored.append((one, row))
+        elif left and left[parts["key"]] > 0:
+            left[parts["key"]] -= 1
+            telling.known.append(one)
+        else:
+            telling.told.append(one)
+    return telling
+
+
+def warnings_of(telling: Telling, out: LeftOut) -> list[str]:
+    """What is to be said of rows that hide nothing any more."""
+    used = {row.place for _, row in telling.ignored}
+    said = []
+    for row in out.rows:
+        if row.until < out.today:
+            said.append("%s: ended on %s (%s); what it hid is told again" % (row.place, row.until, row.reason))
+        elif row.place not in used:
+            said.append("%s: hides nothing" % row.place)
+    return said

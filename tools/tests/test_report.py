@@ -36,11 +36,13 @@ class Reports(Case):
         self.assertEqual((run.returncode, run.stderr), (0, ""))
         sums, *rows = [json.loads(line) for line in run.stdout.splitlines()]
         self.assertEqual(sums, {"sums": {"wrong": 1, "let_in": 2, "kept_out": 0, "undecided": 3, "harmless": 4, "text": SUMS},
-                                "entries": 11, "findings": 10, "told": 10, "verdict": "dirty"})
+                                "entries": 11, "findings": 10, "told": 10, "ignored": 0, "known": 0, "verdict": "dirty",
+                                "named": False})
         self.assertEqual([(row["finding"], row["effect"], row["severity"]) for row in rows], [
             ("F10", "wrong", "error"), ("F1", "changed", "error"), ("F3", "changed", "error"), ("F7", "undecided", "warning"),
             ("F8", "undecided", "warning"), ("F9", "undecided", "warning"), ("F2", "none", "note"), ("F4", "none", "note"),
             ("F5", "none", "note"), ("F6", "none", "note")])
+        self.assertRegex(rows[1].pop("key"), "^[0-9a-f]{16}$")
         self.assertEqual(rows[1], {"line": 5, "finding": "F1", "text": "stale", "effect": "changed", "severity": "error",
                                    "outcome": "let in", "seen": 7, "kind": "check", "goal": "doc:a#viewer@1",
                                    "snapshot": 5, "reply": True, "zookie": "z1-0000000000000007", "zookie_at": 7})
