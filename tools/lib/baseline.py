@@ -5,7 +5,7 @@ from collections import Counter
 from typing import Iterator, Optional
 
 from lib.effects import Told
-from lib.ids import Ids
+from lib.names import Names
 
 FINGERPRINT = "finding/v1"
 
@@ -14,12 +14,12 @@ class BaselineFault(Exception):
     """What is wrong with a baseline, with its file and line."""
 
 
-def key_of(told: Told, ids: Optional[Ids]) -> str:
+def key_of(told: Told, names: Names) -> str:
     """What a finding is known by in another report: what was asked, when and with what reply, and its effect. Lines and timestamps of a
     trace change from import to import, so the service's own revision stands in their place where the import kept it."""
     entry = told.entry
-    version = ids.id_of("version", entry.version) if ids and entry.version is not None else entry.version
-    parts = [told.finding.finding, told.effect.word, entry.kind, ids.tuple_of(entry.goal) if ids else str(entry.goal),
+    version = None if entry.version is None else names.version(entry.version)
+    parts = [told.finding.finding, told.effect.word, entry.kind, names.tuple(entry.goal),
              entry.revision if entry.revision is not None else entry.snapshot, entry.reply, version]
     return hashlib.sha256(json.dumps(parts).encode()).hexdigest()[:16]
 

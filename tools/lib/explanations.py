@@ -1,12 +1,12 @@
 """Why an entry has its reply and its findings, in words. The answers explain; the program's audit does not lean on them."""
-from typing import Iterator, Optional
+from typing import Iterator, NamedTuple, Optional
 
 from lib.effects import Effects
-from lib.ids import Ids
 from lib.judging import Judgement
 from lib.kept import Commit, Entry
 from lib.limits import NUMBER
 from lib.meaning import Settled
+from lib.names import Names
 from lib.order import Window, ignored, order_findings, zookie_at
 from lib.reach import Reach, commit_at
 from lib.reasons import Ground, Reason, Reasons
@@ -20,11 +20,31 @@ LOOKED = 1_000
 BARE = {"above": ", as above", "long": ", and so on", "": ", which is not declared at the snapshot"}
 
 
+class Turn(NamedTuple):
+    """The commit at which a reply that is wrong at its snapshot came to be wrong, or behind the snapshot came to be right."""
+
+    at: int
+    is_after: bool
+
+
+def turn_of(trace: Trace, effects: Effects, entry: Entry) -> Optional[Turn]:
+    """The nearest such commit of those before and then of those behind; of each side so many are looked at, at most."""
+    touching = Reach(trace, entry.goal, Window(-1, NUMBER)).touching()
+    before = [at for at in touching if at <= entry.snapshot]
+    for at in before[:-LOOKED - 1:-1]:
+        if at and effects.holds(entry.goal, at - 1) == entry.reply:
+            return Turn(at, True)
+    for at in touching[len(before):len(before) + LOOKED]:
+        if effects.holds(entry.goal, at) == entry.reply:
+            return Turn(at, False)
+    return None
+
+
 class Explainer:
     """Explains entries of a trace; a judgement is of evidence that was looked at."""
 
-    def __init__(self, trace: Trace, ids: Optional[Ids]):
-        self.trace, self.ids = trace, ids
+    def __init__(self, trace: Trace, names: Names):
+        self.trace, self.names = trace, names
         self.effects = Effects(trace)
 
     def lines(self, entry: Entry, judgement: Optional[Judgement] = None) -> Iterator[str]:
@@ -47,21 +67,12 @@ class Explainer:
         yield ""
         yield from self._why(entry, entry.snapshot, is_right)
 
-    # Names and heads
-
-    def _named(self, given: Tuple) -> str:
-        return self.ids.tuple_of(given) if self.ids else str(given)
-
-    def _named_set(self, of: Userset) -> str:
-        return self.ids.userset_of(of) if self.ids else str(of)
-
     def _head(self, entry: Entry) -> Iterator[str]:
-        said = "line %d: %s of %s at snapshot %d" % (entry.line, entry.kind, self._named(entry.goal), entry.snapshot)
+        said = "line %d: %s of %s at snapshot %d" % (entry.line, entry.kind, self.names.tuple(entry.goal), entry.snapshot)
         said += " (%s)" % entry.revision if entry.revision else ""
         said += ", reply %s" % str(entry.reply).lower()
         said += ", token of %d" % zookie_at(entry) if entry.zookie is not None else ", without a token"
-        if entry.version is not None:
-            said += ", version %s" % (self.ids.id_of("version", entry.version) if self.ids else entry.version)
+        said += ", version %s" % self.names.version(entry.version) if entry.version is not None else ""
         yield said
         if entry.source:
             yield "recorded at %s" % entry.source
@@ -78,7 +89,7 @@ class Explainer:
         """A line for the userset, and one for each of its grounds below it."""
         indent = "  " * depth
         bare = "" if reason.grounds else BARE[reason.cut]
-        yield "%s%s %s%s%s" % (indent, "in" if reason.holds else "not in", self._named_set(reason.of), behind, bare)
+        yield "%s%s %s%s%s" % (indent, "in" if reason.holds else "not in", self.names.userset(reason.of), behind, bare)
         for ground in reason.grounds:
             yield from self._told_ground(ground, depth + 1)
         if reason.more:
@@ -88,11 +99,11 @@ class Explainer:
         indent, is_there = "  " * depth, ground.touch is not None and ground.touch[1] or ground.why is not None and ground.why.holds
         away = "" if not ground.subtracted else ", which takes it away" if is_there else ", which would take it away"
         if ground.own is not None:
-            yield "%s%s is %s%s" % (indent, self._named(ground.own), self._stored(ground), away)
+            yield "%s%s is %s%s" % (indent, self.names.tuple(ground.own), self._stored(ground), away)
         elif ground.empty is not None:
-            yield "%snothing is stored in %s%s" % (indent, self._named_set(ground.empty), away)
+            yield "%snothing is stored in %s%s" % (indent, self.names.userset(ground.empty), away)
         elif ground.why is not None:
-            by = ", by %s, added by %s" % (self._named(ground.stored), self._line_at(ground.since)) \
+            by = ", by %s, added by %s" % (self.names.tuple(ground.stored), self._line_at(ground.since)) \
                 if ground.stored is not None and ground.since is not None else ""
             yield from self._told_reason(ground.why, depth, by + away)
 
@@ -152,20 +163,15 @@ class Explainer:
         else:
             yield "The reply is wrong, which the evidence does not show"
         yield "By the rules the goal %s at snapshot %d." % ("does not hold" if entry.reply else "holds", entry.snapshot)
-        touching = Reach(self.trace, entry.goal, Window(-1, NUMBER)).touching()
-        before = [at for at in touching if at <= entry.snapshot]
-        for at in before[:-LOOKED - 1:-1]:
-            if at and self.effects.holds(entry.goal, at - 1) == entry.reply:
-                yield "The latest snapshot at which the reply was right is %d; the commit after it:" % (at - 1)
-                yield "  " + self._told_at(entry, at)
-                return
-        for at in touching[len(before):len(before) + LOOKED]:
-            if self.effects.holds(entry.goal, at) == entry.reply:
-                yield "The reply was right at no snapshot up to its own; it is right from %d on, by the commit" % at
-                yield "  " + self._told_at(entry, at)
-                return
-        yield "The reply was right at no snapshot%s." % (
-            " near its own" if len(touching) > LOOKED else "")
+        turn = turn_of(self.trace, self.effects, entry)
+        if turn is None:
+            yield "The reply was right at no snapshot that was looked at."
+        elif turn.is_after:
+            yield "The latest snapshot at which the reply was right is %d; the commit after it:" % (turn.at - 1)
+            yield "  " + self._told_at(entry, turn.at)
+        else:
+            yield "The reply was right at no snapshot up to its own; it is right from %d on, by the commit" % turn.at
+            yield "  " + self._told_at(entry, turn.at)
 
     # Commits
 
@@ -179,7 +185,7 @@ class Explainer:
             return "line %d at %d: new rules of namespace %s" % (commit.line, commit.at, commit.changes)
         touched = [("adds", one) for one in commit.add] + [("removes", one) for one in commit.remove]
         touched.sort(key=lambda one: not reach.bears(one[1]))
-        said = ", ".join("%s %s" % (verb, self._named(one)) for verb, one in touched[:SHOWN])
+        said = ", ".join("%s %s" % (verb, self.names.tuple(one)) for verb, one in touched[:SHOWN])
         more = ", and %d more" % (len(touched) - SHOWN) if len(touched) > SHOWN else ""
         return "line %d at %d%s: %s%s" % (commit.line, commit.at, " (%s)" % commit.source if commit.source else "",
                                           said or "nothing", more)

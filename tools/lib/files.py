@@ -1,7 +1,8 @@
 """The command line: its files and its faults of usage."""
 import argparse
+import os
 import sys
-from typing import Any, NoReturn, Optional, TextIO
+from typing import Any, Iterable, NoReturn, Optional, TextIO
 
 from lib.ids import Ids, TableFault
 from lib.progress import Progress
@@ -29,6 +30,18 @@ def read_bytes(path: str) -> bytes:
     except OSError as fault:
         sys.stderr.write("cannot open %s: %s\n" % (path, fault.strerror))
         sys.exit(5)
+
+
+def write_whole(path: str, lines: Iterable[str]) -> None:
+    """Writes a file, or leaves the one that is there as it is."""
+    try:
+        with open(path + ".part", "w", encoding="utf-8", newline="\n") as file:
+            for line in lines:
+                file.write(line + "\n")
+        os.replace(path + ".part", path)
+    finally:
+        if os.path.exists(path + ".part"):
+            os.remove(path + ".part")
 
 
 def split_joined(data: bytes) -> tuple[bytes, Optional[bytes]]:

@@ -7,6 +7,7 @@ from lib import texts
 from lib.baseline import key_of
 from lib.effects import Told
 from lib.kept import Entry
+from lib.shown import plain
 from lib.telling import Telling
 
 Row = dict[str, object]
@@ -36,8 +37,8 @@ def row_of(telling: Telling, told: Told) -> Row:
     finding, entry, effect = told.finding, told.entry, told.effect
     log = logged(entry.source)
     row = {"line": finding.line, "finding": finding.finding, "text": finding.text, "effect": effect.word,
-           "severity": effect.severity, "key": key_of(told, telling.ids), "outcome": told.outcome, "seen": effect.seen, "kind": entry.kind,
-           "goal": str(entry.goal), "named": telling.ids.tuple_of(entry.goal) if telling.ids else None,
+           "severity": effect.severity, "key": key_of(told, telling.names), "outcome": told.outcome, "seen": effect.seen, "kind": entry.kind,
+           "goal": str(entry.goal), "named": telling.names.tuple(entry.goal) if telling.names.ids else None,
            "snapshot": entry.snapshot, "reply": entry.reply, "zookie": entry.zookie,
            "zookie_at": texts.parse_zookie(entry.zookie)[0] if entry.zookie is not None else None,
            "version": entry.version, "related": finding.related,
@@ -50,7 +51,7 @@ def sums_row(telling: Telling) -> Row:
     report = telling.report
     return {"sums": {**telling.sums._asdict(), "text": telling.said}, "entries": report.entries,
             "findings": len(report.findings), "told": len(telling.told), "ignored": len(telling.ignored),
-            "known": len(telling.known), "verdict": report.verdict, "named": telling.ids is not None}
+            "known": len(telling.known), "verdict": report.verdict, "named": telling.names.ids is not None}
 
 
 def _json(value: Row) -> str:
@@ -75,7 +76,7 @@ def sentence(row: Row) -> str:
 def text(telling: Telling) -> Iterator[str]:
     yield telling.said
     for told in telling.told:
-        yield "line %d: %s" % (told.finding.line, sentence(row_of(telling, told)))
+        yield plain("line %d: %s" % (told.finding.line, sentence(row_of(telling, told))))
 
 
 def junit(telling: Telling) -> Iterator[str]:
@@ -104,9 +105,8 @@ def junit(telling: Telling) -> Iterator[str]:
 
 def _case(telling: Telling, entry: Entry) -> str:
     place = place_of(telling, entry)
-    goal = telling.ids.tuple_of(entry.goal) if telling.ids else str(entry.goal)
     return "<testcase classname=%s name=%s file=%s line=%s" % (
-        quoteattr(_xml(telling.path)), quoteattr(_xml("line %d: %s" % (entry.line, goal))), quoteattr(_xml(place.file)),
+        quoteattr(_xml(telling.path)), quoteattr(_xml("line %d: %s" % (entry.line, telling.names.tuple(entry.goal)))), quoteattr(_xml(place.file)),
         quoteattr(str(place.line)))
 
 

@@ -2,10 +2,11 @@
 import subprocess
 from typing import Iterator, NamedTuple, Optional
 
-from lib.ids import Ids
 from lib.kept import Entry
 from lib.meaning import Link, Settled
+from lib.names import Names
 from lib.reasons import Reason, Reasons
+from lib.shown import plain
 from lib.texts import Tuple, Userset
 from lib.trace import Trace
 
@@ -20,7 +21,7 @@ class NoDrawing(Exception):
 
 
 def _quoted(text: str) -> str:
-    return '"%s"' % text.replace("\\", "\\\\").replace('"', '\\"').replace("\n", " ")
+    return '"%s"' % plain(text).replace("\\", "\\\\").replace('"', '\\"')
 
 
 def _lines(*texts: str) -> str:
@@ -47,8 +48,8 @@ def _follow(reason: Reason, way: _Way) -> _Way:
 class Drawing:
     """The drawing of an entry's goal, at its snapshot or at another timestamp."""
 
-    def __init__(self, trace: Trace, entry: Entry, ids: Optional[Ids], at: Optional[int]):
-        self.trace, self.entry, self.ids = trace, entry, ids
+    def __init__(self, trace: Trace, entry: Entry, names: Names, at: Optional[int]):
+        self.trace, self.entry, self.names = trace, entry, names
         self.at = entry.snapshot if at is None else at
         self.settled = Settled(trace.rules, trace.store, entry.goal, self.at)
         self.way = _follow(Reasons(self.settled).of_goal(), _Way({}, set()))
@@ -77,10 +78,9 @@ class Drawing:
 
     def _title(self) -> list[str]:
         entry, goal = self.entry, self.entry.goal
-        user = self.ids.user_of(self.settled.user) if self.ids else str(self.settled.user)
-        return ["%s at %d" % (self.ids.tuple_of(goal) if self.ids else str(goal), self.at),
+        return ["%s at %d" % (self.names.tuple(goal), self.at),
                 "line %d, the service looked at %d and said %s" % (entry.line, entry.snapshot, _word(entry.reply)),
-                "green: by the rules, %s is in it" % user]
+                "green: by the rules, %s is in it" % self.names.user(self.settled.user)]
 
     def _reply(self) -> Iterator[str]:
         """What the service said, beside what the rules say at the drawing's timestamp."""
@@ -93,7 +93,7 @@ class Drawing:
 
     def _label(self, of: Userset) -> str:
         is_stored = self.trace.store.has(Tuple(of, self.settled.user), self.at)
-        return _lines(self.ids.userset_of(of) if self.ids else str(of), *(["(stored)"] if is_stored else []))
+        return _lines(self.names.userset(of), *(["(stored)"] if is_stored else []))
 
     def _edge(self, of: Userset, link: Link) -> str:
         style = ", style=dashed" if link.strict else ""
@@ -102,7 +102,7 @@ class Drawing:
 
     def _form(self, form: str) -> str:
         kind, *names = form.split()
-        return " ".join([kind] + [self.ids.name_of("relation", name) if self.ids else name for name in names])
+        return " ".join([kind] + [self.names.relation(name) for name in names])
 
 
 def _word(answer: bool) -> str:

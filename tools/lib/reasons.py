@@ -40,13 +40,10 @@ class Reason(NamedTuple):
 class Reasons:
     """The reasons of one goal. Few usersets are told, so that recursion and text stay short however long a path is."""
 
-    USERSETS = 40
-    GROUNDS = 10
-
-    def __init__(self, settled: Settled):
+    def __init__(self, settled: Settled, usersets: int = 40, grounds: int = 10):
         self.settled = settled
         self.rank = {node: place for place, node in enumerate(settled.known)}
-        self.left = self.USERSETS
+        self.left, self.most = usersets, grounds
         self.told: set[Userset] = set()
 
     def of_goal(self) -> Reason:
@@ -62,7 +59,7 @@ class Reasons:
         self.left -= 1
         self.told.add(node)
         grounds = self._grounds(node, rewrite, holds) or []
-        shown = [one if one.to is None else one._replace(why=self._reason(one.to)) for one in grounds[:self.GROUNDS]]
+        shown = [one if one.to is None else one._replace(why=self._reason(one.to)) for one in grounds[:self.most]]
         return Reason(node, holds, shown, len(grounds) - len(shown))
 
     def _grounds(self, node: Userset, rewrite: Rewrite, wanted: bool) -> Optional[list[Ground]]:

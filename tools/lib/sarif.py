@@ -51,7 +51,7 @@ def _result(telling: Telling, told: Told, ignored: Optional[Ignored]) -> dict[st
     location["logicalLocations"] = [{"fullyQualifiedName": row.get("named", row["goal"]), "kind": "resource"}]
     result: dict[str, object] = {
         "ruleId": told.finding.finding, "ruleIndex": NUMBERS[told.finding.finding], "level": told.effect.severity,
-        "message": {"text": sentence(row)}, "locations": [location], "partialFingerprints": {FINGERPRINT: key_of(told, telling.ids)},
+        "message": {"text": sentence(row)}, "locations": [location], "partialFingerprints": {FINGERPRINT: key_of(told, telling.names)},
         "properties": row}
     if told.finding.related is not None:
         result["relatedLocations"] = [{"id": 1, "message": {"text": "see line %d of the trace" % told.finding.related},

@@ -6,9 +6,9 @@ from typing import Callable, NamedTuple, Optional
 from lib.baseline import key_of
 from lib.effects import Effects, Sums, Told, by_effect, sums_of
 from lib.findings import Finding, Report, ReportFault
-from lib.ids import Ids
 from lib.ignoring import Row
 from lib.kept import Entry
+from lib.names import Names
 from lib.order import order_findings
 from lib.trace import Trace
 
@@ -22,7 +22,7 @@ class Telling(NamedTuple):
     # those of the baseline
     known: list[Told]
     trace: Trace
-    ids: Optional[Ids]
+    names: Names
     path: str
     report: Report
 
@@ -72,25 +72,20 @@ class LeftOut(NamedTuple):
     today: date
 
 
-def parts_of(told: Told, ids: Optional[Ids]) -> dict[str, str]:
-    """What a finding is found by, with names in place of numbers where there is a table of ids."""
-    goal, user = told.entry.goal.set, told.entry.goal.user
-    assert isinstance(user, int)
-    parts = {"finding": told.finding.finding, "effect": told.effect.word, "kind": told.entry.kind, "key": key_of(told, ids)}
-    if ids is None:
-        return {**parts, "namespace": goal.namespace, "object": goal.id, "relation": goal.relation, "user": str(user)}
-    return {**parts, "namespace": ids.name_of("namespace", goal.namespace), "object": ids.id_of("object", goal.id),
-            "relation": ids.name_of("relation", goal.relation), "user": ids.user_of(user)}
+def parts_of(told: Told, names: Names) -> dict[str, str]:
+    """What a finding is found by."""
+    return {"finding": told.finding.finding, "effect": told.effect.word, "kind": told.entry.kind, "key": key_of(told, names),
+            **names.question(told.entry.goal)._asdict()}
 
 
-def telling_of(told: list[Told], trace: Trace, ids: Optional[Ids], path: str, report: Report,
+def telling_of(told: list[Told], trace: Trace, names: Names, path: str, report: Report,
                out: Optional[LeftOut] = None) -> Telling:
     """Each finding is told, ignored, or known from the baseline; a key that stands there once is known once."""
-    telling = Telling([], [], [], trace, ids, path, report)
+    telling = Telling([], [], [], trace, names, path, report)
     rows = [] if out is None else [row for row in out.rows if row.until >= out.today]
     left = Counter() if out is None else Counter(out.baseline)
     for one in told:
-        parts = parts_of(one, ids) if rows or left else {}
+        parts = parts_of(one, names) if rows or left else {}
         row = next((row for row in rows if row.hides(parts)), None)
         if row is not None:
             telling.ignored.append((one, row))

@@ -139,7 +139,7 @@ class Findings(Case):
                                    "added by line 3 at 1", "      doc:2#viewer@7 is stored, added by line 4 at 2"])
         self.assertEqual(self.explained(10, *rows)[0][-2:], ["The reply was right at no snapshot up to its own; it is right from "
                                                              "2 on, by the commit", "  line 4 at 2: adds doc:2#viewer@7"])
-        self.assertEqual(self.explained(11, *rows)[0][-1], "The reply was right at no snapshot.")
+        self.assertEqual(self.explained(11, *rows)[0][-1], "The reply was right at no snapshot that was looked at.")
 
     def test_new_rules_as_a_commit(self):
         change = {"kind": "namespace", "at": 2, "name": "group", "relations": [
