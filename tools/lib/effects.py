@@ -105,8 +105,8 @@ def sums_of(told: Iterable[Told]) -> Sums:
         if known is None or one.effect.rank < known.effect.rank:
             worst[one.finding.line] = one
     kinds = ["wrong" if one.effect.word == "wrong" else one.outcome or one.effect.word for one in worst.values()]
-    counted = [kinds.count(kind) for kind in ("wrong", "let in", "kept out", "undecided")]
-    return Sums(*counted, len(kinds) - sum(counted))
+    wrong, let_in, kept_out, undecided = [kinds.count(kind) for kind in ("wrong", "let in", "kept out", "undecided")]
+    return Sums(wrong, let_in, kept_out, undecided, len(kinds) - wrong - let_in - kept_out - undecided)
 
 
 def by_effect(told: Iterable[Told]) -> list[Told]:

@@ -2,14 +2,15 @@
 from typing import Iterator
 
 from lib import limits, strictjson, texts
+from lib.strictjson import Object
 from lib.trace import Fault, Refusal, Trace, is_u64
 
 
-def _shape(value: object) -> tuple[int, list[dict]]:
+def _shape(value: object) -> tuple[int, list[Object]]:
     if not isinstance(value, dict):
         raise Refusal("wrong shape", "the record is no object")
     line, steps = value.get("line"), value.get("steps")
-    if not is_u64(line):
+    if not isinstance(line, int) or not is_u64(line):
         raise Refusal("wrong shape", "`line` is %r, and no whole number of 64 bits" % (line,))
     if not isinstance(steps, list):
         raise Refusal("wrong shape", "`steps` is no list")
@@ -25,7 +26,7 @@ def _shape(value: object) -> tuple[int, list[dict]]:
     return line, steps
 
 
-def _facts(steps: list[dict]) -> Iterator[tuple[str, str]]:
+def _facts(steps: list[Object]) -> Iterator[tuple[str, str]]:
     for number, step in enumerate(steps, 1):
         if ("yes" in step) != ("no" in step):
             for fact in [step["yes"]] if "yes" in step else step["no"]:

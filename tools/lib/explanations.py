@@ -65,13 +65,14 @@ class Explainer:
         elif not found:
             yield "By the rules the reply is right, and its token and snapshot are in order."
         yield ""
-        yield from self._why(entry, entry.snapshot, is_right)
+        yield from self._why(entry, is_right, judgement)
 
     def _head(self, entry: Entry) -> Iterator[str]:
         said = "line %d: %s of %s at snapshot %d" % (entry.line, entry.kind, self.names.tuple(entry.goal), entry.snapshot)
         said += " (%s)" % entry.revision if entry.revision else ""
         said += ", reply %s" % str(entry.reply).lower()
-        said += ", token of %d" % zookie_at(entry) if entry.zookie is not None else ", without a token"
+        token = zookie_at(entry)
+        said += ", without a token" if token is None else ", token of %d" % token
         said += ", version %s" % self.names.version(entry.version) if entry.version is not None else ""
         yield said
         if entry.source:
@@ -79,11 +80,14 @@ class Explainer:
 
     # Why a goal holds or not
 
-    def _why(self, entry: Entry, at: int, is_right: bool) -> Iterator[str]:
-        settled = Settled(self.trace.rules, self.trace.store, entry.goal, at)
-        word = "allowed" if settled.holds() else "denied"
-        yield ("Why %s:" if is_right else "Why it should be %s:") % word
-        yield from self._told_reason(Reasons(settled).of_goal(), 1, "")
+    def _why(self, entry: Entry, is_right: bool, judgement: Optional[Judgement]) -> Iterator[str]:
+        """By the evidence that was looked at, where it settles the goal, or by evidence made here."""
+        known = judgement.known if judgement is not None else None
+        if known is None:
+            known = Settled(self.trace.rules, self.trace.store, entry.goal, entry.snapshot)
+        reason = Reasons(known, entry.goal.set).of_goal()
+        yield ("Why %s:" if is_right else "Why it should be %s:") % ("allowed" if reason.holds else "denied")
+        yield from self._told_reason(reason, 1, "")
 
     def _told_reason(self, reason: Reason, depth: int, behind: str) -> Iterator[str]:
         """A line for the userset, and one for each of its grounds below it."""
@@ -237,7 +241,7 @@ class Explainer:
         if effect == "changed":
             yield "At %d, the newest state that had to be seen:" % window.high
             settled = Settled(self.trace.rules, self.trace.store, entry.goal, window.high)
-            yield from self._told_reason(Reasons(settled).of_goal(), 1, "")
+            yield from self._told_reason(Reasons(settled, entry.goal.set).of_goal(), 1, "")
 
 
 def _first_of(listed: Iterator[int], most: int) -> Iterator[int]:

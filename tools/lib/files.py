@@ -13,7 +13,8 @@ class Parser(argparse.ArgumentParser):
     """Keeps the paragraphs of a description, and ends with status 3 on a fault of usage, as the program does."""
 
     def __init__(self, **words: Any):
-        super().__init__(**{"formatter_class": argparse.RawDescriptionHelpFormatter, **words})
+        words.setdefault("formatter_class", argparse.RawDescriptionHelpFormatter)
+        super().__init__(**words)
 
     def error(self, message: str) -> NoReturn:
         self.print_usage(sys.stderr)

@@ -40,7 +40,7 @@ def _finding(number: int, text: str) -> Finding:
     wanted, more = FORMS[finding]
     if said != wanted or (more == "line") != (related is not None) or (more == "step") != (step is not None):
         raise ReportFault("report line %d: %s is not `%s`" % (number, finding, text[:200]))
-    return Finding(int(line), finding, said, related and int(related), step and int(step))
+    return Finding(int(line), finding, said, None if related is None else int(related), None if step is None else int(step))
 
 
 def read_report(text: str) -> Report:

@@ -65,7 +65,7 @@ def json_lines(telling: Telling) -> Iterator[str]:
 
 
 def sentence(row: Row) -> str:
-    said = "%s %s: %s of %s at snapshot %d replied %s" % (
+    said = "%s %s: %s of %s at snapshot %s replied %s" % (
         row["finding"], row["text"], row["kind"], row.get("named", row["goal"]), row["snapshot"], str(row["reply"]).lower())
     for key, words in (("zookie_at", "token of %s"), ("version", "version %s"), ("related", "see line %s"),
                        ("step", "step %s"), ("from", "from %s"), ("effect", "effect %s")):

@@ -52,7 +52,7 @@ class Drawing:
         self.trace, self.entry, self.names = trace, entry, names
         self.at = entry.snapshot if at is None else at
         self.settled = Settled(trace.rules, trace.store, entry.goal, self.at)
-        self.way = _follow(Reasons(self.settled).of_goal(), _Way({}, set()))
+        self.way = _follow(Reasons(self.settled, entry.goal.set).of_goal(), _Way({}, set()))
 
     def lines(self) -> Iterator[str]:
         """A node for each userset, filled where the user is in it; an edge for each that its rule reads, dashed where it is

@@ -4,18 +4,20 @@ from typing import NamedTuple, Optional
 from lib import strictjson, texts
 from lib.kept import Entry
 from lib.meaning import Known
+from lib.strictjson import Object
 from lib.texts import Tuple, Userset
 from lib.trace import Trace
 
 
 class Judgement(NamedTuple):
-    """The finding on evidence, or None, and what it rests on."""
+    """The finding on evidence, or None, and what it rests on; where the goal is settled, also what is known of its user."""
 
     finding: Optional[str]
     why: str
+    known: Optional[Known] = None
 
 
-def records_of(data: bytes, lines: set[int]) -> dict[int, list[dict]]:
+def records_of(data: bytes, lines: set[int]) -> dict[int, list[Object]]:
     """The steps of the records for some lines of a trace, of evidence that the program takes."""
     found = {}
     starts = tuple(b'{"line":%d,' % line for line in lines)
@@ -29,7 +31,7 @@ def records_of(data: bytes, lines: set[int]) -> dict[int, list[dict]]:
     return found
 
 
-def judge(trace: Trace, entry: Entry, steps: Optional[list[dict]]) -> Judgement:
+def judge(trace: Trace, entry: Entry, steps: Optional[list[Object]]) -> Judgement:
     if steps is None:
         return Judgement("F7 no evidence", "No record names the line.")
     known: dict[int, Known] = {}
@@ -49,7 +51,7 @@ def judge(trace: Trace, entry: Entry, steps: Optional[list[dict]]) -> Judgement:
     answer = None if goal is None else goal.known.get(entry.goal.set)
     if answer is None:
         return Judgement("F9 silent evidence", "The steps are accepted, and the goal is in none of them.")
-    return Judgement(None if answer == entry.reply else "F10 wrong reply", "")
+    return Judgement(None if answer == entry.reply else "F10 wrong reply", "", goal)
 
 
 def _user_of(entry: Entry) -> int:

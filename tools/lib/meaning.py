@@ -6,6 +6,7 @@ from typing import Iterator, NamedTuple, Optional
 
 from lib.rules import Place, Rules, form_of, places
 from lib.store import Store
+from lib.strictjson import Object
 from lib.texts import Tuple, Userset
 
 
@@ -67,7 +68,7 @@ class Known:
         rewrite = self.rules.rewrite_at(node.namespace, node.relation, self.at)
         return False if rewrite is None else self._body(node, rewrite)
 
-    def _body(self, node: Userset, rewrite: dict) -> Optional[bool]:
+    def _body(self, node: Userset, rewrite: Object) -> Optional[bool]:
         """Whether a rule holds; None where that hangs on what is not known yet."""
         form = form_of(rewrite)
         inner = rewrite[form]

@@ -5,18 +5,19 @@ from typing import Optional, TextIO
 
 
 class Progress:
-    # Between two looks at the clock.
-    EVERY = 500
     SECONDS = 1.0
+    # Between two that are shown.
+    PAUSE = 0.1
 
     def __init__(self, stream: Optional[TextIO] = None):
         self.stream = sys.stderr if stream is None else stream
         self.is_shown = self.stream.isatty()
-        self.began = time.monotonic()
+        self.next = time.monotonic() + self.SECONDS
 
     def step(self, said: str, count: int) -> None:
         """Shows what was done so far, as `read %s lines`."""
-        if self.is_shown and count % self.EVERY == 0 and time.monotonic() - self.began > self.SECONDS:
+        if self.is_shown and time.monotonic() > self.next:
+            self.next = time.monotonic() + self.PAUSE
             self.stream.write("\r%s\x1b[K" % (said % format(count, ",")))
             self.stream.flush()
 

@@ -1,11 +1,10 @@
-"""Why a goal holds or does not: the path through groups and folders, from the steps of made evidence."""
+"""Why a goal holds or does not: the path through groups and folders, from the steps of evidence."""
 from typing import NamedTuple, Optional
 
-from lib.meaning import Settled, ways
+from lib.meaning import Known, ways
 from lib.rules import form_of, places
+from lib.strictjson import Object
 from lib.texts import Tuple, Userset
-
-Rewrite = dict
 
 
 class Ground(NamedTuple):
@@ -38,20 +37,21 @@ class Reason(NamedTuple):
 
 
 class Reasons:
-    """The reasons of one goal. Few usersets are told, so that recursion and text stay short however long a path is."""
+    """The reasons of a goal, by what the steps of evidence made known, in their order. Few usersets are told, so that recursion and
+    text stay short however long a path is."""
 
-    def __init__(self, settled: Settled, usersets: int = 40, grounds: int = 10):
-        self.settled = settled
-        self.rank = {node: place for place, node in enumerate(settled.known)}
+    def __init__(self, known: Known, goal: Userset, usersets: int = 40, grounds: int = 10):
+        self.known, self.goal = known, goal
+        self.rank = {node: place for place, node in enumerate(known.known)}
         self.left, self.most = usersets, grounds
         self.told: set[Userset] = set()
 
     def of_goal(self) -> Reason:
-        return self._reason(self.settled.goal.set)
+        return self._reason(self.goal)
 
     def _reason(self, node: Userset) -> Reason:
-        holds = self.settled.known.get(node, False)
-        rewrite = self.settled.rules.rewrite_at(node.namespace, node.relation, self.settled.at)
+        holds = self.known.known.get(node, False)
+        rewrite = self.known.rules.rewrite_at(node.namespace, node.relation, self.known.at)
         if rewrite is None:
             return Reason(node, False, [])
         if node in self.told or not self.left:
@@ -62,7 +62,7 @@ class Reasons:
         shown = [one if one.to is None else one._replace(why=self._reason(one.to)) for one in grounds[:self.most]]
         return Reason(node, holds, shown, len(grounds) - len(shown))
 
-    def _grounds(self, node: Userset, rewrite: Rewrite, wanted: bool) -> Optional[list[Ground]]:
+    def _grounds(self, node: Userset, rewrite: Object, wanted: bool) -> Optional[list[Ground]]:
         """What shows that a part of a node's rule holds, or does not; None where it is the other way."""
         form = form_of(rewrite)
         inner = rewrite[form]
@@ -72,11 +72,12 @@ class Reasons:
             listed = [self._grounds(node, child, wanted) for child in inner]
             if (form == "union") == wanted:
                 # One child is enough; the shortest says it best.
-                return min((one for one in listed if one is not None), key=_cost, default=None)
+                shown = [one for one in listed if one is not None]
+                return min(shown, key=_cost) if shown else None
             return None if None in listed else [ground for one in listed if one for ground in one]
         return self._of_leaf(node, rewrite, wanted)
 
-    def _of_exclusion(self, node: Userset, inner: dict, wanted: bool) -> Optional[list[Ground]]:
+    def _of_exclusion(self, node: Userset, inner: Object, wanted: bool) -> Optional[list[Ground]]:
         base = self._grounds(node, inner["base"], wanted)
         if base is not None and not wanted:
             return base
@@ -86,22 +87,22 @@ class Reasons:
         marked = [one._replace(subtracted=True) for one in subtracted]
         return [*(base or []), *marked] if wanted else marked
 
-    def _of_leaf(self, node: Userset, rewrite: Rewrite, wanted: bool) -> Optional[list[Ground]]:
-        settled, place = self.settled, next(places(rewrite))
-        own = Tuple(node, settled.user)
+    def _of_leaf(self, node: Userset, rewrite: Object, wanted: bool) -> Optional[list[Ground]]:
+        known, place = self.known, next(places(rewrite))
+        own = Tuple(node, known.user)
         found: list[Ground] = []
         if place.form == "this":
-            touch = settled.store.last_touch(own, settled.at)
+            touch = known.store.last_touch(own, known.at)
             is_stored = touch is not None and touch[1]
             if is_stored:
                 return [Ground(own=own, touch=touch)] if wanted else None
             found.append(Ground(own=own, touch=touch))
-        read = list(ways(settled.store, node, place, settled.at))
+        read = list(ways(known.store, node, place, known.at))
         if wanted:
             usable = [one for one in read if self._is_usable(one.to, node)]
             best = min(usable, key=lambda one: self.rank[one.to], default=None)
             return None if best is None else [self._ground(best.to, best.stored)]
-        if any(settled.state(one.to) for one in read):
+        if any(known.state(one.to) is not False for one in read):
             return None
         if place.form == "tuple_to" and not read:
             return [Ground(empty=Userset(node.namespace, node.id, place.names[0]))]
@@ -109,10 +110,10 @@ class Reasons:
 
     def _is_usable(self, to: Userset, node: Userset) -> bool:
         """Whether the user is in a userset, and that was found before it was found of the node."""
-        return self.settled.state(to) is True and self.rank[to] < self.rank[node]
+        return self.known.state(to) is True and self.rank[to] < self.rank[node]
 
     def _ground(self, to: Userset, stored: Optional[Tuple]) -> Ground:
-        touch = None if stored is None else self.settled.store.last_touch(stored, self.settled.at)
+        touch = None if stored is None else self.known.store.last_touch(stored, self.known.at)
         return Ground(to=to, stored=stored, since=None if touch is None else touch[0])
 
 

@@ -41,7 +41,7 @@ def _location(place: Place) -> dict[str, object]:
 def _related(telling: Telling, line: int) -> Place:
     """Where the line that a finding refers to is shown."""
     trace = telling.trace
-    source = (trace.entries[line] if line in trace.entries else trace.commits[trace.commits.before(line)]).source
+    source = trace.entries[line].source if line in trace.entries else trace.commits[trace.commits.before(line)].source
     return logged(source) or Place(telling.path, line)
 
 

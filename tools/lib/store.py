@@ -52,17 +52,24 @@ class Store:
         self._users: dict[Userset, _Users] = {}
 
     def touch(self, at: int, given: Tuple, live: bool) -> None:
-        self.touch_text(at, str(given.set).encode(), str(given.user).encode(), live)
+        self.touch_texts(at, [(str(given.set).encode(), str(given.user).encode())], live)
 
-    def touch_text(self, at: int, of: bytes, user: bytes, live: bool) -> None:
-        """As `touch`, by the texts of a userset and a user."""
-        listed = self._touches.get(of)
-        if listed is None:
-            self._touches[of] = [(user, at, live)]
-        else:
-            listed.append((user, at, live))
+    def touch_texts(self, at: int, pairs: list[tuple[bytes, bytes]], live: bool) -> None:
+        """As `touch`, of tuples as the texts of their usersets and users."""
+        known = self._touches
+        for of, user in pairs:
+            listed = known.get(of)
+            if listed is None:
+                known[of] = [(user, at, live)]
+            else:
+                listed.append((user, at, live))
         if self._users:
             self._users.clear()
+
+    def untouched(self, pairs: list[tuple[bytes, bytes]]) -> list[bytes]:
+        """Those of the usersets that were never touched before."""
+        known = self._touches
+        return [of for of, _ in pairs if of not in known]
 
     def knows(self, of: bytes) -> bool:
         """Whether a userset of this text was ever touched."""

@@ -80,7 +80,7 @@ class Teller:
             heads.append((window.high, "What it had to see, at %d"))
         for at, head in heads:
             settled = Settled(self.trace.rules, self.trace.store, entry.goal, at)
-            reason = Reasons(settled, USERSETS, GROUNDS).of_goal()
+            reason = Reasons(settled, entry.goal.set, USERSETS, GROUNDS).of_goal()
             yield Picture("%s: %s" % (head % at, "allowed" if reason.holds else "denied"), reason)
 
     # Events

@@ -1,12 +1,14 @@
 """JSON as the program reads it, line by line."""
 import json
 import re
-from typing import Iterator
+from typing import Any, Iterator, Union
 
 from lib import limits
 
 BLANK = b" \t\r"
 BLOCK = 1 << 16
+# An object of JSON.
+Object = dict[str, Any]
 STRING = re.compile(rb'"(?:[^"\\]|\\.)*"')
 
 
@@ -27,7 +29,7 @@ def _float(text: str) -> float:
     return value
 
 
-def _int(text: str) -> int | float:
+def _int(text: str) -> Union[int, float]:
     if text == "-0" or len(text) > 300:
         return _float(text)
     return int(text)
@@ -80,7 +82,7 @@ def value_of(raw: bytes) -> object:
     return value
 
 
-def object_of(raw: bytes) -> dict:
+def object_of(raw: bytes) -> Object:
     """The object of a line that is known to be one."""
     value = value_of(raw)
     assert isinstance(value, dict)

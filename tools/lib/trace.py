@@ -8,10 +8,14 @@ from lib.kept import Commit, Commits, Entries, Entry
 from lib.quick import QuickCommit, quick_commit, quick_entry
 from lib.rules import Rules, RulesFault
 from lib.store import Store
+from lib.strictjson import Object
 from lib.texts import Tuple, Userset
 
 KINDS = ("namespace", "commit", "check", "content")
 NINE = b"9"[0]
+STEP = 1_024
+# Of so many texts the names are kept.
+NAMED = 100_000
 
 Label = tuple[bytes, bytes]
 Names = tuple[bytes, bytes]
@@ -57,6 +61,7 @@ class Trace:
         # the names of usersets that are declared, and the pairs of them in tuples whose edges are not broken
         self._declared: set[Names] = set()
         self._sound: set[tuple[Names, Names]] = set()
+        self._names_of_texts: dict[bytes, Names] = {}
 
     def at_of(self, line: int) -> Optional[int]:
         """The timestamp of a line: of a commit its own, of an entry its snapshot."""
@@ -92,18 +97,23 @@ class Trace:
         if self.commits and commit.at <= self.commits.ats[-1] or len(set(touched)) != len(touched) \
                 or self.touches + len(touched) > limits.TOUCHES:
             return False
-        touch = self.store.touch_text
-        if not all([self._is_known(of) for of, _ in touched]):
+        if not all(_names(of) in self._declared for of in self.store.untouched(touched)):
             return False
-        for of, user in commit.add:
-            if user[0] > NINE and (_names(of), _names(user)) not in self._sound:
-                return False
-        for live, pairs in ((True, commit.add), (False, commit.remove)):
-            for of, user in pairs:
-                touch(commit.at, of, user, live)
+        if not all([self._is_sound(of, user) for of, user in commit.add if user[0] > NINE]):
+            return False
+        self.store.touch_texts(commit.at, commit.add, True)
+        self.store.touch_texts(commit.at, commit.remove, False)
         self.touches += len(touched)
         self.commits.keep(line, commit.at, raw)
         return True
+
+    def _is_sound(self, of: bytes, user: bytes) -> bool:
+        """Whether the edges of a tuple with a userset as its user were seen not to be broken."""
+        known = self._names_of_texts
+        if len(known) > NAMED:
+            known.clear()
+        names = known.get(of) or known.setdefault(of, _names(of))
+        return (names, known.get(user) or known.setdefault(user, _names(user))) in self._sound
 
     def take(self, line: int, raw: bytes) -> None:
         try:
@@ -111,7 +121,7 @@ class Trace:
         except strictjson.NotJson as fault:
             raise Refusal("not JSON", str(fault)) from None
         kind = value.get("kind") if isinstance(value, dict) else None
-        if not isinstance(kind, str) or kind not in KINDS:
+        if not isinstance(value, dict) or not isinstance(kind, str) or kind not in KINDS:
             raise Refusal("unknown kind", "the kind is %r; it should be one of %s" % (kind, ", ".join(KINDS)))
         if kind == "namespace":
             self._namespace(line, value)
@@ -120,7 +130,7 @@ class Trace:
         else:
             self._entry(line, kind, value)
 
-    def _namespace(self, line: int, value: dict) -> None:
+    def _namespace(self, line: int, value: Object) -> None:
         try:
             declaration = self.rules.add(value)
         except RulesFault as fault:
@@ -161,9 +171,9 @@ class Trace:
             raise Refusal("commit not later than %d" % last,
                           "`at` is %d, and the commit before it, on line %d, has %d" % (at, self.commits.lines[-1], last))
 
-    def _commit(self, line: int, value: dict) -> None:
+    def _commit(self, line: int, value: Object) -> None:
         at = value.get("at")
-        if not is_u64(at):
+        if not isinstance(at, int) or not is_u64(at):
             raise Refusal("wrong shape", "`at` is %r, and no whole number of 64 bits" % (at,))
         sides = [self._tuples(value, key) for key in ("add", "remove")]
         for key, given in self._keyed(value, sides):
@@ -187,8 +197,9 @@ class Trace:
         self.commits.keep(line, at, self._commit_of(line, value, sides))
 
     @staticmethod
-    def _commit_of(line: int, value: dict, sides: list[list[Tuple]]) -> Commit:
-        return Commit(line, value["at"], *sides, _text_or_none(value.get("from")), _text_or_none(value.get("revision")), None)
+    def _commit_of(line: int, value: Object, sides: list[list[Tuple]]) -> Commit:
+        add, remove = sides
+        return Commit(line, value["at"], add, remove, _text_or_none(value.get("from")), _text_or_none(value.get("revision")), None)
 
     def _commit_again(self, line: int, raw: bytes) -> Commit:
         """A commit that was taken quickly."""
@@ -196,13 +207,13 @@ class Trace:
         return self._commit_of(line, value, [self._tuples(value, key) for key in ("add", "remove")])
 
     @staticmethod
-    def _keyed(value: dict, sides: list[list[Tuple]]) -> Iterator[tuple[str, Tuple]]:
+    def _keyed(value: Object, sides: list[list[Tuple]]) -> Iterator[tuple[str, Tuple]]:
         for key, side in zip(("add", "remove"), sides):
             for place, given in enumerate(side):
                 yield "%s[%d]" % (key, place), given
 
     @staticmethod
-    def _tuples(value: dict, key: str) -> list[Tuple]:
+    def _tuples(value: Object, key: str) -> list[Tuple]:
         for name in ("add", "remove"):
             listed = [] if value.get(name) is None else value[name]
             if not isinstance(listed, list) or not all(isinstance(text, str) for text in listed):
@@ -215,7 +226,7 @@ class Trace:
                 raise Refusal(str(fault), *_text_details("%s[%d]" % (key, place), text, fault)) from None
         return read
 
-    def _refuse_twice(self, value: dict, sides: list[list[Tuple]]) -> None:
+    def _refuse_twice(self, value: Object, sides: list[list[Tuple]]) -> None:
         first: dict[Tuple, str] = {}
         for place, (key, given) in enumerate(self._keyed(value, sides)):
             if given in first:
@@ -230,7 +241,7 @@ class Trace:
                           "namespace %s declares %s" % (of.namespace, ", ".join(known)) if known
                           else "no line before declares namespace %s" % of.namespace)
 
-    def _entry(self, line: int, kind: str, value: dict) -> None:
+    def _entry(self, line: int, kind: str, value: Object) -> None:
         self._refuse_shape(kind, value)
         try:
             goal = texts.parse_fact(value["goal"])
@@ -251,7 +262,7 @@ class Trace:
                               % (version, goal.set.namespace, goal.set.id, issued))
         self.entries.keep(line, self._entry_of(line, kind, value, goal))
 
-    def _entry_of(self, line: int, kind: str, value: dict, goal: Tuple) -> Entry:
+    def _entry_of(self, line: int, kind: str, value: Object, goal: Tuple) -> Entry:
         version, issued = value.get("version"), None
         if kind == "check" and version is not None:
             issued = self._versions.get(_label(goal.set, version))
@@ -265,7 +276,7 @@ class Trace:
         return self._entry_of(line, value["kind"], value, texts.parse_fact(value["goal"]))
 
     @staticmethod
-    def _refuse_shape(kind: str, value: dict) -> None:
+    def _refuse_shape(kind: str, value: Object) -> None:
         wrong = []
         if not isinstance(value.get("goal"), str):
             wrong.append("`goal` is no text")
@@ -318,7 +329,8 @@ def _take_lines(trace: Trace, data: bytes, step: Callable[[int], None]) -> None:
         for line, raw in strictjson.lines_of(data):
             if not (is_quick and trace.take_quickly(line, raw)):
                 trace.take(line, raw)
-            step(line)
+            if line % STEP == 0:
+                step(line)
     except strictjson.TooLong as fault:
         raise Fault("trace", fault.line, "too long", ["a line has at most %d bytes, and an input %d"
                                                       % (limits.LINE_BYTES, limits.INPUT_BYTES)]) from None
@@ -327,7 +339,7 @@ def _take_lines(trace: Trace, data: bytes, step: Callable[[int], None]) -> None:
 
 
 def read_trace(data: bytes, step: Callable[[int], None] = lambda line: None) -> Trace:
-    """The trace; raises Fault on the first line that the program refuses. `step` is told each line that was read."""
+    """The trace; raises Fault on the first line that the program refuses. `step` is told now and then how many were read."""
     trace, is_on = Trace(), gc.isenabled()
     # Nothing of what is read is garbage, and looking for it takes half of the time.
     gc.disable()

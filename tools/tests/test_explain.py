@@ -241,6 +241,18 @@ class Evidence(Case):
             seen.update(finding.split()[0] for finding in wanted.values())
         self.assertEqual(set(seen), {"F7", "F8", "F9", "F10"})
 
+    def test_the_way_of_the_evidence(self):
+        """Of two ways in, that of the evidence is told."""
+        rows = [commit(1, "doc:1#viewer@group:a#member", "doc:1#viewer@group:b#member", "group:a#member@7", "group:b#member@7"),
+                entry("check", 1, True)]
+        self.put("trace", NAMESPACES + rows)
+        no = '{"no":["doc:1#banned@7"]}'
+        for group in "ab":
+            self.put("evidence", '{"line":4,"steps":[%s,{"yes":"group:%s#member@7"},{"yes":"doc:1#viewer@7"}]}\n' % (no, group))
+            said = self.run_tool("explain", "--evidence", "evidence", "trace", "4").stdout
+            self.assertIn("    in group:%s#member, by doc:1#viewer@group:%s#member, added by line 3 at 1" % (group, group), said)
+            self.assertEqual(said.count("in group"), 1)
+
     def test_lines_that_are_asked_for(self):
         rows = [commit(1, "doc:1#viewer@7"), entry("check", 1, True), entry("check", 1, True), entry("check", 1, True)]
         self.put("trace", NAMESPACES + rows)
@@ -261,7 +273,7 @@ class Ways(Case):
             trace = read_trace(b"\n".join(ChangingInput(Random("ways %d" % number), 40).lines()))
             for one in trace.entries.values():
                 for at in (one.snapshot, one.snapshot // 2):
-                    self.follow(trace, one.goal, at, Reasons(Settled(trace.rules, trace.store, one.goal, at)).of_goal(), seen, ())
+                    self.follow(trace, one.goal, at, Reasons(Settled(trace.rules, trace.store, one.goal, at), one.goal.set).of_goal(), seen, ())
         for kind in ("stored", "absent", "in", "not in", "taken", "above"):
             self.assertGreater(seen[kind], 0, seen)
 
