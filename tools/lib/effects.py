@@ -4,14 +4,14 @@ The effect of a finding on tokens is one of
   none      no ignored commit touches what the goal leads to
   possible  some does, and the reply is the answer at the newest state that had to be seen
   changed   some does, and the reply is not the answer there
-A wrong reply is `wrong`, and what lacks good evidence `undecided`. The answers are the tools' own; the program's audit does not
+A wrong reply is `wrong`; what lacks good evidence, or whose goal leads to too much to be looked at, is `undecided`. The answers are the tools' own; the program's audit does not
 lean on them.
 """
 from typing import Iterable, NamedTuple, Optional
 
 from lib.findings import Finding
 from lib.kept import Entry
-from lib.meaning import Settled
+from lib.meaning import Outgrown, Settled
 from lib.order import Window, ignored
 from lib.reach import Reach
 from lib.texts import Tuple
@@ -59,7 +59,10 @@ class Effects:
         if finding in UNDECIDED:
             return Effect("undecided", None)
         window = ignored(self.trace, entry, finding)
-        return Effect(self._word(entry, window), window.high)
+        try:
+            return Effect(self._word(entry, window), window.high)
+        except Outgrown:
+            return Effect("undecided", window.high)
 
     def _word(self, entry: Entry, window: Window) -> str:
         if not self.trace.commits.during(*window) or not Reach(self.trace, entry.goal, window).touching():

@@ -5,7 +5,7 @@ from lib.effects import Effects
 from lib.judging import Judgement
 from lib.kept import Commit, Entry
 from lib.limits import NUMBER
-from lib.meaning import Settled
+from lib.meaning import Outgrown, Settled
 from lib.names import Names
 from lib.order import Window, ignored, order_findings, zookie_at
 from lib.reach import Reach, commit_at
@@ -27,14 +27,14 @@ class Turn(NamedTuple):
     is_after: bool
 
 
-def turn_of(trace: Trace, effects: Effects, entry: Entry) -> Optional[Turn]:
+def turn_of(trace: Trace, effects: Effects, entry: Entry, looked: int = LOOKED) -> Optional[Turn]:
     """The nearest such commit of those before and then of those behind; of each side so many are looked at, at most."""
     touching = Reach(trace, entry.goal, Window(-1, NUMBER)).touching()
     before = [at for at in touching if at <= entry.snapshot]
-    for at in before[:-LOOKED - 1:-1]:
+    for at in before[:-looked - 1:-1]:
         if at and effects.holds(entry.goal, at - 1) == entry.reply:
             return Turn(at, True)
-    for at in touching[len(before):len(before) + LOOKED]:
+    for at in touching[len(before):len(before) + looked]:
         if effects.holds(entry.goal, at) == entry.reply:
             return Turn(at, False)
     return None
@@ -49,6 +49,13 @@ class Explainer:
 
     def lines(self, entry: Entry, judgement: Optional[Judgement] = None) -> Iterator[str]:
         yield from self._head(entry)
+        try:
+            yield from self._body(entry, judgement)
+        except Outgrown as fault:
+            yield ""
+            yield "No more is said: %s." % fault
+
+    def _body(self, entry: Entry, judgement: Optional[Judgement]) -> Iterator[str]:
         is_right = self.effects.holds(entry.goal, entry.snapshot) == entry.reply
         found = list(order_findings(self.trace, entry))
         for finding, related in found:
@@ -204,7 +211,8 @@ class Explainer:
         low, high = demanded
         touching = [at for at in reach.touching() if low < at <= high]
         yield "Commits between: %d, of which %d touch what the goal leads to." % (len(between), len(touching))
-        others = (one for one in (self.trace.commits.ats[place] for place in between) if one not in set(touching))
+        bearing = set(touching)
+        others = (at for at in (self.trace.commits.ats[place] for place in between) if at not in bearing)
         for mark, listed, count in (("touches", iter(touching), len(touching)), ("other", others, len(between) - len(touching))):
             for at in _first_of(listed, SHOWN):
                 commit = commit_at(self.trace, at)

@@ -12,7 +12,7 @@ from lib.trace import Trace
 
 
 def record(trace: Trace, entry: Entry) -> str:
-    """The line of evidence for an entry."""
+    """The line of evidence for an entry; raises Outgrown."""
     settled = Settled(trace.rules, trace.store, entry.goal, entry.snapshot)
     listed: list[dict[str, Union[str, list[str]]]] = []
     for step in settled.steps or [Step(False, [entry.goal.set])]:

@@ -4,10 +4,25 @@ The answers explain; the program's audit does not lean on them.
 """
 from typing import Iterator, NamedTuple, Optional
 
+from lib import limits
 from lib.rules import Place, Rules, form_of, places
 from lib.store import Store
 from lib.strictjson import Object
 from lib.texts import Tuple, Userset
+
+
+class Outgrown(Exception):
+    """A goal leads to more than is looked at."""
+
+    def __init__(self) -> None:
+        super().__init__("the goal leads to more than %s usersets, or reads them more than %s times; it is not looked at" % (
+            format(limits.CONE_USERSETS, ","), format(limits.CONE_LINKS, ",")))
+
+
+def refuse_outgrown(usersets: int, read: int) -> None:
+    """Raises Outgrown where a goal leads to more usersets than this, or more links are read."""
+    if usersets > limits.CONE_USERSETS or read > limits.CONE_LINKS:
+        raise Outgrown
 
 
 class Link(NamedTuple):
@@ -90,7 +105,7 @@ class Known:
 
 
 class Settled(Known):
-    """Each userset that a goal leads to, settled stratum by stratum."""
+    """Each userset that a goal leads to, settled stratum by stratum; raises Outgrown."""
 
     def __init__(self, rules: Rules, store: Store, goal: Tuple, at: int):
         assert isinstance(goal.user, int)
@@ -108,14 +123,17 @@ class Settled(Known):
         return self.known.get(self.goal.set, False)
 
     def _cone(self) -> dict[Userset, list[Link]]:
+        """Each userset is gone through once; raises Outgrown."""
         cone: dict[Userset, list[Link]] = {}
-        todo = [self.goal.set]
+        todo, read = [self.goal.set], 0
         if not self.is_declared(self.goal.set):
             return cone
         while todo:
             node = todo.pop()
             if node not in cone:
                 cone[node] = links(self.rules, self.store, node, self.at)
+                read += len(cone[node])
+                refuse_outgrown(len(cone), read)
                 todo += [link.to for link in cone[node] if link.to not in cone]
         return cone
 

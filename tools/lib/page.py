@@ -10,6 +10,7 @@ from typing import Callable, Iterator, NamedTuple, Optional
 from lib.effects import EFFECTS, Told
 from lib.findings import FORMS
 from lib.forms import place_of
+from lib.meaning import Outgrown
 from lib.picture import drawn
 from lib.shown import markup
 from lib.stories import Event, Story, Teller
@@ -53,6 +54,10 @@ def _asset(name: str) -> str:
         return file.read()
 
 
+def _counted(count: int, one: str, many: str) -> str:
+    return "%s %s" % (format(count, ","), one if count == 1 else many)
+
+
 def _hash(text: str) -> str:
     return "'sha256-%s'" % base64.b64encode(hashlib.sha256(text.encode()).digest()).decode()
 
@@ -90,9 +95,9 @@ class Writer:
     def _sums(self, page: Page) -> Iterator[str]:
         report, sums = self.telling.report, self.telling.sums
         yield "<header><h1>What the audit found</h1>"
-        yield '<p>Verdict <span class="verdict %s">%s</span> of %s entries in <code>%s</code>, with %s findings.</p>' % (
-            report.verdict, report.verdict, format(report.entries, ","), markup(self.telling.path),
-            format(len(report.findings), ","))
+        yield '<p>Verdict <span class="verdict %s">%s</span> of %s in <code>%s</code>, with %s.</p>' % (
+            report.verdict, report.verdict, _counted(report.entries, "entry", "entries"), markup(self.telling.path),
+            _counted(len(report.findings), "finding", "findings"))
         yield '<p id="said">%s.</p><ul class="sums">' % markup(self.telling.said)
         for count, mark, words in ((sums.wrong, "wrong", "reply wrong" if sums.wrong == 1 else "replies wrong"), (sums.let_in, "changed", "stale, let someone in"),
                                    (sums.kept_out, "changed", "stale, kept someone out"),
@@ -129,7 +134,11 @@ class Writer:
             return
         yield '<main><h2 id="mattered">What mattered</h2>'
         for number, told in enumerate(mattered):
-            yield from self._story(told, self.teller.story(told), number < OPEN)
+            try:
+                story = self.teller.story(told)
+            except Outgrown as fault:
+                story = self.teller.short_story(told, str(fault))
+            yield from self._story(told, story, number < OPEN)
         yield "</main>"
 
     def _story(self, told: Told, story: Story, is_open: bool) -> Iterator[str]:

@@ -49,7 +49,7 @@ class _Rows:
             self.put(ground.why, depth, above, ", ".join(one for one in (small, _away(ground)) if one), ground.subtracted)
         elif ground.own is not None:
             is_stored = ground.touch is not None and ground.touch[1]
-            said = "never stored" if ground.touch is None else "%s at %d" % ("added" if is_stored else "removed", ground.touch[0])
+            said = "not stored" if ground.touch is None else "%s at %d" % ("added" if is_stored else "removed", ground.touch[0])
             self.rows.append(_Row(depth, above, "in" if is_stored else "out", self.names.tuple(ground.own),
                                   ", ".join(one for one in (said, _away(ground)) if one), ground.subtracted))
         elif ground.empty is not None:

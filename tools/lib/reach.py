@@ -2,6 +2,7 @@
 from typing import Optional
 
 from lib.kept import Commit
+from lib.meaning import refuse_outgrown
 from lib.order import Window
 from lib.texts import Tuple, Userset
 from lib.trace import Trace
@@ -10,7 +11,7 @@ from lib.trace import Trace
 class Reach:
     """The usersets that a goal leads to at some moment from a window's low to its high, and those whose tuples are read there.
 
-    Where no commit of the window touches these, the goal's answer is the same at both ends.
+    Where no commit of the window touches these, the goal's answer is the same at both ends. Raises Outgrown.
     """
 
     def __init__(self, trace: Trace, goal: Tuple, window: Window):
@@ -18,12 +19,15 @@ class Reach:
         self.nodes: set[Userset] = set()
         self.read: set[Userset] = set()
         # Each userset is gone through once, with the usersets ever stored in those that it reads.
-        todo = [goal.set]
+        todo, read = [goal.set], 0
         while todo:
             node = todo.pop()
             if node not in self.nodes:
                 self.nodes.add(node)
-                todo += self._next(node)
+                found = self._next(node)
+                read += len(found)
+                refuse_outgrown(len(self.nodes), read)
+                todo += found
         self.namespaces = {node.namespace for node in self.nodes}
 
     def _next(self, node: Userset) -> list[Userset]:

@@ -15,6 +15,8 @@ from lib.trace import Trace
 TUPLES = 4
 COMMITS = 6
 USERSETS, GROUNDS = 12, 4
+# So many commits are looked at for the one after which a reply was right; there may be a thousand stories.
+LOOKED = 50
 
 
 class Event(NamedTuple):
@@ -64,9 +66,17 @@ class Teller:
         for event in sorted(events):
             known = kept.get((event.at, event.text))
             kept[event.at, event.text] = event if known is None or event.is_ignored else known
-        user = self.names.question(entry.goal).user
-        title = "%s%s was %s: %s %s" % ("" if self.names.ids else "User ", user, told.outcome, finding.finding, finding.text)
-        return Story(title, self._question(entry), sorted(kept.values()), list(self._remarks(told, window)), pictures)
+        return Story(self._title(told), self._question(entry), sorted(kept.values()), list(self._remarks(told, window)), pictures)
+
+    def short_story(self, told: Told, why: str) -> Story:
+        """The story of a finding whose goal is not looked at."""
+        window = Window(told.entry.snapshot, told.entry.snapshot)
+        return Story(self._title(told), self._question(told.entry), sorted(self._checks(told.entry, window)),
+                     ["No more is told: %s." % why], [])
+
+    def _title(self, told: Told) -> str:
+        user = self.names.question(told.entry.goal).user
+        return "%s%s was %s: %s %s" % ("" if self.names.ids else "User ", user, told.outcome, told.finding.finding, told.finding.text)
 
     def _question(self, entry: Entry) -> str:
         return "%s %s, and the service said %s" % (
@@ -119,7 +129,7 @@ class Teller:
 
     def _turn(self, entry: Entry) -> Iterator[Event]:
         """Of a wrong reply, the commit at which it came to be wrong."""
-        turn = turn_of(self.trace, self.effects, entry)
+        turn = turn_of(self.trace, self.effects, entry, LOOKED)
         if turn is not None:
             yield self._commit(turn.at, Reach(self.trace, entry.goal, Window(turn.at - 1, turn.at)), False)
 

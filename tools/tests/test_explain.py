@@ -11,6 +11,7 @@ from random import Random
 from unittest import mock
 
 from hostile.inputs import worked_cases
+from lib import limits
 from lib.evidence import check_evidence
 from lib.files import split_joined
 from lib.judging import judge, records_of
@@ -175,6 +176,26 @@ class Findings(Case):
         why = self.explained(5, *rows)[1]
         self.assertEqual(why[-1], "    and 2991 more like these")
         self.assertLess(len(why), 100)
+
+    def test_goals_that_lead_to_too_much(self):
+        """Each tool says so, and goes on where it can."""
+        rows = [commit(1, *("group:%d#member@group:%d#member" % (one, one + 1) for one in range(9))), commit(2, "group:9#member@7"),
+                entry("check", 1, False, "group:0#member@7", zookie=token(2)), entry("check", 1, False, "group:8#member@7", zookie=token(2)),
+                entry("check", 2, False, "group:0#member@7")]
+        self.put("trace", NAMESPACES + rows)
+        self.put("report", "line 5: F1 stale\nline 6: F1 stale\nline 7: F10 wrong reply\nentries 3\nfindings 3\nverdict dirty\n")
+        with mock.patch.object(limits, "CONE_USERSETS", 8):
+            said = self.run_tool("explain", "trace", "5", "6").stdout
+            told = "the goal leads to more than 8 usersets, or reads them more than 4,194,304 times; it is not looked at"
+            self.assertIn("No more is said: %s.\n\nline 6" % told, said)
+            self.assertIn("Effect changed", said)
+            run = self.run_tool("draw", "trace", "5")
+            self.assertEqual((run.returncode, run.stdout, run.stderr), (2, "", told + "\n"))
+            run = self.run_tool("make_evidence", "trace")
+            self.assertEqual((run.returncode, run.stdout.count("\n"), run.stderr), (0, 1, "gave up 2\n"))
+            lines = self.run_tool("report", "--form", "text", "trace", "report").stdout.splitlines()
+            self.assertEqual(lines[0], "1 reply wrong, 0 stale answers that let someone in, 1 that kept someone out, 1 undecided, 0 harmless")
+            self.assertIn("No more is told: %s." % told, self.run_tool("report", "--form", "html", "trace", "report").stdout)
 
     def test_many_lines(self):
         self.put("trace", NAMESPACES + [commit(1, "doc:1#viewer@7"), entry("check", 1, True), entry("check", 1, False)])
