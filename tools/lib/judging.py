@@ -1,7 +1,7 @@
 """The judgement of an entry's evidence, as docs/FORMATS.md has it, and what is wrong with a step that is not accepted."""
 from typing import NamedTuple, Optional
 
-from lib import strictjson, texts
+from lib import texts
 from lib.kept import Entry
 from lib.meaning import Known
 from lib.strictjson import Object
@@ -15,20 +15,6 @@ class Judgement(NamedTuple):
     finding: Optional[str]
     why: str
     known: Optional[Known] = None
-
-
-def records_of(data: bytes, lines: set[int]) -> dict[int, list[Object]]:
-    """The steps of the records for some lines of a trace, of evidence that the program takes."""
-    found = {}
-    starts = tuple(b'{"line":%d,' % line for line in lines)
-    for _, raw in strictjson.lines_of(data):
-        # Most records begin so, and those of other lines need no look.
-        if raw.startswith(b'{"line":') and not raw.startswith(starts) and raw.count(b'"line"') == 1:
-            continue
-        value = strictjson.object_of(raw)
-        if value["line"] in lines:
-            found[value["line"]] = value["steps"]
-    return found
 
 
 def judge(trace: Trace, entry: Entry, steps: Optional[list[Object]]) -> Judgement:

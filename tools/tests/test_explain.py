@@ -12,9 +12,9 @@ from unittest import mock
 
 from hostile.inputs import worked_cases
 from lib import limits
-from lib.evidence import check_evidence
+from lib.evidence import check_evidence, records_of
 from lib.files import split_joined
-from lib.judging import judge, records_of
+from lib.judging import judge
 from lib.meaning import Settled
 from lib.order import order_lines
 from lib.reasons import Reasons
@@ -255,7 +255,7 @@ class Evidence(Case):
             report = subprocess.run([os.environ["NEW_ENEMY"]], input=joined, capture_output=True, timeout=60).stdout.decode()
             part, evidence = split_joined(joined)
             trace = read_trace(part)
-            records = records_of(evidence, set(trace.entries))
+            records = records_of(evidence, trace, set(trace.entries))
             judged = {line: judge(trace, entry, records.get(line)).finding for line, entry in trace.entries.items()}
             wanted = {int(line): finding for line, finding in re.findall("line ([0-9]+): (F(?:7|8|9|10) .*)", report)}
             self.assertEqual({line: finding for line, finding in judged.items() if finding}, wanted)
@@ -274,11 +274,20 @@ class Evidence(Case):
             self.assertIn("    in group:%s#member, by doc:1#viewer@group:%s#member, added by line 3 at 1" % (group, group), said)
             self.assertEqual(said.count("in group"), 1)
 
+    def test_refused_evidence(self):
+        self.put("trace", NAMESPACES + [commit(1, "doc:1#viewer@7"), entry("check", 1, True), entry("check", 1, True)])
+        for row, told in (('{"line":4,"steps":[{}]}', "evidence line 1: unknown step\n  step 1 has neither yes nor no\n"),
+                          ("{", "evidence line 1: not JSON\n  Expecting property name enclosed in double quotes at character 1\n"),
+                          ('{"line":4,"steps":7}', "evidence line 1: wrong shape\n  `steps` is no list\n")):
+            self.put("evidence", row + "\n")
+            run = self.run_tool("explain", "--evidence", "evidence", "trace", "4")
+            self.assertEqual((run.returncode, run.stdout, run.stderr), (2, "", told))
+
     def test_lines_that_are_asked_for(self):
         rows = [commit(1, "doc:1#viewer@7"), entry("check", 1, True), entry("check", 1, True), entry("check", 1, True)]
         self.put("trace", NAMESPACES + rows)
         self.put("evidence", '{"line":4,"steps":[{"yes":"doc:1#viewer@7"}]}\n'
-                             '{"steps":[{"no":["doc:1#banned@7"]},{"yes":"doc:1#viewer@7"}],"line":5}\n')
+                             '{"line":6,"steps":[{"no":["doc:1#banned@7"]},{"yes":"doc:1#viewer@7"}],"l\\u0069ne":5}\n')
         said = self.run_tool("explain", "--evidence", "evidence", "trace", "4", "5", "6").stdout
         self.assertEqual([line for line in said.splitlines() if line[:1] == "F" or line.startswith("The step")], [
             "F8 bad evidence at step 1",
