@@ -37,7 +37,7 @@ def row_of(telling: Telling, told: Told) -> Row:
     finding, entry, effect = told.finding, told.entry, told.effect
     log = logged(entry.source)
     row = {"line": finding.line, "finding": finding.finding, "text": finding.text, "effect": effect.word,
-           "severity": effect.severity, "key": key_of(told, telling.names), "outcome": told.outcome, "seen": effect.seen, "kind": entry.kind,
+           "severity": effect.severity, "outcome": told.outcome, "seen": effect.seen, "kind": entry.kind,
            "goal": str(entry.goal), "named": telling.names.tuple(entry.goal) if telling.names.ids else None,
            "snapshot": entry.snapshot, "reply": entry.reply, "zookie": entry.zookie,
            "zookie_at": texts.parse_zookie(entry.zookie)[0] if entry.zookie is not None else None,
@@ -45,6 +45,11 @@ def row_of(telling: Telling, told: Told) -> Row:
            "related_at": None if finding.related is None else telling.trace.at_of(finding.related), "step": finding.step,
            "from": entry.source, "file": log and log.file, "file_line": log and log.line, "revision": entry.revision}
     return {key: value for key, value in row.items() if value is not None}
+
+
+def keyed_row_of(telling: Telling, told: Told) -> Row:
+    """The same with the key by which a baseline knows it."""
+    return {**row_of(telling, told), "key": key_of(told, telling.names)}
 
 
 def sums_row(telling: Telling) -> Row:
@@ -61,7 +66,7 @@ def _json(value: Row) -> str:
 def json_lines(telling: Telling) -> Iterator[str]:
     yield _json(sums_row(telling))
     for told in telling.told:
-        yield _json(row_of(telling, told))
+        yield _json(keyed_row_of(telling, told))
 
 
 def sentence(row: Row) -> str:

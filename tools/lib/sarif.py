@@ -3,10 +3,10 @@ import json
 from typing import Iterator, Optional
 from urllib.parse import quote
 
-from lib.baseline import FINGERPRINT, key_of
+from lib.baseline import FINGERPRINT
 from lib.effects import Told
 from lib.findings import FORMS
-from lib.forms import Place, Row, logged, place_of, row_of, sentence, sums_row
+from lib.forms import Place, keyed_row_of, logged, place_of, sentence, sums_row
 from lib.ignoring import Row as Ignored
 from lib.telling import Telling
 
@@ -46,12 +46,12 @@ def _related(telling: Telling, line: int) -> Place:
 
 
 def _result(telling: Telling, told: Told, ignored: Optional[Ignored]) -> dict[str, object]:
-    row: Row = row_of(telling, told)
+    row = keyed_row_of(telling, told)
     location = _location(place_of(telling, told.entry))
     location["logicalLocations"] = [{"fullyQualifiedName": row.get("named", row["goal"]), "kind": "resource"}]
     result: dict[str, object] = {
         "ruleId": told.finding.finding, "ruleIndex": NUMBERS[told.finding.finding], "level": told.effect.severity,
-        "message": {"text": sentence(row)}, "locations": [location], "partialFingerprints": {FINGERPRINT: key_of(told, telling.names)},
+        "message": {"text": sentence(row)}, "locations": [location], "partialFingerprints": {FINGERPRINT: row["key"]},
         "properties": row}
     if told.finding.related is not None:
         result["relatedLocations"] = [{"id": 1, "message": {"text": "see line %d of the trace" % told.finding.related},

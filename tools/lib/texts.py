@@ -1,4 +1,5 @@
 """The texts of docs/FORMATS.md: names, object ids, tuples, facts and zookies."""
+import functools
 import re
 from typing import NamedTuple, Optional, Union
 
@@ -100,6 +101,7 @@ def zookie_text(at: int) -> str:
     return "z1-%016x" % at
 
 
+@functools.lru_cache(maxsize=4_096)
 def parse_zookie(text: str) -> tuple[int, Optional[str]]:
     """The timestamp, and the kind of version 2."""
     raw = text.encode()
