@@ -63,6 +63,10 @@ class Commits(Sequence[Commit]):
             kept = self._kept[place] = self._read(self.lines[place], kept)
         return kept
 
+    def kept(self, place: int) -> Union[Commit, bytes]:
+        """A commit, or its line as bytes where it was not read in full yet."""
+        return self._kept[place]
+
     def before(self, line: int) -> int:
         """How many stand before a line."""
         return bisect_left(self.lines, line)

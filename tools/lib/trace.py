@@ -13,6 +13,7 @@ from lib.texts import Tuple, Userset
 
 KINDS = ("namespace", "commit", "check", "content")
 NINE = b"9"[0]
+ANY = b"any"
 STEP = 1_024
 # Of so many texts the names are kept.
 NAMED = 100_000
@@ -69,6 +70,17 @@ class Trace:
             return self.entries[line].snapshot
         place = self.commits.before(line)
         return self.commits.ats[place] if self.commits.lines[place:place + 1] == [line] else None
+
+    def users_touched(self, place: int) -> frozenset[bytes]:
+        """The users of the tuples that a commit touches, as texts; of usersets, and of new rules, only that there are any: ANY."""
+        kept = self.commits.kept(place)
+        quick = quick_commit(kept) if isinstance(kept, bytes) else None
+        if quick is not None:
+            return frozenset([ANY if user[0] > NINE else user for _, user in quick.add + quick.remove])
+        commit = self.commits[place]
+        users = [given.user for given in commit.add + commit.remove]
+        return frozenset([ANY] * (commit.changes is not None) + [
+            ANY if isinstance(user, Userset) else str(user).encode() for user in users])
 
     def line_that_issues(self, of: Userset, version: str) -> Optional[int]:
         """The line that issues a version for an object."""

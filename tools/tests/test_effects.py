@@ -6,8 +6,12 @@ import subprocess
 from collections import Counter
 from random import Random
 from typing import Iterator
+from unittest import mock
 
+from lib.effects import Effects
+from lib.order import ignored, order_findings
 from lib.texts import zookie_text
+from lib.trace import read_trace
 from tests.random_traces import NAMESPACES, VIEWER, RandomInput
 from tests.support import Case
 
@@ -188,6 +192,23 @@ class ByMovingEntries(Audited):
         for finding in ("F1", "F2", "F3", "F4", "F6"):
             for effect in ("none", "possible", "changed"):
                 self.assertGreater(seen[finding, effect], 0, (finding, effect, seen))
+
+
+class WithoutTheQuickLook(Case):
+    """What is quickly seen to touch nothing does touch nothing."""
+
+    def test_random_entries(self):
+        seen = Counter()
+        for number in range(30):
+            trace = read_trace(b"\n".join(ChangingInput(Random("quick look %d" % number), 40).lines()))
+            told = [(entry, finding.split()[0]) for entry in trace.entries.values() for finding, _ in order_findings(trace, entry)]
+            effects, slow = Effects(trace), Effects(trace)
+            with mock.patch.object(slow, "_may_touch", lambda *_: True):
+                self.assertEqual([effects.of(*one) for one in told], [slow.of(*one) for one in told])
+            for entry, finding in told:
+                window = ignored(trace, entry, finding)
+                seen[effects._may_touch(entry.goal, trace.commits.during(*window)), effects.of(entry, finding).word] += 1
+        self.assertEqual(set(seen), {(False, "none"), (True, "none"), (True, "possible"), (True, "changed")})
 
 
 BOB = [{"kind": "namespace", "name": "doc", "relations": [{"name": "viewer"}, {"name": "editor"}]},
