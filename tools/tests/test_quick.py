@@ -5,8 +5,9 @@ from typing import Optional
 from unittest import mock
 
 from hostile.inputs import worked_cases
+from lib import strictjson
 from lib.files import split_joined
-from lib.texts import Tuple
+from lib.texts import Tuple, Userset
 from lib.trace import Fault, Trace, read_trace
 from tests.random_traces import RandomInput
 from tests.support import Case
@@ -45,6 +46,22 @@ class Quick(Case):
             self.compare(b"\n".join(ChangingInput(Random("quick %d" % number), 30).lines()))
         self.assertGreater(refused, RANDOM_TRACES)
 
+    def test_lines(self):
+        """Blocks of lines give what all lines at once give."""
+        random = Random("lines")
+        with mock.patch.object(strictjson, "BLOCK", 5):
+            for _ in range(500):
+                data = bytes(random.choice(b"\n\n \ta{") for _ in range(random.randrange(40)))
+                wanted = [(number, line) for number, line in enumerate(data.split(b"\n"), 1) if line.strip(b" \t\r")]
+                self.assertEqual(list(strictjson.lines_of(data)), wanted)
+
+    def test_parting_lines(self):
+        """The first line that is exactly three dashes parts joined input."""
+        for data, wanted in ((b"", (b"", None)), (b"---", (b"", b"")), (b"---\na", (b"", b"a")), (b"a\n---", (b"a\n", b"")),
+                             (b"a\n---\nb\n---\n", (b"a\n", b"b\n---\n")), (b"a---\n", (b"a---\n", None)), (b"--- \n---x", (b"--- \n---x", None)),
+                             (b"a\n---\r\n", (b"a\n---\r\n", None)), (b"a\n----\n---\n", (b"a\n----\n", b""))):
+            self.assertEqual(split_joined(data), wanted)
+
     def test_worked_cases(self):
         refused = sum(bool(self.compare(split_joined(case.data)[0])) for case in worked_cases() if len(case.data) < 1_000_000)
         self.assertGreater(refused, 200)
@@ -62,4 +79,4 @@ class Quick(Case):
                      kept.replace(":2", ":9").replace("a#viewer@1", "b#owner@1"), kept.replace(":2", ":9").replace("é", "é" * 65)):
             taken.append(trace.take_quickly(len(taken) + 4, line.encode()))
         self.assertEqual(taken, [True] + [False] * 9)
-        self.assertTrue(trace.store.has(Tuple(next(iter(trace.commits[1].add)).set, 1), 2))
+        self.assertTrue(trace.store.has(Tuple(Userset("doc", "b", "viewer"), 1), 2))
