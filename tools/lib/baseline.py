@@ -39,7 +39,7 @@ def _of_lines(path: str, text: str) -> Iterator[tuple[bool, Optional[str]]]:
                 yield is_named, None
             else:
                 yield is_named, str(row["key"])
-        except (ValueError, KeyError, TypeError):
+        except (ValueError, KeyError, TypeError, RecursionError):
             raise _fault(path, number) from None
 
 
@@ -50,7 +50,7 @@ def _of_sarif(path: str, text: str) -> Iterator[tuple[bool, Optional[str]]]:
             yield is_named, None
             for result in run["results"]:
                 yield is_named, str(result["partialFingerprints"][FINGERPRINT])
-    except (ValueError, KeyError, TypeError):
+    except (ValueError, KeyError, TypeError, RecursionError):
         raise _fault(path, 1) from None
 
 

@@ -2,7 +2,8 @@
 import re
 from typing import NamedTuple, Optional
 
-FINDING = re.compile(r"line ([0-9]+): (F(?:[1-9]|10)) ([a-z ]+?)(?:, see line ([0-9]+)| at step ([0-9]+))?")
+# Numbers of a report have no more digits than those of 64 bits.
+FINDING = re.compile(r"line ([0-9]{1,20}): (F(?:[1-9]|10)) ([a-z ]+?)(?:, see line ([0-9]{1,20})| at step ([0-9]{1,20}))?")
 FORMS = {"F1": ("stale", None), "F2": ("old token", "line"), "F3": ("not latest", "line"), "F4": ("open snapshot", "line"),
          "F5": ("wrong token", None), "F6": ("unknown version", None), "F7": ("no evidence", None),
          "F8": ("bad evidence", "step"), "F9": ("silent evidence", None), "F10": ("wrong reply", None)}
@@ -46,7 +47,7 @@ def _finding(number: int, text: str) -> Finding:
 def read_report(text: str) -> Report:
     """The report of an audit; raises ReportFault where it is none, or not whole."""
     lines = text.splitlines()
-    tail = re.fullmatch(r"entries ([0-9]+)\nfindings ([0-9]+)\nverdict (clean|dirty)", "\n".join(lines[-3:]))
+    tail = re.fullmatch(r"entries ([0-9]{1,20})\nfindings ([0-9]{1,20})\nverdict (clean|dirty)", "\n".join(lines[-3:]))
     if not tail:
         raise ReportFault("report line %d: the last lines are not `entries N`, `findings N` and `verdict ..`" % len(lines))
     findings = [_finding(number, line) for number, line in enumerate(lines[:-3], 1)]

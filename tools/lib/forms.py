@@ -1,5 +1,6 @@
 """The forms that a report is given in for machines, and as text."""
 import json
+import re
 from typing import Callable, Iterator, NamedTuple, Optional
 from xml.sax.saxutils import escape, quoteattr
 
@@ -24,7 +25,7 @@ class Place(NamedTuple):
 def logged(source: Optional[str]) -> Optional[Place]:
     """Where the import that wrote a line of the trace had it from, if it kept that."""
     file, colon, line = (source or "").rpartition(":")
-    return Place(file, int(line)) if colon and file and line.isdecimal() and line.isascii() and int(line) else None
+    return Place(file, int(line)) if colon and file and re.fullmatch("[1-9][0-9]{0,17}", line) else None
 
 
 def place_of(telling: Telling, entry: Entry) -> Place:

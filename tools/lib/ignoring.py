@@ -63,7 +63,7 @@ def _day(value: object) -> Optional[date]:
 def _row(place: str, line: str) -> Row:
     try:
         value = json.loads(line)
-    except ValueError as fault:
+    except (ValueError, RecursionError) as fault:
         raise IgnoreFault("%s: not JSON: %s" % (place, fault)) from None
     if not isinstance(value, dict):
         raise IgnoreFault("%s: no object" % place)

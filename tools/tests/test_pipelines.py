@@ -116,7 +116,8 @@ class Baselines(Pipelines):
         self.put("empty", "")
         self.put("other", '{"version":"2.1.0","runs":[{"results":[]}]}')
         self.put("rows", self.report().replace('"key"', '"kye"', 1))
-        for name, line in (("empty", 1), ("other", 1), ("rows", 2), ("report.txt", 1)):
+        self.put("deep", '{"sums":' + "[" * 200_000)
+        for name, line in (("empty", 1), ("deep", 1), ("other", 1), ("rows", 2), ("report.txt", 1)):
             self.assertEqual(self.report("--baseline", name, status=2, said="%s:%d: no report of this tool in JSON lines or SARIF; "
                                          "write one with --form jsonl\n" % (name, line)), "")
         self.put("ids.jsonl", "")
@@ -192,5 +193,7 @@ class Ignored(Pipelines):
                           ({}, "a row says what it hides, by one of %s" % keys), ("text", "no object")):
             self.ignore({"finding": "F2"}, row)
             self.assertEqual(self.report("--ignore", "ignore.jsonl", status=2, said="ignore.jsonl:2: %s\n" % said), "")
+        self.put("ignore.jsonl", "\n\n" + "[" * 200_000)
+        self.assertIn("ignore.jsonl:3: not JSON", self.run_tool("report", "--ignore", "ignore.jsonl", "trace.jsonl", "report.txt").stderr)
         self.put("ignore.jsonl", "\n{\n")
         self.assertIn("ignore.jsonl:2: not JSON", self.run_tool("report", "--ignore", "ignore.jsonl", "trace.jsonl", "report.txt").stderr)

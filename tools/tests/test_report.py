@@ -110,6 +110,7 @@ class Reports(Case):
             FOUND.replace(" at step 1", ""): "report line 8: F8 is not `line 13: F8 bad evidence`",
             FOUND.replace("line 5:", "line 4:"): "report line 1: line 4 of the trace is no entry",
             FOUND.replace("see line 9", "see line 99"): "report line 4: the trace has no entry or commit on line 99",
+            FOUND.replace("line 5", "line " + "5" * 5000): "report line 1: no finding: %r" % ("line " + "5" * 195),
             FOUND.replace("entries 11", "entries 12"): "the report has 12 entries, and the trace 11"}
         for text, told in cases.items():
             run = self.report(text=text)
