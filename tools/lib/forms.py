@@ -1,8 +1,8 @@
 """The forms that a report is given in for machines, and as text."""
 import json
 import re
+from html import escape
 from typing import Callable, Iterator, NamedTuple, Optional
-from xml.sax.saxutils import escape, quoteattr
 
 from lib import texts
 from lib.baseline import key_of
@@ -94,15 +94,15 @@ def junit(telling: Telling) -> Iterator[str]:
     yield '<?xml version="1.0" encoding="UTF-8"?>'
     yield '<testsuites><testsuite name="new_enemy" tests="%d" failures="%d" errors="0" skipped="%d">' % (
         len(telling.report.findings) + len(trace.entries) - len(found), len(telling.told), len(skipped))
-    yield '<properties><property name="sums" value=%s/></properties>' % quoteattr(telling.said)
+    yield '<properties><property name="sums" value=%s/></properties>' % _attribute(telling.said)
     for told in telling.told:
         row = row_of(telling, told)
         yield "%s><failure type=%s message=%s>%s</failure></testcase>" % (
-            _case(telling, told.entry), quoteattr(told.finding.finding),
-            quoteattr("%s %s, effect %s" % (row["finding"], row["text"], row["effect"])),
-            escape(_xml("%s: %s" % (row["severity"], sentence(row)))))
+            _case(telling, told.entry), _attribute(told.finding.finding),
+            _attribute("%s %s, effect %s" % (row["finding"], row["text"], row["effect"])),
+            escape(_xml("%s: %s" % (row["severity"], sentence(row))), quote=False))
     for told, why in skipped:
-        yield "%s><skipped message=%s/></testcase>" % (_case(telling, told.entry), quoteattr(_xml(why)))
+        yield "%s><skipped message=%s/></testcase>" % (_case(telling, told.entry), _attribute(_xml(why)))
     for line in trace.entries:
         if line not in found:
             yield _case(telling, trace.entries[line]) + "/>"
@@ -112,8 +112,12 @@ def junit(telling: Telling) -> Iterator[str]:
 def _case(telling: Telling, entry: Entry) -> str:
     place = place_of(telling, entry)
     return "<testcase classname=%s name=%s file=%s line=%s" % (
-        quoteattr(_xml(telling.path)), quoteattr(_xml("line %d: %s" % (entry.line, telling.names.tuple(entry.goal)))), quoteattr(_xml(place.file)),
-        quoteattr(str(place.line)))
+        _attribute(_xml(telling.path)), _attribute(_xml("line %d: %s" % (entry.line, telling.names.tuple(entry.goal)))), _attribute(_xml(place.file)),
+        _attribute(str(place.line)))
+
+
+def _attribute(text: str) -> str:
+    return '"%s"' % escape(text)
 
 
 def _xml(text: str) -> str:
