@@ -1,11 +1,19 @@
 """Neutral events: what the front ends hand to the core, and their form as JSON lines."""
 from dataclasses import dataclass, field
-from typing import Iterator, NamedTuple, Optional
+from typing import Collection, Iterator, NamedTuple, Optional
 
 from importing import located
 from importing.refusals import Refusals
 from importing.times import nanoseconds
+from lib.keys import unread, unread_in_expression
 from lib.rules import RulesFault, places, shape_of_expression
+
+
+STAMP = frozenset(("sequence", "time", "clock"))
+EVERY_EVENT = STAMP | {"event", "file", "line"}
+ENTRY = EVERY_EVENT | {"goal", "snapshot", "reply", "token", "version"}
+KEYS = {"rules": EVERY_EVENT | {"revision", "namespaces"}, "write": EVERY_EVENT | {"revision", "base", "add", "remove"},
+        "check": ENTRY, "content": ENTRY}
 
 
 class Relationship(NamedTuple):
@@ -86,7 +94,12 @@ def put_stamp(event: Event, stamp: Stamp, place: int = 0) -> Event:
 
 
 class _Fault(Exception):
-    pass
+    """Why an event is refused."""
+
+
+def _refuse_unread(value: object, known: Collection[str], where: str = "") -> None:
+    for key in unread(value, known):
+        raise _Fault(key.said(where and " in " + where))
 
 
 def _relationship(value: object, where: str, is_goal: bool = False) -> Relationship:
@@ -107,6 +120,7 @@ def _namespaces(value: dict, line: int) -> dict[str, list[RelationRule]]:
         if not isinstance(namespace, dict) or not isinstance(namespace.get("name"), str) \
                 or not isinstance(namespace.get("relations"), list):
             raise _Fault("%s has no name or no relations" % where)
+        _refuse_unread(namespace, ("name", "relations"), where)
         if namespace["name"] in found:
             raise _Fault("namespace %s stands twice" % namespace["name"])
         found[namespace["name"]] = [_rule(given, where, line) for given in namespace["relations"]]
@@ -117,11 +131,14 @@ def _namespaces(value: dict, line: int) -> dict[str, list[RelationRule]]:
 def _rule(given: object, where: str, line: int) -> RelationRule:
     if not isinstance(given, dict) or not isinstance(given.get("name"), str):
         raise _Fault("a relation of %s has no name" % where)
+    _refuse_unread(given, ("name", "rewrite"), "relation %s" % given["name"])
     rewrite = given.get("rewrite", {"this": {}})
     try:
         shape_of_expression(rewrite, "the rewrite of %s" % given["name"])
     except RulesFault as fault:
         raise _Fault(fault.where) from None
+    for key in unread_in_expression(rewrite):
+        raise _Fault(key.said(" in the rewrite of " + given["name"]))
     return RelationRule(given["name"], rewrite, line)
 
 
@@ -147,7 +164,9 @@ def _whole(value: dict, key: str, optional: bool = False) -> Optional[int]:
 def _write(event: Event, value: dict) -> None:
     event.revision = _whole(value, "revision")
     event.shown = str(event.revision)
-    event.base = value.get("base", False) is True
+    if not isinstance(value.get("base"), (bool, type(None))):
+        raise _Fault("`base` is neither true nor false")
+    event.base = value.get("base") is True
     for key in ("add", "remove"):
         listed = value.get(key) or []
         if not isinstance(listed, list):
@@ -173,6 +192,7 @@ def _entry(event: Event, value: dict) -> None:
 def _event(value: object, file: str, line: int, refusals: Refusals) -> Event:
     if not isinstance(value, dict) or value.get("event") not in ("rules", "write", "check", "content"):
         raise _Fault("`event` is none of rules, write, check, content")
+    _refuse_unread(value, KEYS[value["event"]])
     stamp = stamp_of(value, file, line, refusals)
     source, source_line = value.get("file", file), value.get("line", line)
     if not isinstance(source, str) or not is_whole(source_line):

@@ -183,6 +183,7 @@ class OpenFgaLog(Log):
     WILDCARD = "typed wildcard in a tuple"
     NOT_TAKEN = "tuple that the model does not take"
     NO_LINE = "neither changes of ReadChanges nor a check with its `request`"
+    KEYS = Log.KEYS | {"snapshot", "token"}
 
     def base(self, path: str, revision: int, shown: str) -> Iterator[Event]:
         """Tuples as Read gives them: pages with `tuples`, or one tuple a line."""

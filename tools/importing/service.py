@@ -4,9 +4,10 @@ from functools import cache
 from typing import Iterator, NamedTuple, Optional
 
 from importing import located
-from importing.events import Event, Relationship, Stamp, put_stamp, stamp_of
+from importing.events import STAMP, Event, Relationship, Stamp, put_stamp, stamp_of
 from importing.refusals import Refusals
 from lib import limits
+from lib.keys import near, unread
 
 
 class Bad(Exception):
@@ -57,6 +58,9 @@ class Log:
     """Reads the log of a service with one set of rules; each service says how its lines are read."""
 
     WILDCARD = NOT_TAKEN = NO_LINE = ""
+    # the keys of a recorder's line; what stands within `request` and `response` is the service's own
+    KEYS = STAMP | {"request", "response", "version", "content"}
+    CONTENT = frozenset(("version", "token"))
 
     def __init__(self, rules: ServiceRules, refusals: Refusals):
         self.rules, self.refusals = rules, refusals
@@ -81,6 +85,7 @@ class Log:
         for line, value in located.values(path, self.refusals):
             stamp = stamp_of(value if isinstance(value, dict) else {}, path, line, self.refusals)
             try:
+                self._refuse_unread(value)
                 if get(value, "request") is not None:
                     event = put_stamp(self.check(value, path, line), stamp)
                     reason = self.not_checked(value, event.goal)
@@ -94,6 +99,16 @@ class Log:
                     raise Bad(self.NO_LINE)
             except Bad as fault:
                 self.refusals.refuse(path, line, str(fault))
+
+    def _refuse_unread(self, value: object) -> None:
+        """A key that is not read, in what is the recorder's; a line of the service alone may have others of its own."""
+        if get(value, "request") is not None:
+            for key in (*unread(value, self.KEYS), *unread(get(value, "content"), self.CONTENT)):
+                raise Bad(key.said())
+            return
+        for key in unread(value, STAMP):
+            if near(key.key, STAMP):
+                raise Bad(key.said())
 
     def put(self, event: Event, given: Relationship, live: bool, reason: Optional[str]) -> bool:
         """Adds a tuple to a write; one that is not mapped, for this reason or another, is left out or refused."""

@@ -9,7 +9,9 @@ import re
 from typing import Optional
 
 from lib import limits, texts
+from lib.keys import unread
 
+KEYS = ("kind", "type", "id", "number")
 KINDS = ("user", "namespace", "relation", "object", "version")
 NAME = re.compile(r"n_([1-9][0-9]*)")
 ID = re.compile(r"~([1-9][0-9]*)")
@@ -20,6 +22,8 @@ class TableFault(Exception):
 
 
 def _row(value: object, number: int) -> tuple[str, str, str]:
+    for key in unread(value, KEYS):
+        raise TableFault(key.said())
     if not isinstance(value, dict) or value.get("kind") not in KINDS or value.get("number") != number \
             or not isinstance(value.get("type"), str) or not isinstance(value.get("id"), str):
         raise ValueError
@@ -41,6 +45,8 @@ class Ids:
             for number, line in enumerate(file, 1):
                 try:
                     row = _row(json.loads(line), number)
+                except TableFault as fault:
+                    raise TableFault("%s:%d: %s" % (path, number, fault)) from None
                 except ValueError:
                     raise TableFault("%s:%d: no row of the table, or not number %d" % (path, number, number)) from None
                 if row in self.numbers:
