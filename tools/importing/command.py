@@ -9,13 +9,16 @@ standard error, and ends with status 2.
 """
 import os
 import sys
+from argparse import Namespace
+from itertools import chain
+from typing import Any, Iterable, Optional
 
 from importing import openfga, spicedb, spicedb_schema
-from importing.core import Core, Options
-from importing.events import read_events
+from importing.core import Core, Given
+from importing.events import Event, read_events
 from importing.progress import Progress
 from importing.refusals import Refusals
-from importing.times import nanoseconds
+from importing.service import ServiceRules
 from lib.files import Parser
 from lib.ids import Ids, TableFault
 
@@ -49,44 +52,47 @@ def words(arguments):
     return parser, given
 
 
-def base_revision(parser, given):
+LOGS = {"openfga": openfga.OpenFgaLog, "spicedb": spicedb.SpiceDbLog}
+
+
+def base_at(parser: Parser, given: Namespace) -> Any:
     """The revision of the base state, where a front end takes one."""
     if given.service == "events" or given.base_at is None:
         return None
-    read = nanoseconds if given.service == "openfga" else spicedb.revision_of
-    revision = read(given.base_at)
-    if revision is None:
-        parser.error("--base-at is no %s" % ("time of RFC 3339" if given.service == "openfga" else "token or revision"))
-    return revision
+    found = LOGS[given.service].read_base(given.base_at)
+    if found is None:
+        parser.error("--base-at is no " + LOGS[given.service].BASE)
+    return found
 
 
-def front_end(given, revision, refusals):
+def rules_of(given: Namespace, refusals: Refusals) -> Optional[ServiceRules]:
+    if given.service == "openfga":
+        return openfga.ModelReader(given.rules, refusals).read()
+    return spicedb_schema.read_schema(given.rules, refusals)
+
+
+def counted(events: Iterable[Event], progress: Progress) -> list[Event]:
+    found = []
+    for event in events:
+        found.append(event)
+        progress.step("read", len(found))
+    return found
+
+
+def gathered(given: Namespace, base: Any, refusals: Refusals, progress: Progress) -> Given:
     """All events of the service's files, base state first."""
     if given.service == "events":
-        for path in given.logs:
-            yield from read_events(path, refusals)
-        return
-    if given.service == "openfga":
-        rules, log_of = openfga.ModelReader(given.rules, refusals).read(), openfga.OpenFgaLog
-    else:
-        rules, log_of = spicedb_schema.read_schema(given.rules, refusals), spicedb.SpiceDbLog
-    if rules:
-        log = log_of(rules, refusals)
-        yield rules.event
-        for path in given.base:
-            yield from log.base(path, revision, given.base_at)
-        for path in given.logs:
-            yield from log.events(path)
-
-
-def gathered(given, revision, refusals, progress):
-    events = []
-    for event in front_end(given, revision, refusals):
-        events.append(event)
-        progress.step("read", len(events))
-    if given.service == "events" and events and given.from_empty == any(event.base for event in events):
-        refusals.refuse(events[0].file, events[0].line, "give either base writes (\"base\":true) or --from-empty")
-    return events
+        events = counted((event for path in given.logs for event in read_events(path, refusals)), progress)
+        if events and given.from_empty == any(event.base for event in events):
+            refusals.refuse(events[0].file, events[0].line, "give either base writes (\"base\":true) or --from-empty")
+        return Given(events, None)
+    rules = rules_of(given, refusals)
+    if rules is None:
+        return Given([], None)
+    log = LOGS[given.service](rules, base, refusals)
+    files = [log.base(path) for path in given.base] + [log.events(path) for path in given.logs]
+    events = [rules.event, *counted(chain.from_iterable(files), progress)]
+    return Given(log.placed(events, given.skew), log.base_number())
 
 
 def write(path, lines, ids):
@@ -115,12 +121,11 @@ def told_left_out(refusals):
 
 def main(arguments):
     parser, given = words(arguments)
-    revision = base_revision(parser, given)
+    base = base_at(parser, given)
     refusals, progress = Refusals(given.skip_unmapped), Progress()
     try:
         ids = Ids(given.ids)
-        made = Core(ids, Options(revision, given.skew), refusals, progress).trace(
-            gathered(given, revision, refusals, progress))
+        made = Core(ids, given.skew, refusals, progress).trace(gathered(given, base, refusals, progress))
         progress.end()
         told_left_out(refusals)
         if made is None:
@@ -136,6 +141,6 @@ def main(arguments):
         say("cannot use %s: %s" % (fault.filename, fault.strerror))
         return 5
     say("commits %d, checks %d, content checks %d" % (made.commits, made.checks, made.contents))
-    for line in made.cannot_show:
-        say("cannot show " + line)
+    for line in made.notes:
+        say(line)
     return 0

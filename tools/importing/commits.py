@@ -1,5 +1,5 @@
 """Commits: the writes of one revision, as the texts of a trace, in parts that fit on a line."""
-from typing import Iterator, Optional
+from typing import Iterator, NamedTuple, Optional
 
 from importing.declared import Declared
 from importing.events import Event, Relationship
@@ -13,15 +13,29 @@ from lib.texts import Tuple, Userset
 ROOM = limits.LINE_BYTES - 64_000
 
 
+class Touch(NamedTuple):
+    """Where a tuple is touched, and whether it is stored from then on."""
+
+    file: str
+    line: int
+    live: bool
+
+
 class Commit:
-    """Writes of one revision; `lines` are the texts to add and remove on each line."""
+    """Writes of one revision, the last of its writes; `lines` are the texts to add and remove on each line."""
 
     def __init__(self, event: Event):
         self.event = event
-        self.touched: dict[Tuple, tuple[str, int]] = {}
+        self.revision = event.revision
+        self.given: set[Relationship] = set()
+        self.touched: dict[Tuple, Touch] = {}
         self.add: list[str] = []
         self.remove: list[str] = []
         self._lines: Optional[list[tuple[list[str], list[str]]]] = None
+
+    def takes(self, event: Event) -> bool:
+        """Whether a write behind it can be one of a group with it."""
+        return event.group is not None and event.group == self.event.group and self.given.isdisjoint(event.add + event.remove)
 
     def lines(self) -> list[tuple[list[str], list[str]]]:
         if self._lines is None:
@@ -51,10 +65,13 @@ class Writer:
         self.stored: dict[Tuple, None] = {}
 
     def write(self, commit: Commit, event: Event) -> None:
+        commit.revision = event.revision
+        if event.group is not None:
+            commit.given.update(event.add, event.remove)
         for texts_of, given in ((commit.add, event.add), (commit.remove, event.remove)):
             for relationship in given:
                 for one in self._tuples(event, relationship):
-                    self._touch(commit, event, one, relationship)
+                    self._touch(commit, Touch(event.file, event.line, texts_of is commit.add), one, relationship)
                     if texts_of is commit.add:
                         self._store(event, one, relationship)
                     texts_of.append(self.text(one))
@@ -73,13 +90,13 @@ class Writer:
             found.append(Tuple(of, Userset(given.user_type, given.user_id, texts.NO_RELATION)))
         return found
 
-    def _touch(self, commit: Commit, event: Event, given: Tuple, told: Relationship) -> None:
+    def _touch(self, commit: Commit, touch: Touch, given: Tuple, told: Relationship) -> None:
         before = commit.touched.get(given)
         if before is None:
-            commit.touched[given] = (event.file, event.line)
+            commit.touched[given] = touch
         elif not (isinstance(given.user, Userset) and given.user.relation == texts.NO_RELATION):
-            self.refusals.refuse(event.file, event.line, "%s is touched twice in one commit, at %s:%d too"
-                                 % (told, *before))
+            self.refusals.refuse(touch.file, touch.line, "%s is touched twice in one commit, at %s:%d too"
+                                 % (told, before.file, before.line))
 
     def _store(self, event: Event, given: Tuple, told: Relationship) -> None:
         if isinstance(given.user, Userset) and given not in self.stored:

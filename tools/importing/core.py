@@ -1,7 +1,9 @@
 """From neutral events to a trace: order, commits, dense timestamps, strata, and the lines."""
 import json
-from typing import Iterator, NamedTuple, Optional, Union
+from bisect import bisect_left, bisect_right
+from typing import Iterator, NamedTuple, Optional
 
+from importing.between import STATES, Chooser, Item, Spans, States, is_entry, lowest_of
 from importing.commits import Commit, Writer
 from importing.declared import Declared
 from importing.doubts import Doubts
@@ -16,12 +18,11 @@ from lib.ids import Ids
 from lib.rules import Declaration, form_of
 from lib.texts import Userset
 
-Item = Union[Commit, Event]
+class Given(NamedTuple):
+    """The events of an import, and the revision of its base state."""
 
-
-class Options(NamedTuple):
-    base_revision: Optional[int]
-    skew: Optional[int]
+    events: list[Event]
+    base: Optional[int]
 
 
 class Made(NamedTuple):
@@ -31,39 +32,64 @@ class Made(NamedTuple):
     commits: int
     checks: int
     contents: int
-    cannot_show: list[str]
+    notes: list[str]
 
 
 encode = json.JSONEncoder(ensure_ascii=False, separators=(",", ":")).encode
 
 
 class Core:
-    def __init__(self, ids: Ids, options: Options, refusals: Refusals, progress: Progress):
-        self.ids, self.options, self.refusals, self.progress = ids, options, refusals, progress
+    def __init__(self, ids: Ids, skew: Optional[int], refusals: Refusals, progress: Progress):
+        self.ids, self.skew, self.refusals, self.progress = ids, skew, refusals, progress
         self.edges = Edges()
         self.issued: dict[tuple[str, str, str], Event] = {}
 
-    def trace(self, events: list[Event]) -> Optional[Made]:
+    def trace(self, given: Given) -> Optional[Made]:
         """The trace, or None where something was refused."""
+        events = given.events
         self.declared = Declared(events, self.edges, self.refusals)
         self.writer = Writer(self.declared, self.ids, self.edges, self.refusals)
-        items = self._commits(self._base(events), ordered(self._stream(events), self.options.skew, self.refusals))
+        base = self._base(events)
+        self.base_revision = base.revision if base else given.base
+        items = self._commits(base, ordered(self._stream(events), self.skew, self.refusals))
         doubts = Doubts(self.refusals.doubts, self.declared.rules, self.edges)
         doubts.spread(self.writer.stored)
-        items = [item for item in items if isinstance(item, Commit) or item.kind == "rules" or self._is_kept(item, doubts)]
+        items = [item for item in items if not is_entry(item) or self._is_kept(item, doubts)]
+        self._refuse_wide(items)
         strata = self._strata()
         if self.refusals.refused:
             return None
-        lines = list(self._lines(items, self._timestamps(items), strata))
+        times = self._timestamps(items)
+        written, notes = self._chosen(items, times, strata)
+        lines = list(self._lines(written, times, strata))
         size = sum(len(line.encode()) + 1 for line in lines)
         if size > limits.INPUT_BYTES:
             self.refusals.refuse(events[0].file, events[0].line, "the trace has %d bytes, and one has at most %d"
                                  % (size, limits.INPUT_BYTES))
             return None
-        entries = [item for item in items if isinstance(item, Event) and item.kind != "rules"]
+        entries = [item for item in items if is_entry(item)]
         contents = sum(entry.kind == "content" for entry in entries)
         return Made(lines, sum('"kind":"commit"' in line[:20] for line in lines), len(entries) - contents, contents,
-                    cannot_show(items))
+                    notes + ["cannot show " + line for line in cannot_show(items)])
+
+    # Checks between two states
+
+    def _refuse_wide(self, items: list[Item]) -> None:
+        commits = sorted(item.revision for item in items if not is_entry(item))
+        for item in items:
+            if is_entry(item) and item.lowest is not None:
+                count = bisect_right(commits, item.snapshot) - bisect_left(commits, item.lowest)
+                if count >= STATES:
+                    self._refuse(item, "`snapshot_between` takes in %d commits, and %d states at most are looked at"
+                                 % (count, STATES))
+
+    def _chosen(self, items: list[Item], times: dict[int, int], strata: dict[Name, int]) -> tuple[list[Item], list[str]]:
+        """A state for each check that was evaluated somewhere between two."""
+        if not any(is_entry(item) and item.lowest is not None for item in items):
+            return items, []
+        states = States(items, self.declared.rules, self.declared.changes, times, strata)
+        chooser = Chooser(states, lambda goal: self.ids.number("user", goal.user_type, goal.user_id))
+        return list(chooser.chosen(items)), list(chooser.told())
 
     # Order and commits
 
@@ -71,10 +97,8 @@ class Core:
         base = None
         for event in events:
             if event.base:
-                if self.options.base_revision is not None:
-                    event.revision = self.options.base_revision
                 base = base or Commit(event)
-                if event.revision != base.event.revision:
+                if event.revision != base.revision:
                     self._refuse(event, "a base state has one revision, and %s:%d has %s"
                                  % (base.event.file, base.event.line, base.event.shown))
                 self.writer.write(base, event)
@@ -95,7 +119,7 @@ class Core:
     def _commits(self, base: Optional[Commit], stream: list[Event]) -> list[Item]:
         """Writes of one revision that stand together become one commit."""
         items: list[Item] = [base] if base else []
-        self.base_revision = base.event.revision if base else self.options.base_revision
+        spans = Spans(stream)
         last, shown = self.base_revision, "the base state"
         for count, event in enumerate(stream, 1):
             self.progress.step("ordered", count)
@@ -103,9 +127,10 @@ class Core:
                 items.append(event)
                 continue
             before = items[-1] if items else None
-            if event.kind == "write" and isinstance(before, Commit) and before is not base \
-                    and before.event.revision == event.revision:
+            if event.kind == "write" and isinstance(before, Commit) and before is not base and (
+                    before.revision == event.revision or before.takes(event) and not spans.has(before.revision)):
                 self.writer.write(before, event)
+                last = event.revision
                 continue
             if last is not None and event.revision <= last:
                 self._refuse(event, "its revision %s is not later than that of %s" % (event.shown, shown))
@@ -126,7 +151,7 @@ class Core:
         key = (goal.namespace, goal.id, event.version)
         if not self.declared.rules.is_declared(goal.namespace, goal.relation):
             self.refusals.unmapped_check(event, "check of a relation that the rules do not have", str(event.goal))
-        elif self.base_revision is not None and event.snapshot < self.base_revision:
+        elif self.base_revision is not None and lowest_of(event) < self.base_revision:
             self.refusals.unmapped_check(event, "check before the base state", "its snapshot is %s" % event.shown)
         elif doubts.has(goal):
             self.refusals.unmapped_check(event, "check that hangs on a tuple or rule that was left out", str(event.goal))
@@ -164,11 +189,11 @@ class Core:
             wanted[self.base_revision] = 1
         for item in items:
             if isinstance(item, Commit):
-                wanted[item.event.revision] = len(item.lines())
+                wanted[item.revision] = len(item.lines())
             elif item.kind == "rules":
                 wanted[item.revision] = len(self.declared.changes.get(item.revision, ()))
             else:
-                for revision in (item.snapshot, item.token):
+                for revision in (item.snapshot, item.lowest, item.token):
                     if revision is not None:
                         wanted.setdefault(revision, 1)
         times, at = {}, 0
@@ -189,7 +214,7 @@ class Core:
             told = {"revision": event.shown, "from": "%s:%d" % (event.file, event.line)}
             if isinstance(item, Commit):
                 parts = item.lines()
-                for number, (add, remove) in enumerate(parts, times[event.revision] - len(parts) + 1):
+                for number, (add, remove) in enumerate(parts, times[item.revision] - len(parts) + 1):
                     sides = {key: side for key, side in (("add", add), ("remove", remove)) if side}
                     yield encode({"kind": "commit", "at": number, **sides, **told})
             elif event.kind == "rules":

@@ -11,7 +11,7 @@ from lib.rules import RulesFault, places, shape_of_expression
 
 STAMP = frozenset(("sequence", "time", "clock"))
 EVERY_EVENT = STAMP | {"event", "file", "line"}
-ENTRY = EVERY_EVENT | {"goal", "snapshot", "reply", "token", "version"}
+ENTRY = EVERY_EVENT | {"goal", "snapshot", "snapshot_between", "reply", "token", "version"}
 KEYS = {"rules": EVERY_EVENT | {"revision", "namespaces"}, "write": EVERY_EVENT | {"revision", "base", "add", "remove"},
         "check": ENTRY, "content": ENTRY}
 
@@ -39,7 +39,11 @@ class RelationRule(NamedTuple):
 
 @dataclass(slots=True)
 class Event:
-    """`revision` is that of a write, `snapshot` that of a check; both are numbers that rise with the service's time."""
+    """`revision` is that of a write, `snapshot` that of a check; both are numbers that rise with the service's time.
+
+    A check with a `lowest` was evaluated somewhere from there to its snapshot. Writes of one `group` that stand together are one
+    commit, where no check looks between them.
+    """
 
     kind: str
     file: str
@@ -47,13 +51,16 @@ class Event:
     revision: Optional[int] = None
     shown: Optional[str] = None
     base: bool = False
+    group: Optional[int] = None
     sequence: Optional[tuple[int, int]] = None
     time: Optional[int] = None
     clock: str = ""
     add: list[Relationship] = field(default_factory=list)
     remove: list[Relationship] = field(default_factory=list)
     goal: Optional[Relationship] = None
+    asked: Optional[tuple] = None
     snapshot: Optional[int] = None
+    lowest: Optional[int] = None
     reply: bool = False
     token: Optional[int] = None
     version: Optional[str] = None
@@ -176,10 +183,23 @@ def _write(event: Event, value: dict) -> None:
         raise _Fault("a base state removes nothing")
 
 
+def _snapshot(event: Event, value: dict) -> None:
+    between = value.get("snapshot_between")
+    if between is None:
+        event.snapshot = _whole(value, "snapshot")
+        event.shown = str(event.snapshot)
+        return
+    if value.get("snapshot") is not None:
+        raise _Fault("both `snapshot` and `snapshot_between`")
+    if not isinstance(between, list) or len(between) != 2 or not all(map(is_whole, between)) or between[0] > between[1]:
+        raise _Fault("`snapshot_between` is no list of two whole numbers, the lower one first")
+    event.lowest, event.snapshot = between
+    event.shown = "between %d and %d" % tuple(between)
+
+
 def _entry(event: Event, value: dict) -> None:
     event.goal = _relationship(value.get("goal"), "`goal`", True)
-    event.snapshot = _whole(value, "snapshot")
-    event.shown = str(event.snapshot)
+    _snapshot(event, value)
     event.token = _whole(value, "token", True)
     if not isinstance(value.get("reply"), bool):
         raise _Fault("`reply` is neither true nor false")

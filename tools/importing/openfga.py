@@ -4,6 +4,7 @@ from typing import Iterator, Optional
 
 from importing import located
 from importing.events import Event, RelationRule, Relationship, Stamp, put_stamp
+from importing.feed import Moment, asked_of, moment_of, placed, shown_of
 from importing.located import line_at, line_of
 from importing.refusals import Refusals
 from importing.service import Bad, Log, ServiceRules, get, nested, one_of, spelled, text_or_none
@@ -183,14 +184,28 @@ class OpenFgaLog(Log):
     WILDCARD = "typed wildcard in a tuple"
     NOT_TAKEN = "tuple that the model does not take"
     NO_LINE = "neither changes of ReadChanges nor a check with its `request`"
-    KEYS = Log.KEYS | {"snapshot", "token"}
+    KEYS = Log.KEYS | {"snapshot", "snapshot_between", "token"}
+    BASE = "place in the changes feed or time of RFC 3339"
 
-    def base(self, path: str, revision: int, shown: str) -> Iterator[Event]:
+    @staticmethod
+    def read_base(text: str) -> Optional[Moment]:
+        try:
+            return moment_of(int(text) if text.isascii() and text.isdigit() else text, "--base-at")
+        except Bad:
+            return None
+
+    def base_number(self) -> Optional[int]:
+        return None if self.base_at is None else 0
+
+    def placed(self, events: list[Event], skew: Optional[int]) -> list[Event]:
+        return placed(events, self.base_at or Moment(None, None, "the beginning"), skew, self.refusals)
+
+    def base(self, path: str) -> Iterator[Event]:
         """Tuples as Read gives them: pages with `tuples`, or one tuple a line."""
         for line, value in located.values(path, self.refusals):
             page = get(value, "tuples")
             for one in page if isinstance(page, list) else [value]:
-                event = Event("write", path, line_of(one, line), revision, shown, base=True)
+                event = Event("write", path, line_of(one, line), 0, self.base_at.shown, base=True)
                 if self._put_key(event, get(one, "key"), True):
                     yield event
 
@@ -227,17 +242,12 @@ class OpenFgaLog(Log):
         if not isinstance(allowed, bool):
             raise Bad("the response has no `allowed`")
         event = Event("check" if content is None else "content", path, line, reply=allowed)
-        event.shown = get(value, "snapshot")
-        event.snapshot = nanoseconds(event.shown)
-        if event.snapshot is None:
-            raise Bad("the check has no `snapshot`, the timestamp of the newest change that it saw")
         if content is not None and not isinstance(content, dict):
             raise Bad("`content` is no object")
         holder = value if content is None else content
-        token, event.version = get(holder, "token"), text_or_none(get(holder, "version"), "version")
-        event.token = nanoseconds(token)
-        if token is not None and event.token is None:
-            raise Bad("`token` is no timestamp of a change")
+        event.version = text_or_none(get(holder, "version"), "version")
+        event.asked = asked_of(value, get(holder, "token"))
+        event.shown = shown_of(event.asked)
         event.goal = relationship_of(get(request, "tuple_key"))
         return event
 

@@ -1,7 +1,7 @@
 """What the front ends of the services share."""
 import re
 from functools import cache
-from typing import Iterator, NamedTuple, Optional
+from typing import Any, Iterator, NamedTuple, Optional
 
 from importing import located
 from importing.events import STAMP, Event, Relationship, Stamp, put_stamp, stamp_of
@@ -57,16 +57,29 @@ class ServiceRules(NamedTuple):
 class Log:
     """Reads the log of a service with one set of rules; each service says how its lines are read."""
 
-    WILDCARD = NOT_TAKEN = NO_LINE = ""
+    WILDCARD = NOT_TAKEN = NO_LINE = BASE = ""
     # the keys of a recorder's line; what stands within `request` and `response` is the service's own
     KEYS = STAMP | {"request", "response", "version", "content"}
     CONTENT = frozenset(("version", "token"))
 
-    def __init__(self, rules: ServiceRules, refusals: Refusals):
-        self.rules, self.refusals = rules, refusals
+    def __init__(self, rules: ServiceRules, base_at: Any, refusals: Refusals):
+        self.rules, self.base_at, self.refusals = rules, base_at, refusals
 
-    def base(self, path: str, revision: int, shown: str) -> Iterator[Event]:
+    @staticmethod
+    def read_base(text: str) -> Any:
+        """The revision of the base state, in the service's own form; None where the text is none."""
         raise NotImplementedError
+
+    def base(self, path: str) -> Iterator[Event]:
+        raise NotImplementedError
+
+    def base_number(self) -> Optional[int]:
+        """The number that stands for the revision of the base state."""
+        raise NotImplementedError
+
+    def placed(self, events: list[Event], skew: Optional[int]) -> list[Event]:
+        """The events with numbers for revisions, where those of the service are more than that."""
+        return events
 
     def is_write(self, value: object) -> bool:
         raise NotImplementedError

@@ -109,7 +109,13 @@ class SpiceDbLog(Log):
     NOT_TAKEN = "relationship that the schema does not take"
     NO_LINE = "neither a response of Watch nor a check with its `request`"
 
-    def base(self, path: str, revision: int, shown: str) -> Iterator[Event]:
+    BASE = "token or revision"
+    read_base = staticmethod(read_revision)
+
+    def base_number(self) -> Optional[int]:
+        return self.base_at and self.base_at.number
+
+    def base(self, path: str) -> Iterator[Event]:
         """One relationship a line, as a text."""
         try:
             lines = located.read_text(path).split("\n")
@@ -118,7 +124,7 @@ class SpiceDbLog(Log):
             return
         for line, text in enumerate(map(str.strip, lines), 1):
             if text and not text.startswith("//"):
-                event = Event("write", path, line, revision, read_revision(shown).shown, base=True)
+                event = Event("write", path, line, self.base_at.number, self.base_at.shown, base=True)
                 if self._put_text(event, text):
                     yield event
 

@@ -1,6 +1,7 @@
 """Random stores of each service, imported and audited, against a plain evaluator of the service's own meaning."""
 import base64
 import json
+from collections import Counter
 from random import Random
 
 from tests import openfga_service, spicedb_service
@@ -68,6 +69,34 @@ class OpenFgaWithWildcards(OpenFga):
         super().__init__(random)
         openfga_service.allow_wildcards(self.model)
         self.rules = json.dumps(self.model)
+
+
+class OpenFgaBetween(OpenFga):
+    """A store whose checks were evaluated somewhere between two places of its feed."""
+
+    def changes(self):
+        """Single changes, with the state behind each; their timestamps say little."""
+        states = [self.state()]
+        log = []
+        for at in range(1, WRITES // 2):
+            for change in self.write(at // 2)["changes"]:
+                key = tuple(change["tuple_key"].values())
+                states.append(states[-1] | {key} if change["operation"].endswith("WRITE") else states[-1] - {key})
+                log.append(change)
+        return log, states
+
+    def check_between(self, states):
+        """A random check, the answers of all states in between, and the line for a reply."""
+        low = self.random.randrange(len(states))
+        high = min(len(states) - 1, low + self.random.choice([0, 1, 2, 5, 9]))
+        seed = self.random.random()
+        answers = set()
+        for at in range(low, high + 1):
+            self.random.seed(seed)
+            answer, line_for = self.check(at, states[at])
+            answers.add(answer)
+        return answers, high - low + 1, lambda reply: {
+            **{key: value for key, value in line_for(reply).items() if key != "snapshot"}, "snapshot_between": [low, high]}
 
 
 class SpiceDb:
@@ -178,6 +207,31 @@ class RoundTrips(Case):
             kept += int(entries.split()[1])
         self.assertGreater(kept, MODELS * CHECKS // 4)
         self.assertLess(kept, MODELS * CHECKS)
+
+    def test_checks_between_two_places(self):
+        """Each reply is right where some state in between has it; a wrong one is wrong at each."""
+        both = 0
+        for number in range(MODELS):
+            service = OpenFgaBetween(Random("between %d" % number))
+            log, states = service.changes()
+            wrong, entries = {}, 0
+            for _ in range(CHECKS):
+                answers, count, line_for = service.check_between(states)
+                both += len(answers) == 2
+                for reply in (True, False):
+                    log.append(line_for(reply))
+                    entries += 1 if reply in answers else count
+                    wrong.update({} if reply in answers else {"log:%d" % len(log): count})
+            self.put("rules", service.rules)
+            self.put("log", log)
+            self.imported(*service.words, "--ids", "ids%d.jsonl" % number)
+            rows = self.rows("trace.jsonl")
+            *findings, first, _, _ = self.audited().splitlines()
+            self.assertEqual(first, "entries %d" % entries)
+            found = Counter(rows[int(line.split()[1].rstrip(":")) - 1]["from"] for line in findings)
+            self.assertEqual({line.split(": ")[1] for line in findings}, {"F10 wrong reply"})
+            self.assertEqual(found, wrong, "model %d" % number)
+        self.assertGreater(both, MODELS)
 
     def test_openfga(self):
         self.rounds(OpenFga)

@@ -1,0 +1,126 @@
+"""OpenFGA's changes feed: revisions are places in it, counted from 1 behind the base state, and timestamps are labels."""
+from bisect import bisect_right
+from itertools import accumulate
+from typing import NamedTuple, Optional
+
+from importing.events import Event, is_whole
+from importing.order import ordered
+from importing.refusals import Refusals
+from importing.service import Bad
+from importing.times import nanoseconds
+
+
+class Moment(NamedTuple):
+    """A place of the feed, or a timestamp, as a line gives it."""
+
+    place: Optional[int]
+    time: Optional[int]
+    shown: str
+
+
+class Asked(NamedTuple):
+    """What a check says of its snapshot: one moment, or two between which it was evaluated; and what its token demands."""
+
+    snapshot: list[Moment]
+    token: Optional[Moment]
+
+
+def moment_of(value: object, what: str) -> Moment:
+    if is_whole(value):
+        return Moment(value, None, "place %d" % value)
+    time = nanoseconds(value)
+    if time is None:
+        raise Bad("%s is no place in the changes feed and no timestamp" % what)
+    return Moment(None, time, value)
+
+
+def asked_of(value: dict, token: object) -> Asked:
+    """What the keys of a check's line ask; raises Bad."""
+    snapshot, between = value.get("snapshot"), value.get("snapshot_between")
+    if (snapshot is None) == (between is None):
+        raise Bad("the check has %s of `snapshot` and `snapshot_between`; give one" % ("both" if between else "none"))
+    if between is None:
+        found = [moment_of(snapshot, "`snapshot`")]
+    elif isinstance(between, list) and len(between) == 2:
+        found = [moment_of(one, "`snapshot_between`") for one in between]
+    else:
+        raise Bad("`snapshot_between` is no list of two places or timestamps")
+    return Asked(found, None if token is None else moment_of(token, "`token`"))
+
+
+def shown_of(asked: Asked) -> str:
+    shown = [moment.shown for moment in asked.snapshot]
+    return shown[0] if len(shown) == 1 else "between %s and %s" % tuple(shown)
+
+
+class Feed:
+    """The changes in their order. Those of one timestamp may be one write of the service or several."""
+
+    def __init__(self, base: Moment, times: list[int]):
+        self.first = base.place or 0
+        self.base_time = base.time
+        self.times = times
+        self.sorted = sorted(times)
+        self.highest = list(accumulate(times, max))
+        self.earliest: dict[int, int] = {}
+        self.latest: dict[int, int] = {}
+        for place, time in enumerate(times, 1):
+            self.earliest.setdefault(time, place)
+            self.latest[time] = place
+
+    def place(self, moment: Moment, what: str) -> int:
+        """The one place of a moment, -1 where it lies before the base state; raises Bad."""
+        if moment.place is not None:
+            return self._counted(moment.place)
+        if self.base_time is not None and moment.time < self.base_time:
+            return -1
+        count = bisect_right(self.sorted, moment.time)
+        if count and self.highest[count - 1] > moment.time:
+            raise Bad("%s %s is not one place: changes at or before it stand behind later ones; give the place in the feed"
+                      % (what, moment.shown))
+        return count
+
+    def _counted(self, place: int) -> int:
+        if place - self.first > len(self.times):
+            raise Bad("place %d is beyond the feed, which ends at place %d" % (place, self.first + len(self.times)))
+        return max(place - self.first, -1)
+
+    def range(self, low: Moment, high: Moment) -> tuple[int, int]:
+        """The places from one moment to another; of changes that share a timestamp the first, and the last."""
+        start = self.earliest[low.time] if low.time in self.earliest else self.place(low, "`snapshot_between` from")
+        end = self.latest[high.time] if high.time in self.latest else self.place(high, "`snapshot_between` to")
+        if start > end:
+            raise Bad("`snapshot_between` is no range: %s stands behind %s" % (low.shown, high.shown))
+        return start, end
+
+
+def placed(events: list[Event], base: Moment, skew: Optional[int], refusals: Refusals) -> list[Event]:
+    """Puts places for the timestamps of changes and for what checks ask; the events that have one."""
+    # What is wrong with the order is refused once, where all events are put into it.
+    writes = ordered([event for event in events if event.kind == "write" and not event.base], skew, Refusals())
+    feed = Feed(base, [event.revision for event in writes])
+    for place, event in enumerate(writes, 1):
+        if base.time is not None and event.revision <= base.time:
+            refusals.refuse(event.file, event.line, "its revision %s is not later than that of the base state" % event.shown)
+        event.group, event.revision = event.revision, place
+    kept = []
+    for event in events:
+        if event.base:
+            event.revision = 0
+        try:
+            if event.goal is not None:
+                _place(event, feed)
+            kept.append(event)
+        except Bad as fault:
+            refusals.unmapped_check(event, "check without one snapshot", str(fault))
+    return kept
+
+
+def _place(event: Event, feed: Feed) -> None:
+    asked = event.asked
+    if len(asked.snapshot) == 1:
+        event.snapshot = feed.place(asked.snapshot[0], "snapshot")
+    else:
+        event.lowest, event.snapshot = feed.range(*asked.snapshot)
+    if asked.token is not None:
+        event.token = max(feed.place(asked.token, "token"), 0)
