@@ -1,86 +1,29 @@
 """SpiceDB: relationships as text, the JSON of the watch stream, and checks of a recorder's log."""
-import base64
-import binascii
 import re
-from typing import Iterator, NamedTuple, Optional
+from typing import Iterator, Optional
 
-from importing import located
+from importing import located, visibility
 from importing.events import Event, Relationship, Stamp, put_stamp
 from importing.located import line_of
 from importing.service import Bad, Log, get, one_of, text_or_none
+from importing.zedtokens import Older, Revision, read_revision
 
 RELATIONSHIP = re.compile(r"(?P<type>[a-z0-9_/]+):(?P<id>[A-Za-z0-9/_|\-=+]+)#(?P<relation>[a-z0-9_]+)"
                           r"@(?P<user_type>[a-z0-9_/]+):(?P<user_id>[A-Za-z0-9/_|\-=+]+|\*)"
                           r"(?:#(?P<user_relation>[a-z0-9_]+|\.\.\.))?"
                           r"(?P<traits>(?:\[.*\])*)")
-NUMBER = re.compile(r"([0-9]{1,30})(?:\.([0-9]{10}))?")
 OPERATIONS = {"OPERATION_CREATE": True, "OPERATION_TOUCH": True, "OPERATION_DELETE": False}
 REPLIES = {"PERMISSIONSHIP_HAS_PERMISSION": True, "PERMISSIONSHIP_NO_PERMISSION": False}
 CONDITIONAL = "PERMISSIONSHIP_CONDITIONAL_PERMISSION"
 
 
-class Revision(NamedTuple):
-    """A revision as a number that rises with the datastore's, and as it is written."""
-
-    number: int
-    shown: str
-
-
-def _varint(data: bytes, at: int) -> tuple[int, int]:
-    value = shift = 0
-    while True:
-        byte = data[at]
-        value |= (byte & 127) << shift
-        at, shift = at + 1, shift + 7
-        if byte < 128:
-            return value, at
-
-
-def _fields(data: bytes) -> dict[int, object]:
-    """The fields of a protocol buffer that are numbers or bytes."""
-    found, at = {}, 0
-    while at < len(data):
-        tag, at = _varint(data, at)
-        value, at = _varint(data, at)
-        if tag & 7 == 2:
-            if at + value > len(data):
-                raise IndexError
-            value, at = data[at:at + value], at + value
-        elif tag & 7:
-            raise IndexError
-        found[tag >> 3] = value
-    return found
-
-
-def _token_text(token: str) -> Optional[str]:
-    """The datastore's revision that a ZedToken holds."""
-    try:
-        fields = _fields(base64.b64decode(token, validate=True))
-        if isinstance(fields.get(3), bytes):
-            return _fields(fields[3])[1].decode("ascii")
-        return str(int(_fields(fields[2])[1]))
-    except (binascii.Error, IndexError, KeyError, TypeError, ValueError, AttributeError):
-        return None
-
-
-def read_revision(text: object) -> Optional[Revision]:
-    """A ZedToken, or a revision as a number; None where its order can't be read."""
-    if not isinstance(text, str):
-        return None
-    shown = text if NUMBER.fullmatch(text) else _token_text(text)
-    found = NUMBER.fullmatch(shown) if shown else None
-    return Revision(int(found[1]) * 10 ** 10 + int(found[2] or 0), shown) if found else None
-
-
-def revision_of(text: object) -> Optional[int]:
-    revision = read_revision(text)
-    return revision.number if revision else None
-
-
 def _revision(holder: object, what: str) -> Revision:
-    revision = read_revision(get(holder, "token"))
+    try:
+        revision = read_revision(get(holder, "token"))
+    except Older as fault:
+        raise Bad("%s %s" % (what, fault)) from None
     if revision is None:
-        raise Bad("%s has no token whose revision is a number" % what)
+        raise Bad("%s has no token whose revision is a number or a snapshot of PostgreSQL" % what)
     return revision
 
 
@@ -110,10 +53,30 @@ class SpiceDbLog(Log):
     NO_LINE = "neither a response of Watch nor a check with its `request`"
 
     BASE = "token or revision"
-    read_base = staticmethod(read_revision)
+
+    @staticmethod
+    def read_base(text: str) -> Optional[Revision]:
+        try:
+            return read_revision(text)
+        except Older:
+            return None
 
     def base_number(self) -> Optional[int]:
-        return self.base_at and self.base_at.number
+        return self.base_at and (self.base_at.number or 0)
+
+    def placed(self, events: list[Event], skew: Optional[int]) -> list[Event]:
+        """Numbers for the snapshots of PostgreSQL; a log has either those or numbers."""
+        base = self.base_at and self.base_at.snapshot
+        told = [(event, event.asked is not None or event.base and base is not None) for event in events if event.shown is not None]
+        by_kind = {is_snapshot: event for event, is_snapshot in reversed(told)}
+        if True not in by_kind:
+            return events
+        if False in by_kind:
+            number, snapshot = by_kind[False], by_kind[True]
+            self.refusals.refuse(number.file, number.line, "its revision %s is a number, and that of %s:%d a snapshot of PostgreSQL"
+                                 % (number.shown, snapshot.file, snapshot.line))
+            return []
+        return visibility.placed(events, base, skew, self.refusals)
 
     def base(self, path: str) -> Iterator[Event]:
         """One relationship a line, as a text."""
@@ -124,7 +87,7 @@ class SpiceDbLog(Log):
             return
         for line, text in enumerate(map(str.strip, lines), 1):
             if text and not text.startswith("//"):
-                event = Event("write", path, line, self.base_at.number, self.base_at.shown, base=True)
+                event = Event("write", path, line, self.base_number(), self.base_at.shown, base=True)
                 if self._put_text(event, text):
                     yield event
 
@@ -151,6 +114,10 @@ class SpiceDbLog(Log):
             raise Bad("`updates` is no list")
         revision = _revision(get(response, "changesThrough"), "`changesThrough`")
         event = put_stamp(Event("write", path, line, revision.number, revision.shown), stamp)
+        if revision.snapshot:
+            if revision.snapshot.own is None and updates:
+                raise Bad("the snapshot of `changesThrough` does not name the transaction that wrote")
+            event.asked = (revision.snapshot,)
         for update in updates:
             live = one_of(OPERATIONS, get(update, "operation"))
             given = get(update, "relationship")
@@ -173,24 +140,28 @@ class SpiceDbLog(Log):
         event = Event("check" if content is None else "content", path, line)
         event.goal = Relationship(*_object(get(request, "resource"), "resource"), permission,
                                   *_subject(get(request, "subject")))
-        event.snapshot, event.shown = _revision(get(response, "checkedAt"), "`checkedAt` of the response")
+        revision = _revision(get(response, "checkedAt"), "`checkedAt` of the response")
+        event.snapshot, event.shown = revision.number, revision.shown
         event.reply = one_of(REPLIES, get(response, "permissionship")) or False
         if get(response, "permissionship") not in (*REPLIES, CONDITIONAL):
             raise Bad("the response has no permissionship")
-        self._tokens(event, value, request, content)
+        token = self._token(request, content)
+        event.version = text_or_none(get(value if content is None else content, "version"), "version")
+        event.token = token and token.number
+        if revision.snapshot:
+            event.asked = (revision.snapshot, token and token.snapshot)
+        if token and bool(token.snapshot) != bool(revision.snapshot):
+            raise Bad("the token is of another datastore than `checkedAt`")
         return event
 
     @staticmethod
-    def _tokens(event: Event, value: dict, request: object, content: object) -> None:
+    def _token(request: object, content: object) -> Optional[Revision]:
         """The token that a check demanded, or the one that was stored with a content version."""
-        if content is None:
-            consistency = get(request, "consistency")
-            demanded = get(consistency, "atLeastAsFresh") or get(consistency, "atExactSnapshot")
-            event.token = _revision(demanded, "the request's consistency").number if demanded else None
-            event.version = text_or_none(get(value, "version"), "version")
-        else:
-            event.token = _revision(content, "`content`").number if get(content, "token") is not None else None
-            event.version = text_or_none(get(content, "version"), "version")
+        if content is not None:
+            return None if get(content, "token") is None else _revision(content, "`content`")
+        consistency = get(request, "consistency")
+        demanded = get(consistency, "atLeastAsFresh") or get(consistency, "atExactSnapshot")
+        return _revision(demanded, "the request's consistency") if demanded else None
 
     def not_checked(self, value: dict, goal: Relationship) -> Optional[tuple[str, str]]:
         if get(get(value, "response"), "permissionship") == CONDITIONAL:

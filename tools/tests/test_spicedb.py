@@ -1,6 +1,7 @@
 """The front end for SpiceDB: what it maps, and what it refuses by file and line."""
 import os
 
+from importing.zedtokens import read_revision
 from tests.support import EXAMPLES, Case
 from tests.test_round_trips import token_text
 
@@ -114,8 +115,8 @@ class Refusals(Case):
             "log:6: relationship that the schema does not take: doc:1#view@user:a",
             "log:7: unknown operation 'OPERATION_MOVE'",
             "log:8: the schema changes here; the rules of one schema are imported",
-            "log:9: `changesThrough` has no token whose revision is a number",
-            "log:10: `changesThrough` has no token whose revision is a number",
+            "log:9: `changesThrough` has no token whose revision is a number or a snapshot of PostgreSQL",
+            "log:10: `changesThrough` has no token whose revision is a number or a snapshot of PostgreSQL",
             "log:11: a relationship has no relation",
             "log:12: neither a response of Watch nor a check with its `request`", "log:14: `updates` is no list"])
 
@@ -130,11 +131,11 @@ class Refusals(Case):
             "log:4: check of a relation that the rules do not have: doc:1#edit@user:a",
             "log:5: conditional permission: doc:1#view@user:a", "log:6: context of caveats: doc:1#view@user:a",
             "log:7: the response has no permissionship",
-            "log:8: `checkedAt` of the response has no token whose revision is a number",
+            "log:8: `checkedAt` of the response has no token whose revision is a number or a snapshot of PostgreSQL",
             "log:9: the request has no permission",
-            "log:10: the request's consistency has no token whose revision is a number",
+            "log:10: the request's consistency has no token whose revision is a number or a snapshot of PostgreSQL",
             "log:11: the subject has no type and id", "log:12: `content` is no object",
-            "log:13: `content` has no token whose revision is a number", "log:14: `version` is no text"])
+            "log:13: `content` has no token whose revision is a number or a snapshot of PostgreSQL", "log:14: `version` is no text"])
 
     def test_base_by_line(self):
         self.put("schema.zed", SCHEMA % VIEW)
@@ -195,10 +196,9 @@ class Mapped(Case):
         self.assertEqual((rows[2]["zookie"], rows[2]["revision"]), ("z1-0000000000000002", hybrid))
 
     def test_the_old_form_of_a_token(self):
-        from importing.spicedb import revision_of
-        self.assertEqual(revision_of("EgIIKg=="), 42 * 10 ** 10)
-        for text in ("", "????", "GhUK", "Gg==", "GgQKAngx", None):
-            self.assertIsNone(revision_of(text))
+        self.assertEqual(read_revision("EgIIKg=="), (42 * 10 ** 10, None, "42"))
+        for text in ("", "????", "GhUK", "Gg==", "GgQKAngx", "GgIIAQ==", None):
+            self.assertIsNone(read_revision(text))
 
 
 class Examples(Case):
