@@ -2,9 +2,10 @@
 from typing import Iterator, NamedTuple, Optional
 
 from importing.declared import Declared
-from importing.events import Event, Relationship
+from importing.events import EVERY, Event, Relationship
 from importing.refusals import Refusals
 from importing.strata import Edges, Reason
+from importing.wildcards import Wildcards
 from lib import limits, texts
 from lib.edges import TupleEdges
 from lib.ids import Ids
@@ -59,8 +60,8 @@ class Commit:
 class Writer:
     """Turns relationships into tuples and their texts, and gathers the edges that they give."""
 
-    def __init__(self, declared: Declared, ids: Ids, edges: Edges, refusals: Refusals):
-        self.declared, self.ids, self.edges, self.refusals = declared, ids, edges, refusals
+    def __init__(self, declared: Declared, wildcards: Wildcards, ids: Ids, edges: Edges, refusals: Refusals):
+        self.declared, self.wildcards, self.ids, self.edges, self.refusals = declared, wildcards, ids, edges, refusals
         self.tuple_edges = TupleEdges(declared.rules)
         self.stored: dict[Tuple, None] = {}
 
@@ -83,6 +84,11 @@ class Writer:
             self.refusals.unmapped(event.file, event.line, "tuple of a relation that the rules do not have", str(given))
             self.refusals.doubt(*of)
             return []
+        if given.user_relation == EVERY and (of.namespace, of.relation) in self.declared.tuplesets:
+            self.refusals.refuse(event.file, event.line, "a rule goes on from %s#%s, and no rule can from every user: %s"
+                                 % (of.namespace, of.relation, given))
+        if given.user_relation == EVERY:
+            return [Tuple(of, self.wildcards.set_of(given.user_type))]
         if given.user_relation is not None:
             return [Tuple(of, Userset(*given[3:]))]
         found = [Tuple(of, self.ids.number("user", given.user_type, given.user_id))]

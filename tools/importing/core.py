@@ -12,6 +12,7 @@ from importing.order import ordered
 from importing.progress import Progress
 from importing.refusals import Refusals
 from importing.strata import Edges, choose
+from importing.wildcards import Wildcards
 from lib import limits, texts
 from lib.edges import Name
 from lib.ids import Ids
@@ -47,11 +48,14 @@ class Core:
     def trace(self, given: Given) -> Optional[Made]:
         """The trace, or None where something was refused."""
         events = given.events
-        self.declared = Declared(events, self.edges, self.refusals)
-        self.writer = Writer(self.declared, self.ids, self.edges, self.refusals)
+        wildcards = Wildcards(events)
+        self.declared = Declared(events, wildcards.rules(), self.edges, self.refusals)
+        self.writer = Writer(self.declared, wildcards, self.ids, self.edges, self.refusals)
         base = self._base(events)
         self.base_revision = base.revision if base else given.base
-        items = self._commits(base, ordered(self._stream(events), self.skew, self.refusals))
+        every = wildcards.write()
+        items = self._every(every) if every else []
+        items += self._commits(base, ordered(self._stream(events), self.skew, self.refusals))
         doubts = Doubts(self.refusals.doubts, self.declared.rules, self.edges)
         doubts.spread(self.writer.stored)
         items = [item for item in items if not is_entry(item) or self._is_kept(item, doubts)]
@@ -70,7 +74,7 @@ class Core:
         entries = [item for item in items if is_entry(item)]
         contents = sum(entry.kind == "content" for entry in entries)
         return Made(lines, sum('"kind":"commit"' in line[:20] for line in lines), len(entries) - contents, contents,
-                    notes + ["cannot show " + line for line in cannot_show(items)])
+                    [*wildcards.told(), *notes] + ["cannot show " + line for line in cannot_show(items)])
 
     # Checks between two states
 
@@ -103,6 +107,11 @@ class Core:
                                  % (base.event.file, base.event.line, base.event.shown))
                 self.writer.write(base, event)
         return base
+
+    def _every(self, event: Event) -> list[Item]:
+        commit = Commit(event)
+        self.writer.write(commit, event)
+        return [commit]
 
     def _stream(self, events: list[Event]) -> list[Event]:
         """Everything behind the base state."""

@@ -8,11 +8,13 @@ from lib.rules import Declaration, Relation, Rules, depth, places
 
 
 class Declared:
-    def __init__(self, events: list[Event], edges: Edges, refusals: Refusals):
+    def __init__(self, events: list[Event], added: list[Event], edges: Edges, refusals: Refusals):
+        """`added` are rules of the importer's own."""
         self.rules, self.edges, self.refusals = Rules(), edges, refusals
+        self.added = {name for event in added for name in event.namespaces}
         self.head: list[str] = []
         self.changes: dict[int, list[Declaration]] = {}
-        for event in events:
+        for event in added + events:
             if event.kind == "rules":
                 for name, relations in event.namespaces.items():
                     self._declare(event, name, relations)
@@ -50,7 +52,7 @@ class Declared:
 
     def _refuse_left_out(self, event: Event) -> None:
         for name in self.rules.current:
-            if name not in event.namespaces:
+            if name not in event.namespaces and name not in self.added:
                 self._refuse(event, "the new rules leave out namespace %s, which a trace has no form for" % name)
 
     def _refuse_sizes(self, event: Event, name: str, listed: list[RelationRule]) -> None:

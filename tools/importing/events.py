@@ -9,6 +9,8 @@ from lib.keys import unread, unread_in_expression
 from lib.rules import RulesFault, places, shape_of_expression
 
 
+# In place of the relation of a userset: every user of a type.
+EVERY = "*"
 STAMP = frozenset(("sequence", "time", "clock"))
 EVERY_EVENT = STAMP | {"event", "file", "line"}
 ENTRY = EVERY_EVENT | {"goal", "snapshot", "snapshot_between", "reply", "token", "version"}
@@ -17,7 +19,7 @@ KEYS = {"rules": EVERY_EVENT | {"revision", "namespaces"}, "write": EVERY_EVENT 
 
 
 class Relationship(NamedTuple):
-    """A tuple of a service; `user_relation` is None where the user stands for itself."""
+    """A tuple of a service; `user_relation` is None where the user stands for itself, and EVERY for all of its type."""
 
     type: str
     id: str
@@ -28,7 +30,8 @@ class Relationship(NamedTuple):
 
     def __str__(self) -> str:
         user = "%s:%s" % (self.user_type, self.user_id)
-        return "%s:%s#%s@%s" % (*self[:3], user if self.user_relation is None else "%s#%s" % (user, self.user_relation))
+        plain = self.user_relation in (None, EVERY)
+        return "%s:%s#%s@%s" % (*self[:3], user if plain else "%s#%s" % (user, self.user_relation))
 
 
 class RelationRule(NamedTuple):
@@ -114,6 +117,8 @@ def _relationship(value: object, where: str, is_goal: bool = False) -> Relations
     if not isinstance(value, list) or len(value) not in sizes \
             or not all(isinstance(part, str) and part for part in value):
         raise _Fault("%s is no list of %s texts" % (where, " or ".join(map(str, sizes))))
+    if value[5:] == [EVERY] and value[4] != EVERY:
+        raise _Fault("%s has `*` for the relation of one user; every user of a type is [.., type, \"*\", \"*\"]" % where)
     return Relationship(*value)
 
 

@@ -3,11 +3,12 @@ import re
 from typing import Iterator, Optional
 
 from importing import located
-from importing.events import Event, RelationRule, Relationship, Stamp, put_stamp
+from importing.events import EVERY, Event, RelationRule, Relationship, Stamp, put_stamp
 from importing.feed import Moment, asked_of, moment_of, placed, shown_of
 from importing.located import line_at, line_of
 from importing.refusals import Refusals
-from importing.service import Bad, Log, ServiceRules, get, nested, one_of, spelled, text_or_none
+from importing.service import (Bad, Log, ServiceRules, get, nested, one_of, refuse_wild_tuplesets, spelled,
+                               text_or_none)
 from importing.times import nanoseconds
 
 SCHEMAS = ("1.1", "1.2")
@@ -49,6 +50,7 @@ class ModelReader:
         for given in get(model, "type_definitions"):
             self._type(given, event, takes)
         self._refuse_unknown_users(takes, event)
+        refuse_wild_tuplesets(event, takes, self.refusals)
         return ServiceRules(event, get(model, "id"), takes)
 
     def _type(self, given: object, event: Event, takes: dict) -> None:
@@ -87,12 +89,11 @@ class ModelReader:
             told = "%s of %s" % (get(user, "type"), where)
             if not isinstance(get(user, "type"), str) or not isinstance(get(user, "relation"), (str, type(None))):
                 self.refusals.refuse(self.path, here, "%s takes a user without a type" % where)
-            elif get(user, "wildcard") is not None:
-                self.refusals.unmapped(self.path, here, "typed wildcard", told)
             elif get(user, "condition"):
                 self.refusals.unmapped(self.path, here, "condition", "%s on %s" % (get(user, "condition"), told))
             else:
-                users.add((get(user, "type"), get(user, "relation") or None))
+                relation = EVERY if get(user, "wildcard") is not None else get(user, "relation") or None
+                users.add((get(user, "type"), relation))
         return users
 
     def _refuse_unknown_users(self, takes: dict, event: Event) -> None:
@@ -100,7 +101,7 @@ class ModelReader:
         for (name, relation), users in takes.items():
             line = next(one.line for one in event.namespaces[name] if one.name == relation)
             for of, of_relation in sorted(users, key=str):
-                if of not in event.namespaces or (of_relation and (of, of_relation) not in known):
+                if of not in event.namespaces or (of_relation not in (None, EVERY) and (of, of_relation) not in known):
                     self.refusals.refuse(self.path, line, "%s#%s takes %s, which the model does not define"
                                          % (name, relation, "%s#%s" % (of, of_relation) if of_relation else of))
 
@@ -166,7 +167,8 @@ def split_user(text: object) -> tuple[str, str, Optional[str]]:
         raise Bad("%r is no user" % (text,))
     whole, hash_sign, relation = text.rpartition("#")
     if not hash_sign:
-        return (*split_object(text), None)
+        of, id_text = split_object(text)
+        return of, id_text, EVERY if id_text == "*" else None
     if not relation:
         raise Bad("%r is no user" % text)
     return (*split_object(whole), relation)
@@ -181,7 +183,6 @@ def relationship_of(key: object) -> Relationship:
 
 
 class OpenFgaLog(Log):
-    WILDCARD = "typed wildcard in a tuple"
     NOT_TAKEN = "tuple that the model does not take"
     NO_LINE = "neither changes of ReadChanges nor a check with its `request`"
     KEYS = Log.KEYS | {"snapshot", "snapshot_between", "token"}
@@ -258,10 +259,10 @@ class OpenFgaLog(Log):
             return "contextual tuples", str(goal)
         if get(request, "context"):
             return "context of conditions", str(goal)
+        if goal.user_relation == EVERY:
+            return "check of a typed wildcard as the user", str(goal)
         if goal.user_relation is not None:
             return "check of a userset as the user", str(goal)
-        if goal.user_id == "*":
-            return "check of a typed wildcard as the user", str(goal)
         if model_id and self.rules.id and model_id != self.rules.id:
             return "check with another model", "%s, and the model is %s" % (model_id, self.rules.id)
         return None

@@ -4,10 +4,11 @@ from functools import cache
 from typing import Any, Iterator, NamedTuple, Optional
 
 from importing import located
-from importing.events import STAMP, Event, Relationship, Stamp, put_stamp, stamp_of
+from importing.events import EVERY, STAMP, Event, Relationship, Stamp, put_stamp, stamp_of
 from importing.refusals import Refusals
 from lib import limits
 from lib.keys import near, unread
+from lib.rules import places
 
 
 class Bad(Exception):
@@ -54,10 +55,21 @@ class ServiceRules(NamedTuple):
     takes: dict[tuple[str, str], set[tuple[str, Optional[str]]]]
 
 
+def refuse_wild_tuplesets(event: Event, takes: dict[tuple[str, str], set[tuple[str, Optional[str]]]], refusals: Refusals) -> None:
+    """No service lets a rule go on from every object of a type."""
+    for name, relations in event.namespaces.items():
+        for relation in relations:
+            for place in places(relation.rewrite):
+                wild = sorted(of for of, taken in takes.get((name, *place.names[:1]), ()) if taken == EVERY)
+                if place.form == "tuple_to" and wild:
+                    refusals.refuse(event.file, relation.line, "%s#%s goes on from %s#%s, which takes a wildcard: %s:*"
+                                    % (name, relation.name, name, place.names[0], wild[0]))
+
+
 class Log:
     """Reads the log of a service with one set of rules; each service says how its lines are read."""
 
-    WILDCARD = NOT_TAKEN = NO_LINE = BASE = ""
+    NOT_TAKEN = NO_LINE = BASE = ""
     # the keys of a recorder's line; what stands within `request` and `response` is the service's own
     KEYS = STAMP | {"request", "response", "version", "content"}
     CONTENT = frozenset(("version", "token"))
@@ -126,8 +138,6 @@ class Log:
     def put(self, event: Event, given: Relationship, live: bool, reason: Optional[str]) -> bool:
         """Adds a tuple to a write; one that is not mapped, for this reason or another, is left out or refused."""
         takes = self.rules.takes.get((given.type, given.relation), ())
-        if reason is None and given.user_id == "*":
-            reason = self.WILDCARD
         if reason is None and (given.user_type, given.user_relation) not in takes:
             reason = self.NOT_TAKEN
         if reason:

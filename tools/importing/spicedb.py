@@ -3,7 +3,7 @@ import re
 from typing import Iterator, Optional
 
 from importing import located, visibility
-from importing.events import Event, Relationship, Stamp, put_stamp
+from importing.events import EVERY, Event, Relationship, Stamp, put_stamp
 from importing.located import line_of
 from importing.service import Bad, Log, get, one_of, text_or_none
 from importing.zedtokens import Older, Revision, read_revision
@@ -36,7 +36,8 @@ def _object(given: object, what: str) -> tuple[str, str]:
 
 def _subject(given: object) -> tuple[str, str, Optional[str]]:
     relation = text_or_none(get(given, "optionalRelation"), "optionalRelation") or None
-    return (*_object(get(given, "object"), "subject"), None if relation == "..." else relation)
+    of, id_text = _object(get(given, "object"), "subject")
+    return of, id_text, EVERY if id_text == "*" else None if relation == "..." else relation
 
 
 def relationship_of(given: object) -> Relationship:
@@ -48,7 +49,6 @@ def relationship_of(given: object) -> Relationship:
 
 
 class SpiceDbLog(Log):
-    WILDCARD = "wildcard"
     NOT_TAKEN = "relationship that the schema does not take"
     NO_LINE = "neither a response of Watch nor a check with its `request`"
 
@@ -97,7 +97,7 @@ class SpiceDbLog(Log):
             self.refusals.refuse(event.file, event.line, "no relationship `type:id#relation@type:id`: %r" % text[:200])
             return False
         parts = [found[name] for name in Relationship._fields]
-        parts[5] = None if parts[5] == "..." else parts[5]
+        parts[5] = EVERY if parts[4] == "*" else None if parts[5] == "..." else parts[5]
         traits = found["traits"]
         reason = None if not traits else "expiration" if traits.startswith("[expiration:") else "caveat"
         return self.put(event, Relationship(*parts), True, reason)
@@ -168,8 +168,8 @@ class SpiceDbLog(Log):
             return "conditional permission", str(goal)
         if get(get(value, "request"), "context"):
             return "context of caveats", str(goal)
+        if goal.user_relation == EVERY:
+            return "check of a wildcard as the user", str(goal)
         if goal.user_relation is not None:
             return "check of a userset as the user", str(goal)
-        if goal.user_id == "*":
-            return "check of a wildcard as the user", str(goal)
         return None

@@ -3,9 +3,9 @@ import re
 from typing import NamedTuple, Optional
 
 from importing import located
-from importing.events import Event, RelationRule
+from importing.events import EVERY, Event, RelationRule
 from importing.refusals import Refusals
-from importing.service import ServiceRules, nested
+from importing.service import ServiceRules, nested, refuse_wild_tuplesets
 from lib import limits
 
 TOKEN = re.compile(r"(?P<space>[ \t\r\n]+|//[^\n]*|/\*.*?\*/)|(?P<word>[A-Za-z_][A-Za-z0-9_]*(?:/[A-Za-z_][A-Za-z0-9_]*)*)"
@@ -107,6 +107,7 @@ class Parser:
                 self.next()
                 self.skip_to_start()
         self._refuse_unknown()
+        refuse_wild_tuplesets(self.rules, self.takes, self.refusals)
         return ServiceRules(self.rules, None, self.takes)
 
     def definition(self) -> None:
@@ -160,7 +161,7 @@ class Parser:
         elif self.here().text == ":":
             self.next()
             self.take("*")
-            unmapped.append("wildcard")
+            relation = EVERY
         if self.here().text == "with":
             while self.here().text in ("with", "and"):
                 self.next()
@@ -248,7 +249,7 @@ class Parser:
                 self.refusals.refuse(self.path, line, "%s#%s has an arrow from %s, which is no relation" % (of, name, read))
         for (of, name), users in self.takes.items():
             for user, relation in sorted(users, key=str):
-                if user not in self.rules.namespaces or (relation and (user, relation) not in known):
+                if user not in self.rules.namespaces or (relation not in (None, EVERY) and (user, relation) not in known):
                     self.refusals.refuse(self.path, known[of, name].line, "%s#%s takes %s, which the schema does not define"
                                          % (of, name, "%s#%s" % (user, relation) if relation else user))
 

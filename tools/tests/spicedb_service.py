@@ -27,7 +27,7 @@ class Service:
         return self.related(thing, name, user, path) if isinstance(rule, list) else self.permitted(rule, thing, user, path)
 
     def related(self, thing, name, user, path):
-        if (thing, name, user, "") in self.relationships:
+        if (thing, name, user, "") in self.relationships or (thing, name, user.split(":")[0] + ":*", "") in self.relationships:
             return True
         sets = [one[2:] for one in self.relationships if one[:2] == (thing, name) and one[3]]
         return any(self.check(subject, relation, user, path) for subject, relation in sets)
@@ -74,6 +74,14 @@ def schema_of(random):
     return schema
 
 
+def allow_wildcards(schema):
+    """Lets every relation that no arrow reads take all users of a type at once."""
+    for names in schema.values():
+        for name, rule in names.items():
+            if isinstance(rule, list) and name not in ARROWS:
+                rule += [("user:*", ""), ("bot:*", ""), ("acl/doc:*", "")]
+
+
 def text_of(schema):
     """A schema as it is written."""
     lines = ["definition user {}", "/* robots */ definition bot {}"]
@@ -103,6 +111,8 @@ def relationship_of(random, schema):
     of = random.choice(TYPES)
     name = random.choice(RELATIONS)
     subject_type, relation = random.choice(schema[of][name])
+    if subject_type.endswith(":*"):
+        return "%s:%s" % (of, random.choice(OBJECTS[of])), name, subject_type, ""
     found = [one for one in USERS if one.startswith(subject_type + ":")]
     found += ["%s:%s" % (subject_type, one) for one in OBJECTS.get(subject_type, ())]
     return "%s:%s" % (of, random.choice(OBJECTS[of])), name, random.choice(found), relation

@@ -48,7 +48,7 @@ class Refusals(Case):
         log = [change("user:a"), change("user:*"), change("user:a", condition={"name": "weekday"}), change("robot:a"),
                change("user:a", "writer"), change("user:a", thing="paper:1")]
         self.assertEqual(self.refusals(log), [
-            "log:2: typed wildcard in a tuple: doc:1#viewer@user:*",
+            "log:2: tuple that the model does not take: doc:1#viewer@user:*",
             "log:3: condition on a tuple: doc:1#viewer@user:a",
             "log:4: tuple that the model does not take: doc:1#viewer@robot:a",
             "log:5: tuple that the model does not take: doc:1#writer@user:a",
@@ -106,13 +106,19 @@ class Refusals(Case):
         for rewrite, text in cases.items():
             self.assertIn("model.json:10: " + text, self.refusals([change("user:a")], MODEL % rewrite))
 
+    def test_a_tupleset_with_a_wildcard(self):
+        ttu = '{"tupleToUserset": {"tupleset": {"relation": "parent"}, "computedUserset": {"relation": "viewer"}}}'
+        model = (MODEL % ttu).replace('[{"type": "doc"}]', '[{"type": "doc"}, {"type": "doc", "wildcard": {}}]')
+        self.assertEqual(self.refusals([change("user:a")], model)[0],
+                         "model.json:10: doc#viewer goes on from doc#parent, which takes a wildcard: doc:*")
+
     def test_models_by_line(self):
         model = MODEL % THIS
         wild = model.replace('"viewer": {"directly_related_user_types": [', '"viewer": {"directly_related_user_types": [\n'
                              '{"type": "user", "wildcard": {}},\n{"type": "user", "condition": "weekday"},\n')
         wild = wild.replace('"id": "M",', '"id": "M", "conditions": {\n"weekday": {"expression": "true"}},')
         self.assertEqual(self.refusals([], wild), [
-            "model.json:3: condition: weekday", "model.json:16: typed wildcard: user of doc#viewer",
+            "model.json:3: condition: weekday",
             "model.json:17: condition: weekday on user of doc#viewer"])
         self.assertEqual(self.refusals([], model.replace('"1.1"', '"1.0"')),
                          ["model.json:2: schema version '1.0': only 1.1 and 1.2 are mapped"])
@@ -164,7 +170,7 @@ class Refusals(Case):
         self.put("log", [check(at="2023-01-01T00:00:00Z"), change("user:b", at="2023-01-01T00:00:00Z")])
         words = ("openfga", "--model", "model.json", "--base", "base.json", "--base-at", "2024-01-01T00:00:00Z", "log")
         self.assertEqual(self.refused(*words), [
-            "base.json:3: typed wildcard in a tuple: doc:1#viewer@user:*", "base.json:4: a tuple key has no `relation`",
+            "base.json:3: tuple that the model does not take: doc:1#viewer@user:*", "base.json:4: a tuple key has no `relation`",
             "log:1: check before the base state: its snapshot is 2023-01-01T00:00:00Z",
             "log:2: its revision 2023-01-01T00:00:00Z is not later than that of the base state"])
 

@@ -61,14 +61,31 @@ class OpenFga:
 
 
 class OpenFgaWithWildcards(OpenFga):
+    """A store whose tuples also name all users of a type."""
+
+    def __init__(self, random):
+        super().__init__(random)
+        openfga_service.allow(self.model, wildcard={})
+        self.rules = json.dumps(self.model)
+
+
+class OpenFgaWithConditions(OpenFga):
     """A store that also has what a trace can't say."""
 
     words = OpenFga.words[:-1] + ("--skip-unmapped", "log")
 
     def __init__(self, random):
         super().__init__(random)
-        openfga_service.allow_wildcards(self.model)
+        openfga_service.allow(self.model, condition="weekday")
         self.rules = json.dumps(self.model)
+
+    def write(self, at):
+        """Some tuples have a condition, which holds."""
+        page = super().write(at)
+        for change in page["changes"]:
+            if change["operation"].endswith("WRITE") and self.random.random() < 0.1:
+                change["tuple_key"]["condition"] = {"name": "weekday"}
+        return page
 
 
 class OpenFgaBetween(OpenFga):
@@ -145,6 +162,15 @@ class SpiceDb:
             "permissionship": "PERMISSIONSHIP_%s_PERMISSION" % ("HAS" if reply else "NO")}}
 
 
+class SpiceDbWithWildcards(SpiceDb):
+    """A store whose relationships also name all users of a type."""
+
+    def __init__(self, random):
+        super().__init__(random)
+        spicedb_service.allow_wildcards(self.schema)
+        self.rules = spicedb_service.text_of(self.schema)
+
+
 class RoundTrips(Case):
     def rounds(self, make):
         """Each check is logged with both replies, and the audit has to refuse the wrong one alone."""
@@ -191,7 +217,7 @@ class RoundTrips(Case):
         kept = 0
         for number in range(MODELS):
             random = Random("left out %d" % number)
-            service = OpenFgaWithWildcards(random)
+            service = OpenFgaWithConditions(random)
             log, states = [], []
             for at in range(1, 4):
                 log.append(service.write(at))
@@ -238,3 +264,9 @@ class RoundTrips(Case):
 
     def test_spicedb(self):
         self.rounds(SpiceDb)
+
+    def test_openfga_with_wildcards(self):
+        self.rounds(OpenFgaWithWildcards)
+
+    def test_spicedb_with_wildcards(self):
+        self.rounds(SpiceDbWithWildcards)

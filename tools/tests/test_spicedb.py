@@ -82,7 +82,6 @@ class Refusals(Case):
         self.assertEqual(self.refusals([], schema=schema), [
             "schema.zed:1: use expiration",
             "schema.zed:2: caveat: tuesday",
-            "schema.zed:7: wildcard: user of doc#viewer",
             "schema.zed:7: caveat: user of doc#viewer",
             "schema.zed:8: expiration: user of doc#viewer",
             "schema.zed:8: caveat: user of doc#viewer",
@@ -101,6 +100,11 @@ class Refusals(Case):
             "schema.zed:3: doc#owner takes cat, which the schema does not define",
             "schema.zed:3: doc#owner takes user#x, which the schema does not define"])
 
+    def test_an_arrow_from_a_wildcard(self):
+        schema = "definition user {}\ndefinition doc {\n  relation up: doc | doc:*\n  permission view = up->view\n}\n"
+        self.assertEqual(self.refusals([], schema=schema),
+                         ["schema.zed:4: doc#view goes on from doc#up, which takes a wildcard: doc:*"])
+
     def test_watch_by_line(self):
         log = [watch(1, update("user:a")), watch(2, update("user:*")), watch(3, update("user:a", optionalCaveat={"caveatName": "c"})),
                watch(4, update("user:a", optionalExpiresAt="2024-01-01T00:00:00Z")), watch(5, update("doc:1")),
@@ -109,7 +113,7 @@ class Refusals(Case):
                watch(9, {"operation": "OPERATION_TOUCH"}), {"error": {"code": 5}}, watch(10, isCheckpoint=True),
                {"result": {"updates": 7, "changesThrough": {"token": token_text(11)}}}]
         self.assertEqual(self.refusals(log), [
-            "log:2: wildcard: doc:1#viewer@user:*", "log:3: caveat: doc:1#viewer@user:a",
+            "log:2: relationship that the schema does not take: doc:1#viewer@user:*", "log:3: caveat: doc:1#viewer@user:a",
             "log:4: expiration: doc:1#viewer@user:a",
             "log:5: relationship that the schema does not take: doc:1#viewer@doc:1",
             "log:6: relationship that the schema does not take: doc:1#view@user:a",
@@ -144,7 +148,7 @@ class Refusals(Case):
         self.put("log", [check(at=4), watch(5, update("user:c"))])
         words = ("spicedb", "--schema", "schema.zed", "--base", "base.txt", "--base-at", token_text(5), "log")
         self.assertEqual(self.refused(*words), [
-            "base.txt:4: wildcard: doc:1#viewer@user:*", "base.txt:5: caveat: doc:1#viewer@user:b",
+            "base.txt:4: relationship that the schema does not take: doc:1#viewer@user:*", "base.txt:5: caveat: doc:1#viewer@user:b",
             "base.txt:6: expiration: doc:1#viewer@user:b",
             "base.txt:7: no relationship `type:id#relation@type:id`: 'doc:1#viewer'",
             "base.txt:8: relationship that the schema does not take: doc:1#view@user:b",
