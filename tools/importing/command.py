@@ -23,7 +23,7 @@ from lib.files import Parser
 from lib.ids import Ids, TableFault
 
 
-def words(arguments):
+def words(arguments: list[str]) -> tuple[Parser, Namespace]:
     """The words of the command line, and the parser that tells faults of usage."""
     parser = Parser(prog="import_trace", description="Makes a trace of the logs of a service.")
     services = parser.add_subparsers(dest="service", required=True)
@@ -95,7 +95,7 @@ def gathered(given: Namespace, base: Any, refusals: Refusals, progress: Progress
     return Given(log.placed(events, given.skew), log.base_number())
 
 
-def write(path, lines, ids):
+def write(path: str, lines: Iterable[str], ids: Ids) -> None:
     """The trace and the new rows of the table, or neither."""
     beside = path + ".part"
     try:
@@ -110,16 +110,17 @@ def write(path, lines, ids):
         raise
 
 
-def say(text):
+def say(text: str) -> None:
     sys.stderr.write(text + "\n")
 
 
-def told_left_out(refusals):
-    for reason, count in sorted(refusals.left_out.items()):
-        say("left out %d: %s" % (count, reason))
+def told_left_out(refusals: Refusals) -> None:
+    for verb, counts in (("passed over", refusals.passed), ("left out", refusals.left_out)):
+        for reason, count in sorted(counts.items()):
+            say("%s %d: %s" % (verb, count, reason))
 
 
-def main(arguments):
+def main(arguments: list[str]) -> int:
     parser, given = words(arguments)
     base = base_at(parser, given)
     refusals, progress = Refusals(given.skip_unmapped), Progress()
@@ -131,7 +132,7 @@ def main(arguments):
         if made is None:
             for line in refusals.lines():
                 say(line)
-            say("refused %d" % len(refusals.lines()))
+            say("refused %d" % len(refusals.refused))
             return 2
         write(given.trace, made.lines, ids)
     except TableFault as fault:

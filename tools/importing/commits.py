@@ -77,6 +77,13 @@ class Writer:
                         self._store(event, one, relationship)
                     texts_of.append(self.text(one))
 
+    def is_repeated(self, commit: Commit, event: Event) -> bool:
+        """Whether a write says again what the commit has."""
+        sides = ((True, event.add), (False, event.remove))
+        touches = [commit.touched.get(one) for live, side in sides for given in side for one in self._tuples(event, given)]
+        lives = [live for live, side in sides for given in side for one in self._tuples(event, given)]
+        return bool(touches) and [touch and touch.live for touch in touches] == lives
+
     def _tuples(self, event: Event, given: Relationship) -> list[Tuple]:
         """A user that stands for itself in a tupleset also gives the userset that `tuple_to` reads."""
         of = Userset(*given[:3])

@@ -136,7 +136,11 @@ class Core:
                 items.append(event)
                 continue
             before = items[-1] if items else None
-            if event.kind == "write" and isinstance(before, Commit) and before is not base and (
+            is_behind = event.kind == "write" and isinstance(before, Commit) and before is not base
+            if is_behind and before.revision == event.revision and self.writer.is_repeated(before, event):
+                self.refusals.pass_over("write that was logged before")
+                continue
+            if is_behind and (
                     before.revision == event.revision or before.takes(event) and not spans.has(before.revision)):
                 self.writer.write(before, event)
                 last = event.revision
@@ -171,17 +175,22 @@ class Core:
         return False
 
     def _has_good_version(self, event: Event, key: tuple[str, str, str]) -> bool:
+        before = self.issued.get(key) if event.kind == "content" and event.version is not None else None
         if event.version == "":
             self._refuse(event, "the label of a version is empty")
-        if event.kind == "content":
-            if event.reply != (event.version is not None):
-                self._refuse(event, "a content check has a version exactly where its reply is true")
-            elif event.version is not None and key in self.issued:
-                before = self.issued[key]
-                self._refuse(event, "version %s of %s:%s was issued at %s:%d already"
-                             % (event.version, *key[:2], before.file, before.line))
-            elif event.version is not None:
-                self.issued[key] = event
+        elif event.kind == "content" and event.reply != (event.version is not None):
+            told = "a content check has a version exactly where its reply is true"
+            self.refusals.unmapped_check(event, "content check with a version and the reply false, or without one and true", "", told)
+            return False
+        elif before is not None and (before.goal, before.snapshot, before.lowest, before.token) == (
+                event.goal, event.snapshot, event.lowest, event.token):
+            self.refusals.pass_over("content check that was logged before")
+            return False
+        elif before is not None:
+            self._refuse(event, "version %s of %s:%s was issued at %s:%d already"
+                         % (event.version, *key[:2], before.file, before.line))
+        elif event.kind == "content" and event.version is not None:
+            self.issued[key] = event
         return True
 
     # Strata and timestamps

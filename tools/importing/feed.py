@@ -6,7 +6,7 @@ from typing import NamedTuple, Optional
 from importing.events import Event, is_whole
 from importing.order import ordered
 from importing.refusals import Refusals
-from importing.service import Bad
+from importing.reading import Bad
 from importing.times import nanoseconds
 
 

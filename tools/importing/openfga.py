@@ -7,8 +7,8 @@ from importing.events import EVERY, Event, RelationRule, Relationship, Stamp, pu
 from importing.feed import Moment, asked_of, moment_of, placed, shown_of
 from importing.located import line_at, line_of
 from importing.refusals import Refusals
-from importing.service import (Bad, Log, ServiceRules, get, nested, one_of, refuse_wild_tuplesets, spelled,
-                               text_or_none)
+from importing.reading import Bad, get, spelled
+from importing.service import Log, ServiceRules, nested, one_of, refuse_wild_tuplesets, text_or_none
 from importing.times import nanoseconds
 
 SCHEMAS = ("1.1", "1.2")
@@ -185,6 +185,12 @@ def relationship_of(key: object) -> Relationship:
 class OpenFgaLog(Log):
     NOT_TAKEN = "tuple that the model does not take"
     NO_LINE = "neither changes of ReadChanges nor a check with its `request`"
+    DECIDES = ("allowed",)
+    OTHERS = {"Write": ("request.writes", "request.deletes"), "Expand": ("response.tree",), "Read": ("response.tuples",),
+              "ReadChanges": ("response.changes",), "ReadAuthorizationModel": ("response.authorization_model",),
+              "ReadAuthorizationModels": ("response.authorization_models",), "ReadAssertions": ("response.assertions",),
+              "WriteAssertions": ("request.assertions",), "GetStore": (), "ListStores": ("response.stores",), "CreateStore": (),
+              "UpdateStore": (), "DeleteStore": ()}
     KEYS = Log.KEYS | {"snapshot", "snapshot_between", "token"}
     BASE = "place in the changes feed or time of RFC 3339"
 

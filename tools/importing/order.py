@@ -31,7 +31,7 @@ def _by_time(events: list[Event], skew: int, refusals: Refusals) -> list[Event]:
     timed = [event for event in events if event.time is not None]
     for event in events:
         if event.time is None:
-            refusals.refuse(event.file, event.line, "the line has no `time`, which --skew orders by")
+            _leave_out(event, "line without a `time`", "the line has no `time`, which --skew orders by", refusals)
     last: dict[str, Event] = {}
     for event in timed:
         before = last.get(event.clock)
@@ -40,16 +40,30 @@ def _by_time(events: list[Event], skew: int, refusals: Refusals) -> list[Event]:
                             % (before.file, before.line))
         last[event.clock] = event
     result = sorted(timed, key=lambda event: event.time)
+    lost: set[int] = set()
     for number, event in enumerate(result):
         place = number - 1
         while place >= 0 and event.time - result[place].time <= skew:
-            if event.clock != result[place].clock and _matters(event, result[place]):
-                refusals.refuse(event.file, event.line, "which came first, this %s or the %s at %s:%d, is not known: "
-                                "they are %s ms apart, and the skew is %d ms"
-                                % (event.kind, result[place].kind, result[place].file, result[place].line,
-                                   format((event.time - result[place].time) / 1e6, "g"), skew // 1_000_000))
+            other = result[place]
+            if event.clock != other.clock and not lost & {id(event), id(other)} and _matters(event, other):
+                told = "which came first, this %s or the %s at %s:%d, is not known: they are %s ms apart, and the skew is %d ms" % (
+                    event.kind, other.kind, other.file, other.line, format((event.time - other.time) / 1e6, "g"), skew // 1_000_000)
+                out = event if event.goal is not None else other
+                _leave_out(out, "check that may have come before a line or behind it", told, refusals, event)
+                lost |= {id(out)} if refusals.skip else set()
             place -= 1
-    return result
+    return [event for event in result if id(event) not in lost]
+
+
+def _leave_out(event: Event, reason: str, told: str, refusals: Refusals, at: Optional[Event] = None) -> None:
+    """Leaves a check out where that is allowed; a write or rules can't be. It is told at the line of another event, if one is given."""
+    at = at or event
+    if event.goal is None:
+        refusals.refuse(at.file, at.line, told)
+    elif refusals.skip:
+        refusals.unmapped_check(event, reason, "")
+    else:
+        refusals.unmapped(at.file, at.line, reason, told=told)
 
 
 def _matters(one: Event, other: Event) -> bool:

@@ -1,33 +1,13 @@
 """What the front ends of the services share."""
-import re
-from functools import cache
 from typing import Any, Iterator, NamedTuple, Optional
 
-from importing import located
+from importing import located, passing
+from importing.reading import Bad, get
 from importing.events import EVERY, STAMP, Event, Relationship, Stamp, put_stamp, stamp_of
 from importing.refusals import Refusals
 from lib import limits
 from lib.keys import near, unread
 from lib.rules import places
-
-
-class Bad(Exception):
-    """A line that is not what the service writes."""
-
-
-@cache
-def spelled(name: str) -> str:
-    """The other spelling of a key: services write `tupleKey` and `tuple_key`."""
-    if "_" in name:
-        return re.sub("_([a-z])", lambda found: found[1].upper(), name)
-    return re.sub("[A-Z]", lambda found: "_" + found[0].lower(), name)
-
-
-def get(value: object, name: str) -> object:
-    """The value of a key in either spelling; None where there is none."""
-    if not isinstance(value, dict):
-        return None
-    return value[name] if name in value else value.get(spelled(name))
 
 
 def one_of(table: dict[str, bool], value: object) -> Optional[bool]:
@@ -71,7 +51,10 @@ class Log:
 
     NOT_TAKEN = NO_LINE = BASE = ""
     # the keys of a recorder's line; what stands within `request` and `response` is the service's own
-    KEYS = STAMP | {"request", "response", "version", "content"}
+    KEYS = STAMP | passing.KEYS | {"request", "response", "version", "content"}
+    # of a response, what a decision stands in; and the calls that have none
+    DECIDES: tuple[str, ...] = ()
+    OTHERS: dict[str, tuple[str, ...]] = {}
     CONTENT = frozenset(("version", "token"))
 
     def __init__(self, rules: ServiceRules, base_at: Any, refusals: Refusals):
@@ -111,19 +94,34 @@ class Log:
             stamp = stamp_of(value if isinstance(value, dict) else {}, path, line, self.refusals)
             try:
                 self._refuse_unread(value)
-                if get(value, "request") is not None:
-                    event = put_stamp(self.check(value, path, line), stamp)
-                    reason = self.not_checked(value, event.goal)
-                    if reason:
-                        self.refusals.unmapped_check(event, *reason)
-                    else:
-                        yield event
-                elif self.is_write(value):
+                is_check = get(value, "request") is not None
+                if not is_check and self.is_write(value):
                     yield from self.writes(value, stamp, path, line)
+                    continue
+                passed = passing.failure_of(value, self.DECIDES) or is_check and passing.other_call_of(value, self.OTHERS)
+                if passed:
+                    self.refusals.pass_over(passed)
+                elif is_check:
+                    yield from self._checks(value, stamp, path, line)
                 else:
                     raise Bad(self.NO_LINE)
             except Bad as fault:
                 self.refusals.refuse(path, line, str(fault))
+
+    def _checks(self, value: dict, stamp: Stamp, path: str, line: int) -> Iterator[Event]:
+        """A check that can't be read is left out where that is allowed; a content check issues a version, and is not."""
+        try:
+            event = put_stamp(self.check(value, path, line), stamp)
+        except Bad as fault:
+            if get(value, "content") is not None:
+                raise
+            self.refusals.unmapped(path, line, "check that can't be read", told=str(fault))
+            return
+        reason = self.not_checked(value, event.goal)
+        if reason:
+            self.refusals.unmapped_check(event, *reason)
+        else:
+            yield event
 
     def _refuse_unread(self, value: object) -> None:
         """A key that is not read, in what is the recorder's; a line of the service alone may have others of its own."""

@@ -5,7 +5,8 @@ from typing import Iterator, Optional
 from importing import located, visibility
 from importing.events import EVERY, Event, Relationship, Stamp, put_stamp
 from importing.located import line_of
-from importing.service import Bad, Log, get, one_of, text_or_none
+from importing.reading import Bad, get
+from importing.service import Log, one_of, text_or_none
 from importing.zedtokens import Older, Revision, read_revision
 
 RELATIONSHIP = re.compile(r"(?P<type>[a-z0-9_/]+):(?P<id>[A-Za-z0-9/_|\-=+]+)#(?P<relation>[a-z0-9_]+)"
@@ -53,6 +54,11 @@ class SpiceDbLog(Log):
     NO_LINE = "neither a response of Watch nor a check with its `request`"
 
     BASE = "token or revision"
+    DECIDES = ("permissionship",)
+    OTHERS = {"WriteRelationships": ("request.updates",), "DeleteRelationships": ("response.deletedAt",),
+              "ReadRelationships": ("request.relationshipFilter",), "ExpandPermissionTree": ("response.treeRoot",),
+              "ReadSchema": ("response.schemaText",), "ReflectSchema": (), "DiffSchema": (), "ImportBulkRelationships": (),
+              "ExportBulkRelationships": ()}
 
     @staticmethod
     def read_base(text: str) -> Optional[Revision]:

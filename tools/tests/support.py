@@ -11,6 +11,7 @@ from typing import NamedTuple
 from unittest import mock
 
 from importing.command import main as import_main
+from importing.refusals import HINT
 from lib.maker import record
 from lib.programs import loaded_file
 from lib.trace import read_trace
@@ -87,9 +88,10 @@ class Case(unittest.TestCase):
         self.assertEqual(status, 2, said)
         self.assertFalse(os.path.exists(self.path("trace.jsonl")))
         self.assertFalse(os.path.exists(self.path("ids.jsonl")))
-        lines = said.splitlines()
+        lines = [line for line in said.splitlines() if not line.startswith("passed over")]
         self.assertEqual(lines[-1], "refused %d" % (len(lines) - 1))
-        return lines[:-1]
+        self.hinted = [line for line in lines if line.endswith(HINT)]
+        return [line[:-len(HINT)] if line.endswith(HINT) else line for line in lines[:-1]]
 
     def audited(self, trace="trace.jsonl"):
         """The report of the program on a trace with made evidence."""

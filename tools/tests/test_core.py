@@ -200,7 +200,7 @@ class Refusals(CoreCase):
     def test_tuples_and_versions(self):
         self.assertEqual(self.refusals(
             RULES, write(1, rel(), rel()), write(2, rel(), remove=[rel()]), write(3, rel(relation="x")), content(3, "v"),
-            content(3, "v"), content(3, None) | {"version": "w"}), [
+            content(4, "v"), content(3, None) | {"version": "w"}), [
             "log:2: doc:1#viewer@user:a is touched twice in one commit, at log:2 too",
             "log:3: doc:1#viewer@user:a is touched twice in one commit, at log:3 too",
             "log:4: tuple of a relation that the rules do not have: doc:1#x@user:a",

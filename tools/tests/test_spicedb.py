@@ -122,7 +122,7 @@ class Refusals(Case):
             "log:9: `changesThrough` has no token whose revision is a number or a snapshot of PostgreSQL",
             "log:10: `changesThrough` has no token whose revision is a number or a snapshot of PostgreSQL",
             "log:11: a relationship has no relation",
-            "log:12: neither a response of Watch nor a check with its `request`", "log:14: `updates` is no list"])
+            "log:14: `updates` is no list"])
 
     def test_checks_by_line(self):
         log = [watch(5, update("user:a")), check(subject="group:g#member"), check(subject="user:*"), check(permission="edit"),

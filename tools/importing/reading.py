@@ -1,0 +1,22 @@
+"""The values of a service's JSON, in either spelling of their keys."""
+import re
+from functools import lru_cache
+
+
+class Bad(Exception):
+    """A line that is not what the service writes."""
+
+
+@lru_cache(1 << 12)
+def spelled(name: str) -> str:
+    """The other spelling of a key: services write `tupleKey` and `tuple_key`."""
+    if "_" in name:
+        return re.sub("_([a-z])", lambda found: found[1].upper(), name)
+    return re.sub("[A-Z]", lambda found: "_" + found[0].lower(), name)
+
+
+def get(value: object, name: str) -> object:
+    """The value of a key in either spelling; None where there is none."""
+    if not isinstance(value, dict):
+        return None
+    return value[name] if name in value else value.get(spelled(name))
