@@ -9,6 +9,7 @@ from typing import Iterator, NamedTuple, Optional, Union
 
 from importing.commits import Commit
 from importing.events import Event
+from importing.order import lowest_of
 from lib.meaning import Settled
 from lib.rules import Declaration, Relation, Rules
 from lib.store import Store
@@ -16,11 +17,6 @@ from lib.texts import Tuple, Userset
 
 STATES = 1_000
 Item = Union[Commit, Event]
-
-
-def lowest_of(event: Event) -> int:
-    """The earliest revision that a check may have looked at."""
-    return event.snapshot if event.lowest is None else event.lowest
 
 
 class Spans:

@@ -3,12 +3,13 @@ import json
 from bisect import bisect_left, bisect_right
 from typing import Iterator, NamedTuple, Optional
 
-from importing.between import STATES, Chooser, Item, Spans, States, is_entry, lowest_of
+from importing.between import STATES, Chooser, Item, Spans, States, is_entry
 from importing.commits import Commit, Writer
 from importing.declared import Declared
 from importing.doubts import Doubts
 from importing.events import Event
-from importing.order import ordered
+from importing.newest import put_newest
+from importing.order import lowest_of, ordered
 from importing.progress import Progress
 from importing.refusals import Refusals
 from importing.strata import Edges, choose
@@ -55,7 +56,8 @@ class Core:
         self.base_revision = base.revision if base else given.base
         every = wildcards.write()
         items = self._every(every) if every else []
-        items += self._commits(base, ordered(self._stream(events), self.skew, self.refusals))
+        stream = put_newest(ordered(self._stream(events), self.skew, self.refusals), self.skew, self.refusals)
+        items += self._commits(base, stream)
         doubts = Doubts(self.refusals.doubts, self.declared.rules, self.edges)
         doubts.spread(self.writer.stored)
         items = [item for item in items if not is_entry(item) or self._is_kept(item, doubts)]

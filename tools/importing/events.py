@@ -15,7 +15,7 @@ STAMP = frozenset(("sequence", "time", "clock"))
 EVERY_EVENT = STAMP | {"event", "file", "line"}
 ENTRY = EVERY_EVENT | {"goal", "snapshot", "snapshot_between", "reply", "token", "version"}
 KEYS = {"rules": EVERY_EVENT | {"revision", "namespaces"}, "write": EVERY_EVENT | {"revision", "base", "add", "remove"},
-        "check": ENTRY, "content": ENTRY}
+        "check": ENTRY, "content": ENTRY | {"newest"}}
 
 
 class Relationship(NamedTuple):
@@ -65,6 +65,7 @@ class Event:
     snapshot: Optional[int] = None
     lowest: Optional[int] = None
     reply: bool = False
+    newest: bool = False
     token: Optional[int] = None
     version: Optional[str] = None
     namespaces: dict[str, list[RelationRule]] = field(default_factory=dict)
@@ -110,6 +111,16 @@ class _Fault(Exception):
 def _refuse_unread(value: object, known: Collection[str], where: str = "") -> None:
     for key in unread(value, known):
         raise _Fault(key.said(where and " in " + where))
+
+
+def newest_of(value: dict, fault: type) -> bool:
+    """Whether a content check says that it was evaluated at the newest state; raises the fault that is given."""
+    newest = value.get("newest")
+    if not isinstance(newest, (bool, type(None))):
+        raise fault("`newest` is neither true nor false")
+    if newest and value.get("snapshot_between") is not None:
+        raise fault("`newest` goes with one `snapshot`, and not with `snapshot_between`")
+    return bool(newest)
 
 
 def _relationship(value: object, where: str, is_goal: bool = False) -> Relationship:
@@ -209,6 +220,7 @@ def _entry(event: Event, value: dict) -> None:
     if not isinstance(value.get("reply"), bool):
         raise _Fault("`reply` is neither true nor false")
     event.reply = value["reply"]
+    event.newest = newest_of(value, _Fault)
     event.version = value.get("version")
     if not isinstance(event.version, (str, type(None))):
         raise _Fault("`version` is no text")

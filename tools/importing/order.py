@@ -5,6 +5,11 @@ from importing.events import Event
 from importing.refusals import Refusals
 
 
+def lowest_of(event: Event) -> int:
+    """The earliest revision that a check may have looked at."""
+    return event.snapshot if event.lowest is None else event.lowest
+
+
 def ordered(events: list[Event], skew: Optional[int], refusals: Refusals) -> list[Event]:
     if skew is not None:
         return _by_time(events, skew * 1_000_000, refusals)

@@ -3,7 +3,7 @@ from typing import Any, Iterator, NamedTuple, Optional
 
 from importing import located, passing
 from importing.reading import Bad, get
-from importing.events import EVERY, STAMP, Event, Relationship, Stamp, put_stamp, stamp_of
+from importing.events import EVERY, STAMP, Event, Relationship, Stamp, newest_of, put_stamp, stamp_of
 from importing.refusals import Refusals
 from lib import limits
 from lib.keys import near, unread
@@ -51,7 +51,7 @@ class Log:
 
     NOT_TAKEN = NO_LINE = BASE = ""
     # the keys of a recorder's line; what stands within `request` and `response` is the service's own
-    KEYS = STAMP | passing.KEYS | {"request", "response", "version", "content"}
+    KEYS = STAMP | passing.KEYS | {"request", "response", "version", "content", "newest"}
     # of a response, what a decision stands in; and the calls that have none
     DECIDES: tuple[str, ...] = ()
     OTHERS: dict[str, tuple[str, ...]] = {}
@@ -112,6 +112,9 @@ class Log:
         """A check that can't be read is left out where that is allowed; a content check issues a version, and is not."""
         try:
             event = put_stamp(self.check(value, path, line), stamp)
+            event.newest = newest_of(value, Bad)
+            if event.newest and event.kind == "check":
+                raise Bad("`newest` is said of a content check")
         except Bad as fault:
             if get(value, "content") is not None:
                 raise
