@@ -41,6 +41,7 @@ def words(arguments: list[str]) -> tuple[Parser, Namespace]:
         service.add_argument("--skip-unmapped", action="store_true", help="count and leave out what a trace cannot say")
         service.add_argument("--trace", default="trace.jsonl", metavar="FILE", help="the trace to write (trace.jsonl)")
         service.add_argument("--ids", default="ids.jsonl", metavar="FILE", help="the table of ids to add to (ids.jsonl)")
+        service.add_argument("--name", metavar="NAME", help="a name of the service, where several of its kind have logs")
         service.add_argument("logs", nargs="+", metavar="LOG", help="a file of writes and checks, JSON lines")
     given = parser.parse_args(arguments)
     if given.skew is not None and given.skew < 0:
@@ -126,6 +127,7 @@ def main(arguments: list[str]) -> int:
     refusals, progress = Refusals(given.skip_unmapped), Progress()
     try:
         ids = Ids(given.ids)
+        ids.take_for(given.service if given.name is None else "%s %s" % (given.service, given.name))
         made = Core(ids, given.skew, refusals, progress).trace(gathered(given, base, refusals, progress))
         progress.end()
         told_left_out(refusals)

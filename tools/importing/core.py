@@ -68,6 +68,8 @@ class Core:
         times = self._timestamps(items)
         written, notes = self._chosen(items, times, strata)
         lines = list(self._lines(written, times, strata))
+        if lines:
+            lines[0] = "%s,%s" % (lines[0][:-1], encode({"ids": self.ids.mark()})[1:])
         size = sum(len(line.encode()) + 1 for line in lines)
         if size > limits.INPUT_BYTES:
             self.refusals.refuse(events[0].file, events[0].line, "the trace has %d bytes, and one has at most %d"

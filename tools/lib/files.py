@@ -48,13 +48,15 @@ def traced(path: str) -> Trace:
         sys.exit(2)
 
 
-def read_ids(path: Optional[str]) -> Optional[Ids]:
-    """The table of ids that is given; one that is refused ends the program with status 2."""
+def read_ids(path: Optional[str], trace: Trace) -> Optional[Ids]:
+    """The table of ids that is given; one that is refused, or of another trace, ends the program with status 2."""
     if path is None:
         return None
     read_bytes(path)
     try:
-        return Ids(path)
+        ids = Ids(path)
+        ids.refuse_other(trace.table)
+        return ids
     except TableFault as fault:
         sys.stderr.write("%s\n" % fault)
         sys.exit(2)

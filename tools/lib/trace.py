@@ -70,6 +70,8 @@ class Trace:
         self.entries: dict[int, Entry] = {}
         self.timestamps: dict[int, int] = {}
         self.touches = 0
+        # what the first line says of the table of ids
+        self.table: object = None
         self._edges = TupleEdges(self.rules)
         self._versions: dict[tuple[str, str, str], int] = {}
 
@@ -80,6 +82,8 @@ class Trace:
         except strictjson.NotJson as fault:
             raise Refusal("not JSON", str(fault)) from None
         self._take(line, value)
+        if line == 1:
+            self.table = value.get("ids")
         return value
 
     def _take(self, line: int, value: object) -> None:

@@ -248,7 +248,7 @@ class Refusals(CoreCase):
         changes[1]["namespaces"].append(changes[0]["namespaces"][1])
         with mock.patch.object(limits, "CHANGES", 1), mock.patch.object(limits, "INPUT_BYTES", 100):
             self.assertEqual(self.refusals(RULES, *changes), ["log:3: more than 1 changes of rules"])
-            self.assertEqual(self.refusals(RULES), ["log:1: the trace has 245 bytes, and one has at most 100"])
+            self.assertEqual(self.refusals(RULES), ["log:1: the trace has 308 bytes, and one has at most 100"])
 
     def test_more_strata_than_a_trace_has(self):
         relations = [{"name": "r0"}] + [{"name": "r%d" % n, "rewrite": {"exclusion": {
