@@ -116,6 +116,8 @@ def say(text: str) -> None:
 
 
 def told_left_out(refusals: Refusals) -> None:
+    for note in refusals.notes.values():
+        say(note)
     for verb, counts in (("passed over", refusals.passed), ("left out", refusals.left_out)):
         for reason, count in sorted(counts.items()):
             say("%s %d: %s" % (verb, count, reason))

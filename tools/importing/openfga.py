@@ -2,7 +2,7 @@
 import re
 from typing import Iterator, Optional
 
-from importing import located
+from importing import located, openfga_dsl
 from importing.events import EVERY, Event, RelationRule, Relationship, Stamp, put_stamp
 from importing.feed import Moment, asked_of, moment_of, placed, shown_of
 from importing.located import line_at, line_of
@@ -31,10 +31,23 @@ class ModelReader:
 
     def read(self) -> Optional[ServiceRules]:
         try:
-            model = located.parse(located.read_text(self.path))
+            model = self._model(located.read_text(self.path))
         except located.Malformed as fault:
             self.refusals.refuse(self.path, fault.line, str(fault))
             return None
+        return self.rules(model)
+
+    def _model(self, text: str) -> object:
+        """The model of a text in JSON or in OpenFGA's own language; raises Malformed."""
+        if not openfga_dsl.is_dsl(text):
+            return located.parse(text)
+        faults: list[located.Malformed] = []
+        model = openfga_dsl.read_model(text, 1, faults)
+        for fault in faults:
+            self.refusals.refuse(self.path, fault.line, str(fault))
+        return model
+
+    def rules(self, model: object) -> Optional[ServiceRules]:
         model = get(model, "authorization_model") or model
         if not isinstance(model, dict) or not isinstance(get(model, "type_definitions"), list):
             self.refusals.refuse(self.path, 1, "no authorization model: it has no `type_definitions`")

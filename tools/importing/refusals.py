@@ -21,6 +21,7 @@ class Refusals:
         self.refused: dict[Refused, None] = {}
         self.left_out: Counter[str] = Counter()
         self.passed: Counter[str] = Counter()
+        self.notes: dict[str, str] = {}
         self.doubts: list[tuple[str, Optional[str], str]] = []
         self.versions: set[tuple[str, str, str]] = set()
 
@@ -43,6 +44,10 @@ class Refusals:
     def pass_over(self, kind: str) -> None:
         """A line that records no decision."""
         self.passed[kind] += 1
+
+    def note(self, kind: str, text: str) -> None:
+        """Says something of how the input is read, the first of each kind."""
+        self.notes.setdefault(kind, text)
 
     def doubt(self, of: str, id_text: Optional[str], relation: str) -> None:
         """A userset (without an id: a relation) whose tuples or rule are not all there."""

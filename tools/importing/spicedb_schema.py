@@ -7,11 +7,13 @@ from importing.events import EVERY, Event, RelationRule
 from importing.refusals import Refusals
 from importing.service import ServiceRules, nested, refuse_wild_tuplesets
 from lib import limits
+from lib.rules import children_of, form_of
 
 TOKEN = re.compile(r"(?P<space>[ \t\r\n]+|//[^\n]*|/\*.*?\*/)|(?P<word>[A-Za-z_][A-Za-z0-9_]*(?:/[A-Za-z_][A-Za-z0-9_]*)*)"
                    r"|(?P<sign>->|\.\.\.|[{}()=|#:+&\-*;,.])|(?P<other>\"(?:[^\"\\\n]|\\.)*\"|'(?:[^'\\\n]|\\.)*'|.)", re.S)
 STARTS = ("relation", "permission", "definition", "caveat", "use", "partial", "import", "}")
 OPERATORS = {"+": "union", "&": "intersection", "-": "exclusion"}
+BINDING = ("-", "&", "+")
 
 
 class Token(NamedTuple):
@@ -41,11 +43,28 @@ def tokens(text: str) -> list[Token]:
     return found + [Token("", line, False)]
 
 
+def shown(rewrite: dict) -> str:
+    """An expression with all its parentheses."""
+    form = form_of(rewrite)
+    if form == "this":
+        return "nil"
+    if form == "computed":
+        return rewrite[form]
+    if form == "tuple_to":
+        return "%s->%s" % (rewrite[form]["tupleset"], rewrite[form]["computed"])
+    sign = next(sign for sign, name in OPERATORS.items() if name == form)
+    children = children_of(rewrite)
+    return (" %s " % sign).join(shown(child) if form_of(child) in ("this", "computed", "tuple_to") else "(%s)" % shown(child)
+                                for child in children)
+
+
 class Parser:
     def __init__(self, text: str, path: str, refusals: Refusals):
         self.tokens, self.at = tokens(text), 0
         self.path, self.refusals = path, refusals
         self.open = 0
+        self.signs: set[str] = set()
+        self.is_mixed = False
         self.rules = Event("rules", path, 1)
         self.takes: dict[tuple[str, str], set[tuple[str, Optional[str]]]] = {}
         self.arrows: list[tuple[str, str, str, int]] = []
@@ -95,6 +114,8 @@ class Parser:
                 elif token.text in ("caveat", "partial"):
                     self.refusals.unmapped(self.path, token.line, token.text, self.tokens[self.at + 1].text)
                     self.skip_block()
+                elif token.text == "use" and self.tokens[self.at + 1].text == "typechecking":
+                    self.at += 2
                 elif token.text in ("use", "import"):
                     self.next()
                     self.refusals.unmapped(self.path, token.line, "%s %s" % (token.text, self.next().text))
@@ -174,13 +195,16 @@ class Parser:
     def permission(self, of: str) -> RelationRule:
         name = self.word("the name of a permission")
         if self.here().text == ":":
-            self.refusals.unmapped(self.path, name.line, "type of a permission", "%s#%s" % (of, name.text))
+            # `use typechecking` lets a permission say which types it has, which changes no answer.
             while self.here().text not in ("=", "}", ""):
                 self.next()
         self.take("=")
         self.open = 0
+        begins, self.is_mixed = self.at, False
         try:
-            rewrite = self.expression(of, name.text)
+            rewrite = self.side_by_side(of, name.text)
+            if self.is_mixed:
+                self._note_reading(name, self.tokens[begins:self.at], rewrite)
         except Unmapped as fault:
             self.refusals.unmapped(self.path, fault.line, str(fault), "%s#%s" % (of, name.text))
             self.refusals.doubt(of, None, name.text)
@@ -188,15 +212,29 @@ class Parser:
             rewrite = {"this": {}}
         return RelationRule(name.text, rewrite, name.line)
 
-    def expression(self, of: str, name: str) -> dict:
-        parts, sign = [self.term(of, name)], None
-        while self.here().text in OPERATORS:
-            token = self.next()
-            if sign is not None and token.text != sign:
-                raise Unmapped(token.line, "%s beside %s without parentheses" % (token.text, sign))
-            sign = token.text
-            parts.append(self.term(of, name))
-        if sign is None:
+    def _note_reading(self, name: Token, given: list[Token], rewrite: dict) -> None:
+        self.refusals.note("binding", "%s:%d: `%s` is read as `%s`: union binds closest, then intersection, then exclusion"
+                           % (self.path, name.line, " ".join(token.text for token in given), shown(rewrite)))
+
+    def side_by_side(self, of: str, name: str) -> dict:
+        """What stands in one pair of parentheses, or in none."""
+        outer, self.signs = self.signs, set()
+        made = self.expression(of, name)
+        self.is_mixed |= len(self.signs) > 1
+        self.signs = outer
+        return made
+
+    def expression(self, of: str, name: str, level: int = 0) -> dict:
+        """Operators bind as SpiceDB has them: exclusion loosest, then intersection, and union closest."""
+        if level == len(BINDING):
+            return self.term(of, name)
+        sign = BINDING[level]
+        parts = [self.expression(of, name, level + 1)]
+        while self.here().text == sign:
+            self.next()
+            self.signs.add(sign)
+            parts.append(self.expression(of, name, level + 1))
+        if len(parts) == 1:
             return parts[0]
         if sign != "-":
             return nested(OPERATORS[sign], parts)
@@ -209,13 +247,16 @@ class Parser:
             self.open += 1
             if self.open > limits.DEPTH:
                 raise Unmapped(self.here().line, "parentheses deeper than %d" % limits.DEPTH)
-            made = self.expression(of, name)
+            made = self.side_by_side(of, name)
             self.take(")")
             self.open -= 1
             return made
         word = self.word("a relation, a permission or a parenthesis")
-        if word.text in ("nil", "self"):
+        if word.text == "self":
             raise Unmapped(word.line, word.text)
+        if word.text == "nil":
+            # No relationship names a permission, so what is stored for one is nothing.
+            return {"this": {}}
         if self.here().text == "->":
             self.next()
             return self.arrow(of, name, word, self.word("a relation or permission"))

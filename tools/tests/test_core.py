@@ -288,14 +288,14 @@ class LeftOut(CoreCase):
 
     def test_checks_that_hang_on_a_rule(self):
         self.put("schema", "definition user {}\ndefinition doc {\n relation up: doc\n relation own: user | doc#open\n"
-                 " permission lost = own - nil\n permission open = lost + own\n permission far = up->open\n}\n")
+                 " permission lost = own - self\n permission open = lost + own\n permission far = up->open\n}\n")
         self.put("log", [{"request": {"resource": {"objectType": "doc", "objectId": "1"}, "permission": name,
                                       "subject": {"object": {"objectType": "user", "objectId": "a"}}},
                           "response": {"checkedAt": {"token": "5"}, "permissionship": "PERMISSIONSHIP_NO_PERMISSION"}}
                          for name in ("lost", "open", "far", "own", "up")])
         self.put("base", "doc:1#up@doc:2\n")
         words = ["spicedb", "--schema", "schema", "--base", "base", "--base-at", "5", "--skip-unmapped", "log"]
-        self.assertIn("left out 3: check that hangs on a tuple or rule that was left out\nleft out 1: nil\n", self.imported(*words))
+        self.assertIn("left out 3: check that hangs on a tuple or rule that was left out\nleft out 1: self\n", self.imported(*words))
         self.assertEqual([row["goal"] for row in self.rows("trace.jsonl") if row["kind"] == "check"],
                          ["doc:1#own@2", "doc:1#up@2"])
 

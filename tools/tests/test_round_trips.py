@@ -171,6 +171,14 @@ class SpiceDbWithWildcards(SpiceDb):
         self.rules = spicedb_service.text_of(self.schema)
 
 
+class SpiceDbWithMixedOperators(SpiceDb):
+    """A store whose schema has operators side by side, where SpiceDB needs no parentheses."""
+
+    def __init__(self, random):
+        super().__init__(random)
+        self.rules = spicedb_service.text_of(self.schema, random)
+
+
 class RoundTrips(Case):
     def rounds(self, make):
         """Each check is logged with both replies, and the audit has to refuse the wrong one alone."""
@@ -264,6 +272,9 @@ class RoundTrips(Case):
 
     def test_spicedb(self):
         self.rounds(SpiceDb)
+
+    def test_spicedb_with_mixed_operators(self):
+        self.rounds(SpiceDbWithMixedOperators)
 
     def test_openfga_with_wildcards(self):
         self.rounds(OpenFgaWithWildcards)

@@ -51,11 +51,8 @@ class Refusals(Case):
 
     def test_permissions_by_line(self):
         cases = {
-            "viewer + banned - parent": "- beside + without parentheses: doc#view",
-            "viewer\n & banned + viewer": "+ beside & without parentheses: doc#view",
             "parent.all(view)": ".all(): doc#view",
             "parent->parent->view": "arrow behind an arrow: doc#view",
-            "viewer - nil": "nil: doc#view",
             "self": "self: doc#view",
             "editor": "doc#view reads editor, which doc does not define",
             "other->view": "doc#view reads other, which doc does not define",
@@ -70,9 +67,6 @@ class Refusals(Case):
             refusals = self.refusals([], body)
             line = 9 + (expression.count("\n") or text.startswith("')'") or text.endswith("'}'"))
             self.assertIn("schema.zed:%d: %s" % (line, text), refusals)
-
-    def test_permission_with_types(self):
-        self.assertEqual(self.refusals([], "  permission view: user = viewer"), ["schema.zed:9: type of a permission: doc#view"])
 
     def test_schema_by_line(self):
         schema = ("use expiration\ncaveat tuesday(day string) {\n  day == \"tuesday}\"\n}\ndefinition user {}\ndefinition doc {\n"
@@ -188,6 +182,36 @@ class Mapped(Case):
         self.assertEqual(self.rule_of("parent.any(view) & (viewer - banned - banned)"), {"intersection": [
             up, {"exclusion": {"base": viewer, "subtract": {"union": [banned, banned]}}}]})
         self.assertEqual(self.rule_of("((viewer)) /* or\n */ + // and\n banned"), {"union": [viewer, banned]})
+
+    def test_operators_side_by_side(self):
+        """As SpiceDB reads them: union binds closest, then intersection, then exclusion."""
+        v, b, up = {"computed": "viewer"}, {"computed": "banned"}, {"tuple_to": {"tupleset": "parent", "computed": "view"}}
+        union, both = {"union": [v, b]}, {"intersection": [v, b]}
+        for expression, wanted in (("viewer + banned - viewer", {"exclusion": {"base": union, "subtract": v}}),
+                                   ("viewer - viewer + banned", {"exclusion": {"base": v, "subtract": union}}),
+                                   ("viewer & viewer + banned", {"intersection": [v, union]}),
+                                   ("viewer + banned & viewer", {"intersection": [union, v]}),
+                                   ("viewer - viewer & banned", {"exclusion": {"base": v, "subtract": both}}),
+                                   ("viewer & banned - parent->view", {"exclusion": {"base": both, "subtract": up}}),
+                                   ("viewer - banned - viewer & viewer + banned", {"exclusion": {
+                                       "base": v, "subtract": {"union": [b, {"intersection": [v, union]}]}}})):
+            self.assertEqual(self.rule_of(expression), wanted, expression)
+        self.put("schema.zed", SCHEMA % "  permission x = viewer - banned + viewer\n  permission view = viewer & x + viewer")
+        self.put("log", [check()])
+        self.assertEqual(self.imported("spicedb", "--schema", "schema.zed", "--from-empty", "log").splitlines()[0],
+                         "schema.zed:9: `viewer - banned + viewer` is read as `viewer - (banned + viewer)`: union binds closest, "
+                         "then intersection, then exclusion")
+        self.put("schema.zed", SCHEMA % "  permission view = viewer & (viewer - banned + viewer)")
+        self.assertIn("`viewer & (viewer - (banned + viewer))`: union", self.imported("spicedb", "--schema", "schema.zed", "--from-empty", "log"))
+        self.rule_of("(viewer + banned) & (viewer - banned)")
+        self.assertNotIn("is read as", self.imported("spicedb", "--schema", "schema.zed", "--from-empty", "log"))
+
+    def test_nil_and_types_of_permissions(self):
+        self.assertEqual(self.rule_of("viewer - nil"), {"exclusion": {"base": {"computed": "viewer"}, "subtract": {"this": {}}}})
+        self.put("schema.zed", "use typechecking\n" + SCHEMA % ("  permission none = nil\n  permission view: user | group#member = viewer"))
+        self.put("log", [watch(1, update("user:a")), check(), check(permission="none", reply="NO")])
+        self.imported("spicedb", "--schema", "schema.zed", "--from-empty", "log")
+        self.assertEqual(self.audited(), "entries 2\nfindings 0\nverdict clean\n")
 
     def test_tokens(self):
         self.put("schema.zed", SCHEMA % VIEW)
