@@ -1,19 +1,19 @@
 """OpenFGA: an authorization model, tuple changes as ReadChanges gives them, and checks of a recorder's log."""
-import re
 from typing import Iterator, Optional
 
 from importing import located, openfga_dsl
-from importing.events import EVERY, Event, RelationRule, Relationship, Stamp, put_stamp
+from importing.events import EVERY, Event, RelationRule, Stamp, put_stamp
 from importing.feed import Moment, asked_of, moment_of, placed, shown_of
-from importing.located import line_at, line_of
+from importing.located import List, line_at, line_of
 from importing.refusals import Refusals
+from importing.openfga_answers import answers_of, relationship_of
 from importing.reading import Bad, get, spelled
-from importing.service import Log, ServiceRules, nested, one_of, refuse_wild_tuplesets, text_or_none
+from importing.service import Answer, Log, ServiceRules, content_of, nested, one_of, refuse_wild_tuplesets, text_or_none
+from importing.simple_yaml import beside, is_yaml, read_yaml
 from importing.times import nanoseconds
 
 SCHEMAS = ("1.1", "1.2")
 OPERATIONS = {"TUPLE_OPERATION_WRITE": True, "TUPLE_OPERATION_DELETE": False}
-OBJECT = re.compile(r"([^:#\s]+):([^#\s]+)")
 REWRITES = ("this", "computedUserset", "tupleToUserset", "union", "intersection", "difference")
 
 
@@ -31,18 +31,28 @@ class ModelReader:
 
     def read(self) -> Optional[ServiceRules]:
         try:
-            model = self._model(located.read_text(self.path))
+            model = self._model()
         except located.Malformed as fault:
             self.refusals.refuse(self.path, fault.line, str(fault))
             return None
         return self.rules(model)
 
-    def _model(self, text: str) -> object:
-        """The model of a text in JSON or in OpenFGA's own language; raises Malformed."""
-        if not openfga_dsl.is_dsl(text):
-            return located.parse(text)
+    def _model(self) -> object:
+        """The model of a file in JSON or in OpenFGA's own language, or of a store file; raises Malformed."""
+        if not is_yaml(self.path):
+            text = located.read_text(self.path)
+            return self._language(text, 1) if openfga_dsl.is_dsl(text) else located.parse(text)
+        store = read_yaml(self.path)
+        if store.get("model"):
+            return self._language(store["model"], line_of(store["model"], 1))
+        if not store.get("model_file"):
+            raise located.Malformed(1, "the store file has no `model` and no `model_file`")
+        self.path = beside(self.path, store["model_file"])
+        return self._model()
+
+    def _language(self, text: str, first: int) -> object:
         faults: list[located.Malformed] = []
-        model = openfga_dsl.read_model(text, 1, faults)
+        model = openfga_dsl.read_model(text, first, faults)
         for fault in faults:
             self.refusals.refuse(self.path, fault.line, str(fault))
         return model
@@ -168,39 +178,12 @@ def _is_direct(rewrite: object) -> bool:
     return isinstance(rewrite, list) and any(_is_direct(inner) for inner in rewrite)
 
 
-def split_object(text: object) -> tuple[str, str]:
-    found = OBJECT.fullmatch(text) if isinstance(text, str) else None
-    if not found:
-        raise Bad("%r is no object `type:id`" % (text,))
-    return found[1], found[2]
-
-
-def split_user(text: object) -> tuple[str, str, Optional[str]]:
-    if not isinstance(text, str):
-        raise Bad("%r is no user" % (text,))
-    whole, hash_sign, relation = text.rpartition("#")
-    if not hash_sign:
-        of, id_text = split_object(text)
-        return of, id_text, EVERY if id_text == "*" else None
-    if not relation:
-        raise Bad("%r is no user" % text)
-    return (*split_object(whole), relation)
-
-
-def relationship_of(key: object) -> Relationship:
-    """The tuple of a tuple key; raises Bad."""
-    relation = get(key, "relation")
-    if not isinstance(relation, str) or not relation:
-        raise Bad("a tuple key has no `relation`")
-    return Relationship(*split_object(get(key, "object")), relation, *split_user(get(key, "user")))
-
-
 class OpenFgaLog(Log):
     NOT_TAKEN = "tuple that the model does not take"
     NO_LINE = "neither changes of ReadChanges nor a check with its `request`"
-    DECIDES = ("allowed",)
+    DECIDES = ("allowed", "result", "objects", "users")
     OTHERS = {"Write": ("request.writes", "request.deletes"), "Expand": ("response.tree",), "Read": ("response.tuples",),
-              "ReadChanges": ("response.changes",), "ReadAuthorizationModel": ("response.authorization_model",),
+              "ReadChanges": (), "ReadAuthorizationModel": ("response.authorization_model",),
               "ReadAuthorizationModels": ("response.authorization_models",), "ReadAssertions": ("response.assertions",),
               "WriteAssertions": ("request.assertions",), "GetStore": (), "ListStores": ("response.stores",), "CreateStore": (),
               "UpdateStore": (), "DeleteStore": ()}
@@ -221,13 +204,27 @@ class OpenFgaLog(Log):
         return placed(events, self.base_at or Moment(None, None, "the beginning"), skew, self.refusals)
 
     def base(self, path: str) -> Iterator[Event]:
-        """Tuples as Read gives them: pages with `tuples`, or one tuple a line."""
-        for line, value in located.values(path, self.refusals):
-            page = get(value, "tuples")
+        """Tuples as Read gives them, pages with `tuples` or one tuple a line; or those of a store file."""
+        for line, value in self._store(path) if is_yaml(path) else located.values(path, self.refusals):
+            page = value if isinstance(value, list) else get(value, "tuples")
             for one in page if isinstance(page, list) else [value]:
                 event = Event("write", path, line_of(one, line), 0, self.base_at.shown, base=True)
-                if self._put_key(event, get(one, "key"), True):
+                if self._put_key(event, one if get(one, "key") is None else get(one, "key"), True):
                     yield event
+
+    def _store(self, path: str) -> Iterator[tuple[int, object]]:
+        """The tuples of a store file. Its tests say what is expected, and are no record of replies."""
+        try:
+            store = read_yaml(path)
+        except located.Malformed as fault:
+            self.refusals.refuse(path, fault.line, str(fault))
+            return
+        for key in "tuple_file", "tuple_files":
+            if key in store:
+                self.refusals.refuse(path, store.lines[key], "tuples in files of their own are not read; give them with --base")
+        for _ in store.get("tests") or ():
+            self.refusals.pass_over("test of a store file")
+        yield 1, store.get("tuples") or List()
 
     def is_write(self, value: object) -> bool:
         return isinstance(get(value, "changes"), list) or get(value, "operation") is not None
@@ -256,32 +253,17 @@ class OpenFgaLog(Log):
             return False
         return self.put(event, given, live, "condition on a tuple" if get(key, "condition") else None)
 
-    def check(self, value: dict, path: str, line: int) -> Event:
-        request, content = get(value, "request"), get(value, "content")
-        allowed = get(get(value, "response"), "allowed")
-        if not isinstance(allowed, bool):
-            raise Bad("the response has no `allowed`")
-        event = Event("check" if content is None else "content", path, line, reply=allowed)
-        if content is not None and not isinstance(content, dict):
-            raise Bad("`content` is no object")
+    def entry(self, value: dict, path: str, line: int) -> Event:
+        content = content_of(value)
+        event = Event("check" if content is None else "content", path, line)
         holder = value if content is None else content
         event.version = text_or_none(get(holder, "version"), "version")
         event.asked = asked_of(value, get(holder, "token"))
         event.shown = shown_of(event.asked)
-        event.goal = relationship_of(get(request, "tuple_key"))
         return event
 
-    def not_checked(self, value: dict, goal: Relationship) -> Optional[tuple[str, str]]:
-        request = get(value, "request")
-        model_id = get(request, "authorization_model_id")
-        if get(get(request, "contextual_tuples"), "tuple_keys"):
-            return "contextual tuples", str(goal)
-        if get(request, "context"):
-            return "context of conditions", str(goal)
-        if goal.user_relation == EVERY:
-            return "check of a typed wildcard as the user", str(goal)
-        if goal.user_relation is not None:
-            return "check of a userset as the user", str(goal)
-        if model_id and self.rules.id and model_id != self.rules.id:
-            return "check with another model", "%s, and the model is %s" % (model_id, self.rules.id)
-        return None
+    def answers(self, value: dict) -> Iterator[Answer]:
+        model_id = get(get(value, "request"), "authorization_model_id")
+        other = "check with another model" if model_id and self.rules.id and model_id != self.rules.id else None
+        for answer in answers_of(get(value, "request"), get(value, "response"), self.refusals):
+            yield answer._replace(unmapped=answer.unmapped or other)

@@ -50,8 +50,9 @@ class Refusals:
         self.notes.setdefault(kind, text)
 
     def doubt(self, of: str, id_text: Optional[str], relation: str) -> None:
-        """A userset (without an id: a relation) whose tuples or rule are not all there."""
-        self.doubts.append((of, id_text, relation))
+        """A userset (without an id: a relation) whose tuples or rule are left out."""
+        if self.skip:
+            self.doubts.append((of, id_text, relation))
 
     def lines(self) -> list[str]:
         """Each refusal once, file by file and line by line; a text that strikes many lines of a file once, with its count."""

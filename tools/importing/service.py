@@ -1,4 +1,5 @@
 """What the front ends of the services share."""
+from dataclasses import replace
 from typing import Any, Iterator, NamedTuple, Optional
 
 from importing import located, passing
@@ -46,6 +47,31 @@ def refuse_wild_tuplesets(event: Event, takes: dict[tuple[str, str], set[tuple[s
                                     % (name, relation.name, name, place.names[0], wild[0]))
 
 
+class Answer(NamedTuple):
+    """A decision that a line records, and why a trace has no form for it."""
+
+    goal: Relationship
+    reply: bool
+    unmapped: Optional[str]
+
+
+def content_of(value: object) -> Optional[dict]:
+    content = get(value, "content")
+    if not isinstance(content, (dict, type(None))):
+        raise Bad("`content` is no object")
+    return content
+
+
+def unwrapped(value: object) -> object:
+    """The call within an event of CloudEvents, with its time and type; any other line as it is."""
+    data = get(value, "data")
+    if get(value, "specversion") is None or not isinstance(data, dict):
+        return value
+    found = {key: get(data, key) for key in ("request", "response", "error", "status")}
+    found.update(time=value.get("time"), method=value.get("type"))
+    return {key: one for key, one in found.items() if one is not None}
+
+
 class Log:
     """Reads the log of a service with one set of rules; each service says how its lines are read."""
 
@@ -82,21 +108,24 @@ class Log:
     def writes(self, value: dict, stamp: Stamp, path: str, line: int) -> Iterator[Event]:
         raise NotImplementedError
 
-    def check(self, value: dict, path: str, line: int) -> Event:
+    def entry(self, value: dict, path: str, line: int) -> Event:
+        """The check or content check of a line, without its goal and reply; raises Bad."""
         raise NotImplementedError
 
-    def not_checked(self, value: dict, goal: Relationship) -> Optional[tuple[str, str]]:
-        """Why a check is not mapped, with what it is about."""
+    def answers(self, value: dict) -> Iterator[Answer]:
+        """What a line decides; raises Bad."""
         raise NotImplementedError
 
     def events(self, path: str) -> Iterator[Event]:
-        for line, value in located.values(path, self.refusals):
+        for line, given in located.values(path, self.refusals):
+            value = unwrapped(given)
             stamp = stamp_of(value if isinstance(value, dict) else {}, path, line, self.refusals)
             try:
                 self._refuse_unread(value)
                 is_check = get(value, "request") is not None
-                if not is_check and self.is_write(value):
-                    yield from self.writes(value, stamp, path, line)
+                changes = get(value, "response") if is_check else value
+                if self.is_write(changes):
+                    yield from self.writes(changes, stamp, path, line)
                     continue
                 passed = passing.failure_of(value, self.DECIDES) or is_check and passing.other_call_of(value, self.OTHERS)
                 if passed:
@@ -111,20 +140,27 @@ class Log:
     def _checks(self, value: dict, stamp: Stamp, path: str, line: int) -> Iterator[Event]:
         """A check that can't be read is left out where that is allowed; a content check issues a version, and is not."""
         try:
-            event = put_stamp(self.check(value, path, line), stamp)
+            answers = list(self.answers(value))
+            if not answers:
+                self.refusals.pass_over("call that found nothing")
+                return
+            event = self.entry(value, path, line)
             event.newest = newest_of(value, Bad)
             if event.newest and event.kind == "check":
                 raise Bad("`newest` is said of a content check")
+            if event.kind == "content" and len(answers) > 1:
+                raise Bad("a content check asks one question, and this line %d" % len(answers))
         except Bad as fault:
             if get(value, "content") is not None:
                 raise
             self.refusals.unmapped(path, line, "check that can't be read", told=str(fault))
             return
-        reason = self.not_checked(value, event.goal)
-        if reason:
-            self.refusals.unmapped_check(event, *reason)
-        else:
-            yield event
+        for place, answer in enumerate(answers):
+            one = put_stamp(replace(event, goal=answer.goal, reply=answer.reply), stamp, place)
+            if answer.unmapped:
+                self.refusals.unmapped_check(one, answer.unmapped, str(answer.goal))
+            else:
+                yield one
 
     def _refuse_unread(self, value: object) -> None:
         """A key that is not read, in what is the recorder's; a line of the service alone may have others of its own."""

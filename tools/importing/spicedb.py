@@ -6,47 +6,19 @@ from importing import located, visibility
 from importing.events import EVERY, Event, Relationship, Stamp, put_stamp
 from importing.located import line_of
 from importing.reading import Bad, get
-from importing.service import Log, one_of, text_or_none
+from importing.service import Answer, Log, content_of, one_of, text_or_none
+from importing.spicedb_answers import answers_of, relationship_of, revision_at, revision_in
+from importing.simple_yaml import is_yaml, read_yaml
 from importing.zedtokens import Older, Revision, read_revision
 
 RELATIONSHIP = re.compile(r"(?P<type>[a-z0-9_/]+):(?P<id>[A-Za-z0-9/_|\-=+]+)#(?P<relation>[a-z0-9_]+)"
                           r"@(?P<user_type>[a-z0-9_/]+):(?P<user_id>[A-Za-z0-9/_|\-=+]+|\*)"
                           r"(?:#(?P<user_relation>[a-z0-9_]+|\.\.\.))?"
                           r"(?P<traits>(?:\[.*\])*)")
+# as `zed relationship read` prints it
+READ = re.compile(RELATIONSHIP.pattern.replace("#(?P<relation>", " +(?P<relation>").replace("@(?P<user_type>", " +(?P<user_type>")
+                  .replace("(?P<traits>", " *(?P<traits>"))
 OPERATIONS = {"OPERATION_CREATE": True, "OPERATION_TOUCH": True, "OPERATION_DELETE": False}
-REPLIES = {"PERMISSIONSHIP_HAS_PERMISSION": True, "PERMISSIONSHIP_NO_PERMISSION": False}
-CONDITIONAL = "PERMISSIONSHIP_CONDITIONAL_PERMISSION"
-
-
-def _revision(holder: object, what: str) -> Revision:
-    try:
-        revision = read_revision(get(holder, "token"))
-    except Older as fault:
-        raise Bad("%s %s" % (what, fault)) from None
-    if revision is None:
-        raise Bad("%s has no token whose revision is a number or a snapshot of PostgreSQL" % what)
-    return revision
-
-
-def _object(given: object, what: str) -> tuple[str, str]:
-    of, id_text = get(given, "objectType"), get(given, "objectId")
-    if not isinstance(of, str) or not of or not isinstance(id_text, str) or not id_text:
-        raise Bad("the %s has no type and id" % what)
-    return of, id_text
-
-
-def _subject(given: object) -> tuple[str, str, Optional[str]]:
-    relation = text_or_none(get(given, "optionalRelation"), "optionalRelation") or None
-    of, id_text = _object(get(given, "object"), "subject")
-    return of, id_text, EVERY if id_text == "*" else None if relation == "..." else relation
-
-
-def relationship_of(given: object) -> Relationship:
-    """The tuple of a relationship in JSON; raises Bad."""
-    relation = get(given, "relation")
-    if not isinstance(relation, str) or not relation:
-        raise Bad("a relationship has no relation")
-    return Relationship(*_object(get(given, "resource"), "resource"), relation, *_subject(get(given, "subject")))
 
 
 class SpiceDbLog(Log):
@@ -54,7 +26,7 @@ class SpiceDbLog(Log):
     NO_LINE = "neither a response of Watch nor a check with its `request`"
 
     BASE = "token or revision"
-    DECIDES = ("permissionship",)
+    DECIDES = ("permissionship", "pairs", "resourceObjectId", "subject", "subjectObjectId")
     OTHERS = {"WriteRelationships": ("request.updates",), "DeleteRelationships": ("response.deletedAt",),
               "ReadRelationships": ("request.relationshipFilter",), "ExpandPermissionTree": ("response.treeRoot",),
               "ReadSchema": ("response.schemaText",), "ReflectSchema": (), "DiffSchema": (), "ImportBulkRelationships": (),
@@ -85,20 +57,29 @@ class SpiceDbLog(Log):
         return visibility.placed(events, base, skew, self.refusals)
 
     def base(self, path: str) -> Iterator[Event]:
-        """One relationship a line, as a text."""
+        """One relationship a line, as a text; or those of a validation file."""
         try:
-            lines = located.read_text(path).split("\n")
+            first, text = self._validated(path) if is_yaml(path) else (1, located.read_text(path))
         except located.Malformed as fault:
             self.refusals.refuse(path, fault.line, str(fault))
             return
-        for line, text in enumerate(map(str.strip, lines), 1):
+        for line, text in enumerate(map(str.strip, text.split("\n")), first):
             if text and not text.startswith("//"):
                 event = Event("write", path, line, self.base_number(), self.base_at.shown, base=True)
                 if self._put_text(event, text):
                     yield event
 
+    def _validated(self, path: str) -> tuple[int, str]:
+        """The relationships of a validation file. What it asserts is no record of replies."""
+        given = read_yaml(path)
+        for key in "assertions", "validation":
+            for _ in given.get(key) or ():
+                self.refusals.pass_over("%s of a validation file" % key)
+        relationships = given.get("relationships") or ""
+        return line_of(relationships, 1), relationships
+
     def _put_text(self, event: Event, text: str) -> bool:
-        found = RELATIONSHIP.fullmatch(text)
+        found = RELATIONSHIP.fullmatch(text) or READ.fullmatch(text)
         if not found:
             self.refusals.refuse(event.file, event.line, "no relationship `type:id#relation@type:id`: %r" % text[:200])
             return False
@@ -109,7 +90,8 @@ class SpiceDbLog(Log):
         return self.put(event, Relationship(*parts), True, reason)
 
     def is_write(self, value: object) -> bool:
-        return get(value, "result") is not None or get(value, "changesThrough") is not None
+        response = get(value, "result") or value
+        return any(get(response, key) is not None for key in ("changesThrough", "updates", "schemaUpdated"))
 
     def writes(self, value: dict, stamp: Stamp, path: str, line: int) -> Iterator[Event]:
         response = get(value, "result") or value
@@ -118,7 +100,7 @@ class SpiceDbLog(Log):
         updates = get(response, "updates") or []
         if not isinstance(updates, list):
             raise Bad("`updates` is no list")
-        revision = _revision(get(response, "changesThrough"), "`changesThrough`")
+        revision = revision_in(get(response, "changesThrough"), "`changesThrough`")
         event = put_stamp(Event("write", path, line, revision.number, revision.shown), stamp)
         if revision.snapshot:
             if revision.snapshot.own is None and updates:
@@ -136,22 +118,12 @@ class SpiceDbLog(Log):
         if updates:
             yield event
 
-    def check(self, value: dict, path: str, line: int) -> Event:
-        request, response, content = (get(value, key) for key in ("request", "response", "content"))
-        if content is not None and not isinstance(content, dict):
-            raise Bad("`content` is no object")
-        permission = get(request, "permission")
-        if not isinstance(permission, str) or not permission:
-            raise Bad("the request has no permission")
+    def entry(self, value: dict, path: str, line: int) -> Event:
+        content = content_of(value)
         event = Event("check" if content is None else "content", path, line)
-        event.goal = Relationship(*_object(get(request, "resource"), "resource"), permission,
-                                  *_subject(get(request, "subject")))
-        revision = _revision(get(response, "checkedAt"), "`checkedAt` of the response")
+        revision = revision_at(get(value, "response"))
         event.snapshot, event.shown = revision.number, revision.shown
-        event.reply = one_of(REPLIES, get(response, "permissionship")) or False
-        if get(response, "permissionship") not in (*REPLIES, CONDITIONAL):
-            raise Bad("the response has no permissionship")
-        token = self._token(request, content)
+        token = self._token(get(value, "request"), content)
         event.version = text_or_none(get(value if content is None else content, "version"), "version")
         event.token = token and token.number
         if revision.snapshot:
@@ -164,18 +136,10 @@ class SpiceDbLog(Log):
     def _token(request: object, content: object) -> Optional[Revision]:
         """The token that a check demanded, or the one that was stored with a content version."""
         if content is not None:
-            return None if get(content, "token") is None else _revision(content, "`content`")
+            return None if get(content, "token") is None else revision_in(content, "`content`")
         consistency = get(request, "consistency")
         demanded = get(consistency, "atLeastAsFresh") or get(consistency, "atExactSnapshot")
-        return _revision(demanded, "the request's consistency") if demanded else None
+        return revision_in(demanded, "the request's consistency") if demanded else None
 
-    def not_checked(self, value: dict, goal: Relationship) -> Optional[tuple[str, str]]:
-        if get(get(value, "response"), "permissionship") == CONDITIONAL:
-            return "conditional permission", str(goal)
-        if get(get(value, "request"), "context"):
-            return "context of caveats", str(goal)
-        if goal.user_relation == EVERY:
-            return "check of a wildcard as the user", str(goal)
-        if goal.user_relation is not None:
-            return "check of a userset as the user", str(goal)
-        return None
+    def answers(self, value: dict) -> Iterator[Answer]:
+        return answers_of(get(value, "request"), get(value, "response"), self.refusals)

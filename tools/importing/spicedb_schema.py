@@ -6,6 +6,7 @@ from importing import located
 from importing.events import EVERY, Event, RelationRule
 from importing.refusals import Refusals
 from importing.service import ServiceRules, nested, refuse_wild_tuplesets
+from importing.simple_yaml import beside, is_yaml, read_yaml
 from lib import limits
 from lib.rules import children_of, form_of
 
@@ -34,8 +35,8 @@ class Unmapped(Exception):
         self.line = line
 
 
-def tokens(text: str) -> list[Token]:
-    found, line = [], 1
+def tokens(text: str, line: int) -> list[Token]:
+    found = []
     for match in TOKEN.finditer(text):
         if match.lastgroup != "space":
             found.append(Token(match[0], line, match.lastgroup == "word"))
@@ -59,8 +60,8 @@ def shown(rewrite: dict) -> str:
 
 
 class Parser:
-    def __init__(self, text: str, path: str, refusals: Refusals):
-        self.tokens, self.at = tokens(text), 0
+    def __init__(self, text: str, path: str, refusals: Refusals, first: int = 1):
+        self.tokens, self.at = tokens(text, first), 0
         self.path, self.refusals = path, refusals
         self.open = 0
         self.signs: set[str] = set()
@@ -296,9 +297,16 @@ class Parser:
 
 
 def read_schema(path: str, refusals: Refusals) -> Optional[ServiceRules]:
+    """The rules of a schema, or of a validation file that has one."""
     try:
-        text = located.read_text(path)
+        if not is_yaml(path):
+            return Parser(located.read_text(path), path, refusals).schema()
+        given = read_yaml(path)
+        if given.get("schema"):
+            return Parser(given["schema"], path, refusals, located.line_of(given["schema"], 1)).schema()
+        if not given.get("schemaFile"):
+            raise located.Malformed(1, "the validation file has no `schema` and no `schemaFile`")
+        return read_schema(beside(path, given["schemaFile"]), refusals)
     except located.Malformed as fault:
         refusals.refuse(path, fault.line, str(fault))
         return None
-    return Parser(text, path, refusals).schema()

@@ -80,7 +80,7 @@ class Refusals(Case):
             "log:4: check of a relation that the rules do not have: doc:1#writer@user:a",
             "log:5: contextual tuples: doc:1#viewer@user:a",
             "log:6: context of conditions: doc:1#viewer@user:a",
-            "log:7: check with another model: N, and the model is M",
+            "log:7: check with another model: doc:1#viewer@user:a",
             "log:8: the response has no `allowed`",
             "log:9: the check has none of `snapshot` and `snapshot_between`; give one",
             "log:10: `token` is no place in the changes feed and no timestamp",
