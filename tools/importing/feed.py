@@ -10,6 +10,11 @@ from importing.reading import Bad
 from importing.times import nanoseconds
 
 
+# So many numbers has a place, for changes of rules before the next.
+STRIDE = 1 << 20
+END = 1 << 80
+
+
 class Moment(NamedTuple):
     """A place of the feed, or a timestamp, as a line gives it."""
 
@@ -23,6 +28,7 @@ class Asked(NamedTuple):
 
     snapshot: list[Moment]
     token: Optional[Moment]
+    model: Optional[str]
 
 
 def moment_of(value: object, what: str) -> Moment:
@@ -34,7 +40,7 @@ def moment_of(value: object, what: str) -> Moment:
     return Moment(None, time, value)
 
 
-def asked_of(value: dict, token: object) -> Asked:
+def asked_of(value: dict, token: object, model: object) -> Asked:
     """What the keys of a check's line ask; raises Bad."""
     snapshot, between = value.get("snapshot"), value.get("snapshot_between")
     if (snapshot is None) == (between is None):
@@ -45,7 +51,9 @@ def asked_of(value: dict, token: object) -> Asked:
         found = [moment_of(one, "`snapshot_between`") for one in between]
     else:
         raise Bad("`snapshot_between` is no list of two places or timestamps")
-    return Asked(found, None if token is None else moment_of(token, "`token`"))
+    if not isinstance(model, (str, type(None))):
+        raise Bad("`authorization_model_id` is no text")
+    return Asked(found, None if token is None else moment_of(token, "`token`"), model or None)
 
 
 def shown_of(asked: Asked) -> str:
@@ -94,33 +102,92 @@ class Feed:
         return start, end
 
 
-def placed(events: list[Event], base: Moment, skew: Optional[int], refusals: Refusals) -> list[Event]:
-    """Puts places for the timestamps of changes and for what checks ask; the events that have one."""
+class Models:
+    """The models of a log, each in force from a number to the next; those of two places are STRIDE apart."""
+
+    def __init__(self, first: Optional[str]):
+        self.ids = [first]
+        self.starts = [0]
+
+    def add(self, model: Optional[str], number: int) -> None:
+        self.ids.append(model)
+        self.starts.append(number)
+
+    def _spans(self, model: Optional[str]) -> list[tuple[int, int]]:
+        """Where a model is in force; everywhere where a check names none. A first model without an id has those that no other has."""
+        if model is None or (len(self.ids) == 1 and self.ids[0] is None):
+            return [(0, END)]
+        wanted = model if model in self.ids else None
+        return [(start, end) for one, start, end in zip(self.ids, self.starts, self.starts[1:] + [END])
+                if one == wanted and (one is not None or start == 0)]
+
+    def top(self, place: int) -> int:
+        """The number behind all changes of rules at a place."""
+        return max(place * STRIDE, self.starts[bisect_right(self.starts, place * STRIDE + STRIDE - 1) - 1])
+
+    def number(self, place: int, model: Optional[str]) -> int:
+        if place < 0:
+            return place
+        if model is None and self.top(place) != place * STRIDE:
+            raise Bad("the model changes at its place, and the request does not say which it is of")
+        return self.range(place, place, model)[0]
+
+    def demanded(self, place: int, model: Optional[str]) -> int:
+        """The last number of a place that a check of a model can look at."""
+        try:
+            return self.range(place, place, model)[1]
+        except OtherModel:
+            return self.top(place)
+
+    def range(self, low: int, high: int, model: Optional[str]) -> tuple[int, int]:
+        for start, end in self._spans(model):
+            first, last = max(low * STRIDE, start), min(self.top(high), end - 1)
+            if first <= last:
+                return (low if low < 0 else first), last
+        raise OtherModel
+
+
+class OtherModel(Exception):
+    """A check whose model is not in force at its snapshot."""
+
+
+def placed(events: list[Event], base: Moment, model: Optional[str], skew: Optional[int], refusals: Refusals) -> list[Event]:
+    """Puts numbers for the timestamps of changes, for changes of the model and for what checks ask; the events that have one."""
     # What is wrong with the order is refused once, where all events are put into it.
-    writes = ordered([event for event in events if event.kind == "write" and not event.base], skew, Refusals())
-    feed = Feed(base, [event.revision for event in writes])
-    for place, event in enumerate(writes, 1):
+    changes = ordered([event for event in events if event.revision is not None and not event.base], skew, Refusals())
+    feed = Feed(base, [event.revision for event in changes if event.kind == "write"])
+    models, place, last = Models(model), 0, 0
+    for event in changes:
+        if event.kind == "rules":
+            last += 1
+            models.add(event.asked[0], last)
+            event.revision = last
+            continue
         if base.time is not None and event.revision <= base.time:
             refusals.refuse(event.file, event.line, "its revision %s is not later than that of the base state" % event.shown)
-        event.group, event.revision = event.revision, place
+        place += 1
+        last = place * STRIDE
+        event.group, event.revision = event.revision, last
     kept = []
     for event in events:
         if event.base:
             event.revision = 0
         try:
             if event.goal is not None:
-                _place(event, feed)
+                _place(event, feed, models)
             kept.append(event)
+        except OtherModel:
+            refusals.unmapped_check(event, "check with another model", str(event.goal))
         except Bad as fault:
             refusals.unmapped_check(event, "check without one snapshot", str(fault))
     return kept
 
 
-def _place(event: Event, feed: Feed) -> None:
+def _place(event: Event, feed: Feed, models: Models) -> None:
     asked = event.asked
     if len(asked.snapshot) == 1:
-        event.snapshot = feed.place(asked.snapshot[0], "snapshot")
+        event.snapshot = models.number(feed.place(asked.snapshot[0], "snapshot"), asked.model)
     else:
-        event.lowest, event.snapshot = feed.range(*asked.snapshot)
+        event.lowest, event.snapshot = models.range(*feed.range(*asked.snapshot), asked.model)
     if asked.token is not None:
-        event.token = max(feed.place(asked.token, "token"), 0)
+        event.token = models.demanded(max(feed.place(asked.token, "token"), 0), asked.model)

@@ -26,8 +26,9 @@ class Unmapped(Exception):
 
 
 class ModelReader:
-    def __init__(self, path: str, refusals: Refusals):
-        self.path, self.refusals = path, refusals
+    def __init__(self, path: str, refusals: Refusals, line: int = 1):
+        """`line` is that of a model which knows none of its own."""
+        self.path, self.refusals, self.line = path, refusals, line
 
     def read(self) -> Optional[ServiceRules]:
         try:
@@ -60,15 +61,15 @@ class ModelReader:
     def rules(self, model: object) -> Optional[ServiceRules]:
         model = get(model, "authorization_model") or model
         if not isinstance(model, dict) or not isinstance(get(model, "type_definitions"), list):
-            self.refusals.refuse(self.path, 1, "no authorization model: it has no `type_definitions`")
+            self.refusals.refuse(self.path, self.line, "no authorization model: it has no `type_definitions`")
             return None
         if get(model, "schema_version") not in SCHEMAS:
-            self.refusals.refuse(self.path, line_at(model, "schema_version", 1), "schema version %r: only %s are mapped"
+            self.refusals.refuse(self.path, line_at(model, "schema_version", self.line), "schema version %r: only %s are mapped"
                                  % (get(model, "schema_version"), " and ".join(SCHEMAS)))
         conditions = get(model, "conditions")
         for name in conditions if isinstance(conditions, dict) else ():
-            self.refusals.unmapped(self.path, line_at(conditions, name, 1), "condition", name)
-        event = Event("rules", self.path, 1)
+            self.refusals.unmapped(self.path, line_at(conditions, name, self.line), "condition", name)
+        event = Event("rules", self.path, self.line)
         takes: dict[tuple[str, str], set[tuple[str, Optional[str]]]] = {}
         for given in get(model, "type_definitions"):
             self._type(given, event, takes)
@@ -77,7 +78,7 @@ class ModelReader:
         return ServiceRules(event, get(model, "id"), takes)
 
     def _type(self, given: object, event: Event, takes: dict) -> None:
-        line = line_of(given, 1)
+        line = line_of(given, self.line)
         name = get(given, "type")
         relations = get(given, "relations")
         relations = {} if relations is None else relations
@@ -201,7 +202,7 @@ class OpenFgaLog(Log):
         return None if self.base_at is None else 0
 
     def placed(self, events: list[Event], skew: Optional[int]) -> list[Event]:
-        return placed(events, self.base_at or Moment(None, None, "the beginning"), skew, self.refusals)
+        return placed(events, self.base_at or Moment(None, None, "the beginning"), self.rules.id, skew, self.refusals)
 
     def base(self, path: str) -> Iterator[Event]:
         """Tuples as Read gives them, pages with `tuples` or one tuple a line; or those of a store file."""
@@ -258,12 +259,25 @@ class OpenFgaLog(Log):
         event = Event("check" if content is None else "content", path, line)
         holder = value if content is None else content
         event.version = text_or_none(get(holder, "version"), "version")
-        event.asked = asked_of(value, get(holder, "token"))
+        event.asked = asked_of(value, get(holder, "token"), get(get(value, "request"), "authorization_model_id"))
         event.shown = shown_of(event.asked)
         return event
 
     def answers(self, value: dict) -> Iterator[Answer]:
-        model_id = get(get(value, "request"), "authorization_model_id")
-        other = "check with another model" if model_id and self.rules.id and model_id != self.rules.id else None
-        for answer in answers_of(get(value, "request"), get(value, "response"), self.refusals):
-            yield answer._replace(unmapped=answer.unmapped or other)
+        return answers_of(get(value, "request"), get(value, "response"), self.refusals)
+
+    def new_rules(self, value: object) -> object:
+        request = get(value, "request")
+        return request if get(request, "type_definitions") is not None else get(value, "authorization_model")
+
+    def change(self, model: object, value: dict, stamp: Stamp, path: str, line: int) -> Iterator[Event]:
+        """A model that is in force from here on: that of WriteAuthorizationModel, or one that a recorder names."""
+        rules = ModelReader(path, self.refusals, line).rules(model)
+        model_id = get(get(value, "response"), "authorization_model_id") or get(model, "id")
+        if not isinstance(model_id, (str, type(None))):
+            raise Bad("the id of the model is no text")
+        if rules:
+            event = put_stamp(rules.event, stamp)
+            event.revision, event.shown, event.asked = 0, "model %s" % model_id, (model_id,)
+            self.take(rules)
+            yield event

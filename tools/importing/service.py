@@ -108,6 +108,19 @@ class Log:
     def writes(self, value: dict, stamp: Stamp, path: str, line: int) -> Iterator[Event]:
         raise NotImplementedError
 
+    def new_rules(self, value: object) -> object:
+        """The rules that a line says are in force from there on; None where it says of none."""
+        raise NotImplementedError
+
+    def change(self, rules: object, value: dict, stamp: Stamp, path: str, line: int) -> Iterator[Event]:
+        """Rules of a line, as an event; raises Bad."""
+        raise NotImplementedError
+
+    def take(self, rules: ServiceRules) -> None:
+        """Lets relations take what these rules let them, too; which were in force for a tuple, the order of lines does not say."""
+        for name, taken in rules.takes.items():
+            self.rules.takes.setdefault(name, set()).update(taken)
+
     def entry(self, value: dict, path: str, line: int) -> Event:
         """The check or content check of a line, without its goal and reply; raises Bad."""
         raise NotImplementedError
@@ -126,6 +139,10 @@ class Log:
                 changes = get(value, "response") if is_check else value
                 if self.is_write(changes):
                     yield from self.writes(changes, stamp, path, line)
+                    continue
+                rules = self.new_rules(value)
+                if rules is not None:
+                    yield from self.change(rules, value, stamp, path, line)
                     continue
                 passed = passing.failure_of(value, self.DECIDES) or is_check and passing.other_call_of(value, self.OTHERS)
                 if passed:

@@ -6,9 +6,11 @@ from importing import located, visibility
 from importing.events import EVERY, Event, Relationship, Stamp, put_stamp
 from importing.located import line_of
 from importing.reading import Bad, get
-from importing.service import Answer, Log, content_of, one_of, text_or_none
+from importing.refusals import Refusals
+from importing.service import Answer, Log, ServiceRules, content_of, one_of, text_or_none
 from importing.spicedb_answers import answers_of, relationship_of, revision_at, revision_in
 from importing.simple_yaml import is_yaml, read_yaml
+from importing.spicedb_schema import Parser
 from importing.zedtokens import Older, Revision, read_revision
 
 RELATIONSHIP = re.compile(r"(?P<type>[a-z0-9_/]+):(?P<id>[A-Za-z0-9/_|\-=+]+)#(?P<relation>[a-z0-9_]+)"
@@ -19,6 +21,11 @@ RELATIONSHIP = re.compile(r"(?P<type>[a-z0-9_/]+):(?P<id>[A-Za-z0-9/_|\-=+]+)#(?
 READ = re.compile(RELATIONSHIP.pattern.replace("#(?P<relation>", " +(?P<relation>").replace("@(?P<user_type>", " +(?P<user_type>")
                   .replace("(?P<traits>", " *(?P<traits>"))
 OPERATIONS = {"OPERATION_CREATE": True, "OPERATION_TOUCH": True, "OPERATION_DELETE": False}
+
+
+def key_of(revision: Revision) -> Optional[int]:
+    """What two tokens of one write have in common."""
+    return revision.snapshot.own if revision.snapshot else revision.number
 
 
 class SpiceDbLog(Log):
@@ -32,6 +39,12 @@ class SpiceDbLog(Log):
               "ReadSchema": ("response.schemaText",), "ReflectSchema": (), "DiffSchema": (), "ImportBulkRelationships": (),
               "ExportBulkRelationships": ()}
 
+    def __init__(self, rules: ServiceRules, base_at: Optional[Revision], refusals: Refusals):
+        super().__init__(rules, base_at, refusals)
+        # the changes of the schema that the watch stream tells, and those whose text the log has
+        self.updated: list[tuple[Optional[int], str, int]] = []
+        self.written: set[Optional[int]] = set()
+
     @staticmethod
     def read_base(text: str) -> Optional[Revision]:
         try:
@@ -44,6 +57,9 @@ class SpiceDbLog(Log):
 
     def placed(self, events: list[Event], skew: Optional[int]) -> list[Event]:
         """Numbers for the snapshots of PostgreSQL; a log has either those or numbers."""
+        for key, path, line in self.updated:
+            if key not in self.written:
+                self.refusals.refuse(path, line, "the schema changes here, and the log has no WriteSchema of this revision")
         base = self.base_at and self.base_at.snapshot
         told = [(event, event.asked is not None or event.base and base is not None) for event in events if event.shown is not None]
         by_kind = {is_snapshot: event for event, is_snapshot in reversed(told)}
@@ -95,12 +111,12 @@ class SpiceDbLog(Log):
 
     def writes(self, value: dict, stamp: Stamp, path: str, line: int) -> Iterator[Event]:
         response = get(value, "result") or value
-        if get(response, "schemaUpdated"):
-            raise Bad("the schema changes here; the rules of one schema are imported")
         updates = get(response, "updates") or []
         if not isinstance(updates, list):
             raise Bad("`updates` is no list")
         revision = revision_in(get(response, "changesThrough"), "`changesThrough`")
+        if get(response, "schemaUpdated"):
+            self.updated.append((key_of(revision), path, line))
         event = put_stamp(Event("write", path, line, revision.number, revision.shown), stamp)
         if revision.snapshot:
             if revision.snapshot.own is None and updates:
@@ -143,3 +159,21 @@ class SpiceDbLog(Log):
 
     def answers(self, value: dict) -> Iterator[Answer]:
         return answers_of(get(value, "request"), get(value, "response"), self.refusals)
+
+    def new_rules(self, value: object) -> object:
+        return get(get(value, "request"), "schema")
+
+    def change(self, schema: object, value: dict, stamp: Stamp, path: str, line: int) -> Iterator[Event]:
+        """The schema of a WriteSchema, in force from the revision of its response on."""
+        if not isinstance(schema, str):
+            raise Bad("`schema` is no text")
+        revision = revision_in(get(get(value, "response"), "writtenAt"), "`writtenAt` of the response")
+        if revision.snapshot and revision.snapshot.own is None:
+            raise Bad("the snapshot of `writtenAt` does not name the transaction that wrote")
+        rules = Parser(schema, path, self.refusals, line, False).schema()
+        event = put_stamp(rules.event, stamp)
+        event.line, event.revision, event.shown = line, revision.number or 0, revision.shown
+        event.asked = revision.snapshot and (revision.snapshot,)
+        self.written.add(key_of(revision))
+        self.take(rules)
+        yield event

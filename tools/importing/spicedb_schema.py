@@ -35,12 +35,13 @@ class Unmapped(Exception):
         self.line = line
 
 
-def tokens(text: str, line: int) -> list[Token]:
+def tokens(text: str, line: int, is_file: bool) -> list[Token]:
+    """With their lines, from one on; all on that line where the text is no file of its own."""
     found = []
     for match in TOKEN.finditer(text):
         if match.lastgroup != "space":
             found.append(Token(match[0], line, match.lastgroup == "word"))
-        line += match[0].count("\n")
+        line += match[0].count("\n") * is_file
     return found + [Token("", line, False)]
 
 
@@ -60,8 +61,8 @@ def shown(rewrite: dict) -> str:
 
 
 class Parser:
-    def __init__(self, text: str, path: str, refusals: Refusals, first: int = 1):
-        self.tokens, self.at = tokens(text, first), 0
+    def __init__(self, text: str, path: str, refusals: Refusals, first: int = 1, is_file: bool = True):
+        self.tokens, self.at = tokens(text, first, is_file), 0
         self.path, self.refusals = path, refusals
         self.open = 0
         self.signs: set[str] = set()

@@ -113,7 +113,7 @@ class History:
 def placed(events: list[Event], base: Optional[Snapshot], skew: Optional[int], refusals: Refusals) -> list[Event]:
     """Puts numbers for snapshots, and the writes into their order; the events that have a number."""
     # What is wrong with the order is refused once, where all events are put into it.
-    writes = ordered([event for event in events if event.kind == "write" and not event.base], skew, Refusals())
+    writes = ordered([event for event in events if event.goal is None and event.asked is not None], skew, Refusals())
     for event in writes:
         if base is not None and base.sees(event.asked[0].own):
             refusals.refuse(event.file, event.line, "its revision %s is not later than that of the base state" % event.shown)

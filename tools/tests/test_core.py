@@ -131,6 +131,17 @@ class Timestamps(CoreCase):
         self.assertEqual(self.audited(), "entries 1\nfindings 0\nverdict clean\n")
 
 
+    def test_what_new_rules_leave_out_stays_declared_and_unread(self):
+        change = {"event": "rules", "revision": 3, "namespaces": [{"name": "doc", "relations": [
+            {"name": "viewer", "rewrite": {"this": {}}}, {"name": "reader", "rewrite": {"computed": "viewer"}}]}]}
+        self.imported("events", "--from-empty", self.given(
+            RULES, write(1, rel("1", "parent", "2", "doc"), rel("2")), check(1, goal=rel("1", "reader")), change,
+            check(3, False, goal=rel("1", "reader")), {"event": "rules", "revision": 4, "namespaces": []}))
+        rows = self.rows("trace.jsonl")
+        self.assertEqual([one["name"] for one in rows[-2]["relations"]], ["viewer", "parent", "reader"])
+        self.assertEqual(self.audited(), "entries 2\nfindings 0\nverdict clean\n")
+
+
 class Order(CoreCase):
     def two(self, *words, first, second):
         return ("events", "--from-empty", *words, self.given(RULES, *first, name="one"), self.given(*second, name="two"))
@@ -235,12 +246,7 @@ class Refusals(CoreCase):
         self.assertEqual(self.refusals(many)[0], "log:1: namespace n256 is one more than the 256 of a trace")
         self.assertEqual(self.refusals(wide), ["log:1: wide has 257 relations, and a trace 256 at most",
                                                "log:1: the rule of deep#r is deeper than 32"])
-        change = {"event": "rules", "revision": 1, "namespaces": [{"name": "doc", "relations": [{"name": "viewer"}]}]}
-        other = {"event": "rules", "revision": 2, "namespaces": []}
-        self.assertEqual(self.refusals(RULES, RULES, change, other), [
-            "log:2: namespace doc stands twice in the first rules",
-            "log:3: the new rules leave out doc#parent, which a trace has no form for",
-            "log:4: the new rules leave out namespace doc, which a trace has no form for"])
+        self.assertEqual(self.refusals(RULES, RULES), ["log:2: namespace doc stands twice in the first rules"])
 
     def test_more_than_a_trace_takes(self):
         changes = [{"event": "rules", "revision": at, "namespaces": [

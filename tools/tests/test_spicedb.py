@@ -112,7 +112,7 @@ class Refusals(Case):
             "log:5: relationship that the schema does not take: doc:1#viewer@doc:1",
             "log:6: relationship that the schema does not take: doc:1#view@user:a",
             "log:7: unknown operation 'OPERATION_MOVE'",
-            "log:8: the schema changes here; the rules of one schema are imported",
+            "log:8: the schema changes here, and the log has no WriteSchema of this revision",
             "log:9: `changesThrough` has no token whose revision is a number or a snapshot of PostgreSQL",
             "log:10: `changesThrough` has no token whose revision is a number or a snapshot of PostgreSQL",
             "log:11: a relationship has no relation",
