@@ -1,4 +1,5 @@
 """Neutral events: what the front ends hand to the core, and their form as JSON lines."""
+import sys
 from dataclasses import dataclass, field
 from typing import Collection, Iterator, NamedTuple, Optional
 
@@ -16,6 +17,7 @@ EVERY_EVENT = STAMP | {"event", "file", "line"}
 ENTRY = EVERY_EVENT | {"goal", "snapshot", "snapshot_between", "reply", "token", "version"}
 KEYS = {"rules": EVERY_EVENT | {"revision", "namespaces"}, "write": EVERY_EVENT | {"revision", "base", "add", "remove"},
         "check": ENTRY, "content": ENTRY | {"newest"}}
+SLOTS = {"slots": True} if sys.version_info >= (3, 10) else {}
 
 
 class Relationship(NamedTuple):
@@ -40,7 +42,7 @@ class RelationRule(NamedTuple):
     line: int
 
 
-@dataclass(slots=True)
+@dataclass(**SLOTS)
 class Event:
     """`revision` is that of a write, `snapshot` that of a check; both are numbers that rise with the service's time.
 

@@ -1,5 +1,5 @@
 """The edges of rules and of tuples, in the order in which docs/FORMATS.md looks at them."""
-from typing import Callable, Iterator, NamedTuple, Optional
+from typing import Callable, Iterable, Iterator, NamedTuple, Optional
 
 from lib.rules import Declaration, Rules, places
 from lib.texts import Tuple, Userset
@@ -73,7 +73,7 @@ class TupleEdges:
         self.known.clear()
 
 
-def first_broken(edges: Iterator[Edge] | list[Edge], stratum: Callable[[str, str], int]) -> Optional[Edge]:
+def first_broken(edges: Iterable[Edge], stratum: Callable[[str, str], int]) -> Optional[Edge]:
     for edge in edges:
         reader, read = stratum(*edge.reader), stratum(*edge.read)
         if read > reader or (edge.strict and read == reader):

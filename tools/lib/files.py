@@ -4,7 +4,7 @@ import re
 import sys
 from typing import NoReturn, Optional
 
-from lib.ids import Ids, TableFault
+from lib.ids import Ids, TableFault, mark_in
 from lib.trace import Fault, Trace, read_trace
 
 
@@ -42,7 +42,10 @@ def say_fault(fault: Fault, stream) -> None:
 def traced(path: str) -> Trace:
     """The trace of a file, which may be joined input; one that is refused ends the program with status 2."""
     try:
-        return read_trace(split_joined(read_bytes(path))[0])
+        data = split_joined(read_bytes(path))[0]
+        trace = read_trace(data)
+        trace.table = mark_in(data)
+        return trace
     except Fault as fault:
         say_fault(fault, sys.stderr)
         sys.exit(2)

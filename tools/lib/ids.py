@@ -33,6 +33,15 @@ def _row(value: object, number: int) -> tuple[str, str, str]:
     return value["kind"], value["type"], value["id"]
 
 
+def mark_in(trace: bytes) -> object:
+    """What the first line of a trace says of its table; None where it says nothing."""
+    try:
+        first = json.loads(trace[:trace.find(b"\n") + 1] or trace)
+    except ValueError:
+        return None
+    return first.get("ids") if isinstance(first, dict) else None
+
+
 class Ids:
     def __init__(self, path: Optional[str] = None):
         self.path = path

@@ -2,10 +2,11 @@
 import unicodedata
 from typing import Iterator, NamedTuple
 
+from lib import strictjson
 from lib.keys import Unread, unread, unread_in_expression
 from lib.rules import places
 from lib.texts import Tuple, Userset
-from lib.trace import Entry, Trace, read_values
+from lib.trace import Entry, Trace, read_trace
 
 # Importers write these beside the keys that are read.
 WRITTEN = frozenset(("from", "revision", "ids"))
@@ -132,9 +133,9 @@ def odd_relations(trace: Trace, declared: dict[Name, int]) -> Iterator[Odd]:
 
 def odd_in(data: bytes) -> list[Odd]:
     """All that is odd in a trace, by its lines; raises Fault on the first line that the program refuses."""
-    trace, seen = Trace(), Seen()
-    for line, value in read_values(data, trace):
-        seen.take(line, value)
+    trace, seen = read_trace(data), Seen()
+    for line, raw in strictjson.lines_of(data):
+        seen.take(line, strictjson.value_of(raw))
     found = [*seen.odd(), *odd_versions(trace), *odd_goals(trace), *odd_relations(trace, seen.declared)]
     if not trace.entries:
         found.append(Odd(0, "the trace is empty" if not trace.commits and not seen.declared

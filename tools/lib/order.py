@@ -11,11 +11,11 @@ def zookie_at(entry: Entry) -> Optional[int]:
 
 
 def commits_before(trace: Trace, entry: Entry) -> list[Commit]:
-    return trace.commits[:bisect_left(trace.commits, entry.line, key=lambda commit: commit.line)]
+    return trace.commits[:bisect_left(trace.commits, (entry.line,))]
 
 
 def commits_behind(trace: Trace, entry: Entry) -> list[Commit]:
-    return trace.commits[bisect_left(trace.commits, entry.line, key=lambda commit: commit.line):]
+    return trace.commits[bisect_left(trace.commits, (entry.line,)):]
 
 
 def order_findings(trace: Trace, entry: Entry) -> Iterator[tuple[str, Optional[int]]]:

@@ -8,7 +8,7 @@ Touches = list[tuple[int, bool]]
 
 
 def _is_live(touches: Touches, at: int) -> bool:
-    number = bisect_right(touches, at, key=lambda touch: touch[0])
+    number = bisect_right(touches, (at, True))
     return number > 0 and touches[number - 1][1]
 
 

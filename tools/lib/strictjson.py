@@ -26,7 +26,7 @@ def _float(text: str) -> float:
     return value
 
 
-def _int(text: str) -> int | float:
+def _int(text: str) -> float:
     if text == "-0" or len(text) > 300:
         return _float(text)
     return int(text)

@@ -1,5 +1,5 @@
 """Reads a trace, or says what is wrong with the first line that the program refuses."""
-from typing import Iterator, NamedTuple, Optional
+from typing import NamedTuple, Optional
 
 from lib import limits, strictjson, texts
 from lib.edges import Edge, TupleEdges, first_broken, rule_edges
@@ -75,18 +75,11 @@ class Trace:
         self._edges = TupleEdges(self.rules)
         self._versions: dict[tuple[str, str, str], int] = {}
 
-    def take(self, line: int, raw: bytes) -> object:
-        """Takes a line, and answers its value."""
+    def take(self, line: int, raw: bytes) -> None:
         try:
             value = strictjson.value_of(raw)
         except strictjson.NotJson as fault:
             raise Refusal("not JSON", str(fault)) from None
-        self._take(line, value)
-        if line == 1:
-            self.table = value.get("ids")
-        return value
-
-    def _take(self, line: int, value: object) -> None:
         kind = value.get("kind") if isinstance(value, dict) else None
         if not isinstance(kind, str) or kind not in KINDS:
             raise Refusal("unknown kind", "the kind is %r; it should be one of %s" % (kind, ", ".join(KINDS)))
@@ -250,22 +243,15 @@ def _text_details(key: str, text: str, fault: texts.TextFault) -> list[str]:
             % (fault.part, fault.at, text.encode()[fault.at:].decode(errors="replace"))]
 
 
-def read_values(data: bytes, trace: Trace) -> Iterator[tuple[int, object]]:
-    """Takes all lines into a trace, and answers each with its value; raises Fault on the first that the program refuses."""
-    line = 0
+def read_trace(data: bytes) -> Trace:
+    """The trace; raises Fault on the first line that the program refuses."""
+    trace, line = Trace(), 0
     try:
         for line, raw in strictjson.lines_of(data):
-            yield line, trace.take(line, raw)
+            trace.take(line, raw)
     except strictjson.TooLong as fault:
         raise Fault("trace", fault.line, "too long", ["a line has at most %d bytes, and an input %d"
                                                       % (limits.LINE_BYTES, limits.INPUT_BYTES)]) from None
     except Refusal as refusal:
         raise Fault("trace", line, str(refusal), refusal.details) from None
-
-
-def read_trace(data: bytes) -> Trace:
-    """The trace; raises Fault on the first line that the program refuses."""
-    trace = Trace()
-    for _ in read_values(data, trace):
-        pass
     return trace

@@ -21,6 +21,16 @@ TOP = os.path.dirname(TOOLS)
 EXAMPLES = os.path.join(TOP, "examples")
 
 
+@contextlib.contextmanager
+def within(folder):
+    before = os.getcwd()
+    os.chdir(folder)
+    try:
+        yield
+    finally:
+        os.chdir(before)
+
+
 class Run(NamedTuple):
     returncode: int
     stdout: str
@@ -61,7 +71,7 @@ class Case(unittest.TestCase):
         """A run of a tool in this process, which is quicker: its status and what it wrote."""
         out, err = io.StringIO(), io.StringIO()
         given = io.TextIOWrapper(io.BytesIO(stdin.encode()))
-        with contextlib.chdir(self.room), contextlib.redirect_stdout(out), contextlib.redirect_stderr(err), \
+        with within(self.room), contextlib.redirect_stdout(out), contextlib.redirect_stderr(err), \
                 mock.patch.object(sys, "argv", [tool, *words]), mock.patch.object(sys, "stdin", given):
             try:
                 status = loaded_file(os.path.join(TOOLS, tool)).main()
@@ -72,7 +82,7 @@ class Case(unittest.TestCase):
     def run_import(self, *words):
         """The status and the standard error of an import in the folder."""
         said = io.StringIO()
-        with contextlib.chdir(self.room), contextlib.redirect_stderr(said):
+        with within(self.room), contextlib.redirect_stderr(said):
             status = import_main(list(words))
         return status, said.getvalue()
 
