@@ -4,31 +4,32 @@ Such a check becomes an entry at a state where its reply is right, and the audit
 becomes one entry for each, so that the audit says of each that the reply is wrong.
 """
 from bisect import bisect_left, bisect_right
-from dataclasses import replace
-from typing import Iterator, NamedTuple, Optional, Union
+from typing import Iterable, Iterator, NamedTuple, Optional
 
 from importing.commits import Commit
-from importing.events import Event
+from importing.events import Entry, Line
 from importing.order import lowest_of
 from lib.meaning import Settled
 from lib.rules import Declaration, Relation, Rules
 from lib.store import Store
-from lib.texts import Tuple, Userset
+from lib.texts import Tuple
 
 STATES = 1_000
-Item = Union[Commit, Event]
 
 
 class Spans:
     """The revisions that some check looks at."""
 
-    def __init__(self, events: list[Event]):
-        entries = [event for event in events if event.goal is not None]
-        wanted = sorted({(lowest_of(event), event.snapshot) for event in entries}
-                        | {(event.token, event.token) for event in entries if event.token is not None})
+    def __init__(self, lines: Iterable[Line]):
+        wanted: set[tuple[int, int]] = set()
+        for line in lines:
+            if isinstance(line, Entry):
+                wanted.add((lowest_of(line), line.snapshot))
+                if line.token is not None:
+                    wanted.add((line.token, line.token))
         self.starts: list[int] = []
         self.ends: list[int] = []
-        for low, high in wanted:
+        for low, high in sorted(wanted):
             if self.ends and low <= self.ends[-1]:
                 self.ends[-1] = max(high, self.ends[-1])
             else:
@@ -40,85 +41,56 @@ class Spans:
         return place >= 0 and revision <= self.ends[place]
 
 
-class Place(NamedTuple):
-    """Where an entry stands: the last commit before it, and the first behind it."""
+class Asked(NamedTuple):
+    """A check between two revisions, with what its findings hang on."""
 
-    before: Optional[int]
-    behind: Optional[int]
+    kind: str
+    goal: Tuple
+    reply: bool
+    lowest: int
+    highest: int
+    token: Optional[int]
 
 
 class States:
-    """The states of a trace that is being made, and what holds in them."""
+    """The states of a log by their revisions, and what holds in them."""
 
-    def __init__(self, items: list[Item], rules: Rules, changes: dict[int, list[Declaration]], times: dict[int, int],
-                 strata: dict[tuple[str, str], int]):
-        self.times = times
-        self.revisions = sorted({item.revision for item in items if not is_entry(item)})
+    def __init__(self) -> None:
         self.store, self.rules = Store(), Rules()
-        at = {id(change): times[revision] - len(listed) + number
-              for revision, listed in changes.items() for number, change in enumerate(listed, 1)}
-        for one in rules.declarations:
-            self.rules.keep(Declaration(one.name, at.get(id(one)), [
-                Relation(relation.name, strata[one.name, relation.name], relation.rewrite) for relation in one.relations]))
-        for item in items:
-            if isinstance(item, Commit):
-                for given, touch in item.touched.items():
-                    self.store.touch(times[item.revision], given, touch.live)
-
-    def between(self, low: int, high: int) -> list[int]:
-        """Revisions that show every state from one revision to another, the latest first."""
-        return sorted({low, high, *self.revisions[bisect_left(self.revisions, low):bisect_right(self.revisions, high)]},
-                      reverse=True)
-
-    def holds(self, goal: Tuple, revision: int) -> bool:
-        return Settled(self.rules, self.store, goal, self.times[revision]).holds()
-
-
-def is_entry(item: Item) -> bool:
-    return isinstance(item, Event) and item.goal is not None
-
-
-def findings(event: Event, at: int, place: Place) -> int:
-    """How many findings on its own tokens and order an entry would have at a revision."""
-    count = place.behind is not None and place.behind <= at
-    if event.kind == "check":
-        return count + (event.token is not None and event.token > at)
-    return count + (place.before is not None and place.before > at) + (event.reply and event.token != at)
-
-
-class Chooser:
-    """Puts a state, or all states, for each check between two revisions."""
-
-    def __init__(self, states: States, number):
-        self.states, self.number = states, number
+        self.revisions: list[int] = []
         self.right = self.wrong = self.entries = 0
 
-    def chosen(self, items: list[Item]) -> Iterator[Item]:
-        behind: list[Optional[int]] = [None]
-        for item in reversed(items):
-            behind.append(behind[-1] if is_entry(item) else item.revision)
-        before: Optional[int] = None
-        for number, item in enumerate(items):
-            if is_entry(item) and item.lowest is not None:
-                yield from self._entries(item, Place(before, behind[len(items) - number - 1]))
-                continue
-            before = before if is_entry(item) else item.revision
-            yield item
+    def take(self, commit: Commit) -> None:
+        for given, touch in commit.touched.items():
+            self.store.touch(commit.revision, given, touch.live)
 
-    def _entries(self, event: Event, place: Place) -> Iterator[Event]:
-        """At most STATES states, each evaluated once."""
-        goal = Tuple(Userset(*event.goal[:3]), self.number(event.goal))
-        listed = sorted(self.states.between(event.lowest, event.snapshot), key=lambda at: findings(event, at, place))
-        found = next((at for at in listed if self.states.holds(goal, at) == event.reply), None)
-        if found is not None:
-            self.right += 1
-            yield replace(event, snapshot=found)
-            return
+    def take_rules(self, rules: Rules, strata: dict[tuple[str, str], int]) -> None:
+        for one in rules.declarations:
+            self.rules.keep(Declaration(one.name, one.at, [
+                Relation(relation.name, strata[one.name, relation.name], relation.rewrite) for relation in one.relations]))
+
+    def count(self, low: int, high: int) -> int:
+        return bisect_right(self.revisions, high) - bisect_left(self.revisions, low)
+
+    def chosen(self, asked: Asked, place: int) -> list[int]:
+        """The revision for a check that stands behind so many commits, or those of all states. At most STATES, each evaluated once."""
+        between = self.revisions[bisect_left(self.revisions, asked.lowest):bisect_right(self.revisions, asked.highest)]
+        latest_first = sorted({asked.lowest, asked.highest, *between}, reverse=True)
+        listed = sorted(latest_first, key=lambda at: self._findings(asked, at, place))
+        for at in listed:
+            if Settled(self.rules, self.store, asked.goal, at).holds() == asked.reply:
+                self.right += 1
+                return [at]
         self.wrong += 1
         self.entries += len(listed)
-        yield replace(event, snapshot=listed[0])
-        for at in listed[1:]:
-            yield replace(event, kind="check", snapshot=at, token=None, version=None)
+        return listed
+
+    def _findings(self, asked: Asked, at: int, place: int) -> int:
+        """How many findings on its own tokens and order the check would have at a revision."""
+        count = place < len(self.revisions) and self.revisions[place] <= at
+        if asked.kind == "check":
+            return count + (asked.token is not None and asked.token > at)
+        return count + (place > 0 and self.revisions[place - 1] > at) + (asked.reply and asked.token != at)
 
     def told(self) -> Iterator[str]:
         if self.right or self.wrong:

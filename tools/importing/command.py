@@ -10,15 +10,16 @@ standard error, and ends with status 2.
 import os
 import sys
 from argparse import Namespace
-from itertools import chain
 from typing import Any, Iterable, Optional
 
 from importing import openfga, spicedb, spicedb_schema
 from importing.core import Core, Given
-from importing.events import Event, read_events
+from importing.events import Line, read_events
 from importing.progress import Progress
 from importing.refusals import Refusals
 from importing.service import ServiceRules
+from importing.spool import Lines
+from lib import limits
 from lib.files import Parser
 from lib.ids import Ids, TableFault
 
@@ -72,43 +73,49 @@ def rules_of(given: Namespace, refusals: Refusals) -> Optional[ServiceRules]:
     return spicedb_schema.read_schema(given.rules, refusals)
 
 
-def counted(events: Iterable[Event], progress: Progress) -> list[Event]:
-    found = []
-    for event in events:
-        found.append(event)
-        progress.step("read", len(found))
-    return found
-
-
 def gathered(given: Namespace, base: Any, refusals: Refusals, progress: Progress) -> Given:
-    """All events of the service's files, base state first."""
+    """All lines of the service's files, base state first."""
+    lines = Lines()
     if given.service == "events":
-        events = counted((event for path in given.logs for event in read_events(path, refusals)), progress)
-        if events and given.from_empty == any(event.base for event in events):
-            refusals.refuse(events[0].file, events[0].line, "give either base writes (\"base\":true) or --from-empty")
-        return Given(events, None)
+        for path in given.logs:
+            _add(lines, read_events(path, refusals), progress)
+        facts = lines.facts
+        if facts.count and given.from_empty == (facts.last_base >= 0):
+            first = next(iter(lines))
+            refusals.refuse(first.file, first.line, "give either base writes (\"base\":true) or --from-empty")
+        return Given(lines, None)
     rules = rules_of(given, refusals)
     if rules is None:
-        return Given([], None)
+        return Given(lines, None)
     log = LOGS[given.service](rules, base, refusals)
-    files = [log.base(path) for path in given.base] + [log.events(path) for path in given.logs]
-    events = [rules.event, *counted(chain.from_iterable(files), progress)]
-    return Given(log.placed(events, given.skew), log.base_number())
+    lines.add(rules.event)
+    for path in given.base:
+        _add(lines, log.base(path), progress)
+    for path in given.logs:
+        _add(lines, log.events(path), progress)
+    return Given(log.placed(lines, given.skew), log.base_number())
 
 
-def write(path: str, lines: Iterable[str], ids: Ids) -> None:
-    """The trace and the new rows of the table, or neither."""
-    beside = path + ".part"
+def _add(lines: Lines, more: Iterable[Line], progress: Progress) -> None:
+    for line in more:
+        lines.add(line)
+        progress.step("read", lines.facts.count)
+
+
+def write(path: str, lines: Iterable[str], ids: Ids, refusals: Refusals) -> int:
+    """The trace and the new rows of the table, or neither where something is refused meanwhile. How many bytes the trace has."""
+    beside, size = path + ".part", 0
     try:
-        with open(beside, "w", encoding="utf-8", newline="\n") as file:
+        with open(beside, "wb") as file:
             for line in lines:
-                file.write(line + "\n")
-        ids.append()
-        os.replace(beside, path)
-    except OSError:
+                size += file.write(line.encode() + b"\n")
+        if not refusals.refused:
+            ids.append()
+            os.replace(beside, path)
+    finally:
         if os.path.exists(beside):
             os.remove(beside)
-        raise
+    return size
 
 
 def say(text: str) -> None:
@@ -123,6 +130,13 @@ def told_left_out(refusals: Refusals) -> None:
             say("%s %d: %s" % (verb, count, reason))
 
 
+def told_refused(refusals: Refusals) -> int:
+    for line in refusals.lines():
+        say(line)
+    say("refused %d" % len(refusals.refused))
+    return 2
+
+
 def main(arguments: list[str]) -> int:
     parser, given = words(arguments)
     base = base_at(parser, given)
@@ -131,21 +145,20 @@ def main(arguments: list[str]) -> int:
         ids = Ids(given.ids)
         ids.take_for(given.service if given.name is None else "%s %s" % (given.service, given.name))
         made = Core(ids, given.skew, refusals, progress).trace(gathered(given, base, refusals, progress))
+        size = write(given.trace, made.lines, ids, refusals) if made else 0
         progress.end()
         told_left_out(refusals)
-        if made is None:
-            for line in refusals.lines():
-                say(line)
-            say("refused %d" % len(refusals.refused))
-            return 2
-        write(given.trace, made.lines, ids)
+        if made is None or refusals.refused:
+            return told_refused(refusals)
     except TableFault as fault:
         say(str(fault))
         return 2
     except OSError as fault:
         say("cannot use %s: %s" % (fault.filename, fault.strerror))
         return 5
-    say("commits %d, checks %d, content checks %d" % (made.commits, made.checks, made.contents))
-    for line in made.notes:
+    for line in made.told():
         say(line)
+    if size > limits.INPUT_BYTES:
+        say("the trace has %d bytes, and one program takes %d: audit it in parts, by tools/parts cut %d %s FOLDER"
+            % (size, limits.INPUT_BYTES, size // limits.INPUT_BYTES + 2, given.trace))
     return 0

@@ -119,8 +119,9 @@ class Writer:
 
     def text(self, given: Tuple) -> str:
         user = given.user
-        return "%s@%s" % (self._set_text(given.set), self._set_text(user) if isinstance(user, Userset) else user)
+        return "%s@%s" % (self.set_text(*given.set), self.set_text(*user) if isinstance(user, Userset) else user)
 
-    def _set_text(self, of: Userset) -> str:
-        relation = of.relation if of.relation == texts.NO_RELATION else self.ids.name("relation", of.relation)
-        return "%s:%s#%s" % (self.ids.name("namespace", of.namespace), self.ids.object(of.namespace, of.id), relation)
+    def set_text(self, of: str, id_text: str, relation: str) -> str:
+        ids = self.ids
+        name = relation if relation == texts.NO_RELATION else ids.name("relation", relation)
+        return "%s:%s#%s" % (ids.name("namespace", of), ids.object(of, id_text), name)

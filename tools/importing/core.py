@@ -1,110 +1,98 @@
-"""From neutral events to a trace: order, commits, dense timestamps, strata, and the lines."""
-import json
-from bisect import bisect_left, bisect_right
-from typing import Iterator, NamedTuple, Optional
+"""From neutral events to a trace: order, commits, dense timestamps, strata, and the lines.
 
-from importing.between import STATES, Chooser, Item, Spans, States, is_entry
+The lines of an import are gone through twice. First commits are made, goals get their texts and revisions are gathered; what a line
+of the trace needs is kept in a spool. Then timestamps and strata are known, and the lines are written.
+"""
+from itertools import chain, islice
+from typing import Iterable, Iterator, NamedTuple, Optional, Union
+
+from importing.between import STATES, Asked, Spans, States
 from importing.commits import Commit, Writer
 from importing.declared import Declared
 from importing.doubts import Doubts
-from importing.events import Event
+from importing.events import Entry, Event, Line
 from importing.newest import put_newest
-from importing.order import lowest_of, ordered
+from importing.order import in_order, lowest_of
 from importing.progress import Progress
 from importing.refusals import Refusals
+from importing.shown import Shown
+from importing.spool import CHECKS, Lines, Spool
 from importing.strata import Edges, choose
 from importing.wildcards import Wildcards
-from lib import limits, texts
+from importing.writing import Counts, Written
 from lib.edges import Name
 from lib.ids import Ids
-from lib.rules import Declaration, form_of
-from lib.texts import Userset
+from lib.texts import Tuple, Userset
+
+Item = Union[Commit, Line]
+
 
 class Given(NamedTuple):
-    """The events of an import, and the revision of its base state."""
+    """The lines of an import, and the revision of its base state."""
 
-    events: list[Event]
+    lines: Lines
     base: Optional[int]
 
 
-class Made(NamedTuple):
-    """A trace, and what it has of what the findings look at."""
+class Ready(NamedTuple):
+    """An entry of which all is known but its timestamps."""
 
-    lines: list[str]
-    commits: int
-    checks: int
-    contents: int
-    notes: list[str]
+    kind: str
+    goal: str
+    user: int
+    reply: bool
+    snapshot: int
+    lowest: Optional[int]
+    token: Optional[int]
+    label: Optional[str]
+    shown: str
+    file: str
+    line: int
+    given: tuple
+    version: Optional[str]
 
-
-encode = json.JSONEncoder(ensure_ascii=False, separators=(",", ":")).encode
+    def entry(self) -> Entry:
+        """The entry, as refusals tell of it."""
+        return Entry(self.kind, self.file, self.line, self.given, self.reply, self.snapshot, self.shown, version=self.version)
 
 
 class Core:
     def __init__(self, ids: Ids, skew: Optional[int], refusals: Refusals, progress: Progress):
         self.ids, self.skew, self.refusals, self.progress = ids, skew, refusals, progress
         self.edges = Edges()
-        self.issued: dict[tuple[str, str, str], Event] = {}
+        self.issued: dict[tuple[str, str, str], Ready] = {}
+        self.wanted: dict[int, int] = {}
+        self.states = States()
+        self.items = Spool()
+        self.counts = Counts()
 
-    def trace(self, given: Given) -> Optional[Made]:
-        """The trace, or None where something was refused."""
-        events = given.events
-        wildcards = Wildcards(events)
-        self.declared = Declared(events, wildcards.rules(), self.edges, self.refusals)
+    def trace(self, given: Given) -> Optional[Written]:
+        """The trace, whose lines are still to be written; None where something was refused."""
+        lines = given.lines
+        wildcards = Wildcards(lines)
+        self.declared = Declared(wildcards.rules() + lines.rules, self.edges, self.refusals)
         self.writer = Writer(self.declared, wildcards, self.ids, self.edges, self.refusals)
-        base = self._base(events)
+        base = self._base(lines)
         self.base_revision = base.revision if base else given.base
-        every = wildcards.write()
-        items = self._every(every) if every else []
-        stream = put_newest(ordered(self._stream(events), self.skew, self.refusals), self.skew, self.refusals)
-        items += self._commits(base, stream)
-        doubts = Doubts(self.refusals.doubts, self.declared.rules, self.edges)
-        doubts.spread(self.writer.stored)
-        items = [item for item in items if not is_entry(item) or self._is_kept(item, doubts)]
-        self._refuse_wide(items)
-        strata = self._strata()
+        self.has_between = lines.facts.has_between
+        for commit in (self._every(wildcards), base):
+            if commit:
+                self._spool(commit)
+        for item in self._commits(self._stream(lines), Spans(lines if lines.facts.has_groups else ()), base):
+            self._spool(item)
+        strata = choose([(name, relation) for name in self.declared.rules.current
+                         for relation in self.declared.rules.relations(name)], self.edges, self.refusals)
         if self.refusals.refused:
             return None
-        times = self._timestamps(items)
-        written, notes = self._chosen(items, times, strata)
-        lines = list(self._lines(written, times, strata))
-        if lines:
-            lines[0] = "%s,%s" % (lines[0][:-1], encode({"ids": self.ids.mark()})[1:])
-        size = sum(len(line.encode()) + 1 for line in lines)
-        if size > limits.INPUT_BYTES:
-            self.refusals.refuse(events[0].file, events[0].line, "the trace has %d bytes, and one has at most %d"
-                                 % (size, limits.INPUT_BYTES))
-            return None
-        entries = [item for item in items if is_entry(item)]
-        contents = sum(entry.kind == "content" for entry in entries)
-        return Made(lines, sum('"kind":"commit"' in line[:20] for line in lines), len(entries) - contents, contents,
-                    [*wildcards.told(), *notes] + ["cannot show " + line for line in cannot_show(items)])
-
-    # Checks between two states
-
-    def _refuse_wide(self, items: list[Item]) -> None:
-        commits = sorted(item.revision for item in items if not is_entry(item))
-        for item in items:
-            if is_entry(item) and item.lowest is not None:
-                count = bisect_right(commits, item.snapshot) - bisect_left(commits, item.lowest)
-                if count >= STATES:
-                    self._refuse(item, "`snapshot_between` takes in %d commits, and %d states at most are looked at"
-                                 % (count, STATES))
-
-    def _chosen(self, items: list[Item], times: dict[int, int], strata: dict[Name, int]) -> tuple[list[Item], list[str]]:
-        """A state for each check that was evaluated somewhere between two."""
-        if not any(is_entry(item) and item.lowest is not None for item in items):
-            return items, []
-        states = States(items, self.declared.rules, self.declared.changes, times, strata)
-        chooser = Chooser(states, lambda goal: self.ids.number("user", goal.user_type, goal.user_id))
-        return list(chooser.chosen(items)), list(chooser.told())
+        self._put_timestamps()
+        return Written(self._lines(strata), self.counts, lambda: chain(wildcards.told(), self.states.told()))
 
     # Order and commits
 
-    def _base(self, events: list[Event]) -> Optional[Commit]:
+    def _base(self, lines: Lines) -> Optional[Commit]:
         base = None
-        for event in events:
-            if event.base:
+        for event in islice(lines, lines.facts.last_base + 1):
+            if isinstance(event, Event) and event.base:
                 base = base or Commit(event)
                 if event.revision != base.revision:
                     self._refuse(event, "a base state has one revision, and %s:%d has %s"
@@ -112,194 +100,198 @@ class Core:
                 self.writer.write(base, event)
         return base
 
-    def _every(self, event: Event) -> list[Item]:
-        commit = Commit(event)
-        self.writer.write(commit, event)
-        return [commit]
+    def _every(self, wildcards: Wildcards) -> Optional[Commit]:
+        event = wildcards.write()
+        commit = Commit(event) if event else None
+        if commit:
+            self.writer.write(commit, event)
+        return commit
 
-    def _stream(self, events: list[Event]) -> list[Event]:
-        """Everything behind the base state."""
-        last = max((place for place, event in enumerate(events) if event.base), default=-1)
-        stream = []
-        for place, event in enumerate(events):
-            if event.goal is not None and place < last:
-                self.refusals.unmapped_check(event, "check before the base state", "%s:%d gives base state behind it"
-                                             % (events[last].file, events[last].line))
-            elif not event.base and not (event.kind == "rules" and event.revision is None):
-                stream.append(event)
-        return stream
+    def _stream(self, lines: Lines) -> Iterable[Line]:
+        """Everything behind the base state, in order."""
+        stream = in_order(self._behind_base(lines), lines.facts, self.skew, self.refusals)
+        return put_newest(list(stream), self.skew, self.refusals) if lines.facts.has_newest else stream
 
-    def _commits(self, base: Optional[Commit], stream: list[Event]) -> list[Item]:
+    def _behind_base(self, lines: Lines) -> Iterator[Line]:
+        last = lines.facts.last_base
+        for place, line in enumerate(lines):
+            if isinstance(line, Entry):
+                if place > last:
+                    yield line
+                else:
+                    self.refusals.unmapped_check(line, "check before the base state",
+                                                 "%s:%d gives base state behind it" % lines.facts.base_source)
+            elif not line.base and not (line.kind == "rules" and line.revision is None):
+                yield line
+
+    def _commits(self, stream: Iterable[Line], spans: Spans, base: Optional[Commit]) -> Iterator[Item]:
         """Writes of one revision that stand together become one commit."""
-        items: list[Item] = [base] if base else []
-        spans = Spans(stream)
         last, shown = self.base_revision, "the base state"
-        for count, event in enumerate(stream, 1):
+        open_commit: Optional[Commit] = None
+        for count, line in enumerate(stream, 1):
             self.progress.step("ordered", count)
-            if event.goal is not None:
-                items.append(event)
-                continue
-            before = items[-1] if items else None
-            is_behind = event.kind == "write" and isinstance(before, Commit) and before is not base
-            if is_behind and before.revision == event.revision and self.writer.is_repeated(before, event):
-                self.refusals.pass_over("write that was logged before")
-                continue
-            if is_behind and (
-                    before.revision == event.revision or before.takes(event) and not spans.has(before.revision)):
-                self.writer.write(before, event)
-                last = event.revision
-                continue
-            if last is not None and event.revision <= last:
-                self._refuse(event, "its revision %s is not later than that of %s" % (event.shown, shown))
-                continue
-            last, shown = event.revision, "%s:%d, %s" % (event.file, event.line, event.shown)
-            items.append(event if event.kind == "rules" else Commit(event))
-            if event.kind == "write":
-                self.writer.write(items[-1], event)
-        return items
+            if isinstance(line, Event):
+                if open_commit and self._goes_on(open_commit, line, spans):
+                    last = line.revision
+                    continue
+                if last is not None and line.revision <= last:
+                    self._refuse(line, "its revision %s is not later than that of %s" % (line.shown, shown))
+                    continue
+                last, shown = line.revision, "%s:%d, %s" % (line.file, line.line, line.shown)
+            if open_commit:
+                yield open_commit
+            open_commit = None
+            if isinstance(line, Event) and line.kind == "write":
+                open_commit = Commit(line)
+                self.writer.write(open_commit, line)
+            else:
+                yield line
+        if open_commit:
+            yield open_commit
 
-    # Entries
+    def _goes_on(self, commit: Commit, event: Event, spans: Spans) -> bool:
+        """Takes a write into the commit before it, where it belongs there."""
+        if event.kind != "write":
+            return False
+        if commit.revision == event.revision and self.writer.is_repeated(commit, event):
+            self.refusals.pass_over("write that was logged before")
+            return True
+        if commit.revision != event.revision and (not commit.takes(event) or spans.has(commit.revision)):
+            return False
+        self.writer.write(commit, event)
+        return True
 
     def _refuse(self, event: Event, text: str) -> None:
         self.refusals.refuse(event.file, event.line, text)
 
-    def _is_kept(self, event: Event, doubts: Doubts) -> bool:
-        goal = Userset(*event.goal[:3])
-        key = (goal.namespace, goal.id, event.version)
-        if not self.declared.rules.is_declared(goal.namespace, goal.relation):
-            self.refusals.unmapped_check(event, "check of a relation that the rules do not have", str(event.goal))
-        elif self.base_revision is not None and lowest_of(event) < self.base_revision:
-            self.refusals.unmapped_check(event, "check before the base state", "its snapshot is %s" % event.shown)
-        elif doubts.has(goal):
-            self.refusals.unmapped_check(event, "check that hangs on a tuple or rule that was left out", str(event.goal))
-        elif event.kind == "check" and key in self.refusals.versions and key not in self.issued:
-            self.refusals.unmapped_check(event, "check of a content version whose content check was left out", str(event.goal))
-        else:
-            return self._has_good_version(event, key)
-        return False
+    # The first time
 
-    def _has_good_version(self, event: Event, key: tuple[str, str, str]) -> bool:
-        before = self.issued.get(key) if event.kind == "content" and event.version is not None else None
-        if event.version == "":
-            self._refuse(event, "the label of a version is empty")
-        elif event.kind == "content" and event.reply != (event.version is not None):
-            told = "a content check has a version exactly where its reply is true"
-            self.refusals.unmapped_check(event, "content check with a version and the reply false, or without one and true", "", told)
+    def _spool(self, item: Item) -> None:
+        """Keeps what a line of the trace needs."""
+        if isinstance(item, Entry):
+            ready = self._ready(item)
+            if ready is not None:
+                self.items.add(tuple(ready))
+            return
+        event = item.event if isinstance(item, Commit) else item
+        self.states.revisions += [item.revision] * self.has_between
+        source = (item.revision, event.shown, event.file, event.line)
+        if isinstance(item, Commit):
+            self.wanted[item.revision] = len(item.lines())
+            self.items.add(("commit", *source, item.lines()))
+            if self.has_between:
+                self.states.take(item)
+        else:
+            self.wanted[item.revision] = len(self.declared.changes.get(item.revision, ()))
+            self.items.add(("rules", *source))
+
+    def _ready(self, entry: Entry) -> Optional[Ready]:
+        """What is known of an entry; None where it is not kept."""
+        goal = entry.goal
+        if not self.declared.rules.is_declared(goal[0], goal[2]):
+            self.refusals.unmapped_check(entry, "check of a relation that the rules do not have", entry.told)
+            return None
+        if self.base_revision is not None and lowest_of(entry) < self.base_revision:
+            self.refusals.unmapped_check(entry, "check before the base state", "its snapshot is %s" % entry.shown)
+            return None
+        wanted = self.wanted
+        for revision in (entry.snapshot, entry.lowest, entry.token):
+            if revision is not None and revision not in wanted:
+                wanted[revision] = 1
+        user = self.ids.number("user", goal[3], goal[4])
+        version = entry.version
+        ready = Ready(entry.kind, "%s@%d" % (self.writer.set_text(*goal[:3]), user), user, entry.reply, entry.snapshot, entry.lowest,
+                      entry.token, None if version is None else self.ids.version(version), entry.shown, entry.file, entry.line,
+                      tuple(goal), version)
+        # What was left out is known at the end alone, and with it which versions are issued.
+        if self.refusals.skip:
+            return ready
+        return ready if version is None and entry.kind == "check" or self._has_good_version(ready) else None
+
+    def _has_good_version(self, ready: Ready) -> bool:
+        key = (*ready.given[:2], ready.version)
+        before = self.issued.get(key) if ready.kind == "content" and ready.version is not None else None
+        if ready.version == "":
+            self.refusals.refuse(ready.file, ready.line, "the label of a version is empty")
+        elif ready.kind == "content" and ready.reply != (ready.version is not None):
+            self.refusals.unmapped_check(ready.entry(), "content check with a version and the reply false, or without one and true", "",
+                                         "a content check has a version exactly where its reply is true")
             return False
-        elif before is not None and (before.goal, before.snapshot, before.lowest, before.token) == (
-                event.goal, event.snapshot, event.lowest, event.token):
+        elif before is not None and before[1:8] == ready[1:8]:
             self.refusals.pass_over("content check that was logged before")
             return False
         elif before is not None:
-            self._refuse(event, "version %s of %s:%s was issued at %s:%d already"
-                         % (event.version, *key[:2], before.file, before.line))
-        elif event.kind == "content" and event.version is not None:
-            self.issued[key] = event
+            self.refusals.refuse(ready.file, ready.line, "version %s of %s:%s was issued at %s:%d already"
+                                 % (ready.version, *key[:2], before.file, before.line))
+        elif ready.kind == "content" and ready.version is not None:
+            self.issued[key] = ready
         return True
 
-    # Strata and timestamps
+    # The second time
 
-    def _strata(self) -> dict[Name, int]:
-        rules = self.declared.rules
-        names = [(name, relation) for name in rules.current for relation in rules.relations(name)]
-        return choose(names, self.edges, self.refusals)
+    def _kept(self) -> Iterator[tuple]:
+        """The rows of the spool, without checks that hang on what was left out."""
+        if not self.refusals.skip:
+            yield from self.items
+            return
+        doubts = Doubts(self.refusals.doubts, self.declared.rules, self.edges)
+        doubts.spread(self.writer.stored)
+        for row in self.items:
+            if row[0] not in CHECKS or self._is_kept(Ready._make(row), doubts):
+                yield row
 
-    def _timestamps(self, items: list[Item]) -> dict[int, int]:
+    def _is_kept(self, ready: Ready, doubts: Doubts) -> bool:
+        key = (*ready.given[:2], ready.version)
+        if doubts.has(Userset(*ready.given[:3])):
+            self.refusals.unmapped_check(ready.entry(), "check that hangs on a tuple or rule that was left out", ready.entry().told)
+        elif ready.kind == "check" and key in self.refusals.versions and key not in self.issued:
+            self.refusals.unmapped_check(ready.entry(), "check of a content version whose content check was left out", ready.entry().told)
+        else:
+            return self._has_good_version(ready)
+        return False
+
+    def _put_timestamps(self) -> None:
         """The last timestamp of each revision: dense, and as many for a commit as it has lines."""
-        wanted: dict[int, int] = {}
         if self.base_revision is not None:
-            wanted[self.base_revision] = 1
-        for item in items:
-            if isinstance(item, Commit):
-                wanted[item.revision] = len(item.lines())
-            elif item.kind == "rules":
-                wanted[item.revision] = len(self.declared.changes.get(item.revision, ()))
-            else:
-                for revision in (item.snapshot, item.lowest, item.token):
-                    if revision is not None:
-                        wanted.setdefault(revision, 1)
-        times, at = {}, 0
-        for revision in sorted(wanted):
-            at += max(1, wanted[revision])
-            times[revision] = at
-        return times
+            self.wanted.setdefault(self.base_revision, 1)
+        at = 0
+        for revision in sorted(self.wanted):
+            at += max(1, self.wanted[revision])
+            self.wanted[revision] = at
 
-    # Lines
-
-    def _lines(self, items: list[Item], times: dict[int, int], strata: dict[Name, int]) -> Iterator[str]:
-        first = {one.name: one for one in self.declared.rules.declarations if one.at is None}
-        for name in self.declared.head:
-            yield self._namespace(first[name], strata, {})
-        for count, item in enumerate(items, 1):
+    def _lines(self, strata: dict[Name, int]) -> Iterator[str]:
+        self.states.take_rules(self.declared.rules, strata)
+        shown = Shown(self.declared, self.ids, strata, self.wanted)
+        self.states.revisions.sort()
+        place = 0
+        yield from shown.head()
+        for count, row in enumerate(self._kept(), 1):
             self.progress.step("written", count)
-            event = item.event if isinstance(item, Commit) else item
-            told = {"revision": event.shown, "from": "%s:%d" % (event.file, event.line)}
-            if isinstance(item, Commit):
-                parts = item.lines()
-                for number, (add, remove) in enumerate(parts, times[item.revision] - len(parts) + 1):
-                    sides = {key: side for key, side in (("add", add), ("remove", remove)) if side}
-                    yield encode({"kind": "commit", "at": number, **sides, **told})
-            elif event.kind == "rules":
-                changes = self.declared.changes.get(event.revision, ())
-                for number, change in enumerate(changes, times[event.revision] - len(changes) + 1):
-                    yield self._namespace(change, strata, {"at": number, **told})
+            if row[0] in CHECKS:
+                ready = Ready._make(row)
+                self.counts.take_entry(ready.kind, ready.reply, ready.token is not None, ready.label is not None)
+                if ready.lowest is None:
+                    yield shown.entry(ready)
+                else:
+                    yield from self._between(ready, place, shown)
+                continue
+            place += 1
+            if row[0] == "commit":
+                self.counts.take_commit(len(row[-1]))
+                yield from shown.commit(*row[1:])
             else:
-                yield encode({**self._entry(event, times), **told})
+                self.counts.take_change()
+                yield from shown.change(*row[1:])
 
-    def _namespace(self, declaration: Declaration, strata: dict[Name, int], more: dict) -> str:
-        relations = []
-        for relation in declaration.relations:
-            stratum = strata[declaration.name, relation.name]
-            relations.append({"name": self.ids.name("relation", relation.name), **({"stratum": stratum} if stratum else {}),
-                              "rewrite": self._rewrite(relation.rewrite)})
-        return encode({"kind": "namespace", "name": self.ids.name("namespace", declaration.name),
-                       "relations": relations, **more})
-
-    def _rewrite(self, rewrite: dict) -> dict:
-        """The same rule with the names of the trace."""
-        form = form_of(rewrite)
-        inner = rewrite[form]
-        if form == "this":
-            return {form: {}}
-        if form == "computed":
-            return {form: self.ids.name("relation", inner)}
-        if form == "tuple_to":
-            return {form: {key: self.ids.name("relation", inner[key]) for key in ("tupleset", "computed")}}
-        if form == "exclusion":
-            return {form: {key: self._rewrite(inner[key]) for key in ("base", "subtract")}}
-        return {form: [self._rewrite(child) for child in inner]}
-
-    def _entry(self, event: Event, times: dict[int, int]) -> dict:
-        goal = event.goal
-        user = self.ids.number("user", goal.user_type, goal.user_id)
-        line = {"kind": event.kind, "goal": self.writer.text(texts.Tuple(Userset(*goal[:3]), user)),
-                "snapshot": times[event.snapshot], "reply": event.reply}
-        if event.token is not None:
-            line["zookie"] = texts.zookie_text(times[event.token])
-        if event.version is not None:
-            line["version"] = self.ids.version(event.version)
-        return line
-
-
-def cannot_show(items: list[Item]) -> list[str]:
-    """The findings that no audit of these items can have, each with the reason."""
-    entries = [(place, item) for place, item in enumerate(items) if isinstance(item, Event) and item.goal is not None]
-    commits = [place for place, item in enumerate(items) if not isinstance(item, Event) or item.goal is None]
-    checks = [item for _, item in entries if item.kind == "check"]
-    contents = [item for _, item in entries if item.kind == "content"]
-    named = any(check.version is not None for check in checks)
-    reasons = {
-        "F1 stale": None if any(check.token is not None for check in checks) else "no check carries a token",
-        "F2 old token": None if named and contents else "no check names a content version" if contents
-        else "there is no content check",
-        "F3 not latest": None if contents else "there is no content check",
-        "F4 open snapshot": None if entries and commits and commits[-1] > entries[0][0]
-        else "no commit stands behind a check",
-        "F5 wrong token": None if any(content.reply for content in contents)
-        else "there is no content check with the reply true",
-        "F6 unknown version": None if named else "no check names a content version",
-    }
-    if not entries:
-        reasons.update(dict.fromkeys(("F7 no evidence", "F8 bad evidence", "F9 silent evidence", "F10 wrong reply"),
-                                     "there is no check"))
-    return ["%s: %s" % (finding, reason) for finding, reason in reasons.items() if reason]
+    def _between(self, ready: Ready, place: int, shown: Shown) -> Iterator[str]:
+        """An entry at the state where its reply is right; or at each, the others as plain checks."""
+        count = self.states.count(ready.lowest, ready.snapshot)
+        if count >= STATES:
+            self.refusals.refuse(ready.file, ready.line, "`snapshot_between` takes in %d commits, and %d states at most are looked at"
+                                 % (count, STATES))
+            return
+        goal = Tuple(Userset(*ready.given[:3]), ready.user)
+        first, *others = self.states.chosen(Asked(ready.kind, goal, ready.reply, ready.lowest, ready.snapshot, ready.token), place)
+        yield shown.entry(ready._replace(snapshot=first))
+        for at in others:
+            yield shown.entry(ready._replace(kind="check", snapshot=at, token=None, label=None))

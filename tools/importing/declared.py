@@ -8,15 +8,13 @@ from lib.rules import Declaration, Relation, Rules, depth, places
 
 
 class Declared:
-    def __init__(self, events: list[Event], added: list[Event], edges: Edges, refusals: Refusals):
-        """`added` are rules of the importer's own."""
+    def __init__(self, events: list[Event], edges: Edges, refusals: Refusals):
         self.rules, self.edges, self.refusals = Rules(), edges, refusals
         self.head: list[str] = []
         self.changes: dict[int, list[Declaration]] = {}
-        for event in added + events:
-            if event.kind == "rules":
-                for name, relations in event.namespaces.items():
-                    self._declare(event, name, relations)
+        for event in events:
+            for name, relations in event.namespaces.items():
+                self._declare(event, name, relations)
         self.tuplesets = {(name, place.names[0]) for name in self.rules.current
                           for relation in self.rules.relations(name)
                           for rewrite in self.rules.rewrites(name, relation)

@@ -1,7 +1,7 @@
 """Neutral events: what the front ends hand to the core, and their form as JSON lines."""
 import sys
 from dataclasses import dataclass, field
-from typing import Collection, Iterator, NamedTuple, Optional
+from typing import Collection, Iterator, NamedTuple, Optional, Union
 
 from importing import located
 from importing.refusals import Refusals
@@ -36,18 +36,50 @@ class Relationship(NamedTuple):
         return "%s:%s#%s@%s" % (*self[:3], user if plain else "%s#%s" % (user, self.user_relation))
 
 
+    @property
+    def is_every(self) -> bool:
+        return self.user_relation == EVERY
+
+
 class RelationRule(NamedTuple):
     name: str
     rewrite: dict
     line: int
 
 
+class Entry(NamedTuple):
+    """A check or a content check; its snapshot and token are numbers that rise with the service's time.
+
+    One with a `lowest` was evaluated somewhere from there to its snapshot. `asked` is what the service says of its snapshot and token,
+    where that is no number yet.
+    """
+
+    kind: str
+    file: str
+    line: int
+    goal: tuple
+    reply: bool
+    snapshot: Optional[int]
+    shown: str
+    token: Optional[int] = None
+    version: Optional[str] = None
+    lowest: Optional[int] = None
+    newest: bool = False
+    asked: Optional[tuple] = None
+    sequence: Optional[tuple[int, int]] = None
+    time: Optional[int] = None
+    clock: str = ""
+
+    @property
+    def told(self) -> str:
+        return str(Relationship(*self.goal))
+
+
 @dataclass(**SLOTS)
 class Event:
-    """`revision` is that of a write, `snapshot` that of a check; both are numbers that rise with the service's time.
+    """A write, or rules; its revision is a number that rises with the service's time.
 
-    A check with a `lowest` was evaluated somewhere from there to its snapshot. Writes of one `group` that stand together are one
-    commit, where no check looks between them.
+    Writes of one `group` that stand together are one commit, where no check looks between them.
     """
 
     kind: str
@@ -62,15 +94,11 @@ class Event:
     clock: str = ""
     add: list[Relationship] = field(default_factory=list)
     remove: list[Relationship] = field(default_factory=list)
-    goal: Optional[Relationship] = None
     asked: Optional[tuple] = None
-    snapshot: Optional[int] = None
-    lowest: Optional[int] = None
-    reply: bool = False
-    newest: bool = False
-    token: Optional[int] = None
-    version: Optional[str] = None
     namespaces: dict[str, list[RelationRule]] = field(default_factory=dict)
+
+
+Line = Union[Entry, Event]
 
 
 class Stamp(NamedTuple):
@@ -100,8 +128,12 @@ def stamp_of(value: dict, file: str, line: int, refusals: Refusals) -> Stamp:
     return Stamp(sequence, nanos, clock or file)
 
 
+def sequence_of(stamp: Stamp, place: int = 0) -> Optional[tuple[int, int]]:
+    return None if stamp.sequence is None else (stamp.sequence, place)
+
+
 def put_stamp(event: Event, stamp: Stamp, place: int = 0) -> Event:
-    event.sequence = None if stamp.sequence is None else (stamp.sequence, place)
+    event.sequence = sequence_of(stamp, place)
     event.time, event.clock = stamp.time, stamp.clock
     return event
 
@@ -201,34 +233,33 @@ def _write(event: Event, value: dict) -> None:
         raise _Fault("a base state removes nothing")
 
 
-def _snapshot(event: Event, value: dict) -> None:
+def _snapshot(value: dict) -> tuple[Optional[int], int]:
+    """The lowest revision that a check may have looked at, where there are several, and the highest."""
     between = value.get("snapshot_between")
     if between is None:
-        event.snapshot = _whole(value, "snapshot")
-        event.shown = str(event.snapshot)
-        return
+        return None, _whole(value, "snapshot")
     if value.get("snapshot") is not None:
         raise _Fault("both `snapshot` and `snapshot_between`")
     if not isinstance(between, list) or len(between) != 2 or not all(map(is_whole, between)) or between[0] > between[1]:
         raise _Fault("`snapshot_between` is no list of two whole numbers, the lower one first")
-    event.lowest, event.snapshot = between
-    event.shown = "between %d and %d" % tuple(between)
+    return between[0], between[1]
 
 
-def _entry(event: Event, value: dict) -> None:
-    event.goal = _relationship(value.get("goal"), "`goal`", True)
-    _snapshot(event, value)
-    event.token = _whole(value, "token", True)
+def _entry(kind: str, file: str, line: int, value: dict, stamp: Stamp) -> Entry:
+    goal = _relationship(value.get("goal"), "`goal`", True)
+    lowest, snapshot = _snapshot(value)
+    shown = str(snapshot) if lowest is None else "between %d and %d" % (lowest, snapshot)
+    token = _whole(value, "token", True)
     if not isinstance(value.get("reply"), bool):
         raise _Fault("`reply` is neither true nor false")
-    event.reply = value["reply"]
-    event.newest = newest_of(value, _Fault)
-    event.version = value.get("version")
-    if not isinstance(event.version, (str, type(None))):
+    newest = newest_of(value, _Fault)
+    if not isinstance(value.get("version"), (str, type(None))):
         raise _Fault("`version` is no text")
+    return Entry(kind, file, line, goal, value["reply"], snapshot, shown, token, value.get("version"), lowest, newest, None,
+                 sequence_of(stamp), stamp.time, stamp.clock)
 
 
-def _event(value: object, file: str, line: int, refusals: Refusals) -> Event:
+def _event(value: object, file: str, line: int, refusals: Refusals) -> Line:
     if not isinstance(value, dict) or value.get("event") not in ("rules", "write", "check", "content"):
         raise _Fault("`event` is none of rules, write, check, content")
     _refuse_unread(value, KEYS[value["event"]])
@@ -236,19 +267,19 @@ def _event(value: object, file: str, line: int, refusals: Refusals) -> Event:
     source, source_line = value.get("file", file), value.get("line", line)
     if not isinstance(source, str) or not is_whole(source_line):
         raise _Fault("`file` is no text or `line` no whole number")
+    if value["event"] in ("check", "content"):
+        return _entry(value["event"], source, source_line, value, stamp)
     event = put_stamp(Event(value["event"], source, source_line), stamp)
     if event.kind == "rules":
         event.revision = _whole(value, "revision", True)
         event.shown = None if event.revision is None else str(event.revision)
         event.namespaces = _namespaces(value, source_line)
-    elif event.kind == "write":
-        _write(event, value)
     else:
-        _entry(event, value)
+        _write(event, value)
     return event
 
 
-def read_events(path: str, refusals: Refusals) -> Iterator[Event]:
+def read_events(path: str, refusals: Refusals) -> Iterator[Line]:
     """Neutral events from JSON lines."""
     for line, value in located.values(path, refusals):
         try:

@@ -1,11 +1,12 @@
 """OpenFGA's changes feed: revisions are places in it, counted from 1 behind the base state, and timestamps are labels."""
 from bisect import bisect_right
 from itertools import accumulate
-from typing import NamedTuple, Optional
+from typing import Iterator, NamedTuple, Optional
 
-from importing.events import Event, is_whole
+from importing.events import Entry, Event, is_whole
 from importing.order import ordered
 from importing.refusals import Refusals
+from importing.spool import Lines
 from importing.reading import Bad
 from importing.times import nanoseconds
 
@@ -26,7 +27,7 @@ class Moment(NamedTuple):
 class Asked(NamedTuple):
     """What a check says of its snapshot: one moment, or two between which it was evaluated; and what its token demands."""
 
-    snapshot: list[Moment]
+    snapshot: tuple
     token: Optional[Moment]
     model: Optional[str]
 
@@ -46,9 +47,9 @@ def asked_of(value: dict, token: object, model: object) -> Asked:
     if (snapshot is None) == (between is None):
         raise Bad("the check has %s of `snapshot` and `snapshot_between`; give one" % ("both" if between else "none"))
     if between is None:
-        found = [moment_of(snapshot, "`snapshot`")]
+        found = (moment_of(snapshot, "`snapshot`"),)
     elif isinstance(between, list) and len(between) == 2:
-        found = [moment_of(one, "`snapshot_between`") for one in between]
+        found = tuple(moment_of(one, "`snapshot_between`") for one in between)
     else:
         raise Bad("`snapshot_between` is no list of two places or timestamps")
     if not isinstance(model, (str, type(None))):
@@ -151,43 +152,57 @@ class OtherModel(Exception):
     """A check whose model is not in force at its snapshot."""
 
 
-def placed(events: list[Event], base: Moment, model: Optional[str], skew: Optional[int], refusals: Refusals) -> list[Event]:
-    """Puts numbers for the timestamps of changes, for changes of the model and for what checks ask; the events that have one."""
-    # What is wrong with the order is refused once, where all events are put into it.
-    changes = ordered([event for event in events if event.revision is not None and not event.base], skew, Refusals())
-    feed = Feed(base, [event.revision for event in changes if event.kind == "write"])
-    models, place, last = Models(model), 0, 0
-    for event in changes:
+def placed(lines: Lines, base: Moment, model: Optional[str], skew: Optional[int], refusals: Refusals) -> Lines:
+    """Puts numbers for the timestamps of changes, for changes of the model and for what checks ask; the lines that have one."""
+    feed, models, numbers = _changes(lines, base, model, skew, refusals)
+    made = Lines()
+    for line in lines:
+        if isinstance(line, Event):
+            if line.base:
+                line.revision = 0
+            elif line.revision is not None:
+                line.group = line.revision if line.kind == "write" else None
+                line.revision = next(numbers)
+            made.add(line)
+            continue
+        try:
+            made.add(_place(line, feed, models))
+        except OtherModel:
+            refusals.unmapped_check(line, "check with another model", line.told)
+        except Bad as fault:
+            refusals.unmapped_check(line, "check without one snapshot", str(fault))
+    return made
+
+
+def _changes(lines: Lines, base: Moment, model: Optional[str], skew: Optional[int],
+             refusals: Refusals) -> tuple[Feed, Models, Iterator[int]]:
+    """The feed and the models of a log, and the number of each change in the order of its lines."""
+    changes = [line for line in lines if isinstance(line, Event) and line.revision is not None and not line.base]
+    # What is wrong with the order is refused once, where all lines are put into it.
+    in_order = ordered(list(changes), skew, Refusals())
+    models, times, last, numbers = Models(model), [], 0, {}
+    for event in in_order:
         if event.kind == "rules":
             last += 1
             models.add(event.asked[0], last)
-            event.revision = last
-            continue
-        if base.time is not None and event.revision <= base.time:
-            refusals.refuse(event.file, event.line, "its revision %s is not later than that of the base state" % event.shown)
-        place += 1
-        last = place * STRIDE
-        event.group, event.revision = event.revision, last
-    kept = []
-    for event in events:
-        if event.base:
-            event.revision = 0
-        try:
-            if event.goal is not None:
-                _place(event, feed, models)
-            kept.append(event)
-        except OtherModel:
-            refusals.unmapped_check(event, "check with another model", str(event.goal))
-        except Bad as fault:
-            refusals.unmapped_check(event, "check without one snapshot", str(fault))
-    return kept
+        else:
+            if base.time is not None and event.revision <= base.time:
+                refusals.refuse(event.file, event.line, "its revision %s is not later than that of the base state" % event.shown)
+            times.append(event.revision)
+            last = len(times) * STRIDE
+        numbers[id(event)] = last
+    return Feed(base, times), models, iter([numbers.get(id(event), 0) for event in changes])
 
 
-def _place(event: Event, feed: Feed, models: Models) -> None:
-    asked = event.asked
-    if len(asked.snapshot) == 1:
-        event.snapshot = models.number(feed.place(asked.snapshot[0], "snapshot"), asked.model)
+def _place(entry: Entry, feed: Feed, models: Models) -> Entry:
+    asked = Asked(*entry.asked)
+    moments = [Moment(*one) for one in asked.snapshot]
+    lowest = None
+    if len(moments) == 1:
+        snapshot = models.number(feed.place(moments[0], "snapshot"), asked.model)
     else:
-        event.lowest, event.snapshot = models.range(*feed.range(*asked.snapshot), asked.model)
+        lowest, snapshot = models.range(*feed.range(*moments), asked.model)
+    token = None
     if asked.token is not None:
-        event.token = models.demanded(max(feed.place(asked.token, "token"), 0), asked.model)
+        token = models.demanded(max(feed.place(Moment(*asked.token), "token"), 0), asked.model)
+    return entry._replace(snapshot=snapshot, lowest=lowest, token=token, asked=None)

@@ -8,7 +8,8 @@ from importing.located import List, line_at, line_of
 from importing.refusals import Refusals
 from importing.openfga_answers import answers_of, relationship_of
 from importing.reading import Bad, get, spelled
-from importing.service import Answer, Log, ServiceRules, content_of, nested, one_of, refuse_wild_tuplesets, text_or_none
+from importing.service import Answer, Log, Looked, ServiceRules, nested, one_of, refuse_wild_tuplesets, text_or_none
+from importing.spool import Lines
 from importing.simple_yaml import beside, is_yaml, read_yaml
 from importing.times import nanoseconds
 
@@ -201,8 +202,8 @@ class OpenFgaLog(Log):
     def base_number(self) -> Optional[int]:
         return None if self.base_at is None else 0
 
-    def placed(self, events: list[Event], skew: Optional[int]) -> list[Event]:
-        return placed(events, self.base_at or Moment(None, None, "the beginning"), self.rules.id, skew, self.refusals)
+    def placed(self, lines: Lines, skew: Optional[int]) -> Lines:
+        return placed(lines, self.base_at or Moment(None, None, "the beginning"), self.rules.id, skew, self.refusals)
 
     def base(self, path: str) -> Iterator[Event]:
         """Tuples as Read gives them, pages with `tuples` or one tuple a line; or those of a store file."""
@@ -254,14 +255,10 @@ class OpenFgaLog(Log):
             return False
         return self.put(event, given, live, "condition on a tuple" if get(key, "condition") else None)
 
-    def entry(self, value: dict, path: str, line: int) -> Event:
-        content = content_of(value)
-        event = Event("check" if content is None else "content", path, line)
+    def moment(self, value: dict, content: Optional[dict]) -> Looked:
         holder = value if content is None else content
-        event.version = text_or_none(get(holder, "version"), "version")
-        event.asked = asked_of(value, get(holder, "token"), get(get(value, "request"), "authorization_model_id"))
-        event.shown = shown_of(event.asked)
-        return event
+        asked = asked_of(value, get(holder, "token"), get(get(value, "request"), "authorization_model_id"))
+        return Looked(None, shown_of(asked), None, text_or_none(get(holder, "version"), "version"), asked)
 
     def answers(self, value: dict) -> Iterator[Answer]:
         return answers_of(get(value, "request"), get(value, "response"), self.refusals)

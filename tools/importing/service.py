@@ -1,11 +1,11 @@
 """What the front ends of the services share."""
-from dataclasses import replace
 from typing import Any, Iterator, NamedTuple, Optional
 
 from importing import located, passing
 from importing.reading import Bad, get
-from importing.events import EVERY, STAMP, Event, Relationship, Stamp, newest_of, put_stamp, stamp_of
+from importing.events import EVERY, STAMP, Entry, Event, Line, Relationship, Stamp, newest_of, sequence_of, stamp_of
 from importing.refusals import Refusals
+from importing.spool import Lines
 from lib import limits
 from lib.keys import near, unread
 from lib.rules import places
@@ -55,6 +55,16 @@ class Answer(NamedTuple):
     unmapped: Optional[str]
 
 
+class Looked(NamedTuple):
+    """The snapshot and the token of a check, and its version."""
+
+    snapshot: Optional[int]
+    shown: str
+    token: Optional[int]
+    version: Optional[str]
+    asked: Optional[tuple]
+
+
 def content_of(value: object) -> Optional[dict]:
     content = get(value, "content")
     if not isinstance(content, (dict, type(None))):
@@ -98,9 +108,9 @@ class Log:
         """The number that stands for the revision of the base state."""
         raise NotImplementedError
 
-    def placed(self, events: list[Event], skew: Optional[int]) -> list[Event]:
-        """The events with numbers for revisions, where those of the service are more than that."""
-        return events
+    def placed(self, lines: Lines, skew: Optional[int]) -> Lines:
+        """The lines with numbers for revisions, where those of the service are more than that."""
+        raise NotImplementedError
 
     def is_write(self, value: object) -> bool:
         raise NotImplementedError
@@ -121,15 +131,15 @@ class Log:
         for name, taken in rules.takes.items():
             self.rules.takes.setdefault(name, set()).update(taken)
 
-    def entry(self, value: dict, path: str, line: int) -> Event:
-        """The check or content check of a line, without its goal and reply; raises Bad."""
+    def moment(self, value: dict, content: Optional[dict]) -> Looked:
+        """What a check looked at, and what it demanded; raises Bad."""
         raise NotImplementedError
 
     def answers(self, value: dict) -> Iterator[Answer]:
         """What a line decides; raises Bad."""
         raise NotImplementedError
 
-    def events(self, path: str) -> Iterator[Event]:
+    def events(self, path: str) -> Iterator[Line]:
         for line, given in located.values(path, self.refusals):
             value = unwrapped(given)
             stamp = stamp_of(value if isinstance(value, dict) else {}, path, line, self.refusals)
@@ -154,30 +164,33 @@ class Log:
             except Bad as fault:
                 self.refusals.refuse(path, line, str(fault))
 
-    def _checks(self, value: dict, stamp: Stamp, path: str, line: int) -> Iterator[Event]:
+    def _checks(self, value: dict, stamp: Stamp, path: str, line: int) -> Iterator[Entry]:
         """A check that can't be read is left out where that is allowed; a content check issues a version, and is not."""
         try:
             answers = list(self.answers(value))
             if not answers:
                 self.refusals.pass_over("call that found nothing")
                 return
-            event = self.entry(value, path, line)
-            event.newest = newest_of(value, Bad)
-            if event.newest and event.kind == "check":
+            content = content_of(value)
+            looked = self.moment(value, content)
+            newest = newest_of(value, Bad)
+            if newest and content is None:
                 raise Bad("`newest` is said of a content check")
-            if event.kind == "content" and len(answers) > 1:
+            if content is not None and len(answers) > 1:
                 raise Bad("a content check asks one question, and this line %d" % len(answers))
         except Bad as fault:
             if get(value, "content") is not None:
                 raise
             self.refusals.unmapped(path, line, "check that can't be read", told=str(fault))
             return
-        for place, answer in enumerate(answers):
-            one = put_stamp(replace(event, goal=answer.goal, reply=answer.reply), stamp, place)
-            if answer.unmapped:
-                self.refusals.unmapped_check(one, answer.unmapped, str(answer.goal))
+        snapshot, shown, token, version, asked = looked
+        for place, (goal, reply, unmapped) in enumerate(answers):
+            entry = Entry("check" if content is None else "content", path, line, goal, reply, snapshot, shown, token, version, None,
+                          newest, asked, sequence_of(stamp, place), stamp.time, stamp.clock)
+            if unmapped:
+                self.refusals.unmapped_check(entry, unmapped, entry.told)
             else:
-                yield one
+                yield entry
 
     def _refuse_unread(self, value: object) -> None:
         """A key that is not read, in what is the recorder's; a line of the service alone may have others of its own."""

@@ -3,12 +3,13 @@ import re
 from typing import Iterator, Optional
 
 from importing import located, visibility
-from importing.events import EVERY, Event, Relationship, Stamp, put_stamp
+from importing.events import EVERY, Event, Line, Relationship, Stamp, put_stamp
 from importing.located import line_of
 from importing.reading import Bad, get
 from importing.refusals import Refusals
-from importing.service import Answer, Log, ServiceRules, content_of, one_of, text_or_none
+from importing.service import Answer, Log, Looked, ServiceRules, one_of, text_or_none
 from importing.spicedb_answers import answers_of, relationship_of, revision_at, revision_in
+from importing.spool import Lines
 from importing.simple_yaml import is_yaml, read_yaml
 from importing.spicedb_schema import Parser
 from importing.zedtokens import Older, Revision, read_revision
@@ -55,22 +56,24 @@ class SpiceDbLog(Log):
     def base_number(self) -> Optional[int]:
         return self.base_at and (self.base_at.number or 0)
 
-    def placed(self, events: list[Event], skew: Optional[int]) -> list[Event]:
+    def placed(self, lines: Lines, skew: Optional[int]) -> Lines:
         """Numbers for the snapshots of PostgreSQL; a log has either those or numbers."""
         for key, path, line in self.updated:
             if key not in self.written:
                 self.refusals.refuse(path, line, "the schema changes here, and the log has no WriteSchema of this revision")
         base = self.base_at and self.base_at.snapshot
-        told = [(event, event.asked is not None or event.base and base is not None) for event in events if event.shown is not None]
-        by_kind = {is_snapshot: event for event, is_snapshot in reversed(told)}
+        by_kind: dict[bool, Line] = {}
+        for one in lines:
+            if one.shown is not None:
+                by_kind.setdefault(one.asked is not None or isinstance(one, Event) and one.base and base is not None, one)
         if True not in by_kind:
-            return events
+            return lines
         if False in by_kind:
             number, snapshot = by_kind[False], by_kind[True]
             self.refusals.refuse(number.file, number.line, "its revision %s is a number, and that of %s:%d a snapshot of PostgreSQL"
                                  % (number.shown, snapshot.file, snapshot.line))
-            return []
-        return visibility.placed(events, base, skew, self.refusals)
+            return Lines()
+        return visibility.placed(list(lines), base, skew, self.refusals)
 
     def base(self, path: str) -> Iterator[Event]:
         """One relationship a line, as a text; or those of a validation file."""
@@ -134,19 +137,14 @@ class SpiceDbLog(Log):
         if updates:
             yield event
 
-    def entry(self, value: dict, path: str, line: int) -> Event:
-        content = content_of(value)
-        event = Event("check" if content is None else "content", path, line)
+    def moment(self, value: dict, content: Optional[dict]) -> Looked:
         revision = revision_at(get(value, "response"))
-        event.snapshot, event.shown = revision.number, revision.shown
         token = self._token(get(value, "request"), content)
-        event.version = text_or_none(get(value if content is None else content, "version"), "version")
-        event.token = token and token.number
-        if revision.snapshot:
-            event.asked = (revision.snapshot, token and token.snapshot)
+        version = text_or_none(get(value if content is None else content, "version"), "version")
         if token and bool(token.snapshot) != bool(revision.snapshot):
             raise Bad("the token is of another datastore than `checkedAt`")
-        return event
+        asked = (revision.snapshot, token and token.snapshot) if revision.snapshot else None
+        return Looked(revision.number, revision.shown, token and token.number, version, asked)
 
     @staticmethod
     def _token(request: object, content: object) -> Optional[Revision]:

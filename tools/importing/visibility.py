@@ -9,9 +9,10 @@ from bisect import bisect_left
 from collections import Counter
 from typing import Callable, NamedTuple, Optional
 
-from importing.events import Event, Stamp, put_stamp
+from importing.events import Entry, Event, Line, Stamp, put_stamp
 from importing.order import ordered
 from importing.refusals import Refusals
+from importing.spool import Lines
 from importing.zedtokens import Snapshot
 
 
@@ -110,45 +111,59 @@ class History:
         return self.sizes[place] if place < len(self.sizes) else len(self.ids)
 
 
-def placed(events: list[Event], base: Optional[Snapshot], skew: Optional[int], refusals: Refusals) -> list[Event]:
-    """Puts numbers for snapshots, and the writes into their order; the events that have a number."""
-    # What is wrong with the order is refused once, where all events are put into it.
-    writes = ordered([event for event in events if event.goal is None and event.asked is not None], skew, Refusals())
+def placed(lines: list[Line], base: Optional[Snapshot], skew: Optional[int], refusals: Refusals) -> Lines:
+    """Puts numbers for snapshots, and the writes into their order; the lines that have a number."""
+    for event in lines:
+        if isinstance(event, Event) and event.asked is not None:
+            event.asked = _snapshots(event.asked)
+    # What is wrong with the order is refused once, where all lines are put into it.
+    writes = ordered([event for event in lines if isinstance(event, Event) and event.asked is not None], skew, Refusals())
     for event in writes:
         if base is not None and base.sees(event.asked[0].own):
             refusals.refuse(event.file, event.line, "its revision %s is not later than that of the base state" % event.shown)
-    entries = [event for event in events if event.goal is not None]
-    snapshots: Counter = Counter(event.asked[0] for event in entries)
-    snapshots.update(dict.fromkeys((one for event in entries + writes for one in event.asked if one is not None), 0))
+    asked = {id(line): _snapshots(line.asked) for line in lines if isinstance(line, Entry)}
+    snapshots: Counter = Counter(one[0] for one in asked.values())
+    told = [one for pair in asked.values() for one in pair if one is not None] + [event.asked[0] for event in writes]
+    snapshots.update(dict.fromkeys(told, 0))
     history = History(list(dict.fromkeys(event.asked[0].own for event in writes)), snapshots)
     numbers = {transaction: number for number, transaction in enumerate(history.order(), 1)}
     for event in writes:
         event.revision = numbers[event.asked[0].own]
-    return [event for event in _in_order(events, writes) if event.goal is None or _place(event, history, base, refusals)]
+    made = Lines()
+    for line in _in_order(lines, writes):
+        found = _place(line, asked[id(line)], history, base, refusals) if isinstance(line, Entry) else line
+        if found is not None:
+            made.add(found)
+    return made
 
 
-def _in_order(events: list[Event], writes: list[Event]) -> list[Event]:
+def _snapshots(asked: tuple) -> tuple:
+    """The snapshots of a row."""
+    return tuple(one and Snapshot(*one) for one in asked)
+
+
+def _in_order(lines: list[Line], writes: list[Event]) -> list[Line]:
     """The writes in their order, each in the place and with the stamp of the one that the stream has there."""
     slots = {id(event): other for event, other in zip(writes, sorted(writes, key=lambda event: event.revision))}
     stamps = {id(event): Stamp(event.sequence and event.sequence[0], event.time, event.clock) for event in writes}
     found = []
-    for event in events:
-        other = slots.get(id(event), event)
-        found.append(other if other is event else put_stamp(other, stamps[id(event)]))
+    for line in lines:
+        other = slots.get(id(line), line)
+        found.append(other if other is line else put_stamp(other, stamps[id(line)]))
     return found
 
 
-def _place(event: Event, history: History, base: Optional[Snapshot], refusals: Refusals) -> bool:
-    snapshot, token = event.asked
-    event.snapshot = -1 if base is not None and not snapshot.contains(base) else history.number(snapshot)
-    if event.snapshot is None:
-        refusals.unmapped_check(event, "check at a snapshot that sees no beginning of the order of commits", event.shown)
-        return False
-    if token is not None:
-        event.token = history.number(token)
-        if event.token is None and event.version is not None:
-            refusals.unmapped_check(event, "check by a token that sees no beginning of the order of commits, with a version",
+def _place(entry: Entry, asked: tuple, history: History, base: Optional[Snapshot], refusals: Refusals) -> Optional[Entry]:
+    snapshot, token = asked
+    number = -1 if base is not None and not snapshot.contains(base) else history.number(snapshot)
+    if number is None:
+        refusals.unmapped_check(entry, "check at a snapshot that sees no beginning of the order of commits", entry.shown)
+        return None
+    demanded = None if token is None else history.number(token)
+    if token is not None and demanded is None:
+        if entry.version is not None:
+            refusals.unmapped_check(entry, "check by a token that sees no beginning of the order of commits, with a version",
                                     str(token))
-            return False
-        event.token = history.least_with(token) if event.token is None else event.token
-    return True
+            return None
+        demanded = history.least_with(token)
+    return entry._replace(snapshot=number, token=demanded, asked=None)

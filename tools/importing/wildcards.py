@@ -5,7 +5,8 @@ who is among them, so what the tuple gives or takes away is exactly what the ser
 """
 from typing import Iterator, Optional
 
-from importing.events import EVERY, Event, Relationship, RelationRule
+from importing.events import EVERY, Entry, Event, Line, Relationship, RelationRule
+from importing.spool import Lines
 from lib.texts import Userset
 
 NAMESPACE = "every"
@@ -17,20 +18,20 @@ BEFORE = -1
 class Wildcards:
     """The types whose users some tuple names all at once."""
 
-    def __init__(self, events: list[Event]):
+    def __init__(self, lines: Lines):
         self.first: Optional[Event] = None
         self.tuples = 0
         self.users: dict[str, dict[Relationship, None]] = {}
-        taken = {name for event in events for name in event.namespaces}
+        taken = {name for event in lines.rules for name in event.namespaces}
         self.namespace = NAMESPACE
         while self.namespace in taken:
             self.namespace += "_"
-        for event, given in named(events):
+        for event, given in named(lines) if lines.facts.has_every else ():
             if given.user_relation == EVERY:
                 self.first = self.first or event
                 self.tuples += 1
                 self.users.setdefault(given.user_type, {})
-        for event, given in named(events) if self.first else ():
+        for event, given in named(lines) if self.first else ():
             if given.user_relation is None and given.user_type in self.users:
                 member = Relationship(self.namespace, given.user_type, RELATION, given.user_type, given.user_id)
                 self.users[given.user_type][member] = None
@@ -57,8 +58,8 @@ class Wildcards:
             yield "wildcards %d: a tuple for every user of a type stands for the users that the log names, %s" % (self.tuples, types)
 
 
-def named(events: list[Event]) -> Iterator[tuple[Event, Relationship]]:
-    """The relationships that events name."""
-    for event in events:
-        for given in (*event.add, *event.remove, *([event.goal] if event.goal else ())):
-            yield event, given
+def named(lines: Lines) -> Iterator[tuple[Line, Relationship]]:
+    """The relationships that lines name."""
+    for line in lines:
+        for given in (Relationship(*line.goal),) if isinstance(line, Entry) else (*line.add, *line.remove):
+            yield line, given
