@@ -10,11 +10,12 @@ standard error, and ends with status 2.
 import os
 import sys
 from argparse import Namespace
+from itertools import islice
 from typing import Any, Iterable, Optional
 
 from importing import openfga, spicedb, spicedb_schema
 from importing.core import Core, Given
-from importing.events import Line, read_events
+from importing.neutral import gather_events
 from importing.progress import Progress
 from importing.refusals import Refusals
 from importing.service import ServiceRules
@@ -22,6 +23,7 @@ from importing.spool import Lines
 from lib import limits
 from lib.files import Parser
 from lib.ids import Ids, TableFault
+from parting.faults import PartsFault
 
 
 def words(arguments: list[str]) -> tuple[Parser, Namespace]:
@@ -42,9 +44,12 @@ def words(arguments: list[str]) -> tuple[Parser, Namespace]:
         service.add_argument("--skip-unmapped", action="store_true", help="count and leave out what a trace cannot say")
         service.add_argument("--trace", default="trace.jsonl", metavar="FILE", help="the trace to write (trace.jsonl)")
         service.add_argument("--ids", default="ids.jsonl", metavar="FILE", help="the table of ids to add to (ids.jsonl)")
+        service.add_argument("--jobs", type=int, default=os.cpu_count(), metavar="N", help="how many processes read the logs (one a core)")
         service.add_argument("--name", metavar="NAME", help="a name of the service, where several of its kind have logs")
         service.add_argument("logs", nargs="+", metavar="LOG", help="a file of writes and checks, JSON lines")
     given = parser.parse_args(arguments)
+    if given.jobs < 1:
+        parser.error("--jobs is below 1")
     if given.skew is not None and given.skew < 0:
         parser.error("--skew is below 0")
     if given.service != "events" and bool(given.base) != (given.base_at is not None):
@@ -54,6 +59,7 @@ def words(arguments: list[str]) -> tuple[Parser, Namespace]:
     return parser, given
 
 
+BATCH = 1 << 10
 LOGS = {"openfga": openfga.OpenFgaLog, "spicedb": spicedb.SpiceDbLog}
 
 
@@ -78,7 +84,7 @@ def gathered(given: Namespace, base: Any, refusals: Refusals, progress: Progress
     lines = Lines()
     if given.service == "events":
         for path in given.logs:
-            _add(lines, read_events(path, refusals), progress)
+            progress.follow("read", gather_events(path, lines, given.jobs, refusals))
         facts = lines.facts
         if facts.count and given.from_empty == (facts.last_base >= 0):
             first = next(iter(lines))
@@ -90,16 +96,11 @@ def gathered(given: Namespace, base: Any, refusals: Refusals, progress: Progress
     log = LOGS[given.service](rules, base, refusals)
     lines.add(rules.event)
     for path in given.base:
-        _add(lines, log.base(path), progress)
+        for line in log.base(path):
+            lines.add(line)
     for path in given.logs:
-        _add(lines, log.events(path), progress)
+        progress.follow("read", log.gather(path, lines, given.jobs))
     return Given(log.placed(lines, given.skew), log.base_number())
-
-
-def _add(lines: Lines, more: Iterable[Line], progress: Progress) -> None:
-    for line in more:
-        lines.add(line)
-        progress.step("read", lines.facts.count)
 
 
 def write(path: str, lines: Iterable[str], ids: Ids, refusals: Refusals) -> int:
@@ -107,8 +108,9 @@ def write(path: str, lines: Iterable[str], ids: Ids, refusals: Refusals) -> int:
     beside, size = path + ".part", 0
     try:
         with open(beside, "wb") as file:
-            for line in lines:
-                size += file.write(line.encode() + b"\n")
+            lines = iter(lines)
+            while some := list(islice(lines, BATCH)):
+                size += file.write(("\n".join(some) + "\n").encode())
         if not refusals.refused:
             ids.append()
             os.replace(beside, path)
@@ -153,6 +155,9 @@ def main(arguments: list[str]) -> int:
     except TableFault as fault:
         say(str(fault))
         return 2
+    except PartsFault as fault:
+        say(str(fault))
+        return 5
     except OSError as fault:
         say("cannot use %s: %s" % (fault.filename, fault.strerror))
         return 5

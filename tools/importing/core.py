@@ -64,6 +64,7 @@ class Core:
         self.wanted: dict[int, int] = {}
         self.states = States()
         self.items = Spool()
+        self.names: dict[Name, tuple[str, ...]] = {}
         self.counts = Counts()
 
     def trace(self, given: Given) -> Optional[Written]:
@@ -169,9 +170,9 @@ class Core:
     def _spool(self, item: Item) -> None:
         """Keeps what a line of the trace needs."""
         if isinstance(item, Entry):
-            ready = self._ready(item)
-            if ready is not None:
-                self.items.add(tuple(ready))
+            row = self._ready(item)
+            if row is not None:
+                self.items.add(row)
             return
         event = item.event if isinstance(item, Commit) else item
         self.states.revisions += [item.revision] * self.has_between
@@ -185,28 +186,37 @@ class Core:
             self.wanted[item.revision] = len(self.declared.changes.get(item.revision, ()))
             self.items.add(("rules", *source))
 
-    def _ready(self, entry: Entry) -> Optional[Ready]:
-        """What is known of an entry; None where it is not kept."""
-        goal = entry.goal
-        if not self.declared.rules.is_declared(goal[0], goal[2]):
+    def _ready(self, entry: Entry) -> Optional[tuple]:
+        """What is known of an entry, as a row; None where it is not kept."""
+        kind, file, line, goal, reply, snapshot, shown, token, version, lowest = entry[:10]
+        of, id_text, relation, user_type, user_id = goal[:5]
+        names = self.names.get((of, relation))
+        if names is None:
+            names = self.names[of, relation] = self._names(of, relation)
+        if not names:
             self.refusals.unmapped_check(entry, "check of a relation that the rules do not have", entry.told)
             return None
-        if self.base_revision is not None and lowest_of(entry) < self.base_revision:
-            self.refusals.unmapped_check(entry, "check before the base state", "its snapshot is %s" % entry.shown)
+        if self.base_revision is not None and (snapshot if lowest is None else lowest) < self.base_revision:
+            self.refusals.unmapped_check(entry, "check before the base state", "its snapshot is %s" % shown)
             return None
         wanted = self.wanted
-        for revision in (entry.snapshot, entry.lowest, entry.token):
+        for revision in (snapshot, token, lowest):
             if revision is not None and revision not in wanted:
                 wanted[revision] = 1
-        user = self.ids.number("user", goal[3], goal[4])
-        version = entry.version
-        ready = Ready(entry.kind, "%s@%d" % (self.writer.set_text(*goal[:3]), user), user, entry.reply, entry.snapshot, entry.lowest,
-                      entry.token, None if version is None else self.ids.version(version), entry.shown, entry.file, entry.line,
-                      tuple(goal), version)
+        ids = self.ids
+        user = ids.number("user", user_type, user_id)
+        row = (kind, "%s:%s#%s@%d" % (names[0], ids.object(of, id_text), names[1], user), user, reply, snapshot, lowest, token,
+               None if version is None else ids.version(version), shown, file, line, tuple(goal), version)
         # What was left out is known at the end alone, and with it which versions are issued.
-        if self.refusals.skip:
-            return ready
-        return ready if version is None and entry.kind == "check" or self._has_good_version(ready) else None
+        if self.refusals.skip or version is None and kind == "check":
+            return row
+        return row if self._has_good_version(Ready._make(row)) else None
+
+    def _names(self, of: str, relation: str) -> tuple[str, ...]:
+        """What a trace calls a namespace and its relation; nothing where they are not declared."""
+        if not self.declared.rules.is_declared(of, relation):
+            return ()
+        return self.ids.name("namespace", of), self.ids.name("relation", relation)
 
     def _has_good_version(self, ready: Ready) -> bool:
         key = (*ready.given[:2], ready.version)
@@ -268,12 +278,11 @@ class Core:
         for count, row in enumerate(self._kept(), 1):
             self.progress.step("written", count)
             if row[0] in CHECKS:
-                ready = Ready._make(row)
-                self.counts.take_entry(ready.kind, ready.reply, ready.token is not None, ready.label is not None)
-                if ready.lowest is None:
-                    yield shown.entry(ready)
+                self.counts.take_entry(row[0], row[3], row[6] is not None, row[7] is not None)
+                if row[5] is None:
+                    yield shown.entry(row)
                 else:
-                    yield from self._between(ready, place, shown)
+                    yield from self._between(Ready._make(row), place, shown)
                 continue
             place += 1
             if row[0] == "commit":

@@ -1,9 +1,8 @@
 """Neutral events: what the front ends hand to the core, and their form as JSON lines."""
 import sys
 from dataclasses import dataclass, field
-from typing import Collection, Iterator, NamedTuple, Optional, Union
+from typing import Collection, Iterable, Iterator, NamedTuple, Optional, Union
 
-from importing import located
 from importing.refusals import Refusals
 from importing.times import nanoseconds
 from lib.keys import unread, unread_in_expression
@@ -279,9 +278,9 @@ def _event(value: object, file: str, line: int, refusals: Refusals) -> Line:
     return event
 
 
-def read_events(path: str, refusals: Refusals) -> Iterator[Line]:
+def read_events(values: Iterable[tuple[int, object]], path: str, refusals: Refusals) -> Iterator[Line]:
     """Neutral events from JSON lines."""
-    for line, value in located.values(path, refusals):
+    for line, value in values:
         try:
             yield _event(value, path, line, refusals)
         except _Fault as fault:

@@ -190,6 +190,7 @@ class OpenFgaLog(Log):
               "WriteAssertions": ("request.assertions",), "GetStore": (), "ListStores": ("response.stores",), "CreateStore": (),
               "UpdateStore": (), "DeleteStore": ()}
     KEYS = Log.KEYS | {"snapshot", "snapshot_between", "token"}
+    RULES = (b'"type_definitions"', b'"typeDefinitions"', b'"authorization_model"', b'"authorizationModel"')
     BASE = "place in the changes feed or time of RFC 3339"
 
     @staticmethod

@@ -22,8 +22,21 @@ class Refusals:
         self.left_out: Counter[str] = Counter()
         self.passed: Counter[str] = Counter()
         self.notes: dict[str, str] = {}
+        # the changes of the schema that a log tells of
+        self.updated: list[tuple[Optional[int], str, int]] = []
         self.doubts: list[tuple[str, Optional[str], str]] = []
         self.versions: set[tuple[str, str, str]] = set()
+
+    def merge(self, other: "Refusals") -> None:
+        """Takes what was collected from lines that stand behind."""
+        self.refused.update(other.refused)
+        self.left_out.update(other.left_out)
+        self.passed.update(other.passed)
+        for kind, text in other.notes.items():
+            self.note(kind, text)
+        self.updated += other.updated
+        self.doubts += other.doubts
+        self.versions |= other.versions
 
     def refuse(self, file: str, line: int, text: str) -> None:
         self.refused[Refused(file, line, text)] = None

@@ -1,14 +1,16 @@
 """What the front ends of the services share."""
-from typing import Any, Iterator, NamedTuple, Optional
+from functools import partial
+from typing import Any, Iterable, Iterator, NamedTuple, Optional
 
 from importing import located, passing
 from importing.reading import Bad, get
 from importing.events import EVERY, STAMP, Entry, Event, Line, Relationship, Stamp, newest_of, sequence_of, stamp_of
 from importing.refusals import Refusals
-from importing.spool import Lines
+from importing.spool import Facts, Lines, batch_of
 from lib import limits
 from lib.keys import near, unread
 from lib.rules import places
+from parting.sharing import shared
 
 
 def one_of(table: dict[str, bool], value: object) -> Optional[bool]:
@@ -91,6 +93,8 @@ class Log:
     # of a response, what a decision stands in; and the calls that have none
     DECIDES: tuple[str, ...] = ()
     OTHERS: dict[str, tuple[str, ...]] = {}
+    # what stands in each line that says of new rules
+    RULES: tuple[bytes, ...] = ()
     CONTENT = frozenset(("version", "token"))
 
     def __init__(self, rules: ServiceRules, base_at: Any, refusals: Refusals):
@@ -139,8 +143,27 @@ class Log:
         """What a line decides; raises Bad."""
         raise NotImplementedError
 
-    def events(self, path: str) -> Iterator[Line]:
-        for line, given in located.values(path, self.refusals):
+    def gather(self, path: str, lines: Lines, jobs: int) -> Iterator[int]:
+        """Adds the lines of a log; how many there are, now and then. New rules matter to all behind them, and are read in one process."""
+        if not located.is_lines(path) or any(mark in block.data for block in located.blocks(path) for mark in self.RULES):
+            for line in self.events(path, located.values(path, self.refusals)):
+                lines.add(line)
+                yield lines.facts.count
+            return
+        for data, facts, refusals in shared(partial(self._block, path), located.blocks(path), jobs):
+            lines.add_batch(data, facts)
+            self.refusals.merge(refusals)
+            yield lines.facts.count
+
+    def _block(self, path: str, block: located.Block) -> tuple[bytes, Facts, Refusals]:
+        kept, self.refusals = self.refusals, Refusals(self.refusals.skip)
+        try:
+            return (*batch_of(self.events(path, located.block_values(block, path, self.refusals))), self.refusals)
+        finally:
+            self.refusals = kept
+
+    def events(self, path: str, values: Iterable[tuple[int, object]]) -> Iterator[Line]:
+        for line, given in values:
             value = unwrapped(given)
             stamp = stamp_of(value if isinstance(value, dict) else {}, path, line, self.refusals)
             try:

@@ -10,7 +10,6 @@ from lib.ids import Ids
 from lib.rules import Declaration, form_of
 
 encode = json.JSONEncoder(ensure_ascii=False, separators=(",", ":")).encode
-WORDS = {True: "true", False: "false"}
 
 
 class Shown:
@@ -34,14 +33,13 @@ class Shown:
             line, self.mark = "%s,%s}" % (line[:-1], self.mark), ""
         return line
 
-    def _source(self, shown: str, file: str, line: int) -> str:
-        known = self.files.get(file)
-        if known is None:
-            known = self.files[file] = encode_basestring(file)[:-1]
-        return ',"revision":%s,"from":%s:%d"}' % (encode_basestring(shown), known, line)
+    def _file(self, file: str) -> str:
+        """A file's name within quotation marks, of which the last is left out."""
+        known = self.files[file] = encode_basestring(file)[:-1]
+        return known
 
     def commit(self, revision: int, shown: str, file: str, line: int, parts: list) -> Iterator[str]:
-        source = self._source(shown, file, line)
+        source = ',"revision":%s,"from":%s:%d"}' % (encode_basestring(shown), self._file(file), line)
         for at, sides in enumerate(parts, self.times[revision] - len(parts) + 1):
             listed = ['"%s":[%s]' % (key, ",".join(map(encode_basestring, side))) for key, side in zip(("add", "remove"), sides) if side]
             yield self._marked('{"kind":"commit","at":%d%s%s' % (at, "".join("," + side for side in listed), source))
@@ -52,15 +50,15 @@ class Shown:
         for at, change in enumerate(changes, self.times[revision] - len(changes) + 1):
             yield self._marked(encode({**change, "at": at, **told}))
 
-    def entry(self, ready) -> str:
+    def entry(self, ready: tuple) -> str:
+        kind, goal, _, reply, snapshot, _, token, label, shown, file, line = ready[:11]
         times = self.times
-        line = '{"kind":"%s","goal":%s,"snapshot":%d,"reply":%s' % (
-            ready.kind, encode_basestring(ready.goal), times[ready.snapshot], WORDS[ready.reply])
-        if ready.token is not None:
-            line += ',"zookie":"%s"' % texts.zookie_text(times[ready.token])
-        if ready.label is not None:
-            line += ',"version":%s' % encode_basestring(ready.label)
-        return self._marked(line + self._source(ready.shown, ready.file, ready.line))
+        known = self.files.get(file) or self._file(file)
+        text = '{"kind":"%s","goal":%s,"snapshot":%d,"reply":%s%s%s,"revision":%s,"from":%s:%d"}' % (
+            kind, encode_basestring(goal), times[snapshot], "true" if reply else "false",
+            "" if token is None else ',"zookie":"%s"' % texts.zookie_text(times[token]),
+            "" if label is None else ',"version":%s' % encode_basestring(label), encode_basestring(shown), known, line)
+        return self._marked(text) if self.mark else text
 
     def _namespace(self, declaration: Declaration) -> dict:
         relations = []

@@ -32,7 +32,7 @@ def split_key(text: str) -> Optional[tuple[str, str]]:
 
 
 class Text(str):
-    """A text that knows its first line."""
+    """The text of a block, which knows its first line."""
 
     line = 0
 
@@ -43,7 +43,7 @@ class Line(NamedTuple):
     text: str
 
 
-Value = Union[Object, List, Text]
+Value = Union[Object, List, str]
 
 
 def _fault(line: Line, why: str) -> Malformed:
@@ -108,7 +108,7 @@ class Reader:
             split = split_key(line.text)
             if split is None:
                 break
-            key, rest = str(self.scalar(line, split[0])), split[1]
+            key, rest = self.scalar(line, split[0]), split[1]
             if key in found:
                 raise Malformed(line.number, "the key %r stands twice" % key)
             self.at += 1
@@ -128,7 +128,7 @@ class Reader:
             here = self.lines[self.at]
             if here.indent > indent or (here.indent == indent and here.text.startswith("- ") and not line.text.startswith("-")):
                 return self.block(here.indent, depth + 1)
-        return self.made("", line.number)
+        return ""
 
     def text_block(self, line: Line, block) -> Text:
         """The raw lines below that are indented more; the first of them says how much."""
@@ -142,27 +142,23 @@ class Reader:
             self.at += 1
         kept = [one[width:] for one in lines]
         text = "\n".join(kept).rstrip("\n") if block["kind"] == "|" else " ".join(one.strip() for one in kept).rstrip()
-        return self.made(text + ("" if block["keep"] == "-" else "\n"), first + 1)
+        found = Text(text + ("" if block["keep"] == "-" else "\n"))
+        found.line = first + 1
+        return found
 
-    def scalar(self, line: Line, text: str) -> Text:
+    def scalar(self, line: Line, text: str) -> str:
         if text.startswith(("'", '"')):
             quoted = QUOTED.match(text)
             try:
                 if quoted is None:
                     raise ValueError
                 inner = quoted[1]
-                return self.made(json.loads(inner) if inner[0] == '"' else inner[1:-1].replace("''", "'"), line.number)
+                return json.loads(inner) if inner[0] == '"' else inner[1:-1].replace("''", "'")
             except ValueError:
                 raise _fault(line, "a text in quotation marks: %s" % text[:60]) from None
         if text.startswith(SIGNS):
             raise _fault(line, text[:60])
-        return self.made(COMMENT.sub("", text).strip(), line.number)
-
-    @staticmethod
-    def made(text: str, number: int) -> Text:
-        found = Text(text)
-        found.line = number
-        return found
+        return COMMENT.sub("", text).strip()
 
 
 def _indent(line: str) -> int:

@@ -34,6 +34,7 @@ class SpiceDbLog(Log):
     NO_LINE = "neither a response of Watch nor a check with its `request`"
 
     BASE = "token or revision"
+    RULES = (b'"schema"',)
     DECIDES = ("permissionship", "pairs", "resourceObjectId", "subject", "subjectObjectId")
     OTHERS = {"WriteRelationships": ("request.updates",), "DeleteRelationships": ("response.deletedAt",),
               "ReadRelationships": ("request.relationshipFilter",), "ExpandPermissionTree": ("response.treeRoot",),
@@ -42,8 +43,7 @@ class SpiceDbLog(Log):
 
     def __init__(self, rules: ServiceRules, base_at: Optional[Revision], refusals: Refusals):
         super().__init__(rules, base_at, refusals)
-        # the changes of the schema that the watch stream tells, and those whose text the log has
-        self.updated: list[tuple[Optional[int], str, int]] = []
+        # the changes of the schema whose text the log has
         self.written: set[Optional[int]] = set()
 
     @staticmethod
@@ -58,7 +58,7 @@ class SpiceDbLog(Log):
 
     def placed(self, lines: Lines, skew: Optional[int]) -> Lines:
         """Numbers for the snapshots of PostgreSQL; a log has either those or numbers."""
-        for key, path, line in self.updated:
+        for key, path, line in self.refusals.updated:
             if key not in self.written:
                 self.refusals.refuse(path, line, "the schema changes here, and the log has no WriteSchema of this revision")
         base = self.base_at and self.base_at.snapshot
@@ -119,7 +119,7 @@ class SpiceDbLog(Log):
             raise Bad("`updates` is no list")
         revision = revision_in(get(response, "changesThrough"), "`changesThrough`")
         if get(response, "schemaUpdated"):
-            self.updated.append((key_of(revision), path, line))
+            self.refusals.updated.append((key_of(revision), path, line))
         event = put_stamp(Event("write", path, line, revision.number, revision.shown), stamp)
         if revision.snapshot:
             if revision.snapshot.own is None and updates:

@@ -98,6 +98,15 @@ def row_of(line: Line) -> tuple:
             [tuple(given) for given in line.add], [tuple(given) for given in line.remove], plain(line.asked))
 
 
+def batch_of(lines: Iterable[Line]) -> tuple[bytes, Facts]:
+    """Writes and checks as rows for another process."""
+    facts, rows = Facts(), []
+    for line in lines:
+        facts.note(line)
+        rows.append(row_of(line))
+    return marshal.dumps(rows), facts
+
+
 class Lines:
     """The writes, rules and checks of an import, in order."""
 
