@@ -7,10 +7,10 @@
 It writes the trace and adds to the table of ids; where anything is refused it writes neither, lists all refusals on
 standard error, and ends with status 2.
 """
+import gc
 import os
 import sys
 from argparse import Namespace
-from itertools import islice
 from typing import Any, Iterable, Optional
 
 from importing import openfga, spicedb, spicedb_schema
@@ -59,7 +59,6 @@ def words(arguments: list[str]) -> tuple[Parser, Namespace]:
     return parser, given
 
 
-BATCH = 1 << 10
 LOGS = {"openfga": openfga.OpenFgaLog, "spicedb": spicedb.SpiceDbLog}
 
 
@@ -103,14 +102,13 @@ def gathered(given: Namespace, base: Any, refusals: Refusals, progress: Progress
     return Given(log.placed(lines, given.skew), log.base_number())
 
 
-def write(path: str, lines: Iterable[str], ids: Ids, refusals: Refusals) -> int:
+def write(path: str, chunks: Iterable[bytes], ids: Ids, refusals: Refusals) -> int:
     """The trace and the new rows of the table, or neither where something is refused meanwhile. How many bytes the trace has."""
     beside, size = path + ".part", 0
     try:
         with open(beside, "wb") as file:
-            lines = iter(lines)
-            while some := list(islice(lines, BATCH)):
-                size += file.write(("\n".join(some) + "\n").encode())
+            for chunk in chunks:
+                size += file.write(chunk)
         if not refusals.refused:
             ids.append()
             os.replace(beside, path)
@@ -142,12 +140,21 @@ def told_refused(refusals: Refusals) -> int:
 def main(arguments: list[str]) -> int:
     parser, given = words(arguments)
     base = base_at(parser, given)
+    # Rows make no circles, and there are many of them to look through.
+    gc.disable()
+    try:
+        return imported(given, base)
+    finally:
+        gc.enable()
+
+
+def imported(given: Namespace, base: Any) -> int:
     refusals, progress = Refusals(given.skip_unmapped), Progress()
     try:
         ids = Ids(given.ids)
         ids.take_for(given.service if given.name is None else "%s %s" % (given.service, given.name))
-        made = Core(ids, given.skew, refusals, progress).trace(gathered(given, base, refusals, progress))
-        size = write(given.trace, made.lines, ids, refusals) if made else 0
+        made = Core(ids, given.skew, refusals, progress).trace(gathered(given, base, refusals, progress), given.jobs)
+        size = write(given.trace, made.chunks, ids, refusals) if made else 0
         progress.end()
         told_left_out(refusals)
         if made is None or refusals.refused:

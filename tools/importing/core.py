@@ -3,6 +3,8 @@
 The lines of an import are gone through twice. First commits are made, goals get their texts and revisions are gathered; what a line
 of the trace needs is kept in a spool. Then timestamps and strata are known, and the lines are written.
 """
+import marshal
+from functools import partial
 from itertools import chain, islice
 from typing import Iterable, Iterator, NamedTuple, Optional, Union
 
@@ -10,21 +12,22 @@ from importing.between import STATES, Asked, Spans, States
 from importing.commits import Commit, Writer
 from importing.declared import Declared
 from importing.doubts import Doubts
-from importing.events import Entry, Event, Line
+from importing.events import Entry, Event
 from importing.newest import put_newest
-from importing.order import in_order, lowest_of
+from importing.order import in_order
 from importing.progress import Progress
 from importing.refusals import Refusals
 from importing.shown import Shown
-from importing.spool import CHECKS, Lines, Spool
+from importing.spool import BATCH, CHECKS, Facts, Lines, Spool, row_of
 from importing.strata import Edges, choose
 from importing.wildcards import Wildcards
 from importing.writing import Counts, Written
 from lib.edges import Name
 from lib.ids import Ids
 from lib.texts import Tuple, Userset
+from parting.sharing import shared
 
-Item = Union[Commit, Line]
+Item = Union[Commit, Event, tuple]
 
 
 class Given(NamedTuple):
@@ -34,41 +37,20 @@ class Given(NamedTuple):
     base: Optional[int]
 
 
-class Ready(NamedTuple):
-    """An entry of which all is known but its timestamps."""
-
-    kind: str
-    goal: str
-    user: int
-    reply: bool
-    snapshot: int
-    lowest: Optional[int]
-    token: Optional[int]
-    label: Optional[str]
-    shown: str
-    file: str
-    line: int
-    given: tuple
-    version: Optional[str]
-
-    def entry(self) -> Entry:
-        """The entry, as refusals tell of it."""
-        return Entry(self.kind, self.file, self.line, self.given, self.reply, self.snapshot, self.shown, version=self.version)
-
-
 class Core:
     def __init__(self, ids: Ids, skew: Optional[int], refusals: Refusals, progress: Progress):
         self.ids, self.skew, self.refusals, self.progress = ids, skew, refusals, progress
         self.edges = Edges()
-        self.issued: dict[tuple[str, str, str], Ready] = {}
+        # of each version its content check, in short, with its file and line
+        self.issued: dict[tuple[str, str, str], tuple[tuple, str, int]] = {}
         self.wanted: dict[int, int] = {}
         self.states = States()
         self.items = Spool()
-        self.names: dict[Name, tuple[str, ...]] = {}
+        self.declared_names: dict[Name, bool] = {}
         self.counts = Counts()
 
-    def trace(self, given: Given) -> Optional[Written]:
-        """The trace, whose lines are still to be written; None where something was refused."""
+    def trace(self, given: Given, jobs: int = 1) -> Optional[Written]:
+        """The trace, whose lines are still to be written, by so many processes; None where something was refused."""
         lines = given.lines
         wildcards = Wildcards(lines)
         self.declared = Declared(wildcards.rules() + lines.rules, self.edges, self.refusals)
@@ -79,14 +61,15 @@ class Core:
         for commit in (self._every(wildcards), base):
             if commit:
                 self._spool(commit)
-        for item in self._commits(self._stream(lines), Spans(lines if lines.facts.has_groups else ()), base):
+        for item in self._commits(self._stream(lines), Spans(lines if lines.facts.has_groups else ())):
             self._spool(item)
         strata = choose([(name, relation) for name in self.declared.rules.current
                          for relation in self.declared.rules.relations(name)], self.edges, self.refusals)
         if self.refusals.refused:
             return None
         self._put_timestamps()
-        return Written(self._lines(strata), self.counts, lambda: chain(wildcards.told(), self.states.told()))
+        shown = Shown(self.declared, self.ids, strata, self.wanted)
+        return Written(self._chunks(shown, strata, jobs), self.counts, lambda: chain(wildcards.told(), self.states.told()))
 
     # Order and commits
 
@@ -108,30 +91,33 @@ class Core:
             self.writer.write(commit, event)
         return commit
 
-    def _stream(self, lines: Lines) -> Iterable[Line]:
-        """Everything behind the base state, in order."""
-        stream = in_order(self._behind_base(lines), lines.facts, self.skew, self.refusals)
-        return put_newest(list(stream), self.skew, self.refusals) if lines.facts.has_newest else stream
+    def _stream(self, lines: Lines) -> Iterable[Union[Event, tuple]]:
+        """Everything behind the base state, in order. Entries are rows, or what has a row's fields."""
+        facts = lines.facts
+        if self.skew is None and not facts.is_sequenced and not facts.has_newest:
+            return in_order(self._behind_base(lines.rows(), facts), facts, self.skew, self.refusals)
+        stream = in_order(self._behind_base(lines, facts), facts, self.skew, self.refusals)
+        return put_newest(list(stream), self.skew, self.refusals) if facts.has_newest else stream
 
-    def _behind_base(self, lines: Lines) -> Iterator[Line]:
-        last = lines.facts.last_base
+    def _behind_base(self, lines: Iterable[Union[Event, tuple]], facts: Facts) -> Iterator[Union[Event, tuple]]:
+        last = facts.last_base
         for place, line in enumerate(lines):
-            if isinstance(line, Entry):
+            if isinstance(line, tuple):
                 if place > last:
                     yield line
                 else:
-                    self.refusals.unmapped_check(line, "check before the base state",
-                                                 "%s:%d gives base state behind it" % lines.facts.base_source)
+                    self.refusals.unmapped_check(Entry._make(line), "check before the base state",
+                                                 "%s:%d gives base state behind it" % facts.base_source)
             elif not line.base and not (line.kind == "rules" and line.revision is None):
                 yield line
 
-    def _commits(self, stream: Iterable[Line], spans: Spans, base: Optional[Commit]) -> Iterator[Item]:
+    def _commits(self, stream: Iterable[Union[Event, tuple]], spans: Spans) -> Iterator[Item]:
         """Writes of one revision that stand together become one commit."""
         last, shown = self.base_revision, "the base state"
         open_commit: Optional[Commit] = None
         for count, line in enumerate(stream, 1):
             self.progress.step("ordered", count)
-            if isinstance(line, Event):
+            if not isinstance(line, tuple):
                 if open_commit and self._goes_on(open_commit, line, spans):
                     last = line.revision
                     continue
@@ -142,7 +128,7 @@ class Core:
             if open_commit:
                 yield open_commit
             open_commit = None
-            if isinstance(line, Event) and line.kind == "write":
+            if not isinstance(line, tuple) and line.kind == "write":
                 open_commit = Commit(line)
                 self.writer.write(open_commit, line)
             else:
@@ -169,10 +155,9 @@ class Core:
 
     def _spool(self, item: Item) -> None:
         """Keeps what a line of the trace needs."""
-        if isinstance(item, Entry):
-            row = self._ready(item)
-            if row is not None:
-                self.items.add(row)
+        if isinstance(item, tuple):
+            if self._takes(item):
+                self.items.add(item if type(item) is tuple else row_of(item))
             return
         event = item.event if isinstance(item, Commit) else item
         self.states.revisions += [item.revision] * self.has_between
@@ -186,55 +171,57 @@ class Core:
             self.wanted[item.revision] = len(self.declared.changes.get(item.revision, ()))
             self.items.add(("rules", *source))
 
-    def _ready(self, entry: Entry) -> Optional[tuple]:
-        """What is known of an entry, as a row; None where it is not kept."""
-        kind, file, line, goal, reply, snapshot, shown, token, version, lowest = entry[:10]
-        of, id_text, relation, user_type, user_id = goal[:5]
-        names = self.names.get((of, relation))
-        if names is None:
-            names = self.names[of, relation] = self._names(of, relation)
-        if not names:
-            self.refusals.unmapped_check(entry, "check of a relation that the rules do not have", entry.told)
-            return None
+    def _takes(self, row: tuple) -> bool:
+        """Gives what an entry names its numbers and gathers its revisions; whether it is kept."""
+        kind, _, _, goal, _, snapshot, shown, token, version, lowest = row[:10]
+        if not self._is_declared(goal[0], goal[2]):
+            self.refusals.unmapped_check(Entry._make(row), "check of a relation that the rules do not have", Entry._make(row).told)
+            return False
         if self.base_revision is not None and (snapshot if lowest is None else lowest) < self.base_revision:
-            self.refusals.unmapped_check(entry, "check before the base state", "its snapshot is %s" % shown)
-            return None
+            self.refusals.unmapped_check(Entry._make(row), "check before the base state", "its snapshot is %s" % shown)
+            return False
         wanted = self.wanted
-        for revision in (snapshot, token, lowest):
-            if revision is not None and revision not in wanted:
-                wanted[revision] = 1
-        ids = self.ids
-        user = ids.number("user", user_type, user_id)
-        row = (kind, "%s:%s#%s@%d" % (names[0], ids.object(of, id_text), names[1], user), user, reply, snapshot, lowest, token,
-               None if version is None else ids.version(version), shown, file, line, tuple(goal), version)
+        if snapshot not in wanted:
+            wanted[snapshot] = 1
+        if token is not None and token not in wanted:
+            wanted[token] = 1
+        if lowest is not None and lowest not in wanted:
+            wanted[lowest] = 1
+        self.ids.note(goal)
+        if version is None and kind == "check":
+            return True
+        if version is not None:
+            self.ids.version(version)
         # What was left out is known at the end alone, and with it which versions are issued.
-        if self.refusals.skip or version is None and kind == "check":
-            return row
-        return row if self._has_good_version(Ready._make(row)) else None
+        return self.refusals.skip or self._has_good_version(Entry._make(row))
 
-    def _names(self, of: str, relation: str) -> tuple[str, ...]:
-        """What a trace calls a namespace and its relation; nothing where they are not declared."""
-        if not self.declared.rules.is_declared(of, relation):
-            return ()
-        return self.ids.name("namespace", of), self.ids.name("relation", relation)
+    def _is_declared(self, of: str, relation: str) -> bool:
+        known = self.declared_names.get((of, relation))
+        if known is None:
+            known = self.declared_names[of, relation] = self.declared.rules.is_declared(of, relation)
+            if known:
+                self.ids.name("namespace", of)
+                self.ids.name("relation", relation)
+        return known
 
-    def _has_good_version(self, ready: Ready) -> bool:
-        key = (*ready.given[:2], ready.version)
-        before = self.issued.get(key) if ready.kind == "content" and ready.version is not None else None
-        if ready.version == "":
-            self.refusals.refuse(ready.file, ready.line, "the label of a version is empty")
-        elif ready.kind == "content" and ready.reply != (ready.version is not None):
-            self.refusals.unmapped_check(ready.entry(), "content check with a version and the reply false, or without one and true", "",
+    def _has_good_version(self, entry: Entry) -> bool:
+        key = (*entry.goal[:2], entry.version)
+        short = (tuple(entry.goal), entry.reply, entry.snapshot, entry.lowest, entry.token)
+        before = self.issued.get(key) if entry.kind == "content" and entry.version is not None else None
+        if entry.version == "":
+            self.refusals.refuse(entry.file, entry.line, "the label of a version is empty")
+        elif entry.kind == "content" and entry.reply != (entry.version is not None):
+            self.refusals.unmapped_check(entry, "content check with a version and the reply false, or without one and true", "",
                                          "a content check has a version exactly where its reply is true")
             return False
-        elif before is not None and before[1:8] == ready[1:8]:
+        elif before is not None and before[0] == short:
             self.refusals.pass_over("content check that was logged before")
             return False
         elif before is not None:
-            self.refusals.refuse(ready.file, ready.line, "version %s of %s:%s was issued at %s:%d already"
-                                 % (ready.version, *key[:2], before.file, before.line))
-        elif ready.kind == "content" and ready.version is not None:
-            self.issued[key] = ready
+            self.refusals.refuse(entry.file, entry.line, "version %s of %s:%s was issued at %s:%d already"
+                                 % (entry.version, *key[:2], *before[1:]))
+        elif entry.kind == "content" and entry.version is not None:
+            self.issued[key] = (short, entry.file, entry.line)
         return True
 
     # The second time
@@ -247,17 +234,17 @@ class Core:
         doubts = Doubts(self.refusals.doubts, self.declared.rules, self.edges)
         doubts.spread(self.writer.stored)
         for row in self.items:
-            if row[0] not in CHECKS or self._is_kept(Ready._make(row), doubts):
+            if row[0] not in CHECKS or self._is_kept(Entry._make(row), doubts):
                 yield row
 
-    def _is_kept(self, ready: Ready, doubts: Doubts) -> bool:
-        key = (*ready.given[:2], ready.version)
-        if doubts.has(Userset(*ready.given[:3])):
-            self.refusals.unmapped_check(ready.entry(), "check that hangs on a tuple or rule that was left out", ready.entry().told)
-        elif ready.kind == "check" and key in self.refusals.versions and key not in self.issued:
-            self.refusals.unmapped_check(ready.entry(), "check of a content version whose content check was left out", ready.entry().told)
+    def _is_kept(self, entry: Entry, doubts: Doubts) -> bool:
+        key = (*entry.goal[:2], entry.version)
+        if doubts.has(Userset(*entry.goal[:3])):
+            self.refusals.unmapped_check(entry, "check that hangs on a tuple or rule that was left out", entry.told)
+        elif entry.kind == "check" and key in self.refusals.versions and key not in self.issued:
+            self.refusals.unmapped_check(entry, "check of a content version whose content check was left out", entry.told)
         else:
-            return self._has_good_version(ready)
+            return self._has_good_version(entry)
         return False
 
     def _put_timestamps(self) -> None:
@@ -269,38 +256,55 @@ class Core:
             at += max(1, self.wanted[revision])
             self.wanted[revision] = at
 
-    def _lines(self, strata: dict[Name, int]) -> Iterator[str]:
+    def _chunks(self, shown: Shown, strata: dict[Name, int], jobs: int) -> Iterator[bytes]:
+        """The lines of the trace. Where none hangs on others, batches of them are made by many processes."""
+        head = "".join(shown.head()).encode()
+        yield head
+        if head and not self.has_between and not self.refusals.skip:
+            for chunk, counts in shared(partial(self._chunk, shown), self.items.batches(), jobs):
+                self.counts.merge(counts)
+                self.progress.step("written", self.counts.count)
+                yield chunk
+            return
         self.states.take_rules(self.declared.rules, strata)
-        shown = Shown(self.declared, self.ids, strata, self.wanted)
         self.states.revisions.sort()
+        texts = self._texts(self._kept(), shown, self.counts)
+        while some := list(islice(texts, BATCH)):
+            yield "".join(some).encode()
+
+    def _chunk(self, shown: Shown, batch: bytes) -> tuple[bytes, Counts]:
+        counts = Counts()
+        return "".join(self._texts(marshal.loads(batch), shown, counts)).encode(), counts
+
+    def _texts(self, rows: Iterable[tuple], shown: Shown, counts: Counts) -> Iterator[str]:
+        """Each line with its end."""
         place = 0
-        yield from shown.head()
-        for count, row in enumerate(self._kept(), 1):
-            self.progress.step("written", count)
+        for row in rows:
             if row[0] in CHECKS:
-                self.counts.take_entry(row[0], row[3], row[6] is not None, row[7] is not None)
-                if row[5] is None:
+                counts.take_entry(row[0], row[4], row[7] is not None, row[8] is not None)
+                if row[9] is None:
                     yield shown.entry(row)
                 else:
-                    yield from self._between(Ready._make(row), place, shown)
+                    yield from self._between(Entry._make(row), place, shown)
                 continue
             place += 1
             if row[0] == "commit":
-                self.counts.take_commit(len(row[-1]))
+                counts.take_commit(len(row[-1]))
                 yield from shown.commit(*row[1:])
             else:
-                self.counts.take_change()
+                counts.take_change()
                 yield from shown.change(*row[1:])
 
-    def _between(self, ready: Ready, place: int, shown: Shown) -> Iterator[str]:
+    def _between(self, entry: Entry, place: int, shown: Shown) -> Iterator[str]:
         """An entry at the state where its reply is right; or at each, the others as plain checks."""
-        count = self.states.count(ready.lowest, ready.snapshot)
+        count = self.states.count(entry.lowest, entry.snapshot)
         if count >= STATES:
-            self.refusals.refuse(ready.file, ready.line, "`snapshot_between` takes in %d commits, and %d states at most are looked at"
+            self.refusals.refuse(entry.file, entry.line, "`snapshot_between` takes in %d commits, and %d states at most are looked at"
                                  % (count, STATES))
             return
-        goal = Tuple(Userset(*ready.given[:3]), ready.user)
-        first, *others = self.states.chosen(Asked(ready.kind, goal, ready.reply, ready.lowest, ready.snapshot, ready.token), place)
-        yield shown.entry(ready._replace(snapshot=first))
+        goal = Tuple(Userset(*entry.goal[:3]), self.ids.number("user", *entry.goal[3:5]))
+        asked = Asked(entry.kind, goal, entry.reply, entry.lowest, entry.snapshot, entry.token)
+        first, *others = self.states.chosen(asked, place)
+        yield shown.entry(entry._replace(snapshot=first))
         for at in others:
-            yield shown.entry(ready._replace(kind="check", snapshot=at, token=None, label=None))
+            yield shown.entry(entry._replace(kind="check", snapshot=at, token=None, version=None))

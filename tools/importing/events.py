@@ -1,7 +1,7 @@
 """Neutral events: what the front ends hand to the core, and their form as JSON lines."""
 import sys
 from dataclasses import dataclass, field
-from typing import Collection, Iterable, Iterator, NamedTuple, Optional, Union
+from typing import AbstractSet, Iterable, Iterator, NamedTuple, Optional, Union
 
 from importing.refusals import Refusals
 from importing.times import nanoseconds
@@ -16,6 +16,7 @@ EVERY_EVENT = STAMP | {"event", "file", "line"}
 ENTRY = EVERY_EVENT | {"goal", "snapshot", "snapshot_between", "reply", "token", "version"}
 KEYS = {"rules": EVERY_EVENT | {"revision", "namespaces"}, "write": EVERY_EVENT | {"revision", "base", "add", "remove"},
         "check": ENTRY, "content": ENTRY | {"newest"}}
+NAMESPACE, RELATION = frozenset(("name", "relations")), frozenset(("name", "rewrite"))
 SLOTS = {"slots": True} if sys.version_info >= (3, 10) else {}
 
 
@@ -114,6 +115,8 @@ def is_whole(value: object) -> bool:
 
 def stamp_of(value: dict, file: str, line: int, refusals: Refusals) -> Stamp:
     """The keys that a recorder may add to any line: `sequence`, `time` and `clock`."""
+    if STAMP.isdisjoint(value):
+        return Stamp(None, None, file)
     sequence, time, clock = value.get("sequence"), value.get("time"), value.get("clock")
     if sequence is not None and not is_whole(sequence):
         refusals.refuse(file, line, "`sequence` is no whole number")
@@ -141,7 +144,7 @@ class _Fault(Exception):
     """Why an event is refused."""
 
 
-def _refuse_unread(value: object, known: Collection[str], where: str = "") -> None:
+def _refuse_unread(value: object, known: AbstractSet[str], where: str = "") -> None:
     for key in unread(value, known):
         raise _Fault(key.said(where and " in " + where))
 
@@ -158,8 +161,11 @@ def newest_of(value: dict, fault: type) -> bool:
 
 def _relationship(value: object, where: str, is_goal: bool = False) -> Relationship:
     sizes = (5,) if is_goal else (5, 6)
-    if not isinstance(value, list) or len(value) not in sizes \
-            or not all(isinstance(part, str) and part for part in value):
+    try:
+        is_good = isinstance(value, list) and len(value) in sizes and "" not in value and "".join(value) != ""
+    except TypeError:
+        is_good = False
+    if not is_good:
         raise _Fault("%s is no list of %s texts" % (where, " or ".join(map(str, sizes))))
     if value[5:] == [EVERY] and value[4] != EVERY:
         raise _Fault("%s has `*` for the relation of one user; every user of a type is [.., type, \"*\", \"*\"]" % where)
@@ -176,7 +182,7 @@ def _namespaces(value: dict, line: int) -> dict[str, list[RelationRule]]:
         if not isinstance(namespace, dict) or not isinstance(namespace.get("name"), str) \
                 or not isinstance(namespace.get("relations"), list):
             raise _Fault("%s has no name or no relations" % where)
-        _refuse_unread(namespace, ("name", "relations"), where)
+        _refuse_unread(namespace, NAMESPACE, where)
         if namespace["name"] in found:
             raise _Fault("namespace %s stands twice" % namespace["name"])
         found[namespace["name"]] = [_rule(given, where, line) for given in namespace["relations"]]
@@ -187,7 +193,7 @@ def _namespaces(value: dict, line: int) -> dict[str, list[RelationRule]]:
 def _rule(given: object, where: str, line: int) -> RelationRule:
     if not isinstance(given, dict) or not isinstance(given.get("name"), str):
         raise _Fault("a relation of %s has no name" % where)
-    _refuse_unread(given, ("name", "rewrite"), "relation %s" % given["name"])
+    _refuse_unread(given, RELATION, "relation %s" % given["name"])
     rewrite = given.get("rewrite", {"this": {}})
     try:
         shape_of_expression(rewrite, "the rewrite of %s" % given["name"])

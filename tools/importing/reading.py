@@ -19,4 +19,7 @@ def get(value: object, name: str) -> object:
     """The value of a key in either spelling; None where there is none."""
     if not isinstance(value, dict):
         return None
-    return value[name] if name in value else value.get(spelled(name))
+    found = value.get(name)
+    if found is None and name not in value:
+        found = value.get(spelled(name))
+    return found

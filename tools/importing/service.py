@@ -90,7 +90,7 @@ class Log:
     NOT_TAKEN = NO_LINE = BASE = ""
     # the keys of a recorder's line; what stands within `request` and `response` is the service's own
     KEYS = STAMP | passing.KEYS | {"request", "response", "version", "content", "newest"}
-    # of a response, what a decision stands in; and the calls that have none
+    # of a response, what a decision stands in, a single one first; and the calls that have none
     DECIDES: tuple[str, ...] = ()
     OTHERS: dict[str, tuple[str, ...]] = {}
     # what stands in each line that says of new rules
@@ -169,6 +169,9 @@ class Log:
             try:
                 self._refuse_unread(value)
                 is_check = get(value, "request") is not None
+                if is_check and get(value.get("response"), self.DECIDES[0]) is not None:
+                    yield from self._checks(value, stamp, path, line)
+                    continue
                 changes = get(value, "response") if is_check else value
                 if self.is_write(changes):
                     yield from self.writes(changes, stamp, path, line)
@@ -218,7 +221,9 @@ class Log:
     def _refuse_unread(self, value: object) -> None:
         """A key that is not read, in what is the recorder's; a line of the service alone may have others of its own."""
         if get(value, "request") is not None:
-            for key in (*unread(value, self.KEYS), *unread(get(value, "content"), self.CONTENT)):
+            for key in unread(value, self.KEYS):
+                raise Bad(key.said())
+            for key in unread(value.get("content"), self.CONTENT):
                 raise Bad(key.said())
             return
         for key in unread(value, STAMP):

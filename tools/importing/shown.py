@@ -25,12 +25,12 @@ class Shown:
 
     def head(self) -> Iterator[str]:
         for namespace in self._head:
-            yield self._marked(encode(namespace))
+            yield self._marked(encode(namespace) + "\n")
 
     def _marked(self, line: str) -> str:
         """The first line says which table is the trace's."""
         if self.mark:
-            line, self.mark = "%s,%s}" % (line[:-1], self.mark), ""
+            line, self.mark = "%s,%s}\n" % (line.rstrip("\n")[:-1], self.mark), ""
         return line
 
     def _file(self, file: str) -> str:
@@ -39,7 +39,7 @@ class Shown:
         return known
 
     def commit(self, revision: int, shown: str, file: str, line: int, parts: list) -> Iterator[str]:
-        source = ',"revision":%s,"from":%s:%d"}' % (encode_basestring(shown), self._file(file), line)
+        source = ',"revision":%s,"from":%s:%d"}\n' % (encode_basestring(shown), self._file(file), line)
         for at, sides in enumerate(parts, self.times[revision] - len(parts) + 1):
             listed = ['"%s":[%s]' % (key, ",".join(map(encode_basestring, side))) for key, side in zip(("add", "remove"), sides) if side]
             yield self._marked('{"kind":"commit","at":%d%s%s' % (at, "".join("," + side for side in listed), source))
@@ -48,17 +48,20 @@ class Shown:
         changes = self.changes.get(revision, ())
         told = {"revision": shown, "from": "%s:%d" % (file, line)}
         for at, change in enumerate(changes, self.times[revision] - len(changes) + 1):
-            yield self._marked(encode({**change, "at": at, **told}))
+            yield self._marked(encode({**change, "at": at, **told}) + "\n")
 
-    def entry(self, ready: tuple) -> str:
-        kind, goal, _, reply, snapshot, _, token, label, shown, file, line = ready[:11]
-        times = self.times
-        known = self.files.get(file) or self._file(file)
-        text = '{"kind":"%s","goal":%s,"snapshot":%d,"reply":%s%s%s,"revision":%s,"from":%s:%d"}' % (
-            kind, encode_basestring(goal), times[snapshot], "true" if reply else "false",
+    def entry(self, row: tuple) -> str:
+        """The line of an entry, by the first fields of its row."""
+        kind, file, line, goal, reply, snapshot, shown, token, version = row[:9]
+        ids, times = self.ids, self.times
+        text = "%s:%s#%s@%d" % (ids.name("namespace", goal[0]), ids.object(goal[0], goal[1]), ids.name("relation", goal[2]),
+                                ids.number("user", goal[3], goal[4]))
+        made = '{"kind":"%s","goal":%s,"snapshot":%d,"reply":%s%s%s,"revision":%s,"from":%s:%d"}\n' % (
+            kind, encode_basestring(text), times[snapshot], "true" if reply else "false",
             "" if token is None else ',"zookie":"%s"' % texts.zookie_text(times[token]),
-            "" if label is None else ',"version":%s' % encode_basestring(label), encode_basestring(shown), known, line)
-        return self._marked(text) if self.mark else text
+            "" if version is None else ',"version":%s' % encode_basestring(ids.version(version)), encode_basestring(shown),
+            self.files.get(file) or self._file(file), line)
+        return self._marked(made) if self.mark else made
 
     def _namespace(self, declaration: Declaration) -> dict:
         relations = []

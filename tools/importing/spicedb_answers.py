@@ -51,7 +51,7 @@ def responses_of(response: object) -> list:
 
 def revision_at(response: object) -> Revision:
     """The revision that a call was evaluated at."""
-    first = responses_of(response)[0]
+    first = response if get(response, "checkedAt") is not None else responses_of(response)[0]
     looked_up = get(first, "lookedUpAt")
     if looked_up is not None:
         return revision_in(looked_up, "`lookedUpAt` of the response")

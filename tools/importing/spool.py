@@ -1,7 +1,7 @@
 """What is gone through several times and does not stay in memory: rows of plain values, in a file of their own."""
 import marshal
 import tempfile
-from typing import BinaryIO, Iterable, Iterator, Optional
+from typing import BinaryIO, Iterable, Iterator, Optional, Union
 
 from importing.events import Entry, Event, Line, Relationship
 
@@ -40,11 +40,17 @@ class Spool:
         self.file.write(data)
         self.starts.append((at, at + len(data)))
 
-    def __iter__(self) -> Iterator[tuple]:
+    def batches(self) -> Iterator[bytes]:
+        """The rows as they are handed to other processes."""
         for start, end in self.starts:
             self.file.seek(start)
-            yield from marshal.loads(self.file.read(end - start))
-        yield from self.rows
+            yield self.file.read(end - start)
+        if self.rows:
+            yield marshal.dumps(self.rows)
+
+    def __iter__(self) -> Iterator[tuple]:
+        for batch in self.batches():
+            yield from marshal.loads(batch)
 
 
 class Facts:
@@ -129,10 +135,15 @@ class Lines:
         self.spool.add_batch(data)
 
     def __iter__(self) -> Iterator[Line]:
+        for line in self.rows():
+            yield Entry._make(line) if isinstance(line, tuple) else line
+
+    def rows(self) -> Iterator[Union[Event, tuple]]:
+        """As the lines themselves, but checks are plain rows with the fields of an Entry."""
         relationship = Relationship._make
         for row in self.spool:
             if row[0] in CHECKS:
-                yield Entry._make(row)
+                yield row
             elif row[0] == "rules":
                 yield self.rules[row[1]]
             else:

@@ -7,13 +7,26 @@ class Counts:
 
     def __init__(self) -> None:
         self.commits = self.checks = self.contents = 0
-        self.has_token = self.has_named = self.has_issued = self.has_commit_behind = False
+        self.has_token = self.has_named = self.has_issued = self.has_change = self.has_commit_behind = False
+
+    @property
+    def count(self) -> int:
+        return self.commits + self.checks + self.contents
+
+    def merge(self, other: "Counts") -> None:
+        """Takes those of lines that stand behind."""
+        self.has_commit_behind |= other.has_commit_behind or other.has_change and bool(self.checks or self.contents)
+        for name in ("commits", "checks", "contents"):
+            setattr(self, name, getattr(self, name) + getattr(other, name))
+        for name in ("has_token", "has_named", "has_issued", "has_change"):
+            setattr(self, name, getattr(self, name) or getattr(other, name))
 
     def take_commit(self, lines: int) -> None:
         self.commits += lines
         self.take_change()
 
     def take_change(self) -> None:
+        self.has_change = True
         self.has_commit_behind |= bool(self.checks or self.contents)
 
     def take_entry(self, kind: str, reply: bool, has_token: bool, has_version: bool) -> None:
@@ -45,10 +58,10 @@ class Counts:
 
 
 class Written:
-    """The lines of a trace that is being written, and what there is to tell of it behind the last."""
+    """The lines of a trace that is being written, many at a time, and what there is to tell of it behind the last."""
 
-    def __init__(self, lines: Iterator[str], counts: Counts, notes: Callable[[], Iterator[str]]):
-        self.lines, self.counts, self.notes = lines, counts, notes
+    def __init__(self, chunks: Iterator[bytes], counts: Counts, notes: Callable[[], Iterator[str]]):
+        self.chunks, self.counts, self.notes = chunks, counts, notes
 
     def told(self) -> Iterator[str]:
         yield "commits %d, checks %d, content checks %d" % (self.counts.commits, self.counts.checks, self.counts.contents)

@@ -8,6 +8,7 @@ writer's own transaction; 5 a time.
 import base64
 import binascii
 import re
+from functools import lru_cache
 from typing import NamedTuple, Optional
 
 NUMBER = re.compile(r"([0-9]{1,30})(?:\.([0-9]{10}))?")
@@ -140,8 +141,12 @@ def _of_text(text: str) -> Revision:
 
 def read_revision(text: object) -> Optional[Revision]:
     """The revision of a token, or of a number in its place; None where the text is neither. Raises Older."""
-    if not isinstance(text, str):
-        return None
+    return _read_text(text) if isinstance(text, str) else None
+
+
+@lru_cache(1 << 12)
+def _read_text(text: str) -> Optional[Revision]:
+    """Many checks have one token."""
     try:
         return _of_text(text if NUMBER.fullmatch(text) or OLDER.fullmatch(text) else _revision_text(text))
     except (Malformed, binascii.Error, ValueError, TypeError, AttributeError):

@@ -13,7 +13,7 @@ from typing import Optional
 from lib import limits, texts
 from lib.keys import unread
 
-KEYS = ("kind", "type", "id", "number")
+KEYS = frozenset(("kind", "type", "id", "number"))
 SERVICE = "service"
 KINDS = ("user", "namespace", "relation", "object", "version")
 NAME = re.compile(r"n_([1-9][0-9]*)")
@@ -25,7 +25,7 @@ class TableFault(Exception):
 
 
 def _row(value: object, number: int) -> tuple[str, str, str]:
-    for key in unread(value, (*KEYS, SERVICE) if number == 1 else KEYS):
+    for key in unread(value, KEYS | {SERVICE} if number == 1 else KEYS):
         raise TableFault(key.said())
     if not isinstance(value, dict) or value.get("kind") not in KINDS or value.get("number") != number \
             or not all(isinstance(value.get(key), str) for key in ("type", "id")) or not isinstance(value.get(SERVICE, ""), str):
@@ -108,6 +108,13 @@ class Ids:
             self.rows.append(row)
             number = self.numbers[row] = len(self.rows)
         return number
+
+    def note(self, goal: tuple) -> None:
+        """Gives the user and the object of a goal their rows; its parts are those of a tuple of a service."""
+        if ("user", goal[3], goal[4]) not in self.numbers:
+            self.number("user", goal[3], goal[4])
+        if ("object", goal[0], goal[1]) not in self._names:
+            self.object(goal[0], goal[1])
 
     def name(self, kind: str, name: str) -> str:
         """What a trace calls a namespace or a relation: its own name where the grammar takes it."""

@@ -1,13 +1,14 @@
 """Keys that no rule reads, and the key that was meant by one."""
 from difflib import get_close_matches
 from functools import lru_cache
-from typing import Collection, Iterator, NamedTuple, Optional
+from typing import AbstractSet, Collection, Iterator, NamedTuple, Optional
 
 from lib.rules import FORMS, children_of, form_of
 
 NEAR = 0.7
 # Likeness takes the square of a key's length, and no key that is read is longer.
 LONGEST = 64
+EXPRESSION = frozenset(FORMS)
 PARTS = {"this": frozenset(), "tuple_to": frozenset(("tupleset", "computed")), "exclusion": frozenset(("base", "subtract"))}
 
 
@@ -34,9 +35,9 @@ def near(key: str, known: Collection[str]) -> Optional[str]:
     return folded[found[0]] if found else None
 
 
-def unread(value: object, known: Collection[str]) -> Iterator[Unread]:
+def unread(value: object, known: AbstractSet[str]) -> Iterator[Unread]:
     """The keys of an object that are none of these."""
-    if isinstance(value, dict):
+    if isinstance(value, dict) and not value.keys() <= known:
         for key in value:
             if key not in known:
                 yield Unread(key, known)
@@ -44,7 +45,7 @@ def unread(value: object, known: Collection[str]) -> Iterator[Unread]:
 
 def unread_in_expression(expression: dict) -> Iterator[Unread]:
     """Those of an expression that has its shape."""
-    yield from unread(expression, FORMS)
+    yield from unread(expression, EXPRESSION)
     form = form_of(expression)
     if form in PARTS:
         yield from unread(expression[form], PARTS[form])
