@@ -156,17 +156,19 @@ def placed(lines: Lines, base: Moment, model: Optional[str], skew: Optional[int]
     """Puts numbers for the timestamps of changes, for changes of the model and for what checks ask; the lines that have one."""
     feed, models, numbers = _changes(lines, base, model, skew, refusals)
     made = Lines()
-    for line in lines:
-        if isinstance(line, Event):
-            if line.base:
-                line.revision = 0
-            elif line.revision is not None:
-                line.group = line.revision if line.kind == "write" else None
-                line.revision = next(numbers)
-            made.add(line)
+    for row in lines.rows():
+        if isinstance(row, Event):
+            if row.base:
+                row.revision = 0
+            elif row.revision is not None:
+                row.group = row.revision if row.kind == "write" else None
+                row.revision = next(numbers)
+            made.add(row)
             continue
+        number = _quick_number(row, feed, models)
+        line = Entry._make(row)
         try:
-            made.add(_place(line, feed, models))
+            made.add(_place(line, feed, models) if number is None else line._replace(snapshot=number, asked=None))
         except OtherModel:
             refusals.unmapped_check(line, "check with another model", line.told)
         except Bad as fault:
@@ -192,6 +194,15 @@ def _changes(lines: Lines, base: Moment, model: Optional[str], skew: Optional[in
             last = len(times) * STRIDE
         numbers[id(event)] = last
     return Feed(base, times), models, iter([numbers.get(id(event), 0) for event in changes])
+
+
+def _quick_number(row: tuple, feed: Feed, models: Models) -> Optional[int]:
+    """The number of a check that names its place and nothing else, where there is one model; as `_place` has it."""
+    (snapshot, token, model) = row[11]
+    place = snapshot[0][0] if len(snapshot) == 1 and token is None and model is None and len(models.ids) == 1 else None
+    if place is None or not feed.first <= place <= feed.first + len(feed.times):
+        return None
+    return (place - feed.first) * STRIDE
 
 
 def _place(entry: Entry, feed: Feed, models: Models) -> Entry:

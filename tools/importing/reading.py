@@ -1,18 +1,20 @@
 """The values of a service's JSON, in either spelling of their keys."""
 import re
-from functools import lru_cache
 
 
 class Bad(Exception):
     """A line that is not what the service writes."""
 
 
-@lru_cache(1 << 12)
 def spelled(name: str) -> str:
     """The other spelling of a key: services write `tupleKey` and `tuple_key`."""
     if "_" in name:
         return re.sub("_([a-z])", lambda found: found[1].upper(), name)
     return re.sub("[A-Z]", lambda found: "_" + found[0].lower(), name)
+
+
+# The other spelling of each key that was asked for.
+OTHER: dict[str, str] = {}
 
 
 def get(value: object, name: str) -> object:
@@ -21,5 +23,8 @@ def get(value: object, name: str) -> object:
         return None
     found = value.get(name)
     if found is None and name not in value:
-        found = value.get(spelled(name))
+        other = OTHER.get(name)
+        if other is None:
+            other = OTHER[name] = spelled(name)
+        found = value.get(other)
     return found

@@ -76,8 +76,8 @@ def content_of(value: object) -> Optional[dict]:
 
 def unwrapped(value: object) -> object:
     """The call within an event of CloudEvents, with its time and type; any other line as it is."""
-    data = get(value, "data")
-    if get(value, "specversion") is None or not isinstance(data, dict):
+    data = value.get("data") if isinstance(value, dict) and "specversion" in value else None
+    if not isinstance(data, dict):
         return value
     found = {key: get(data, key) for key in ("request", "response", "error", "status")}
     found.update(time=value.get("time"), method=value.get("type"))

@@ -62,6 +62,8 @@ class SpiceDbLog(Log):
             if key not in self.written:
                 self.refusals.refuse(path, line, "the schema changes here, and the log has no WriteSchema of this revision")
         base = self.base_at and self.base_at.snapshot
+        if base is None and not lines.facts.has_asked:
+            return lines
         by_kind: dict[bool, Line] = {}
         for one in lines:
             if one.shown is not None:

@@ -62,10 +62,11 @@ class Facts:
         self.base_source = ("", 0)
         self.files: dict[str, int] = {}
         self.is_sequenced = True
-        self.has_newest = self.has_between = self.has_groups = self.has_every = False
+        self.has_newest = self.has_between = self.has_groups = self.has_every = self.has_asked = False
 
     def note(self, line: Line) -> None:
         self.count += 1
+        self.has_asked |= line.asked is not None
         if isinstance(line, Entry):
             self.has_newest |= line.newest
             self.has_between |= line.lowest is not None
@@ -88,7 +89,7 @@ class Facts:
         for file, line in other.files.items():
             self.files.setdefault(file, line)
         self.is_sequenced &= other.is_sequenced
-        for name in ("has_newest", "has_between", "has_groups", "has_every"):
+        for name in ("has_newest", "has_between", "has_groups", "has_every", "has_asked"):
             setattr(self, name, getattr(self, name) or getattr(other, name))
 
 
