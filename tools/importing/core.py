@@ -27,7 +27,7 @@ from lib.ids import Ids
 from lib.texts import Tuple, Userset
 from parting.sharing import shared
 
-Item = Union[Commit, Event, tuple]
+Item = Union[Commit, Event]
 
 
 class Given(NamedTuple):
@@ -46,7 +46,7 @@ class Core:
         self.wanted: dict[int, int] = {}
         self.states = States()
         self.items = Spool()
-        self.declared_names: dict[Name, bool] = {}
+        self.declared_names: set[Name] = set()
         self.counts = Counts()
 
     def trace(self, given: Given, jobs: int = 1) -> Optional[Written]:
@@ -61,8 +61,7 @@ class Core:
         for commit in (self._every(wildcards), base):
             if commit:
                 self._spool(commit)
-        for item in self._commits(self._stream(lines), Spans(lines if lines.facts.has_groups else ())):
-            self._spool(item)
+        self._first_time(self._stream(lines), Spans(lines if lines.facts.has_groups else ()))
         strata = choose([(name, relation) for name in self.declared.rules.current
                          for relation in self.declared.rules.relations(name)], self.edges, self.refusals)
         if self.refusals.refused:
@@ -95,6 +94,8 @@ class Core:
         """Everything behind the base state, in order. Entries are rows, or what has a row's fields."""
         facts = lines.facts
         if self.skew is None and not facts.is_sequenced and not facts.has_newest:
+            if facts.last_base < 0 and len(facts.files) < 2:
+                return lines.rows()
             return in_order(self._behind_base(lines.rows(), facts), facts, self.skew, self.refusals)
         stream = in_order(self._behind_base(lines, facts), facts, self.skew, self.refusals)
         return put_newest(list(stream), self.skew, self.refusals) if facts.has_newest else stream
@@ -111,30 +112,38 @@ class Core:
             elif not line.base and not (line.kind == "rules" and line.revision is None):
                 yield line
 
-    def _commits(self, stream: Iterable[Union[Event, tuple]], spans: Spans) -> Iterator[Item]:
-        """Writes of one revision that stand together become one commit."""
+    def _first_time(self, stream: Iterable[Union[Event, tuple]], spans: Spans) -> None:
+        """Writes of one revision that stand together become one commit; what a line of the trace needs is kept."""
         last, shown = self.base_revision, "the base state"
-        open_commit: Optional[Commit] = None
+        commit: Optional[Commit] = None
         for count, line in enumerate(stream, 1):
+            if isinstance(line, tuple):
+                if commit:
+                    self._spool(commit)
+                    commit = None
+                if self._is_known(line) or self._takes(line):
+                    self.items.add(line if type(line) is tuple else row_of(line))
+                continue
             self.progress.step("ordered", count)
-            if not isinstance(line, tuple):
-                if open_commit and self._goes_on(open_commit, line, spans):
-                    last = line.revision
-                    continue
-                if last is not None and line.revision <= last:
-                    self._refuse(line, "its revision %s is not later than that of %s" % (line.shown, shown))
-                    continue
-                last, shown = line.revision, "%s:%d, %s" % (line.file, line.line, line.shown)
-            if open_commit:
-                yield open_commit
-            open_commit = None
-            if not isinstance(line, tuple) and line.kind == "write":
-                open_commit = Commit(line)
-                self.writer.write(open_commit, line)
+            if line.base or line.revision is None:
+                continue
+            if commit and self._goes_on(commit, line, spans):
+                last = line.revision
+                continue
+            if last is not None and line.revision <= last:
+                self._refuse(line, "its revision %s is not later than that of %s" % (line.shown, shown))
+                continue
+            last, shown = line.revision, "%s:%d, %s" % (line.file, line.line, line.shown)
+            if commit:
+                self._spool(commit)
+            commit = None
+            if line.kind == "write":
+                commit = Commit(line)
+                self.writer.write(commit, line)
             else:
-                yield line
-        if open_commit:
-            yield open_commit
+                self._spool(line)
+        if commit:
+            self._spool(commit)
 
     def _goes_on(self, commit: Commit, event: Event, spans: Spans) -> bool:
         """Takes a write into the commit before it, where it belongs there."""
@@ -154,11 +163,7 @@ class Core:
     # The first time
 
     def _spool(self, item: Item) -> None:
-        """Keeps what a line of the trace needs."""
-        if isinstance(item, tuple):
-            if self._takes(item):
-                self.items.add(item if type(item) is tuple else row_of(item))
-            return
+        """Keeps a commit or a change of rules."""
         event = item.event if isinstance(item, Commit) else item
         self.states.revisions += [item.revision] * self.has_between
         source = (item.revision, event.shown, event.file, event.line)
@@ -170,6 +175,13 @@ class Core:
         else:
             self.wanted[item.revision] = len(self.declared.changes.get(item.revision, ()))
             self.items.add(("rules", *source))
+
+    def _is_known(self, row: tuple) -> bool:
+        """Whether a check names nothing that was not seen before, so that there is nothing to do with it."""
+        goal, snapshot, token = row[3], row[5], row[7]
+        return row[8] is None and row[9] is None and row[0] == "check" and snapshot in self.wanted and (
+            token is None or token in self.wanted) and (goal[0], goal[2]) in self.declared_names and self.ids.has(goal) and (
+            self.base_revision is None or snapshot >= self.base_revision)
 
     def _takes(self, row: tuple) -> bool:
         """Gives what an entry names its numbers and gathers its revisions; whether it is kept."""
@@ -196,13 +208,14 @@ class Core:
         return self.refusals.skip or self._has_good_version(Entry._make(row))
 
     def _is_declared(self, of: str, relation: str) -> bool:
-        known = self.declared_names.get((of, relation))
-        if known is None:
-            known = self.declared_names[of, relation] = self.declared.rules.is_declared(of, relation)
-            if known:
-                self.ids.name("namespace", of)
-                self.ids.name("relation", relation)
-        return known
+        if (of, relation) in self.declared_names:
+            return True
+        if not self.declared.rules.is_declared(of, relation):
+            return False
+        self.declared_names.add((of, relation))
+        self.ids.name("namespace", of)
+        self.ids.name("relation", relation)
+        return True
 
     def _has_good_version(self, entry: Entry) -> bool:
         key = (*entry.goal[:2], entry.version)

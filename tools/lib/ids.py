@@ -109,12 +109,13 @@ class Ids:
             number = self.numbers[row] = len(self.rows)
         return number
 
+    def has(self, goal: tuple) -> bool:
+        """Whether the user and the object of a goal were seen; its parts are those of a tuple of a service."""
+        return ("user", goal[3], goal[4]) in self.numbers and ("object", goal[0], goal[1]) in self._names
+
     def note(self, goal: tuple) -> None:
-        """Gives the user and the object of a goal their rows; its parts are those of a tuple of a service."""
-        if ("user", goal[3], goal[4]) not in self.numbers:
-            self.number("user", goal[3], goal[4])
-        if ("object", goal[0], goal[1]) not in self._names:
-            self.object(goal[0], goal[1])
+        self.number("user", goal[3], goal[4])
+        self.object(goal[0], goal[1])
 
     def name(self, kind: str, name: str) -> str:
         """What a trace calls a namespace or a relation: its own name where the grammar takes it."""
