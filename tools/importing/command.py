@@ -166,7 +166,7 @@ def imported(given: Namespace, base: Any) -> int:
         say(str(fault))
         return 5
     except OSError as fault:
-        say("cannot use %s: %s" % (fault.filename, fault.strerror))
+        say("cannot %s: %s" % ("use %s" % fault.filename if fault.filename else "keep lines in a temporary file", fault.strerror))
         return 5
     for line in made.told():
         say(line)

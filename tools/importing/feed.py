@@ -1,7 +1,7 @@
 """OpenFGA's changes feed: revisions are places in it, counted from 1 behind the base state, and timestamps are labels."""
 from bisect import bisect_right
 from itertools import accumulate
-from typing import Iterator, NamedTuple, Optional
+from typing import Any, Iterator, NamedTuple, Optional
 
 from importing.events import Entry, Event, is_whole
 from importing.order import ordered
@@ -32,7 +32,7 @@ class Asked(NamedTuple):
     model: Optional[str]
 
 
-def moment_of(value: object, what: str) -> Moment:
+def moment_of(value: Any, what: str) -> Moment:
     if is_whole(value):
         return Moment(value, None, "place %d" % value)
     time = nanoseconds(value)
@@ -47,7 +47,7 @@ def asked_of(value: dict, token: object, model: object) -> Asked:
     if (snapshot is None) == (between is None):
         raise Bad("the check has %s of `snapshot` and `snapshot_between`; give one" % ("both" if between else "none"))
     if between is None:
-        found = (moment_of(snapshot, "`snapshot`"),)
+        found: tuple[Moment, ...] = (moment_of(snapshot, "`snapshot`"),)
     elif isinstance(between, list) and len(between) == 2:
         found = tuple(moment_of(one, "`snapshot_between`") for one in between)
     else:

@@ -1,11 +1,13 @@
 """JSON of a service, with the line of each object and value, from JSON lines or from a text over many lines."""
 import json
 import re
+import shutil
+import tempfile
 from bisect import bisect_left
 from itertools import islice
 from json.decoder import scanstring
 from json.scanner import NUMBER_RE
-from typing import Iterator, NamedTuple
+from typing import Any, BinaryIO, Iterator, NamedTuple
 
 from importing.refusals import Refusals
 from lib import limits
@@ -161,7 +163,10 @@ def parse(text: str) -> object:
 def read_text(path: str) -> str:
     """The text of a file; raises Malformed where it is no UTF-8."""
     with open(path, "rb") as file:
-        data = file.read()
+        return text_of(file.read())
+
+
+def text_of(data: bytes) -> str:
     try:
         return data.decode("utf-8")
     except UnicodeDecodeError as fault:
@@ -220,18 +225,40 @@ class Block(NamedTuple):
     data: bytes
 
 
-def blocks(path: str) -> Iterator[Block]:
-    with open(path, "rb") as file:
+class Source:
+    """A file that is read several times; what comes by a pipe is kept in a file meanwhile."""
+
+    def __init__(self, path: str):
+        self.path = path
+        self.file: BinaryIO = open(path, "rb")
+        if not self.file.seekable():
+            kept = tempfile.TemporaryFile()
+            shutil.copyfileobj(self.file, kept)
+            self.file = kept
+
+    def blocks(self) -> Iterator[Block]:
         first = 1
-        while data := file.read(BLOCK):
-            data += file.readline()
+        self.file.seek(0)
+        while data := self.file.read(BLOCK):
+            data += self.file.readline()
             yield Block(first, data)
             first += data.count(b"\n")
 
+    def is_lines(self) -> bool:
+        """Whether the file has a value on each line, by its first lines."""
+        return all(_is_lines(block.data) for block in islice(self.blocks(), 1))
 
-def is_lines(path: str) -> bool:
-    """Whether a file has a value on each line, by its first lines."""
-    return all(_is_lines(block.data) for block in islice(blocks(path), 1))
+    def values(self, refusals: Refusals) -> Iterator[tuple[int, Any]]:
+        """The JSON values with their lines, whichever way they stand in the file."""
+        if self.is_lines():
+            for block in self.blocks():
+                yield from block_values(block, self.path, refusals)
+            return
+        try:
+            self.file.seek(0)
+            yield from _whole_values(text_of(self.file.read()))
+        except Malformed as fault:
+            refusals.refuse(self.path, fault.line, str(fault))
 
 
 def block_values(block: Block, path: str, refusals: Refusals) -> Iterator[tuple[int, object]]:
@@ -245,13 +272,6 @@ def block_values(block: Block, path: str, refusals: Refusals) -> Iterator[tuple[
                 refusals.refuse(path, number, "not JSON" if isinstance(fault, json.JSONDecodeError) else str(fault))
 
 
-def values(path: str, refusals: Refusals) -> Iterator[tuple[int, object]]:
-    """The JSON values of a file with their lines, whichever way they stand in it."""
-    if is_lines(path):
-        for block in blocks(path):
-            yield from block_values(block, path, refusals)
-        return
-    try:
-        yield from _whole_values(read_text(path))
-    except Malformed as fault:
-        refusals.refuse(path, fault.line, str(fault))
+def values(path: str, refusals: Refusals) -> Iterator[tuple[int, Any]]:
+    """The JSON values of a file with their lines; what is no JSON is refused."""
+    yield from Source(path).values(refusals)

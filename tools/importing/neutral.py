@@ -22,12 +22,13 @@ def _block(path: str, skip: bool, block: located.Block) -> Union[Read, located.B
 
 def gather_events(path: str, lines: Lines, jobs: int, refusals: Refusals) -> Iterator[int]:
     """Adds the events of a log; how many there are, now and then."""
-    if not located.is_lines(path):
-        for line in read_events(located.values(path, refusals), path, refusals):
+    source = located.Source(path)
+    if not source.is_lines():
+        for line in read_events(source.values(refusals), path, refusals):
             lines.add(line)
             yield lines.facts.count
         return
-    for found in shared(partial(_block, path, refusals.skip), located.blocks(path), jobs):
+    for found in shared(partial(_block, path, refusals.skip), source.blocks(), jobs):
         if isinstance(found, located.Block):
             for line in read_events(located.block_values(found, path, refusals), path, refusals):
                 lines.add(line)

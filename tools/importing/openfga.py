@@ -1,5 +1,5 @@
 """OpenFGA: an authorization model, tuple changes as ReadChanges gives them, and checks of a recorder's log."""
-from typing import Iterator, Optional
+from typing import Any, Iterator, Optional
 
 from importing import located, openfga_dsl
 from importing.events import EVERY, Event, RelationRule, Stamp, put_stamp
@@ -59,7 +59,7 @@ class ModelReader:
             self.refusals.refuse(self.path, fault.line, str(fault))
         return model
 
-    def rules(self, model: object) -> Optional[ServiceRules]:
+    def rules(self, model: Any) -> Optional[ServiceRules]:
         model = get(model, "authorization_model") or model
         if not isinstance(model, dict) or not isinstance(get(model, "type_definitions"), list):
             self.refusals.refuse(self.path, self.line, "no authorization model: it has no `type_definitions`")
@@ -78,7 +78,7 @@ class ModelReader:
         refuse_wild_tuplesets(event, takes, self.refusals)
         return ServiceRules(event, get(model, "id"), takes)
 
-    def _type(self, given: object, event: Event, takes: dict) -> None:
+    def _type(self, given: Any, event: Event, takes: dict) -> None:
         line = line_of(given, self.line)
         name = get(given, "type")
         relations = get(given, "relations")
@@ -106,7 +106,7 @@ class ModelReader:
             if _is_direct(rewrite) and not get(given_users, "directly_related_user_types"):
                 self.refusals.refuse(self.path, line, "%s has `this` and no `directly_related_user_types`" % where)
 
-    def _users(self, given: object, where: str, line: int) -> set[tuple[str, Optional[str]]]:
+    def _users(self, given: Any, where: str, line: int) -> set[tuple[str, Optional[str]]]:
         users = set()
         listed = get(given, "directly_related_user_types")
         for user in listed if isinstance(listed, list) else ():
@@ -130,7 +130,7 @@ class ModelReader:
                     self.refusals.refuse(self.path, line, "%s#%s takes %s, which the model does not define"
                                          % (name, relation, "%s#%s" % (of, of_relation) if of_relation else of))
 
-    def _rewrite(self, given: object, relations: dict, where: str, line: int) -> dict:
+    def _rewrite(self, given: Any, relations: dict, where: str, line: int) -> dict:
         line = line_of(given, line)
         forms = [form for form in REWRITES if form in given or spelled(form) in given] if isinstance(given, dict) else []
         if len(forms) != 1 or len(given) != 1:

@@ -1,5 +1,6 @@
 """The values of a service's JSON, in either spelling of their keys."""
 import re
+from typing import Any
 
 
 class Bad(Exception):
@@ -17,7 +18,7 @@ def spelled(name: str) -> str:
 OTHER: dict[str, str] = {}
 
 
-def get(value: object, name: str) -> object:
+def get(value: Any, name: str) -> Any:
     """The value of a key in either spelling; None where there is none."""
     if not isinstance(value, dict):
         return None

@@ -74,7 +74,7 @@ def content_of(value: object) -> Optional[dict]:
     return content
 
 
-def unwrapped(value: object) -> object:
+def unwrapped(value: Any) -> Any:
     """The call within an event of CloudEvents, with its time and type; any other line as it is."""
     data = value.get("data") if isinstance(value, dict) and "specversion" in value else None
     if not isinstance(data, dict):
@@ -145,12 +145,13 @@ class Log:
 
     def gather(self, path: str, lines: Lines, jobs: int) -> Iterator[int]:
         """Adds the lines of a log; how many there are, now and then. New rules matter to all behind them, and are read in one process."""
-        if not located.is_lines(path) or any(mark in block.data for block in located.blocks(path) for mark in self.RULES):
-            for line in self.events(path, located.values(path, self.refusals)):
+        source = located.Source(path)
+        if not source.is_lines() or any(mark in block.data for block in source.blocks() for mark in self.RULES):
+            for line in self.events(path, source.values(self.refusals)):
                 lines.add(line)
                 yield lines.facts.count
             return
-        for data, facts, refusals in shared(partial(self._block, path), located.blocks(path), jobs):
+        for data, facts, refusals in shared(partial(self._block, path), source.blocks(), jobs):
             lines.add_batch(data, facts)
             self.refusals.merge(refusals)
             yield lines.facts.count
@@ -162,7 +163,7 @@ class Log:
         finally:
             self.refusals = kept
 
-    def events(self, path: str, values: Iterable[tuple[int, object]]) -> Iterator[Line]:
+    def events(self, path: str, values: Iterable[tuple[int, Any]]) -> Iterator[Line]:
         for line, given in values:
             value = unwrapped(given)
             stamp = stamp_of(value if isinstance(value, dict) else {}, path, line, self.refusals)
@@ -218,7 +219,7 @@ class Log:
             else:
                 yield entry
 
-    def _refuse_unread(self, value: object) -> None:
+    def _refuse_unread(self, value: Any) -> None:
         """A key that is not read, in what is the recorder's; a line of the service alone may have others of its own."""
         if get(value, "request") is not None:
             for key in unread(value, self.KEYS):

@@ -46,6 +46,14 @@ class Readers(CoreCase):
         self.assertEqual(self.refused("events", "--from-empty", "log")[0], "log:2: the bytes are no UTF-8")
 
 
+class Pipes(CoreCase):
+    def test_a_log_that_comes_by_a_pipe(self):
+        self.given(RULES, write(1, rel()), check(1))
+        for text in (self.get("log"), "[" + self.get("log").replace("}\n{", "}\n,{") + "]"):
+            run = self.run_process("import_trace", "events", "--from-empty", "/dev/stdin", stdin=text)
+            self.assertIn("commits 1, checks 1" if text[0] == "{" else "`event` is none of", run.stderr)
+
+
 class Blocks(CoreCase):
     def outcome(self, words, jobs, size):
         for name in ("trace.jsonl", "ids.jsonl"):
