@@ -6,11 +6,11 @@ becomes one entry for each, so that the audit says of each that the reply is wro
 from bisect import bisect_left, bisect_right
 from typing import Iterable, Iterator, NamedTuple, Optional
 
-from importing.commits import Commit
+from importing.commits import Commit, Writer
 from importing.events import Entry, Line
 from importing.order import lowest_of
 from lib.meaning import Settled
-from lib.rules import Declaration, Relation, Rules
+from lib.rules import Declaration, Rules
 from lib.store import Store
 from lib.texts import Tuple
 
@@ -53,21 +53,20 @@ class Asked(NamedTuple):
 
 
 class States:
-    """The states of a log by their revisions, and what holds in them."""
+    """The states of a log by their revisions, and what holds in them; all names are those of the trace."""
 
     def __init__(self) -> None:
         self.store, self.rules = Store(), Rules()
         self.revisions: list[int] = []
         self.right = self.wrong = self.entries = 0
 
-    def take(self, commit: Commit) -> None:
+    def take(self, commit: Commit, writer: Writer) -> None:
         for given, touch in commit.touched.items():
-            self.store.touch(commit.revision, given, touch.live)
+            self.store.touch(commit.revision, writer.named(given), touch.live)
 
-    def take_rules(self, rules: Rules, strata: dict[tuple[str, str], int]) -> None:
-        for one in rules.declarations:
-            self.rules.keep(Declaration(one.name, one.at, [
-                Relation(relation.name, strata[one.name, relation.name], relation.rewrite) for relation in one.relations]))
+    def take_rules(self, declarations: Iterable[Declaration]) -> None:
+        for one in declarations:
+            self.rules.keep(one)
 
     def count(self, low: int, high: int) -> int:
         return bisect_right(self.revisions, high) - bisect_left(self.revisions, low)

@@ -122,6 +122,14 @@ class Writer:
         return "%s@%s" % (self.set_text(*given.set), self.set_text(*user) if isinstance(user, Userset) else user)
 
     def set_text(self, of: str, id_text: str, relation: str) -> str:
+        return "%s:%s#%s" % self.named_set(of, id_text, relation)
+
+    def named(self, given: Tuple) -> Tuple:
+        """A tuple of the service by the names of the trace."""
+        user = given.user
+        return Tuple(self.named_set(*given.set), self.named_set(*user) if isinstance(user, Userset) else user)
+
+    def named_set(self, of: str, id_text: str, relation: str) -> Userset:
         ids = self.ids
         name = relation if relation == texts.NO_RELATION else ids.name("relation", relation)
-        return "%s:%s#%s" % (ids.name("namespace", of), ids.object(of, id_text), name)
+        return Userset(ids.name("namespace", of), ids.object(of, id_text), name)

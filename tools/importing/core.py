@@ -68,7 +68,7 @@ class Core:
             return None
         self._put_timestamps()
         shown = Shown(self.declared, self.ids, strata, self.wanted)
-        return Written(self._chunks(shown, strata, jobs), self.counts, lambda: chain(wildcards.told(), self.states.told()))
+        return Written(self._chunks(shown, jobs), self.counts, lambda: chain(wildcards.told(), self.states.told()))
 
     # Order and commits
 
@@ -171,7 +171,7 @@ class Core:
             self.wanted[item.revision] = len(item.lines())
             self.items.add(("commit", *source, item.lines()))
             if self.has_between:
-                self.states.take(item)
+                self.states.take(item, self.writer)
         else:
             self.wanted[item.revision] = len(self.declared.changes.get(item.revision, ()))
             self.items.add(("rules", *source))
@@ -269,7 +269,7 @@ class Core:
             at += max(1, self.wanted[revision])
             self.wanted[revision] = at
 
-    def _chunks(self, shown: Shown, strata: dict[Name, int], jobs: int) -> Iterator[bytes]:
+    def _chunks(self, shown: Shown, jobs: int) -> Iterator[bytes]:
         """The lines of the trace. Where none hangs on others, batches of them are made by many processes."""
         head = "".join(shown.head()).encode()
         yield head
@@ -279,7 +279,7 @@ class Core:
                 self.progress.step("written", self.counts.count)
                 yield chunk
             return
-        self.states.take_rules(self.declared.rules, strata)
+        self.states.take_rules(shown.declarations(self.declared))
         self.states.revisions.sort()
         texts = self._texts(self._kept(), shown, self.counts)
         while some := list(islice(texts, BATCH)):
@@ -315,7 +315,7 @@ class Core:
             self.refusals.refuse(entry.file, entry.line, "`snapshot_between` takes in %d commits, and %d states at most are looked at"
                                  % (count, STATES))
             return
-        goal = Tuple(Userset(*entry.goal[:3]), self.ids.number("user", *entry.goal[3:5]))
+        goal = Tuple(self.writer.named_set(*entry.goal[:3]), self.ids.number("user", *entry.goal[3:5]))
         asked = Asked(entry.kind, goal, entry.reply, entry.lowest, entry.snapshot, entry.token)
         first, *others = self.states.chosen(asked, place)
         yield shown.entry(entry._replace(snapshot=first))

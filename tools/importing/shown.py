@@ -7,7 +7,7 @@ from importing.declared import Declared
 from lib import texts
 from lib.edges import Name
 from lib.ids import Ids
-from lib.rules import Declaration, form_of
+from lib.rules import Declaration, Relation, form_of
 
 encode = json.JSONEncoder(ensure_ascii=False, separators=(",", ":")).encode
 
@@ -70,6 +70,13 @@ class Shown:
             relations.append({"name": self.ids.name("relation", relation.name), **({"stratum": stratum} if stratum else {}),
                               "rewrite": self._rewrite(relation.rewrite)})
         return {"kind": "namespace", "name": self.ids.name("namespace", declaration.name), "relations": relations}
+
+    def declarations(self, declared: Declared) -> Iterator[Declaration]:
+        """All rules by the names of the trace, in force from revisions on."""
+        for one in declared.rules.declarations:
+            made = self._namespace(one)
+            yield Declaration(made["name"], one.at, [Relation(relation["name"], relation.get("stratum", 0), relation["rewrite"])
+                                                     for relation in made["relations"]])
 
     def _rewrite(self, rewrite: dict) -> dict:
         """The same rule with the names of the trace."""
