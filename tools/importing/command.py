@@ -7,20 +7,26 @@
 It writes the trace and adds to the table of ids; where anything is refused it writes neither, lists all refusals on
 standard error, and ends with status 2.
 """
+import gc
 import os
 import sys
+from argparse import Namespace
+from typing import Any, Iterable, Optional
 
 from importing import openfga, spicedb, spicedb_schema
-from importing.core import Core, Options
-from importing.events import read_events
+from importing.core import Core, Given
+from importing.neutral import gather_events
 from importing.progress import Progress
 from importing.refusals import Refusals
-from importing.times import nanoseconds
+from importing.service import ServiceRules
+from importing.spool import Lines
+from lib import limits
 from lib.files import Parser
 from lib.ids import Ids, TableFault
+from parting.faults import PartsFault
 
 
-def words(arguments):
+def words(arguments: list[str]) -> tuple[Parser, Namespace]:
     """The words of the command line, and the parser that tells faults of usage."""
     parser = Parser(prog="import_trace", description="Makes a trace of the logs of a service.")
     services = parser.add_subparsers(dest="service", required=True)
@@ -38,8 +44,12 @@ def words(arguments):
         service.add_argument("--skip-unmapped", action="store_true", help="count and leave out what a trace cannot say")
         service.add_argument("--trace", default="trace.jsonl", metavar="FILE", help="the trace to write (trace.jsonl)")
         service.add_argument("--ids", default="ids.jsonl", metavar="FILE", help="the table of ids to add to (ids.jsonl)")
+        service.add_argument("--jobs", type=int, default=os.cpu_count(), metavar="N", help="how many processes read the logs (one a core)")
+        service.add_argument("--name", metavar="NAME", help="a name of the service, where several of its kind have logs")
         service.add_argument("logs", nargs="+", metavar="LOG", help="a file of writes and checks, JSON lines")
     given = parser.parse_args(arguments)
+    if given.jobs < 1:
+        parser.error("--jobs is below 1")
     if given.skew is not None and given.skew < 0:
         parser.error("--skew is below 0")
     if given.service != "events" and bool(given.base) != (given.base_at is not None):
@@ -49,93 +59,118 @@ def words(arguments):
     return parser, given
 
 
-def base_revision(parser, given):
+LOGS = {"openfga": openfga.OpenFgaLog, "spicedb": spicedb.SpiceDbLog}
+
+
+def base_at(parser: Parser, given: Namespace) -> Any:
     """The revision of the base state, where a front end takes one."""
     if given.service == "events" or given.base_at is None:
         return None
-    read = nanoseconds if given.service == "openfga" else spicedb.revision_of
-    revision = read(given.base_at)
-    if revision is None:
-        parser.error("--base-at is no %s" % ("time of RFC 3339" if given.service == "openfga" else "token or revision"))
-    return revision
+    found = LOGS[given.service].read_base(given.base_at)
+    if found is None:
+        parser.error("--base-at is no " + LOGS[given.service].BASE)
+    return found
 
 
-def front_end(given, revision, refusals):
-    """All events of the service's files, base state first."""
+def rules_of(given: Namespace, refusals: Refusals) -> Optional[ServiceRules]:
+    if given.service == "openfga":
+        return openfga.ModelReader(given.rules, refusals).read()
+    return spicedb_schema.read_schema(given.rules, refusals)
+
+
+def gathered(given: Namespace, base: Any, refusals: Refusals, progress: Progress) -> Given:
+    """All lines of the service's files, base state first."""
+    lines = Lines()
     if given.service == "events":
         for path in given.logs:
-            yield from read_events(path, refusals)
-        return
-    if given.service == "openfga":
-        rules, log_of = openfga.ModelReader(given.rules, refusals).read(), openfga.OpenFgaLog
-    else:
-        rules, log_of = spicedb_schema.read_schema(given.rules, refusals), spicedb.SpiceDbLog
-    if rules:
-        log = log_of(rules, refusals)
-        yield rules.event
-        for path in given.base:
-            yield from log.base(path, revision, given.base_at)
-        for path in given.logs:
-            yield from log.events(path)
+            progress.follow("read", gather_events(path, lines, given.jobs, refusals))
+        facts = lines.facts
+        if facts.count and given.from_empty == (facts.last_base >= 0):
+            first = next(iter(lines))
+            refusals.refuse(first.file, first.line, "give either base writes (\"base\":true) or --from-empty")
+        return Given(lines, None)
+    rules = rules_of(given, refusals)
+    if rules is None:
+        return Given(lines, None)
+    log = LOGS[given.service](rules, base, refusals)
+    lines.add(rules.event)
+    for path in given.base:
+        for line in log.base(path):
+            lines.add(line)
+    for path in given.logs:
+        progress.follow("read", log.gather(path, lines, given.jobs))
+    return Given(log.placed(lines, given.skew), log.base_number())
 
 
-def gathered(given, revision, refusals, progress):
-    events = []
-    for event in front_end(given, revision, refusals):
-        events.append(event)
-        progress.step("read", len(events))
-    if given.service == "events" and events and given.from_empty == any(event.base for event in events):
-        refusals.refuse(events[0].file, events[0].line, "give either base writes (\"base\":true) or --from-empty")
-    return events
-
-
-def write(path, lines, ids):
-    """The trace and the new rows of the table, or neither."""
-    beside = path + ".part"
+def write(path: str, chunks: Iterable[bytes], ids: Ids, refusals: Refusals) -> int:
+    """The trace and the new rows of the table, or neither where something is refused meanwhile. How many bytes the trace has."""
+    beside, size = path + ".part", 0
     try:
-        with open(beside, "w", encoding="utf-8", newline="\n") as file:
-            for line in lines:
-                file.write(line + "\n")
-        ids.append()
-        os.replace(beside, path)
-    except OSError:
+        with open(beside, "wb") as file:
+            for chunk in chunks:
+                size += file.write(chunk)
+        if not refusals.refused:
+            ids.append()
+            os.replace(beside, path)
+    finally:
         if os.path.exists(beside):
             os.remove(beside)
-        raise
+    return size
 
 
-def say(text):
+def say(text: str) -> None:
     sys.stderr.write(text + "\n")
 
 
-def told_left_out(refusals):
-    for reason, count in sorted(refusals.left_out.items()):
-        say("left out %d: %s" % (count, reason))
+def told_left_out(refusals: Refusals) -> None:
+    for note in refusals.notes.values():
+        say(note)
+    for verb, counts in (("passed over", refusals.passed), ("left out", refusals.left_out)):
+        for reason, count in sorted(counts.items()):
+            say("%s %d: %s" % (verb, count, reason))
 
 
-def main(arguments):
+def told_refused(refusals: Refusals) -> int:
+    for line in refusals.lines():
+        say(line)
+    say("refused %d" % len(refusals.refused))
+    return 2
+
+
+def main(arguments: list[str]) -> int:
     parser, given = words(arguments)
-    revision = base_revision(parser, given)
+    base = base_at(parser, given)
+    # Rows make no circles, and there are many of them to look through.
+    gc.disable()
+    try:
+        return imported(given, base)
+    finally:
+        gc.enable()
+
+
+def imported(given: Namespace, base: Any) -> int:
     refusals, progress = Refusals(given.skip_unmapped), Progress()
     try:
         ids = Ids(given.ids)
-        made = Core(ids, Options(revision, given.skew), refusals, progress).trace(
-            gathered(given, revision, refusals, progress))
+        ids.take_for(given.service if given.name is None else "%s %s" % (given.service, given.name))
+        made = Core(ids, given.skew, refusals, progress).trace(gathered(given, base, refusals, progress), given.jobs)
+        size = write(given.trace, made.chunks, ids, refusals) if made else 0
         progress.end()
         told_left_out(refusals)
-        if made is None:
-            for line in refusals.lines():
-                say(line)
-            say("refused %d" % len(refusals.lines()))
-            return 2
-        write(given.trace, made.lines, ids)
+        if made is None or refusals.refused:
+            return told_refused(refusals)
     except TableFault as fault:
         say(str(fault))
         return 2
-    except OSError as fault:
-        say("cannot use %s: %s" % (fault.filename, fault.strerror))
+    except PartsFault as fault:
+        say(str(fault))
         return 5
-    say("commits %d, checks %d, content checks %d" % (made.commits, made.checks, made.contents))
-    for line in made.cannot_show:
-        say("cannot show " + line)
+    except OSError as fault:
+        say("cannot %s: %s" % ("use %s" % fault.filename if fault.filename else "keep lines in a temporary file", fault.strerror))
+        return 5
+    for line in made.told():
+        say(line)
+    if size > limits.INPUT_BYTES:
+        say("the trace has %d bytes, and one program takes %d: audit it in parts, by tools/parts cut %d %s FOLDER"
+            % (size, limits.INPUT_BYTES, size // limits.INPUT_BYTES + 2, given.trace))
     return 0

@@ -13,11 +13,8 @@ class Declared:
         self.head: list[str] = []
         self.changes: dict[int, list[Declaration]] = {}
         for event in events:
-            if event.kind == "rules":
-                for name, relations in event.namespaces.items():
-                    self._declare(event, name, relations)
-                if event.revision is not None:
-                    self._refuse_left_out(event)
+            for name, relations in event.namespaces.items():
+                self._declare(event, name, relations)
         self.tuplesets = {(name, place.names[0]) for name in self.rules.current
                           for relation in self.rules.relations(name)
                           for rewrite in self.rules.rewrites(name, relation)
@@ -26,14 +23,11 @@ class Declared:
     def _declare(self, event: Event, name: str, relations: list[RelationRule]) -> None:
         known = self.rules.current.get(name)
         own = {relation.name: relation for relation in relations}
-        missing = [old.name for old in known.relations if old.name not in own] if known else []
         if known and event.revision is None:
             self._refuse(event, "namespace %s stands twice in the first rules" % name)
             return
-        if missing:
-            self._refuse(event, "the new rules leave out %s#%s, which a trace has no form for" % (name, missing[0]))
-            return
-        listed = [own.pop(old.name) for old in known.relations] if known else []
+        # What new rules leave out stays declared, since a trace has no form for less; they do not read it.
+        listed = [own.pop(old.name, None) or RelationRule(old.name, old.rewrite, event.line) for old in known.relations] if known else []
         listed += own.values()
         self._refuse_sizes(event, name, listed)
         declaration = Declaration(name, event.revision, [Relation(one.name, 0, one.rewrite) for one in listed])
@@ -47,11 +41,6 @@ class Declared:
         lines = {one.name: one.line for one in listed}
         for edge in rule_edges(declaration):
             self.edges.add(edge, Reason(event.file, lines[edge.reader[1]], "the rule of %s#%s" % edge.reader, False))
-
-    def _refuse_left_out(self, event: Event) -> None:
-        for name in self.rules.current:
-            if name not in event.namespaces:
-                self._refuse(event, "the new rules leave out namespace %s, which a trace has no form for" % name)
 
     def _refuse_sizes(self, event: Event, name: str, listed: list[RelationRule]) -> None:
         if name not in self.rules.current and len(self.rules.current) == limits.NAMESPACES:

@@ -1,13 +1,26 @@
 """JSON of a service, with the line of each object and value, from JSON lines or from a text over many lines."""
 import json
+import re
+import shutil
+import tempfile
 from bisect import bisect_left
+from itertools import islice
 from json.decoder import scanstring
 from json.scanner import NUMBER_RE
-from typing import Iterator
+from typing import Any, BinaryIO, Iterator, NamedTuple
 
+from importing.refusals import Refusals
 from lib import limits
 from lib.strictjson import has_half_pair, is_nested_too_deep
 
+try:
+    import orjson
+except ImportError:
+    orjson = None
+
+BLOCK = 1 << 20
+BLANK = b" \t\r"
+STRANGE = re.compile(rb'"[ \t\r]+:|[0-9]{18}|[0-9][.eE]|-0')
 HALF = "half of a pair of code units stands alone"
 
 
@@ -150,7 +163,10 @@ def parse(text: str) -> object:
 def read_text(path: str) -> str:
     """The text of a file; raises Malformed where it is no UTF-8."""
     with open(path, "rb") as file:
-        data = file.read()
+        return text_of(file.read())
+
+
+def text_of(data: bytes) -> str:
     try:
         return data.decode("utf-8")
     except UnicodeDecodeError as fault:
@@ -163,35 +179,99 @@ def _whole_values(text: str) -> Iterator[tuple[int, object]]:
         yield reader.line(), reader.value()
 
 
-def _is_lines(lines: list[str]) -> bool:
+def _is_lines(data: bytes) -> bool:
     """Whether most lines look like an object each, so that a faulty one among them is refused alone."""
-    filled = [line for line in map(str.strip, lines) if line]
-    return 2 * sum(line[0] == "{" and line[-1] == "}" for line in filled) >= len(filled)
+    filled = [line for line in map(bytes.strip, data.split(b"\n")) if line]
+    return 2 * sum(line[:1] == b"{" and line[-1:] == b"}" for line in filled) >= len(filled)
 
 
-def _line_value(line: str) -> object:
-    if is_nested_too_deep(line.encode()):
+def _line_value(raw: bytes) -> object:
+    """The value of a line; raises ValueError."""
+    if is_nested_too_deep(raw):
         raise ValueError("nested too deep")
+    if orjson is not None:
+        try:
+            value = orjson.loads(raw)
+            # A line that is written back as it is has no key twice, and nothing that is read in another way.
+            if orjson.dumps(value) == raw or _is_plain(raw, value):
+                return value
+        except ValueError:
+            pass
+    try:
+        line = raw.decode("utf-8")
+    except UnicodeDecodeError:
+        raise ValueError("the bytes are no UTF-8") from None
     value = DECODER.decode(line)
     if "\\u" in line and has_half_pair(value):
         raise ValueError(HALF)
     return value
 
 
-def values(path: str, refusals) -> Iterator[tuple[int, object]]:
-    """The JSON values of a file with their lines; what is no JSON is refused."""
-    try:
-        text = read_text(path)
-        lines = text.split("\n")
-        if not _is_lines(lines):
-            yield from _whole_values(text)
+def _is_plain(raw: bytes, value: object) -> bool:
+    """Whether a line with spaces has each key once, and no number that the two libraries read differently."""
+    return b"\\" not in raw and not STRANGE.search(raw) and raw.count(b'":') == _pairs(value)
+
+
+def _pairs(value: object) -> int:
+    if isinstance(value, dict):
+        return len(value) + sum(map(_pairs, value.values()))
+    return sum(map(_pairs, value)) if isinstance(value, list) else 0
+
+
+class Block(NamedTuple):
+    """Whole lines of a file, and the number of the first."""
+
+    first: int
+    data: bytes
+
+
+class Source:
+    """A file that is read several times; what comes by a pipe is kept in a file meanwhile."""
+
+    def __init__(self, path: str):
+        self.path = path
+        self.file: BinaryIO = open(path, "rb")
+        if not self.file.seekable():
+            kept = tempfile.TemporaryFile()
+            shutil.copyfileobj(self.file, kept)
+            self.file = kept
+
+    def blocks(self) -> Iterator[Block]:
+        first = 1
+        self.file.seek(0)
+        while data := self.file.read(BLOCK):
+            data += self.file.readline()
+            yield Block(first, data)
+            first += data.count(b"\n")
+
+    def is_lines(self) -> bool:
+        """Whether the file has a value on each line, by its first lines."""
+        return all(_is_lines(block.data) for block in islice(self.blocks(), 1))
+
+    def values(self, refusals: Refusals) -> Iterator[tuple[int, Any]]:
+        """The JSON values with their lines, whichever way they stand in the file."""
+        if self.is_lines():
+            for block in self.blocks():
+                yield from block_values(block, self.path, refusals)
             return
-    except Malformed as fault:
-        refusals.refuse(path, fault.line, str(fault))
-        return
-    for number, line in enumerate(lines, 1):
-        if line.strip():
+        try:
+            self.file.seek(0)
+            yield from _whole_values(text_of(self.file.read()))
+        except Malformed as fault:
+            refusals.refuse(self.path, fault.line, str(fault))
+
+
+def block_values(block: Block, path: str, refusals: Refusals) -> Iterator[tuple[int, object]]:
+    """The JSON values of lines with their numbers; what is no JSON is refused."""
+    for number, line in enumerate(block.data.split(b"\n"), block.first):
+        line = line.strip(BLANK)
+        if line:
             try:
                 yield number, _line_value(line)
             except ValueError as fault:
                 refusals.refuse(path, number, "not JSON" if isinstance(fault, json.JSONDecodeError) else str(fault))
+
+
+def values(path: str, refusals: Refusals) -> Iterator[tuple[int, Any]]:
+    """The JSON values of a file with their lines; what is no JSON is refused."""
+    yield from Source(path).values(refusals)

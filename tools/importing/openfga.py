@@ -1,17 +1,20 @@
 """OpenFGA: an authorization model, tuple changes as ReadChanges gives them, and checks of a recorder's log."""
-import re
-from typing import Iterator, Optional
+from typing import Any, Iterator, Optional
 
-from importing import located
-from importing.events import Event, RelationRule, Relationship, Stamp, put_stamp
-from importing.located import line_at, line_of
+from importing import located, openfga_dsl
+from importing.events import EVERY, Event, RelationRule, Stamp, put_stamp
+from importing.feed import Moment, asked_of, moment_of, placed, shown_of
+from importing.located import List, line_at, line_of
 from importing.refusals import Refusals
-from importing.service import Bad, Log, ServiceRules, get, nested, one_of, spelled, text_or_none
+from importing.openfga_answers import answers_of, relationship_of
+from importing.reading import Bad, get, spelled
+from importing.service import Answer, Log, Looked, ServiceRules, nested, one_of, refuse_wild_tuplesets, text_or_none
+from importing.spool import Lines
+from importing.simple_yaml import beside, is_yaml, read_yaml
 from importing.times import nanoseconds
 
 SCHEMAS = ("1.1", "1.2")
 OPERATIONS = {"TUPLE_OPERATION_WRITE": True, "TUPLE_OPERATION_DELETE": False}
-OBJECT = re.compile(r"([^:#\s]+):([^#\s]+)")
 REWRITES = ("this", "computedUserset", "tupleToUserset", "union", "intersection", "difference")
 
 
@@ -24,34 +27,59 @@ class Unmapped(Exception):
 
 
 class ModelReader:
-    def __init__(self, path: str, refusals: Refusals):
-        self.path, self.refusals = path, refusals
+    def __init__(self, path: str, refusals: Refusals, line: int = 1):
+        """`line` is that of a model which knows none of its own."""
+        self.path, self.refusals, self.line = path, refusals, line
 
     def read(self) -> Optional[ServiceRules]:
         try:
-            model = located.parse(located.read_text(self.path))
+            model = self._model()
         except located.Malformed as fault:
             self.refusals.refuse(self.path, fault.line, str(fault))
             return None
+        return self.rules(model)
+
+    def _model(self) -> object:
+        """The model of a file in JSON or in OpenFGA's own language, or of a store file; raises Malformed."""
+        if not is_yaml(self.path):
+            text = located.read_text(self.path)
+            return self._language(text, 1) if openfga_dsl.is_dsl(text) else located.parse(text)
+        store = read_yaml(self.path)
+        if store.get("model"):
+            return self._language(store["model"], line_of(store["model"], 1))
+        if not store.get("model_file"):
+            raise located.Malformed(1, "the store file has no `model` and no `model_file`")
+        self.path = beside(self.path, store["model_file"])
+        return self._model()
+
+    def _language(self, text: str, first: int) -> object:
+        faults: list[located.Malformed] = []
+        model = openfga_dsl.read_model(text, first, faults)
+        for fault in faults:
+            self.refusals.refuse(self.path, fault.line, str(fault))
+        return model
+
+    def rules(self, model: Any) -> Optional[ServiceRules]:
         model = get(model, "authorization_model") or model
         if not isinstance(model, dict) or not isinstance(get(model, "type_definitions"), list):
-            self.refusals.refuse(self.path, 1, "no authorization model: it has no `type_definitions`")
+            self.refusals.refuse(self.path, self.line, "no authorization model: it has no `type_definitions`")
             return None
         if get(model, "schema_version") not in SCHEMAS:
-            self.refusals.refuse(self.path, line_at(model, "schema_version", 1), "schema version %r: only %s are mapped"
+            self.refusals.refuse(self.path, line_at(model, "schema_version", self.line), "schema version %r: only %s are mapped"
                                  % (get(model, "schema_version"), " and ".join(SCHEMAS)))
         conditions = get(model, "conditions")
         for name in conditions if isinstance(conditions, dict) else ():
-            self.refusals.unmapped(self.path, line_at(conditions, name, 1), "condition", name)
-        event = Event("rules", self.path, 1)
+            self.refusals.unmapped(self.path, line_at(conditions, name, self.line), "condition", name)
+        event = Event("rules", self.path, self.line)
         takes: dict[tuple[str, str], set[tuple[str, Optional[str]]]] = {}
         for given in get(model, "type_definitions"):
             self._type(given, event, takes)
         self._refuse_unknown_users(takes, event)
+        refuse_wild_tuplesets(event, takes, self.refusals)
         return ServiceRules(event, get(model, "id"), takes)
 
-    def _type(self, given: object, event: Event, takes: dict) -> None:
-        line = line_of(given, 1)
+    def _type(self, given: Any, event: Event, takes: dict) -> None:
+        line = line_of(given, self.line)
         name = get(given, "type")
         relations = get(given, "relations")
         relations = {} if relations is None else relations
@@ -78,7 +106,7 @@ class ModelReader:
             if _is_direct(rewrite) and not get(given_users, "directly_related_user_types"):
                 self.refusals.refuse(self.path, line, "%s has `this` and no `directly_related_user_types`" % where)
 
-    def _users(self, given: object, where: str, line: int) -> set[tuple[str, Optional[str]]]:
+    def _users(self, given: Any, where: str, line: int) -> set[tuple[str, Optional[str]]]:
         users = set()
         listed = get(given, "directly_related_user_types")
         for user in listed if isinstance(listed, list) else ():
@@ -86,12 +114,11 @@ class ModelReader:
             told = "%s of %s" % (get(user, "type"), where)
             if not isinstance(get(user, "type"), str) or not isinstance(get(user, "relation"), (str, type(None))):
                 self.refusals.refuse(self.path, here, "%s takes a user without a type" % where)
-            elif get(user, "wildcard") is not None:
-                self.refusals.unmapped(self.path, here, "typed wildcard", told)
             elif get(user, "condition"):
                 self.refusals.unmapped(self.path, here, "condition", "%s on %s" % (get(user, "condition"), told))
             else:
-                users.add((get(user, "type"), get(user, "relation") or None))
+                relation = EVERY if get(user, "wildcard") is not None else get(user, "relation") or None
+                users.add((get(user, "type"), relation))
         return users
 
     def _refuse_unknown_users(self, takes: dict, event: Event) -> None:
@@ -99,11 +126,11 @@ class ModelReader:
         for (name, relation), users in takes.items():
             line = next(one.line for one in event.namespaces[name] if one.name == relation)
             for of, of_relation in sorted(users, key=str):
-                if of not in event.namespaces or (of_relation and (of, of_relation) not in known):
+                if of not in event.namespaces or (of_relation not in (None, EVERY) and (of, of_relation) not in known):
                     self.refusals.refuse(self.path, line, "%s#%s takes %s, which the model does not define"
                                          % (name, relation, "%s#%s" % (of, of_relation) if of_relation else of))
 
-    def _rewrite(self, given: object, relations: dict, where: str, line: int) -> dict:
+    def _rewrite(self, given: Any, relations: dict, where: str, line: int) -> dict:
         line = line_of(given, line)
         forms = [form for form in REWRITES if form in given or spelled(form) in given] if isinstance(given, dict) else []
         if len(forms) != 1 or len(given) != 1:
@@ -153,45 +180,54 @@ def _is_direct(rewrite: object) -> bool:
     return isinstance(rewrite, list) and any(_is_direct(inner) for inner in rewrite)
 
 
-def split_object(text: object) -> tuple[str, str]:
-    found = OBJECT.fullmatch(text) if isinstance(text, str) else None
-    if not found:
-        raise Bad("%r is no object `type:id`" % (text,))
-    return found[1], found[2]
-
-
-def split_user(text: object) -> tuple[str, str, Optional[str]]:
-    if not isinstance(text, str):
-        raise Bad("%r is no user" % (text,))
-    whole, hash_sign, relation = text.rpartition("#")
-    if not hash_sign:
-        return (*split_object(text), None)
-    if not relation:
-        raise Bad("%r is no user" % text)
-    return (*split_object(whole), relation)
-
-
-def relationship_of(key: object) -> Relationship:
-    """The tuple of a tuple key; raises Bad."""
-    relation = get(key, "relation")
-    if not isinstance(relation, str) or not relation:
-        raise Bad("a tuple key has no `relation`")
-    return Relationship(*split_object(get(key, "object")), relation, *split_user(get(key, "user")))
-
-
 class OpenFgaLog(Log):
-    WILDCARD = "typed wildcard in a tuple"
     NOT_TAKEN = "tuple that the model does not take"
     NO_LINE = "neither changes of ReadChanges nor a check with its `request`"
+    DECIDES = ("allowed", "result", "objects", "users")
+    OTHERS = {"Write": ("request.writes", "request.deletes"), "Expand": ("response.tree",), "Read": ("response.tuples",),
+              "ReadChanges": (), "ReadAuthorizationModel": ("response.authorization_model",),
+              "ReadAuthorizationModels": ("response.authorization_models",), "ReadAssertions": ("response.assertions",),
+              "WriteAssertions": ("request.assertions",), "GetStore": (), "ListStores": ("response.stores",), "CreateStore": (),
+              "UpdateStore": (), "DeleteStore": ()}
+    KEYS = Log.KEYS | {"snapshot", "snapshot_between", "token"}
+    RULES = (b'"type_definitions"', b'"typeDefinitions"', b'"authorization_model"', b'"authorizationModel"')
+    BASE = "place in the changes feed or time of RFC 3339"
 
-    def base(self, path: str, revision: int, shown: str) -> Iterator[Event]:
-        """Tuples as Read gives them: pages with `tuples`, or one tuple a line."""
-        for line, value in located.values(path, self.refusals):
-            page = get(value, "tuples")
+    @staticmethod
+    def read_base(text: str) -> Optional[Moment]:
+        try:
+            return moment_of(int(text) if text.isascii() and text.isdigit() else text, "--base-at")
+        except Bad:
+            return None
+
+    def base_number(self) -> Optional[int]:
+        return None if self.base_at is None else 0
+
+    def placed(self, lines: Lines, skew: Optional[int]) -> Lines:
+        return placed(lines, self.base_at or Moment(None, None, "the beginning"), self.rules.id, skew, self.refusals)
+
+    def base(self, path: str) -> Iterator[Event]:
+        """Tuples as Read gives them, pages with `tuples` or one tuple a line; or those of a store file."""
+        for line, value in self._store(path) if is_yaml(path) else located.values(path, self.refusals):
+            page = value if isinstance(value, list) else get(value, "tuples")
             for one in page if isinstance(page, list) else [value]:
-                event = Event("write", path, line_of(one, line), revision, shown, base=True)
-                if self._put_key(event, get(one, "key"), True):
+                event = Event("write", path, line_of(one, line), 0, self.base_at.shown, base=True)
+                if self._put_key(event, one if get(one, "key") is None else get(one, "key"), True):
                     yield event
+
+    def _store(self, path: str) -> Iterator[tuple[int, object]]:
+        """The tuples of a store file. Its tests say what is expected, and are no record of replies."""
+        try:
+            store = read_yaml(path)
+        except located.Malformed as fault:
+            self.refusals.refuse(path, fault.line, str(fault))
+            return
+        for key in "tuple_file", "tuple_files":
+            if key in store:
+                self.refusals.refuse(path, store.lines[key], "tuples in files of their own are not read; give them with --base")
+        for _ in store.get("tests") or ():
+            self.refusals.pass_over("test of a store file")
+        yield 1, store.get("tuples") or List()
 
     def is_write(self, value: object) -> bool:
         return isinstance(get(value, "changes"), list) or get(value, "operation") is not None
@@ -220,37 +256,26 @@ class OpenFgaLog(Log):
             return False
         return self.put(event, given, live, "condition on a tuple" if get(key, "condition") else None)
 
-    def check(self, value: dict, path: str, line: int) -> Event:
-        request, content = get(value, "request"), get(value, "content")
-        allowed = get(get(value, "response"), "allowed")
-        if not isinstance(allowed, bool):
-            raise Bad("the response has no `allowed`")
-        event = Event("check" if content is None else "content", path, line, reply=allowed)
-        event.shown = get(value, "snapshot")
-        event.snapshot = nanoseconds(event.shown)
-        if event.snapshot is None:
-            raise Bad("the check has no `snapshot`, the timestamp of the newest change that it saw")
-        if content is not None and not isinstance(content, dict):
-            raise Bad("`content` is no object")
+    def moment(self, value: dict, content: Optional[dict]) -> Looked:
         holder = value if content is None else content
-        token, event.version = get(holder, "token"), text_or_none(get(holder, "version"), "version")
-        event.token = nanoseconds(token)
-        if token is not None and event.token is None:
-            raise Bad("`token` is no timestamp of a change")
-        event.goal = relationship_of(get(request, "tuple_key"))
-        return event
+        asked = asked_of(value, get(holder, "token"), get(get(value, "request"), "authorization_model_id"))
+        return Looked(None, shown_of(asked), None, text_or_none(get(holder, "version"), "version"), asked)
 
-    def not_checked(self, value: dict, goal: Relationship) -> Optional[tuple[str, str]]:
+    def answers(self, value: dict) -> Iterator[Answer]:
+        return answers_of(get(value, "request"), get(value, "response"), self.refusals)
+
+    def new_rules(self, value: object) -> object:
         request = get(value, "request")
-        model_id = get(request, "authorization_model_id")
-        if get(get(request, "contextual_tuples"), "tuple_keys"):
-            return "contextual tuples", str(goal)
-        if get(request, "context"):
-            return "context of conditions", str(goal)
-        if goal.user_relation is not None:
-            return "check of a userset as the user", str(goal)
-        if goal.user_id == "*":
-            return "check of a typed wildcard as the user", str(goal)
-        if model_id and self.rules.id and model_id != self.rules.id:
-            return "check with another model", "%s, and the model is %s" % (model_id, self.rules.id)
-        return None
+        return request if get(request, "type_definitions") is not None else get(value, "authorization_model")
+
+    def change(self, model: object, value: dict, stamp: Stamp, path: str, line: int) -> Iterator[Event]:
+        """A model that is in force from here on: that of WriteAuthorizationModel, or one that a recorder names."""
+        rules = ModelReader(path, self.refusals, line).rules(model)
+        model_id = get(get(value, "response"), "authorization_model_id") or get(model, "id")
+        if not isinstance(model_id, (str, type(None))):
+            raise Bad("the id of the model is no text")
+        if rules:
+            event = put_stamp(rules.event, stamp)
+            event.revision, event.shown, event.asked = 0, "model %s" % model_id, (model_id,)
+            self.take(rules)
+            yield event

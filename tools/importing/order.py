@@ -1,24 +1,37 @@
 """The order of events: that of one sequencer, or that of clocks that may be apart by so many milliseconds."""
-from typing import Optional
+from typing import Iterable, Optional
 
-from importing.events import Event
+from importing.events import Entry, Event, Line
 from importing.refusals import Refusals
+from importing.spool import Facts
 
 
-def ordered(events: list[Event], skew: Optional[int], refusals: Refusals) -> list[Event]:
+def lowest_of(entry: Entry) -> int:
+    """The earliest revision that a check may have looked at."""
+    return entry.snapshot if entry.lowest is None else entry.lowest
+
+
+def in_order(lines: Iterable[Line], facts: Facts, skew: Optional[int], refusals: Refusals) -> Iterable[Line]:
+    """The lines in their order; only those that stamps order are held in memory."""
+    if skew is not None or facts.is_sequenced:
+        return ordered(list(lines), skew, refusals)
+    if len(facts.files) > 1:
+        second = list(facts.files)[1]
+        refusals.refuse(second, facts.files[second], "events of several files (%s) have no order: give each line the `sequence` "
+                        "of one sequencer, or a `time` and --skew MS" % ", ".join(facts.files))
+    return lines
+
+
+def ordered(lines: list[Line], skew: Optional[int], refusals: Refusals) -> list[Line]:
+    """Lines by their stamps, or as they stand."""
     if skew is not None:
-        return _by_time(events, skew * 1_000_000, refusals)
-    if events and all(event.sequence is not None for event in events):
-        return _by_sequence(events, refusals)
-    files = list(dict.fromkeys(event.file for event in events))
-    if len(files) > 1:
-        first = next(event for event in events if event.file == files[1])
-        refusals.refuse(first.file, first.line, "events of several files (%s) have no order: give each line the `sequence` "
-                        "of one sequencer, or a `time` and --skew MS" % ", ".join(files))
-    return events
+        return _by_time(lines, skew * 1_000_000, refusals)
+    if lines and all(line.sequence is not None for line in lines):
+        return _by_sequence(lines, refusals)
+    return lines
 
 
-def _by_sequence(events: list[Event], refusals: Refusals) -> list[Event]:
+def _by_sequence(events: list[Line], refusals: Refusals) -> list[Line]:
     result = sorted(events, key=lambda event: event.sequence)
     for before, event in zip(result, result[1:]):
         if before.sequence == event.sequence:
@@ -27,12 +40,12 @@ def _by_sequence(events: list[Event], refusals: Refusals) -> list[Event]:
     return result
 
 
-def _by_time(events: list[Event], skew: int, refusals: Refusals) -> list[Event]:
+def _by_time(events: list[Line], skew: int, refusals: Refusals) -> list[Line]:
     timed = [event for event in events if event.time is not None]
     for event in events:
         if event.time is None:
-            refusals.refuse(event.file, event.line, "the line has no `time`, which --skew orders by")
-    last: dict[str, Event] = {}
+            _leave_out(event, "line without a `time`", "the line has no `time`, which --skew orders by", refusals)
+    last: dict[str, Line] = {}
     for event in timed:
         before = last.get(event.clock)
         if before is not None and event.time < before.time:
@@ -40,19 +53,33 @@ def _by_time(events: list[Event], skew: int, refusals: Refusals) -> list[Event]:
                             % (before.file, before.line))
         last[event.clock] = event
     result = sorted(timed, key=lambda event: event.time)
+    lost: set[int] = set()
     for number, event in enumerate(result):
         place = number - 1
         while place >= 0 and event.time - result[place].time <= skew:
-            if event.clock != result[place].clock and _matters(event, result[place]):
-                refusals.refuse(event.file, event.line, "which came first, this %s or the %s at %s:%d, is not known: "
-                                "they are %s ms apart, and the skew is %d ms"
-                                % (event.kind, result[place].kind, result[place].file, result[place].line,
-                                   format((event.time - result[place].time) / 1e6, "g"), skew // 1_000_000))
+            other = result[place]
+            if event.clock != other.clock and not lost & {id(event), id(other)} and _matters(event, other):
+                told = "which came first, this %s or the %s at %s:%d, is not known: they are %s ms apart, and the skew is %d ms" % (
+                    event.kind, other.kind, other.file, other.line, format((event.time - other.time) / 1e6, "g"), skew // 1_000_000)
+                out = event if isinstance(event, Entry) else other
+                _leave_out(out, "check that may have come before a line or behind it", told, refusals, event)
+                lost |= {id(out)} if refusals.skip else set()
             place -= 1
-    return result
+    return [event for event in result if id(event) not in lost]
 
 
-def _matters(one: Event, other: Event) -> bool:
+def _leave_out(event: Line, reason: str, told: str, refusals: Refusals, at: Optional[Line] = None) -> None:
+    """Leaves a check out where that is allowed; a write or rules can't be. It is told at the line of another event, if one is given."""
+    at = at or event
+    if isinstance(event, Event):
+        refusals.refuse(at.file, at.line, told)
+    elif refusals.skip:
+        refusals.unmapped_check(event, reason, "")
+    else:
+        refusals.unmapped(at.file, at.line, reason, told=told)
+
+
+def _matters(one: Line, other: Line) -> bool:
     """Whether the order of two events can change a finding."""
     kinds = {one.kind, other.kind}
     if kinds & {"write", "rules"}:

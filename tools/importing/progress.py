@@ -1,5 +1,6 @@
 """One line on a terminal that says how far an import has come."""
 import sys
+from typing import Iterable
 
 
 class Progress:
@@ -8,6 +9,14 @@ class Progress:
     def __init__(self, stream=sys.stderr):
         self.stream = stream
         self.is_shown = stream.isatty()
+
+    def follow(self, what: str, counts: Iterable[int]) -> None:
+        """Goes through counts, and shows them as they rise by a step or more."""
+        shown = 0
+        for count in counts:
+            if self.is_shown and count // self.STEP > shown:
+                shown = count // self.STEP
+                self.step(what, shown * self.STEP)
 
     def step(self, what: str, count: int) -> None:
         if self.is_shown and count % self.STEP == 0:

@@ -1,150 +1,132 @@
 """SpiceDB: relationships as text, the JSON of the watch stream, and checks of a recorder's log."""
-import base64
-import binascii
 import re
-from typing import Iterator, NamedTuple, Optional
+from typing import Iterator, Optional
 
-from importing import located
-from importing.events import Event, Relationship, Stamp, put_stamp
+from importing import located, visibility
+from importing.events import EVERY, Event, Line, Relationship, Stamp, put_stamp
 from importing.located import line_of
-from importing.service import Bad, Log, get, one_of, text_or_none
+from importing.reading import Bad, get
+from importing.refusals import Refusals
+from importing.service import Answer, Log, Looked, ServiceRules, one_of, text_or_none
+from importing.spicedb_answers import answers_of, relationship_of, revision_at, revision_in
+from importing.spool import Lines
+from importing.simple_yaml import is_yaml, read_yaml
+from importing.spicedb_schema import Parser
+from importing.zedtokens import Older, Revision, read_revision
 
 RELATIONSHIP = re.compile(r"(?P<type>[a-z0-9_/]+):(?P<id>[A-Za-z0-9/_|\-=+]+)#(?P<relation>[a-z0-9_]+)"
                           r"@(?P<user_type>[a-z0-9_/]+):(?P<user_id>[A-Za-z0-9/_|\-=+]+|\*)"
                           r"(?:#(?P<user_relation>[a-z0-9_]+|\.\.\.))?"
                           r"(?P<traits>(?:\[.*\])*)")
-NUMBER = re.compile(r"([0-9]{1,30})(?:\.([0-9]{10}))?")
+# as `zed relationship read` prints it
+READ = re.compile(RELATIONSHIP.pattern.replace("#(?P<relation>", " +(?P<relation>").replace("@(?P<user_type>", " +(?P<user_type>")
+                  .replace("(?P<traits>", " *(?P<traits>"))
 OPERATIONS = {"OPERATION_CREATE": True, "OPERATION_TOUCH": True, "OPERATION_DELETE": False}
-REPLIES = {"PERMISSIONSHIP_HAS_PERMISSION": True, "PERMISSIONSHIP_NO_PERMISSION": False}
-CONDITIONAL = "PERMISSIONSHIP_CONDITIONAL_PERMISSION"
 
 
-class Revision(NamedTuple):
-    """A revision as a number that rises with the datastore's, and as it is written."""
-
-    number: int
-    shown: str
-
-
-def _varint(data: bytes, at: int) -> tuple[int, int]:
-    value = shift = 0
-    while True:
-        byte = data[at]
-        value |= (byte & 127) << shift
-        at, shift = at + 1, shift + 7
-        if byte < 128:
-            return value, at
-
-
-def _fields(data: bytes) -> dict[int, object]:
-    """The fields of a protocol buffer that are numbers or bytes."""
-    found, at = {}, 0
-    while at < len(data):
-        tag, at = _varint(data, at)
-        value, at = _varint(data, at)
-        if tag & 7 == 2:
-            if at + value > len(data):
-                raise IndexError
-            value, at = data[at:at + value], at + value
-        elif tag & 7:
-            raise IndexError
-        found[tag >> 3] = value
-    return found
-
-
-def _token_text(token: str) -> Optional[str]:
-    """The datastore's revision that a ZedToken holds."""
-    try:
-        fields = _fields(base64.b64decode(token, validate=True))
-        if isinstance(fields.get(3), bytes):
-            return _fields(fields[3])[1].decode("ascii")
-        return str(int(_fields(fields[2])[1]))
-    except (binascii.Error, IndexError, KeyError, TypeError, ValueError, AttributeError):
-        return None
-
-
-def read_revision(text: object) -> Optional[Revision]:
-    """A ZedToken, or a revision as a number; None where its order can't be read."""
-    if not isinstance(text, str):
-        return None
-    shown = text if NUMBER.fullmatch(text) else _token_text(text)
-    found = NUMBER.fullmatch(shown) if shown else None
-    return Revision(int(found[1]) * 10 ** 10 + int(found[2] or 0), shown) if found else None
-
-
-def revision_of(text: object) -> Optional[int]:
-    revision = read_revision(text)
-    return revision.number if revision else None
-
-
-def _revision(holder: object, what: str) -> Revision:
-    revision = read_revision(get(holder, "token"))
-    if revision is None:
-        raise Bad("%s has no token whose revision is a number" % what)
-    return revision
-
-
-def _object(given: object, what: str) -> tuple[str, str]:
-    of, id_text = get(given, "objectType"), get(given, "objectId")
-    if not isinstance(of, str) or not of or not isinstance(id_text, str) or not id_text:
-        raise Bad("the %s has no type and id" % what)
-    return of, id_text
-
-
-def _subject(given: object) -> tuple[str, str, Optional[str]]:
-    relation = text_or_none(get(given, "optionalRelation"), "optionalRelation") or None
-    return (*_object(get(given, "object"), "subject"), None if relation == "..." else relation)
-
-
-def relationship_of(given: object) -> Relationship:
-    """The tuple of a relationship in JSON; raises Bad."""
-    relation = get(given, "relation")
-    if not isinstance(relation, str) or not relation:
-        raise Bad("a relationship has no relation")
-    return Relationship(*_object(get(given, "resource"), "resource"), relation, *_subject(get(given, "subject")))
+def key_of(revision: Revision) -> Optional[int]:
+    """What two tokens of one write have in common."""
+    return revision.snapshot.own if revision.snapshot else revision.number
 
 
 class SpiceDbLog(Log):
-    WILDCARD = "wildcard"
     NOT_TAKEN = "relationship that the schema does not take"
     NO_LINE = "neither a response of Watch nor a check with its `request`"
 
-    def base(self, path: str, revision: int, shown: str) -> Iterator[Event]:
-        """One relationship a line, as a text."""
+    BASE = "token or revision"
+    RULES = (b'"schema"',)
+    DECIDES = ("permissionship", "pairs", "resourceObjectId", "subject", "subjectObjectId")
+    OTHERS = {"WriteRelationships": ("request.updates",), "DeleteRelationships": ("response.deletedAt",),
+              "ReadRelationships": ("request.relationshipFilter",), "ExpandPermissionTree": ("response.treeRoot",),
+              "ReadSchema": ("response.schemaText",), "ReflectSchema": (), "DiffSchema": (), "ImportBulkRelationships": (),
+              "ExportBulkRelationships": ()}
+
+    def __init__(self, rules: ServiceRules, base_at: Optional[Revision], refusals: Refusals):
+        super().__init__(rules, base_at, refusals)
+        # the changes of the schema whose text the log has
+        self.written: set[Optional[int]] = set()
+
+    @staticmethod
+    def read_base(text: str) -> Optional[Revision]:
         try:
-            lines = located.read_text(path).split("\n")
+            return read_revision(text)
+        except Older:
+            return None
+
+    def base_number(self) -> Optional[int]:
+        return self.base_at and (self.base_at.number or 0)
+
+    def placed(self, lines: Lines, skew: Optional[int]) -> Lines:
+        """Numbers for the snapshots of PostgreSQL; a log has either those or numbers."""
+        for key, path, line in self.refusals.updated:
+            if key not in self.written:
+                self.refusals.refuse(path, line, "the schema changes here, and the log has no WriteSchema of this revision")
+        base = self.base_at and self.base_at.snapshot
+        if base is None and not lines.facts.has_asked:
+            return lines
+        by_kind: dict[bool, Line] = {}
+        for one in lines:
+            if one.shown is not None:
+                by_kind.setdefault(one.asked is not None or isinstance(one, Event) and one.base and base is not None, one)
+        if True not in by_kind:
+            return lines
+        if False in by_kind:
+            number, snapshot = by_kind[False], by_kind[True]
+            self.refusals.refuse(number.file, number.line, "its revision %s is a number, and that of %s:%d a snapshot of PostgreSQL"
+                                 % (number.shown, snapshot.file, snapshot.line))
+            return Lines()
+        return visibility.placed(list(lines), base, skew, self.refusals)
+
+    def base(self, path: str) -> Iterator[Event]:
+        """One relationship a line, as a text; or those of a validation file."""
+        try:
+            first, text = self._validated(path) if is_yaml(path) else (1, located.read_text(path))
         except located.Malformed as fault:
             self.refusals.refuse(path, fault.line, str(fault))
             return
-        for line, text in enumerate(map(str.strip, lines), 1):
+        for line, text in enumerate(map(str.strip, text.split("\n")), first):
             if text and not text.startswith("//"):
-                event = Event("write", path, line, revision, read_revision(shown).shown, base=True)
+                event = Event("write", path, line, self.base_number(), self.base_at.shown, base=True)
                 if self._put_text(event, text):
                     yield event
 
+    def _validated(self, path: str) -> tuple[int, str]:
+        """The relationships of a validation file. What it asserts is no record of replies."""
+        given = read_yaml(path)
+        for key in "assertions", "validation":
+            for _ in given.get(key) or ():
+                self.refusals.pass_over("%s of a validation file" % key)
+        relationships = given.get("relationships") or ""
+        return line_of(relationships, 1), relationships
+
     def _put_text(self, event: Event, text: str) -> bool:
-        found = RELATIONSHIP.fullmatch(text)
+        found = RELATIONSHIP.fullmatch(text) or READ.fullmatch(text)
         if not found:
             self.refusals.refuse(event.file, event.line, "no relationship `type:id#relation@type:id`: %r" % text[:200])
             return False
         parts = [found[name] for name in Relationship._fields]
-        parts[5] = None if parts[5] == "..." else parts[5]
+        parts[5] = EVERY if parts[4] == "*" else None if parts[5] == "..." else parts[5]
         traits = found["traits"]
         reason = None if not traits else "expiration" if traits.startswith("[expiration:") else "caveat"
         return self.put(event, Relationship(*parts), True, reason)
 
     def is_write(self, value: object) -> bool:
-        return get(value, "result") is not None or get(value, "changesThrough") is not None
+        response = get(value, "result") or value
+        return any(get(response, key) is not None for key in ("changesThrough", "updates", "schemaUpdated"))
 
     def writes(self, value: dict, stamp: Stamp, path: str, line: int) -> Iterator[Event]:
         response = get(value, "result") or value
-        if get(response, "schemaUpdated"):
-            raise Bad("the schema changes here; the rules of one schema are imported")
         updates = get(response, "updates") or []
         if not isinstance(updates, list):
             raise Bad("`updates` is no list")
-        revision = _revision(get(response, "changesThrough"), "`changesThrough`")
+        revision = revision_in(get(response, "changesThrough"), "`changesThrough`")
+        if get(response, "schemaUpdated"):
+            self.refusals.updated.append((key_of(revision), path, line))
         event = put_stamp(Event("write", path, line, revision.number, revision.shown), stamp)
+        if revision.snapshot:
+            if revision.snapshot.own is None and updates:
+                raise Bad("the snapshot of `changesThrough` does not name the transaction that wrote")
+            event.asked = (revision.snapshot,)
         for update in updates:
             live = one_of(OPERATIONS, get(update, "operation"))
             given = get(update, "relationship")
@@ -157,42 +139,41 @@ class SpiceDbLog(Log):
         if updates:
             yield event
 
-    def check(self, value: dict, path: str, line: int) -> Event:
-        request, response, content = (get(value, key) for key in ("request", "response", "content"))
-        if content is not None and not isinstance(content, dict):
-            raise Bad("`content` is no object")
-        permission = get(request, "permission")
-        if not isinstance(permission, str) or not permission:
-            raise Bad("the request has no permission")
-        event = Event("check" if content is None else "content", path, line)
-        event.goal = Relationship(*_object(get(request, "resource"), "resource"), permission,
-                                  *_subject(get(request, "subject")))
-        event.snapshot, event.shown = _revision(get(response, "checkedAt"), "`checkedAt` of the response")
-        event.reply = one_of(REPLIES, get(response, "permissionship")) or False
-        if get(response, "permissionship") not in (*REPLIES, CONDITIONAL):
-            raise Bad("the response has no permissionship")
-        self._tokens(event, value, request, content)
-        return event
+    def moment(self, value: dict, content: Optional[dict]) -> Looked:
+        revision = revision_at(get(value, "response"))
+        token = self._token(get(value, "request"), content)
+        version = text_or_none(get(value if content is None else content, "version"), "version")
+        if token and bool(token.snapshot) != bool(revision.snapshot):
+            raise Bad("the token is of another datastore than `checkedAt`")
+        asked = (revision.snapshot, token and token.snapshot) if revision.snapshot else None
+        return Looked(revision.number, revision.shown, token and token.number, version, asked)
 
     @staticmethod
-    def _tokens(event: Event, value: dict, request: object, content: object) -> None:
+    def _token(request: object, content: object) -> Optional[Revision]:
         """The token that a check demanded, or the one that was stored with a content version."""
-        if content is None:
-            consistency = get(request, "consistency")
-            demanded = get(consistency, "atLeastAsFresh") or get(consistency, "atExactSnapshot")
-            event.token = _revision(demanded, "the request's consistency").number if demanded else None
-            event.version = text_or_none(get(value, "version"), "version")
-        else:
-            event.token = _revision(content, "`content`").number if get(content, "token") is not None else None
-            event.version = text_or_none(get(content, "version"), "version")
+        if content is not None:
+            return None if get(content, "token") is None else revision_in(content, "`content`")
+        consistency = get(request, "consistency")
+        demanded = get(consistency, "atLeastAsFresh") or get(consistency, "atExactSnapshot")
+        return revision_in(demanded, "the request's consistency") if demanded else None
 
-    def not_checked(self, value: dict, goal: Relationship) -> Optional[tuple[str, str]]:
-        if get(get(value, "response"), "permissionship") == CONDITIONAL:
-            return "conditional permission", str(goal)
-        if get(get(value, "request"), "context"):
-            return "context of caveats", str(goal)
-        if goal.user_relation is not None:
-            return "check of a userset as the user", str(goal)
-        if goal.user_id == "*":
-            return "check of a wildcard as the user", str(goal)
-        return None
+    def answers(self, value: dict) -> Iterator[Answer]:
+        return answers_of(get(value, "request"), get(value, "response"), self.refusals)
+
+    def new_rules(self, value: object) -> object:
+        return get(get(value, "request"), "schema")
+
+    def change(self, schema: object, value: dict, stamp: Stamp, path: str, line: int) -> Iterator[Event]:
+        """The schema of a WriteSchema, in force from the revision of its response on."""
+        if not isinstance(schema, str):
+            raise Bad("`schema` is no text")
+        revision = revision_in(get(get(value, "response"), "writtenAt"), "`writtenAt` of the response")
+        if revision.snapshot and revision.snapshot.own is None:
+            raise Bad("the snapshot of `writtenAt` does not name the transaction that wrote")
+        rules = Parser(schema, path, self.refusals, line, False).schema()
+        event = put_stamp(rules.event, stamp)
+        event.line, event.revision, event.shown = line, revision.number or 0, revision.shown
+        event.asked = revision.snapshot and (revision.snapshot,)
+        self.written.add(key_of(revision))
+        self.take(rules)
+        yield event

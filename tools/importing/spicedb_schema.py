@@ -3,15 +3,18 @@ import re
 from typing import NamedTuple, Optional
 
 from importing import located
-from importing.events import Event, RelationRule
+from importing.events import EVERY, Event, RelationRule
 from importing.refusals import Refusals
-from importing.service import ServiceRules, nested
+from importing.service import ServiceRules, nested, refuse_wild_tuplesets
+from importing.simple_yaml import beside, is_yaml, read_yaml
 from lib import limits
+from lib.rules import children_of, form_of
 
 TOKEN = re.compile(r"(?P<space>[ \t\r\n]+|//[^\n]*|/\*.*?\*/)|(?P<word>[A-Za-z_][A-Za-z0-9_]*(?:/[A-Za-z_][A-Za-z0-9_]*)*)"
                    r"|(?P<sign>->|\.\.\.|[{}()=|#:+&\-*;,.])|(?P<other>\"(?:[^\"\\\n]|\\.)*\"|'(?:[^'\\\n]|\\.)*'|.)", re.S)
 STARTS = ("relation", "permission", "definition", "caveat", "use", "partial", "import", "}")
 OPERATORS = {"+": "union", "&": "intersection", "-": "exclusion"}
+BINDING = ("-", "&", "+")
 
 
 class Token(NamedTuple):
@@ -32,20 +35,38 @@ class Unmapped(Exception):
         self.line = line
 
 
-def tokens(text: str) -> list[Token]:
-    found, line = [], 1
+def tokens(text: str, line: int, is_file: bool) -> list[Token]:
+    """With their lines, from one on; all on that line where the text is no file of its own."""
+    found = []
     for match in TOKEN.finditer(text):
         if match.lastgroup != "space":
             found.append(Token(match[0], line, match.lastgroup == "word"))
-        line += match[0].count("\n")
+        line += match[0].count("\n") * is_file
     return found + [Token("", line, False)]
 
 
+def shown(rewrite: dict) -> str:
+    """An expression with all its parentheses."""
+    form = form_of(rewrite)
+    if form == "this":
+        return "nil"
+    if form == "computed":
+        return rewrite[form]
+    if form == "tuple_to":
+        return "%s->%s" % (rewrite[form]["tupleset"], rewrite[form]["computed"])
+    sign = next(sign for sign, name in OPERATORS.items() if name == form)
+    children = children_of(rewrite)
+    return (" %s " % sign).join(shown(child) if form_of(child) in ("this", "computed", "tuple_to") else "(%s)" % shown(child)
+                                for child in children)
+
+
 class Parser:
-    def __init__(self, text: str, path: str, refusals: Refusals):
-        self.tokens, self.at = tokens(text), 0
+    def __init__(self, text: str, path: str, refusals: Refusals, first: int = 1, is_file: bool = True):
+        self.tokens, self.at = tokens(text, first, is_file), 0
         self.path, self.refusals = path, refusals
         self.open = 0
+        self.signs: set[str] = set()
+        self.is_mixed = False
         self.rules = Event("rules", path, 1)
         self.takes: dict[tuple[str, str], set[tuple[str, Optional[str]]]] = {}
         self.arrows: list[tuple[str, str, str, int]] = []
@@ -95,6 +116,8 @@ class Parser:
                 elif token.text in ("caveat", "partial"):
                     self.refusals.unmapped(self.path, token.line, token.text, self.tokens[self.at + 1].text)
                     self.skip_block()
+                elif token.text == "use" and self.tokens[self.at + 1].text == "typechecking":
+                    self.at += 2
                 elif token.text in ("use", "import"):
                     self.next()
                     self.refusals.unmapped(self.path, token.line, "%s %s" % (token.text, self.next().text))
@@ -107,6 +130,7 @@ class Parser:
                 self.next()
                 self.skip_to_start()
         self._refuse_unknown()
+        refuse_wild_tuplesets(self.rules, self.takes, self.refusals)
         return ServiceRules(self.rules, None, self.takes)
 
     def definition(self) -> None:
@@ -160,7 +184,7 @@ class Parser:
         elif self.here().text == ":":
             self.next()
             self.take("*")
-            unmapped.append("wildcard")
+            relation = EVERY
         if self.here().text == "with":
             while self.here().text in ("with", "and"):
                 self.next()
@@ -173,13 +197,16 @@ class Parser:
     def permission(self, of: str) -> RelationRule:
         name = self.word("the name of a permission")
         if self.here().text == ":":
-            self.refusals.unmapped(self.path, name.line, "type of a permission", "%s#%s" % (of, name.text))
+            # `use typechecking` lets a permission say which types it has, which changes no answer.
             while self.here().text not in ("=", "}", ""):
                 self.next()
         self.take("=")
         self.open = 0
+        begins, self.is_mixed = self.at, False
         try:
-            rewrite = self.expression(of, name.text)
+            rewrite = self.side_by_side(of, name.text)
+            if self.is_mixed:
+                self._note_reading(name, self.tokens[begins:self.at], rewrite)
         except Unmapped as fault:
             self.refusals.unmapped(self.path, fault.line, str(fault), "%s#%s" % (of, name.text))
             self.refusals.doubt(of, None, name.text)
@@ -187,15 +214,29 @@ class Parser:
             rewrite = {"this": {}}
         return RelationRule(name.text, rewrite, name.line)
 
-    def expression(self, of: str, name: str) -> dict:
-        parts, sign = [self.term(of, name)], None
-        while self.here().text in OPERATORS:
-            token = self.next()
-            if sign is not None and token.text != sign:
-                raise Unmapped(token.line, "%s beside %s without parentheses" % (token.text, sign))
-            sign = token.text
-            parts.append(self.term(of, name))
-        if sign is None:
+    def _note_reading(self, name: Token, given: list[Token], rewrite: dict) -> None:
+        self.refusals.note("binding", "%s:%d: `%s` is read as `%s`: union binds closest, then intersection, then exclusion"
+                           % (self.path, name.line, " ".join(token.text for token in given), shown(rewrite)))
+
+    def side_by_side(self, of: str, name: str) -> dict:
+        """What stands in one pair of parentheses, or in none."""
+        outer, self.signs = self.signs, set()
+        made = self.expression(of, name)
+        self.is_mixed |= len(self.signs) > 1
+        self.signs = outer
+        return made
+
+    def expression(self, of: str, name: str, level: int = 0) -> dict:
+        """Operators bind as SpiceDB has them: exclusion loosest, then intersection, and union closest."""
+        if level == len(BINDING):
+            return self.term(of, name)
+        sign = BINDING[level]
+        parts = [self.expression(of, name, level + 1)]
+        while self.here().text == sign:
+            self.next()
+            self.signs.add(sign)
+            parts.append(self.expression(of, name, level + 1))
+        if len(parts) == 1:
             return parts[0]
         if sign != "-":
             return nested(OPERATORS[sign], parts)
@@ -208,13 +249,16 @@ class Parser:
             self.open += 1
             if self.open > limits.DEPTH:
                 raise Unmapped(self.here().line, "parentheses deeper than %d" % limits.DEPTH)
-            made = self.expression(of, name)
+            made = self.side_by_side(of, name)
             self.take(")")
             self.open -= 1
             return made
         word = self.word("a relation, a permission or a parenthesis")
-        if word.text in ("nil", "self"):
+        if word.text == "self":
             raise Unmapped(word.line, word.text)
+        if word.text == "nil":
+            # No relationship names a permission, so what is stored for one is nothing.
+            return {"this": {}}
         if self.here().text == "->":
             self.next()
             return self.arrow(of, name, word, self.word("a relation or permission"))
@@ -248,15 +292,22 @@ class Parser:
                 self.refusals.refuse(self.path, line, "%s#%s has an arrow from %s, which is no relation" % (of, name, read))
         for (of, name), users in self.takes.items():
             for user, relation in sorted(users, key=str):
-                if user not in self.rules.namespaces or (relation and (user, relation) not in known):
+                if user not in self.rules.namespaces or (relation not in (None, EVERY) and (user, relation) not in known):
                     self.refusals.refuse(self.path, known[of, name].line, "%s#%s takes %s, which the schema does not define"
                                          % (of, name, "%s#%s" % (user, relation) if relation else user))
 
 
 def read_schema(path: str, refusals: Refusals) -> Optional[ServiceRules]:
+    """The rules of a schema, or of a validation file that has one."""
     try:
-        text = located.read_text(path)
+        if not is_yaml(path):
+            return Parser(located.read_text(path), path, refusals).schema()
+        given = read_yaml(path)
+        if given.get("schema"):
+            return Parser(given["schema"], path, refusals, located.line_of(given["schema"], 1)).schema()
+        if not given.get("schemaFile"):
+            raise located.Malformed(1, "the validation file has no `schema` and no `schemaFile`")
+        return read_schema(beside(path, given["schemaFile"]), refusals)
     except located.Malformed as fault:
         refusals.refuse(path, fault.line, str(fault))
         return None
-    return Parser(text, path, refusals).schema()

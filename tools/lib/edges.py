@@ -1,5 +1,5 @@
 """The edges of rules and of tuples, in the order in which docs/FORMATS.md looks at them."""
-from typing import Callable, Iterator, NamedTuple, Optional
+from typing import Callable, Iterable, Iterator, NamedTuple, Optional
 
 from lib.rules import Declaration, Rules, places
 from lib.texts import Tuple, Userset
@@ -44,8 +44,8 @@ def tuple_edges(rules: Rules, given: Tuple) -> Iterator[Edge]:
                     yield Edge((namespace, relation), (to, place.names[1]), place.strict)
 
 
-def pair_of(given: Tuple) -> Pair:
-    return given.set.namespace, given.set.relation, given.user.namespace, given.user.relation
+def pair_of(of: Userset, user: Userset) -> Pair:
+    return of.namespace, of.relation, user.namespace, user.relation
 
 
 class TupleEdges:
@@ -59,21 +59,21 @@ class TupleEdges:
     def of(self, given: Tuple) -> list[Edge]:
         if not isinstance(given.user, Userset):
             return []
-        pair = pair_of(given)
+        pair = pair_of(given.set, given.user)
         if pair not in self.known:
             self.known[pair] = list(tuple_edges(self.rules, given))
         return self.known[pair]
 
     def keep(self, given: Tuple) -> None:
         if isinstance(given.user, Userset):
-            self.first.setdefault(pair_of(given), given)
+            self.first.setdefault(pair_of(given.set, given.user), given)
 
     def forget(self) -> None:
         """The rules have changed."""
         self.known.clear()
 
 
-def first_broken(edges: Iterator[Edge] | list[Edge], stratum: Callable[[str, str], int]) -> Optional[Edge]:
+def first_broken(edges: Iterable[Edge], stratum: Callable[[str, str], int]) -> Optional[Edge]:
     for edge in edges:
         reader, read = stratum(*edge.reader), stratum(*edge.read)
         if read > reader or (edge.strict and read == reader):

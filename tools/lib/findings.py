@@ -2,10 +2,12 @@
 import re
 from typing import NamedTuple, Optional
 
-FINDING = re.compile(r"line ([0-9]+): (F(?:[1-9]|10)) ([a-z ]+?)(?:, see line ([0-9]+)| at step ([0-9]+))?")
+# Numbers of a report have no more digits than those of 64 bits.
+FINDING = re.compile(r"line ([0-9]{1,20}): (F(?:[1-9]|10)) ([a-z ]+?)(?:, see line ([0-9]{1,20})| at step ([0-9]{1,20}))?")
 FORMS = {"F1": ("stale", None), "F2": ("old token", "line"), "F3": ("not latest", "line"), "F4": ("open snapshot", "line"),
          "F5": ("wrong token", None), "F6": ("unknown version", None), "F7": ("no evidence", None),
          "F8": ("bad evidence", "step"), "F9": ("silent evidence", None), "F10": ("wrong reply", None)}
+ON_TOKENS = ("F1", "F2", "F3", "F4", "F5", "F6")
 
 
 class ReportFault(Exception):
@@ -18,6 +20,11 @@ class Finding(NamedTuple):
     text: str
     related: Optional[int]
     step: Optional[int]
+
+    @property
+    def is_on_tokens(self) -> bool:
+        """Whether it is on snapshots and tokens, and not on evidence."""
+        return self.finding in ON_TOKENS
 
 
 class Report(NamedTuple):
@@ -34,13 +41,13 @@ def _finding(number: int, text: str) -> Finding:
     wanted, more = FORMS[finding]
     if said != wanted or (more == "line") != (related is not None) or (more == "step") != (step is not None):
         raise ReportFault("report line %d: %s is not `%s`" % (number, finding, text[:200]))
-    return Finding(int(line), finding, said, related and int(related), step and int(step))
+    return Finding(int(line), finding, said, None if related is None else int(related), None if step is None else int(step))
 
 
 def read_report(text: str) -> Report:
     """The report of an audit; raises ReportFault where it is none, or not whole."""
     lines = text.splitlines()
-    tail = re.fullmatch(r"entries ([0-9]+)\nfindings ([0-9]+)\nverdict (clean|dirty)", "\n".join(lines[-3:]))
+    tail = re.fullmatch(r"entries ([0-9]{1,20})\nfindings ([0-9]{1,20})\nverdict (clean|dirty)", "\n".join(lines[-3:]))
     if not tail:
         raise ReportFault("report line %d: the last lines are not `entries N`, `findings N` and `verdict ..`" % len(lines))
     findings = [_finding(number, line) for number, line in enumerate(lines[:-3], 1)]

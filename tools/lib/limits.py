@@ -1,9 +1,11 @@
-"""The limits of docs/FORMATS.md."""
+"""The limits of docs/FORMATS.md, and those within which the program's maker searches."""
 INPUT_BYTES = 1 << 30
 LINE_BYTES = 1 << 20
 NESTING = 127
 TOUCHES = (1 << 32) - 1
 RECORD_FACTS = 100_000
+CONE_USERSETS = 131_072
+CONE_LINKS = 4_194_304
 NAMESPACES = 256
 RELATIONS = 256
 CHANGES = 4_096

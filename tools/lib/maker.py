@@ -3,16 +3,18 @@
 Tests compare it with the evidence that the program's own `make` finds.
 """
 import json
+from typing import Union
 
+from lib.kept import Entry
 from lib.meaning import Settled, Step
 from lib.texts import Tuple
-from lib.trace import Entry, Trace
+from lib.trace import Trace
 
 
 def record(trace: Trace, entry: Entry) -> str:
-    """The line of evidence for an entry."""
+    """The line of evidence for an entry; raises Outgrown."""
     settled = Settled(trace.rules, trace.store, entry.goal, entry.snapshot)
-    listed = []
+    listed: list[dict[str, Union[str, list[str]]]] = []
     for step in settled.steps or [Step(False, [entry.goal.set])]:
         facts = [str(Tuple(of, entry.goal.user)) for of in step.sets]
         listed.append({"yes": facts[0]} if step.yes else {"no": facts})

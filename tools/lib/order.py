@@ -1,36 +1,36 @@
-"""The findings on tokens of one entry, as docs/FORMATS.md has them."""
-from bisect import bisect_left
-from typing import Iterator, Optional
+"""The findings on tokens of one entry, as docs/FORMATS.md has them, and the commits that each says were ignored."""
+from typing import Iterator, NamedTuple, Optional
 
 from lib import texts
-from lib.trace import Commit, Entry, Trace
+from lib.kept import Entry
+from lib.trace import Trace
+
+
+class Window(NamedTuple):
+    """Commits above one timestamp, up to another."""
+
+    low: int
+    high: int
 
 
 def zookie_at(entry: Entry) -> Optional[int]:
     return None if entry.zookie is None else texts.parse_zookie(entry.zookie)[0]
 
 
-def commits_before(trace: Trace, entry: Entry) -> list[Commit]:
-    return trace.commits[:bisect_left(trace.commits, entry.line, key=lambda commit: commit.line)]
-
-
-def commits_behind(trace: Trace, entry: Entry) -> list[Commit]:
-    return trace.commits[bisect_left(trace.commits, entry.line, key=lambda commit: commit.line):]
-
-
 def order_findings(trace: Trace, entry: Entry) -> Iterator[tuple[str, Optional[int]]]:
     """Each finding with the line that it refers to."""
-    at, before, behind = zookie_at(entry), commits_before(trace, entry), commits_behind(trace, entry)
+    at, commits = zookie_at(entry), trace.commits
+    before = commits.before(entry.line)
     is_check = entry.kind == "check"
     if is_check and at is not None and at > entry.snapshot:
         yield "F1 stale", None
     if is_check and entry.issued_on is not None:
         if at is None or at < trace.entries[entry.issued_on].snapshot:
             yield "F2 old token", entry.issued_on
-    if not is_check and before and before[-1].at > entry.snapshot:
-        yield "F3 not latest", before[-1].line
-    if behind and behind[0].at <= entry.snapshot:
-        yield "F4 open snapshot", behind[0].line
+    if not is_check and before and commits.ats[before - 1] > entry.snapshot:
+        yield "F3 not latest", commits.lines[before - 1]
+    if before < len(commits) and commits.ats[before] <= entry.snapshot:
+        yield "F4 open snapshot", commits.lines[before]
     if not is_check and entry.reply and not _is_right_token(entry):
         yield "F5 wrong token", None
     if is_check and entry.version is not None and entry.issued_on is None:
@@ -48,3 +48,18 @@ def _is_right_token(entry: Entry) -> bool:
         return False
     at, kind = texts.parse_zookie(entry.zookie)
     return at == entry.snapshot and kind not in ("w", "r")
+
+
+def ignored(trace: Trace, entry: Entry, finding: str) -> Window:
+    """The commits that an entry with a finding on tokens ignored; it ends at the newest state that had to be seen."""
+    before, high = trace.commits.before(entry.line), entry.snapshot
+    if finding == "F4":
+        return Window(trace.commits.ats[before] - 1, high)
+    if finding == "F1":
+        high = zookie_at(entry) or 0
+    elif finding == "F2" and entry.issued_on is not None:
+        high = trace.entries[entry.issued_on].snapshot
+    elif finding in ("F3", "F6") and before:
+        # What an unknown version's check had to see is not known; it is no newer than the last commit.
+        high = trace.commits.ats[before - 1]
+    return Window(entry.snapshot, max(high, entry.snapshot))

@@ -4,6 +4,7 @@ import importlib.machinery
 import importlib.util
 import os
 import sys
+from types import ModuleType
 from typing import Callable, NoReturn
 
 
@@ -24,11 +25,13 @@ def run(main: Callable[[], int]) -> NoReturn:
 
 
 @functools.cache
-def loaded_file(path: str):
+def loaded_file(path: str) -> ModuleType:
     """A program of Python as a module, of which nothing is kept beside it."""
     name = os.path.basename(path)
     loader = importlib.machinery.SourceFileLoader(name, path)
-    module = importlib.util.module_from_spec(importlib.util.spec_from_loader(name, loader))
+    spec = importlib.util.spec_from_loader(name, loader)
+    assert spec is not None
+    module = importlib.util.module_from_spec(spec)
     keeps, sys.dont_write_bytecode = sys.dont_write_bytecode, True
     try:
         loader.exec_module(module)

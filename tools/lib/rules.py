@@ -2,6 +2,7 @@
 from typing import Iterator, NamedTuple, Optional
 
 from lib import limits, texts
+from lib.strictjson import Object
 
 FORMS = ("this", "computed", "tuple_to", "union", "intersection", "exclusion")
 
@@ -25,7 +26,7 @@ class Place(NamedTuple):
 class Relation(NamedTuple):
     name: str
     stratum: int
-    rewrite: dict
+    rewrite: Object
 
 
 class Declaration(NamedTuple):
@@ -34,18 +35,18 @@ class Declaration(NamedTuple):
     relations: list[Relation]
 
 
-def form_of(expression: dict) -> str:
+def form_of(expression: Object) -> str:
     return next(form for form in FORMS if form in expression)
 
 
-def children_of(expression: dict) -> list[dict]:
+def children_of(expression: Object) -> list[Object]:
     form = form_of(expression)
     if form == "exclusion":
         return [expression[form]["base"], expression[form]["subtract"]]
-    return expression[form] if form in ("union", "intersection") else []
+    return list(expression[form]) if form in ("union", "intersection") else []
 
 
-def places(expression: dict, strict: bool = False) -> Iterator[Place]:
+def places(expression: Object, strict: bool = False) -> Iterator[Place]:
     """The leaves from left to right, base before subtracted side."""
     form = form_of(expression)
     if form == "this":
@@ -62,7 +63,7 @@ def places(expression: dict, strict: bool = False) -> Iterator[Place]:
             yield from places(child, strict)
 
 
-def depth(expression: dict) -> int:
+def depth(expression: Object) -> int:
     return 1 + max((depth(child) for child in children_of(expression)), default=0)
 
 
@@ -97,7 +98,7 @@ def shape_of_expression(value: object, where: str) -> None:
                 raise RulesFault("shape", "%s.%s is no text" % (place, key))
 
 
-def _shape(value: dict) -> Declaration:
+def _shape(value: Object) -> Declaration:
     at, name, listed = value.get("at"), value.get("name"), value.get("relations")
     if at is not None and not _is_u64(at):
         raise RulesFault("shape", "at is no timestamp")
@@ -119,7 +120,7 @@ def _shape(value: dict) -> Declaration:
     return Declaration(name, at, relations)
 
 
-def _widths(expression: dict) -> Iterator[int]:
+def _widths(expression: Object) -> Iterator[int]:
     if form_of(expression) in ("union", "intersection"):
         yield len(children_of(expression))
     for child in children_of(expression):
@@ -134,9 +135,10 @@ class Rules:
         self.current: dict[str, Declaration] = {}
         self.changes = 0
         self._strata: dict[tuple[str, str], int] = {}
-        self._rewrites: dict[tuple[str, str], list[tuple[int, dict]]] = {}
+        # of each relation its rules with their leaves, and since when each is in force
+        self._rewrites: dict[tuple[str, str], list[tuple[int, Object, tuple[Place, ...]]]] = {}
 
-    def add(self, value: dict) -> Declaration:
+    def add(self, value: Object) -> Declaration:
         """Takes a namespace line; raises RulesFault, and then changes nothing."""
         declaration = _shape(value)
         self._refuse_names(declaration)
@@ -156,7 +158,8 @@ class Rules:
         for relation in declaration.relations:
             key = (declaration.name, relation.name)
             self._strata[key] = relation.stratum
-            self._rewrites.setdefault(key, []).append((declaration.at or 0, relation.rewrite))
+            self._rewrites.setdefault(key, []).append(
+                (declaration.at or 0, relation.rewrite, tuple(places(relation.rewrite))))
 
     @staticmethod
     def _refuse_names(declaration: Declaration) -> None:
@@ -201,10 +204,10 @@ class Rules:
     @staticmethod
     def _refuse_change(declaration: Declaration, known: Declaration) -> None:
         for number, old in enumerate(known.relations):
-            new = declaration.relations[number].name if number < len(declaration.relations) else "none"
-            if new != old.name:
+            name = declaration.relations[number].name if number < len(declaration.relations) else "none"
+            if name != old.name:
                 raise RulesFault("relations changed", "relation %d of %s is %s, and was %s"
-                                 % (number + 1, declaration.name, new, old.name))
+                                 % (number + 1, declaration.name, name, old.name))
         for old, new in zip(known.relations, declaration.relations):
             if old.stratum != new.stratum:
                 raise RulesFault("stratum changed", "%s#%s has %d, and had %d"
@@ -217,16 +220,26 @@ class Rules:
     def stratum(self, namespace: str, relation: str) -> int:
         return self._strata[namespace, relation]
 
-    def rewrites(self, namespace: str, relation: str) -> list[dict]:
+    def rewrites(self, namespace: str, relation: str) -> list[Object]:
         """All rules that a relation ever had, by time."""
-        return [rewrite for _, rewrite in self._rewrites.get((namespace, relation), [])]
+        return [rewrite for _, rewrite, _ in self._rewrites.get((namespace, relation), [])]
 
-    def rewrite_at(self, namespace: str, relation: str, at: int) -> Optional[dict]:
+    def rewrite_at(self, namespace: str, relation: str, at: int) -> Optional[Object]:
         """The rule in force at a timestamp; None where the relation is not declared then."""
         found = None
-        for since, rewrite in self._rewrites.get((namespace, relation), []):
+        for since, rewrite, _ in self._rewrites.get((namespace, relation), ()):
             if since <= at:
                 found = rewrite
+        return found
+
+    def places_during(self, namespace: str, relation: str, low: int, high: int) -> list[Place]:
+        """The leaves of the rule in force at a timestamp, and of those that came up to another."""
+        found: list[Place] = []
+        for since, _, leaves in self._rewrites.get((namespace, relation), ()):
+            if since <= low:
+                found = list(leaves)
+            elif since <= high:
+                found += leaves
         return found
 
     def relations(self, namespace: str) -> list[str]:

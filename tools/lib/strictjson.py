@@ -1,11 +1,14 @@
 """JSON as the program reads it, line by line."""
 import json
 import re
-from typing import Iterator
+from typing import Any, Iterator, Union
 
 from lib import limits
 
 BLANK = b" \t\r"
+BLOCK = 1 << 16
+# An object of JSON.
+Object = dict[str, Any]
 STRING = re.compile(rb'"(?:[^"\\]|\\.)*"')
 
 
@@ -26,7 +29,7 @@ def _float(text: str) -> float:
     return value
 
 
-def _int(text: str) -> int | float:
+def _int(text: str) -> Union[int, float]:
     if text == "-0" or len(text) > 300:
         return _float(text)
     return int(text)
@@ -79,16 +82,25 @@ def value_of(raw: bytes) -> object:
     return value
 
 
+def object_of(raw: bytes) -> Object:
+    """The object of a line that is known to be one."""
+    value = value_of(raw)
+    assert isinstance(value, dict)
+    return value
+
+
 def lines_of(data: bytes) -> Iterator[tuple[int, bytes]]:
     """The lines that are not blank, with their numbers; raises TooLong."""
-    start = number = 0
+    number = start = behind = 0
     while start < len(data):
-        number += 1
-        end = data.find(b"\n", start)
+        end = data.find(b"\n", start + BLOCK)
         end = len(data) if end < 0 else end
-        if end - start > limits.LINE_BYTES or end > limits.INPUT_BYTES:
-            raise TooLong(number)
-        line = data[start:end]
-        if line.strip(BLANK):
-            yield number, line
+        # A block and a line at a time, so that an input of newlines alone makes no list of all its lines.
+        for line in data[start:end].split(b"\n"):
+            number += 1
+            behind += len(line) + 1
+            if len(line) > limits.LINE_BYTES or behind - 1 > limits.INPUT_BYTES:
+                raise TooLong(number)
+            if line.strip(BLANK):
+                yield number, line
         start = end + 1

@@ -1,4 +1,5 @@
 """The texts of docs/FORMATS.md: names, object ids, tuples, facts and zookies."""
+import functools
 import re
 from typing import NamedTuple, Optional, Union
 
@@ -55,7 +56,7 @@ def number_of(text: str) -> Optional[int]:
     return None
 
 
-def _userset_of(text: str) -> Userset:
+def userset_of(text: str) -> Userset:
     """A userset as it may stand as a user; raises TextFault where it is none."""
     namespace, colon, rest = text.partition(":")
     if not colon or not is_name(namespace):
@@ -83,7 +84,7 @@ def parse_tuple(text: str) -> Tuple:
     if number is not None:
         return Tuple(Userset(namespace, id_text, relation), number)
     try:
-        return Tuple(Userset(namespace, id_text, relation), _userset_of(user))
+        return Tuple(Userset(namespace, id_text, relation), userset_of(user))
     except TextFault:
         raise TextFault("user", at) from None
 
@@ -100,6 +101,7 @@ def zookie_text(at: int) -> str:
     return "z1-%016x" % at
 
 
+@functools.lru_cache(maxsize=4_096)
 def parse_zookie(text: str) -> tuple[int, Optional[str]]:
     """The timestamp, and the kind of version 2."""
     raw = text.encode()

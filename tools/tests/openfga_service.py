@@ -87,12 +87,12 @@ def model_of(random):
     return {"schema_version": "1.1", "type_definitions": definitions}
 
 
-def allow_wildcards(model):
-    """Lets every relation that takes users take all users at once."""
+def allow(model, **more):
+    """Lets every relation that takes users take them with a condition, or all at once."""
     for one in model["type_definitions"]:
         for users in one.get("metadata", {}).get("relations", {}).values():
-            if {"type": "user"} in users["directly_related_user_types"]:
-                users["directly_related_user_types"].append({"type": "user", "wildcard": {}})
+            listed = users["directly_related_user_types"]
+            listed += [{**taken, **more} for taken in listed if taken["type"] in USER_TYPES]
 
 
 OBJECTS = {"group": ["g1", "G/2"], "Folder-Type": ["f@1", "x" * 140], "doc": ["d1", "~7"]}

@@ -27,7 +27,7 @@ class Service:
         return self.related(thing, name, user, path) if isinstance(rule, list) else self.permitted(rule, thing, user, path)
 
     def related(self, thing, name, user, path):
-        if (thing, name, user, "") in self.relationships:
+        if (thing, name, user, "") in self.relationships or (thing, name, user.split(":")[0] + ":*", "") in self.relationships:
             return True
         sets = [one[2:] for one in self.relationships if one[:2] == (thing, name) and one[3]]
         return any(self.check(subject, relation, user, path) for subject, relation in sets)
@@ -74,7 +74,15 @@ def schema_of(random):
     return schema
 
 
-def text_of(schema):
+def allow_wildcards(schema):
+    """Lets every relation that no arrow reads take all users of a type at once."""
+    for names in schema.values():
+        for name, rule in names.items():
+            if isinstance(rule, list) and name not in ARROWS:
+                rule += [("user:*", ""), ("bot:*", ""), ("acl/doc:*", "")]
+
+
+def text_of(schema, random=None):
     """A schema as it is written."""
     lines = ["definition user {}", "/* robots */ definition bot {}"]
     for of, names in schema.items():
@@ -84,18 +92,26 @@ def text_of(schema):
                 taken = [subject + ("#" + relation if relation else "") for subject, relation in rule]
                 lines.append("\trelation %s: %s // who" % (name, " | ".join(taken)))
             else:
-                lines.append("\tpermission %s = %s" % (name, expression_text(rule)))
+                lines.append("\tpermission %s = %s" % (name, expression_text(rule, random)))
         lines.append("}")
     return "\n".join(lines) + "\n"
 
 
-def expression_text(rule):
+# The closer an operator binds, the higher.
+CLOSENESS = {"-": 0, "&": 1, "+": 2, "name": 3, "arrow": 3}
+
+
+def expression_text(rule, random=None):
+    """With all parentheses; with a source of chance only with those that are needed, and now and then some more."""
     if rule[0] == "name":
         return rule[1]
     if rule[0] == "arrow":
         return "%s->%s" % rule[1:] if len(rule[2]) % 2 else "%s.any(%s)" % rule[1:]
-    return (" %s " % rule[0]).join(expression_text(part) if part[0] in ("name", "arrow")
-                                   else "(%s)" % expression_text(part) for part in rule[1])
+    texts = []
+    for part in rule[1]:
+        needed = CLOSENESS[part[0]] <= CLOSENESS[rule[0]] or (random is None and CLOSENESS[part[0]] < 3) or random and random.random() < 0.1
+        texts.append("(%s)" % expression_text(part, random) if needed else expression_text(part, random))
+    return (" %s " % rule[0]).join(texts)
 
 
 def relationship_of(random, schema):
@@ -103,6 +119,8 @@ def relationship_of(random, schema):
     of = random.choice(TYPES)
     name = random.choice(RELATIONS)
     subject_type, relation = random.choice(schema[of][name])
+    if subject_type.endswith(":*"):
+        return "%s:%s" % (of, random.choice(OBJECTS[of])), name, subject_type, ""
     found = [one for one in USERS if one.startswith(subject_type + ":")]
     found += ["%s:%s" % (subject_type, one) for one in OBJECTS.get(subject_type, ())]
     return "%s:%s" % (of, random.choice(OBJECTS[of])), name, random.choice(found), relation

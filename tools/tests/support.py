@@ -11,6 +11,7 @@ from typing import NamedTuple
 from unittest import mock
 
 from importing.command import main as import_main
+from importing.refusals import HINT
 from lib.maker import record
 from lib.programs import loaded_file
 from lib.trace import read_trace
@@ -18,6 +19,16 @@ from lib.trace import read_trace
 TOOLS = os.path.dirname(os.path.dirname(os.path.abspath(__file__)))
 TOP = os.path.dirname(TOOLS)
 EXAMPLES = os.path.join(TOP, "examples")
+
+
+@contextlib.contextmanager
+def within(folder):
+    before = os.getcwd()
+    os.chdir(folder)
+    try:
+        yield
+    finally:
+        os.chdir(before)
 
 
 class Run(NamedTuple):
@@ -60,7 +71,7 @@ class Case(unittest.TestCase):
         """A run of a tool in this process, which is quicker: its status and what it wrote."""
         out, err = io.StringIO(), io.StringIO()
         given = io.TextIOWrapper(io.BytesIO(stdin.encode()))
-        with contextlib.chdir(self.room), contextlib.redirect_stdout(out), contextlib.redirect_stderr(err), \
+        with within(self.room), contextlib.redirect_stdout(out), contextlib.redirect_stderr(err), \
                 mock.patch.object(sys, "argv", [tool, *words]), mock.patch.object(sys, "stdin", given):
             try:
                 status = loaded_file(os.path.join(TOOLS, tool)).main()
@@ -71,7 +82,7 @@ class Case(unittest.TestCase):
     def run_import(self, *words):
         """The status and the standard error of an import in the folder."""
         said = io.StringIO()
-        with contextlib.chdir(self.room), contextlib.redirect_stderr(said):
+        with within(self.room), contextlib.redirect_stderr(said):
             status = import_main(list(words))
         return status, said.getvalue()
 
@@ -87,9 +98,10 @@ class Case(unittest.TestCase):
         self.assertEqual(status, 2, said)
         self.assertFalse(os.path.exists(self.path("trace.jsonl")))
         self.assertFalse(os.path.exists(self.path("ids.jsonl")))
-        lines = said.splitlines()
+        lines = [line for line in said.splitlines() if not line.startswith("passed over") and " is read as " not in line]
         self.assertEqual(lines[-1], "refused %d" % (len(lines) - 1))
-        return lines[:-1]
+        self.hinted = [line for line in lines if line.endswith(HINT)]
+        return [line[:-len(HINT)] if line.endswith(HINT) else line for line in lines[:-1]]
 
     def audited(self, trace="trace.jsonl"):
         """The report of the program on a trace with made evidence."""

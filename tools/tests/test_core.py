@@ -131,6 +131,17 @@ class Timestamps(CoreCase):
         self.assertEqual(self.audited(), "entries 1\nfindings 0\nverdict clean\n")
 
 
+    def test_what_new_rules_leave_out_stays_declared_and_unread(self):
+        change = {"event": "rules", "revision": 3, "namespaces": [{"name": "doc", "relations": [
+            {"name": "viewer", "rewrite": {"this": {}}}, {"name": "reader", "rewrite": {"computed": "viewer"}}]}]}
+        self.imported("events", "--from-empty", self.given(
+            RULES, write(1, rel("1", "parent", "2", "doc"), rel("2")), check(1, goal=rel("1", "reader")), change,
+            check(3, False, goal=rel("1", "reader")), {"event": "rules", "revision": 4, "namespaces": []}))
+        rows = self.rows("trace.jsonl")
+        self.assertEqual([one["name"] for one in rows[-2]["relations"]], ["viewer", "parent", "reader"])
+        self.assertEqual(self.audited(), "entries 2\nfindings 0\nverdict clean\n")
+
+
 class Order(CoreCase):
     def two(self, *words, first, second):
         return ("events", "--from-empty", *words, self.given(RULES, *first, name="one"), self.given(*second, name="two"))
@@ -200,7 +211,7 @@ class Refusals(CoreCase):
     def test_tuples_and_versions(self):
         self.assertEqual(self.refusals(
             RULES, write(1, rel(), rel()), write(2, rel(), remove=[rel()]), write(3, rel(relation="x")), content(3, "v"),
-            content(3, "v"), content(3, None) | {"version": "w"}), [
+            content(4, "v"), content(3, None) | {"version": "w"}), [
             "log:2: doc:1#viewer@user:a is touched twice in one commit, at log:2 too",
             "log:3: doc:1#viewer@user:a is touched twice in one commit, at log:3 too",
             "log:4: tuple of a relation that the rules do not have: doc:1#x@user:a",
@@ -235,20 +246,18 @@ class Refusals(CoreCase):
         self.assertEqual(self.refusals(many)[0], "log:1: namespace n256 is one more than the 256 of a trace")
         self.assertEqual(self.refusals(wide), ["log:1: wide has 257 relations, and a trace 256 at most",
                                                "log:1: the rule of deep#r is deeper than 32"])
-        change = {"event": "rules", "revision": 1, "namespaces": [{"name": "doc", "relations": [{"name": "viewer"}]}]}
-        other = {"event": "rules", "revision": 2, "namespaces": []}
-        self.assertEqual(self.refusals(RULES, RULES, change, other), [
-            "log:2: namespace doc stands twice in the first rules",
-            "log:3: the new rules leave out doc#parent, which a trace has no form for",
-            "log:4: the new rules leave out namespace doc, which a trace has no form for"])
+        self.assertEqual(self.refusals(RULES, RULES), ["log:2: namespace doc stands twice in the first rules"])
 
     def test_more_than_a_trace_takes(self):
         changes = [{"event": "rules", "revision": at, "namespaces": [
             RULES["namespaces"][0], {"name": "other%d" % at, "relations": []}]} for at in (1, 2)]
         changes[1]["namespaces"].append(changes[0]["namespaces"][1])
-        with mock.patch.object(limits, "CHANGES", 1), mock.patch.object(limits, "INPUT_BYTES", 100):
+        with mock.patch.object(limits, "CHANGES", 1):
             self.assertEqual(self.refusals(RULES, *changes), ["log:3: more than 1 changes of rules"])
-            self.assertEqual(self.refusals(RULES), ["log:1: the trace has 245 bytes, and one has at most 100"])
+        with mock.patch.object(limits, "INPUT_BYTES", 100):
+            self.lines(RULES)
+        self.assertEqual(self.said.splitlines()[-1], "the trace has 308 bytes, and one program takes 100: audit it in parts, by "
+                         "tools/parts cut 5 trace.jsonl FOLDER")
 
     def test_more_strata_than_a_trace_has(self):
         relations = [{"name": "r0"}] + [{"name": "r%d" % n, "rewrite": {"exclusion": {
@@ -288,14 +297,14 @@ class LeftOut(CoreCase):
 
     def test_checks_that_hang_on_a_rule(self):
         self.put("schema", "definition user {}\ndefinition doc {\n relation up: doc\n relation own: user | doc#open\n"
-                 " permission lost = own - nil\n permission open = lost + own\n permission far = up->open\n}\n")
+                 " permission lost = own - self\n permission open = lost + own\n permission far = up->open\n}\n")
         self.put("log", [{"request": {"resource": {"objectType": "doc", "objectId": "1"}, "permission": name,
                                       "subject": {"object": {"objectType": "user", "objectId": "a"}}},
                           "response": {"checkedAt": {"token": "5"}, "permissionship": "PERMISSIONSHIP_NO_PERMISSION"}}
                          for name in ("lost", "open", "far", "own", "up")])
         self.put("base", "doc:1#up@doc:2\n")
         words = ["spicedb", "--schema", "schema", "--base", "base", "--base-at", "5", "--skip-unmapped", "log"]
-        self.assertIn("left out 3: check that hangs on a tuple or rule that was left out\nleft out 1: nil\n", self.imported(*words))
+        self.assertIn("left out 3: check that hangs on a tuple or rule that was left out\nleft out 1: self\n", self.imported(*words))
         self.assertEqual([row["goal"] for row in self.rows("trace.jsonl") if row["kind"] == "check"],
                          ["doc:1#own@2", "doc:1#up@2"])
 

@@ -89,8 +89,10 @@ class Fuzz(Case):
         """Each way in which the tools deny an answer."""
         cases = {case.name: case for case in worked_cases()}
         for name, report, told in (
-                ("banned_viewer_answered_yes", CLEAN, "line 4: no finding, and by the tools the reply is wrong"),
-                ("one_proved_check", DIRTY, "line 3: line 3: F10 wrong reply, and by the tools the reply is right"),
+                ("banned_viewer_answered_yes", CLEAN, "line 4: no finding, and the tools say F10 wrong reply"),
+                ("one_proved_check", DIRTY, "line 3: F10 wrong reply, and the tools say no finding"),
+                ("viewer_of_parent_folder_without_its_premise", CLEAN, "line 4: no finding, and the tools say F8 bad evidence at step 1"),
+                ("empty_no_step_is_silent", DIRTY, "line 3: F10 wrong reply, and the tools say F9 silent evidence"),
                 ("check_older_than_its_zookie", CLEAN, "[] of tokens, and the tools say ['line 5: F1 stale']"),
                 ("empty_trace_is_clean", CLEAN, "entries 1, and the tools say 0"),
                 ("check_line_cut", CLEAN, "'' on standard error, and the tools say 'trace line 3: not JSON'")):

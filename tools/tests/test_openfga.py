@@ -48,7 +48,7 @@ class Refusals(Case):
         log = [change("user:a"), change("user:*"), change("user:a", condition={"name": "weekday"}), change("robot:a"),
                change("user:a", "writer"), change("user:a", thing="paper:1")]
         self.assertEqual(self.refusals(log), [
-            "log:2: typed wildcard in a tuple: doc:1#viewer@user:*",
+            "log:2: tuple that the model does not take: doc:1#viewer@user:*",
             "log:3: condition on a tuple: doc:1#viewer@user:a",
             "log:4: tuple that the model does not take: doc:1#viewer@robot:a",
             "log:5: tuple that the model does not take: doc:1#writer@user:a",
@@ -80,10 +80,10 @@ class Refusals(Case):
             "log:4: check of a relation that the rules do not have: doc:1#writer@user:a",
             "log:5: contextual tuples: doc:1#viewer@user:a",
             "log:6: context of conditions: doc:1#viewer@user:a",
-            "log:7: check with another model: N, and the model is M",
+            "log:7: check with another model: doc:1#viewer@user:a",
             "log:8: the response has no `allowed`",
-            "log:9: the check has no `snapshot`, the timestamp of the newest change that it saw",
-            "log:10: `token` is no timestamp of a change",
+            "log:9: the check has none of `snapshot` and `snapshot_between`; give one",
+            "log:10: `token` is no place in the changes feed and no timestamp",
             "log:11: `version` is no text",
             "log:12: `content` is no object",
             "log:13: a content check has a version exactly where its reply is true",
@@ -106,13 +106,19 @@ class Refusals(Case):
         for rewrite, text in cases.items():
             self.assertIn("model.json:10: " + text, self.refusals([change("user:a")], MODEL % rewrite))
 
+    def test_a_tupleset_with_a_wildcard(self):
+        ttu = '{"tupleToUserset": {"tupleset": {"relation": "parent"}, "computedUserset": {"relation": "viewer"}}}'
+        model = (MODEL % ttu).replace('[{"type": "doc"}]', '[{"type": "doc"}, {"type": "doc", "wildcard": {}}]')
+        self.assertEqual(self.refusals([change("user:a")], model)[0],
+                         "model.json:10: doc#viewer goes on from doc#parent, which takes a wildcard: doc:*")
+
     def test_models_by_line(self):
         model = MODEL % THIS
         wild = model.replace('"viewer": {"directly_related_user_types": [', '"viewer": {"directly_related_user_types": [\n'
                              '{"type": "user", "wildcard": {}},\n{"type": "user", "condition": "weekday"},\n')
         wild = wild.replace('"id": "M",', '"id": "M", "conditions": {\n"weekday": {"expression": "true"}},')
         self.assertEqual(self.refusals([], wild), [
-            "model.json:3: condition: weekday", "model.json:16: typed wildcard: user of doc#viewer",
+            "model.json:3: condition: weekday",
             "model.json:17: condition: weekday on user of doc#viewer"])
         self.assertEqual(self.refusals([], model.replace('"1.1"', '"1.0"')),
                          ["model.json:2: schema version '1.0': only 1.1 and 1.2 are mapped"])
@@ -164,9 +170,96 @@ class Refusals(Case):
         self.put("log", [check(at="2023-01-01T00:00:00Z"), change("user:b", at="2023-01-01T00:00:00Z")])
         words = ("openfga", "--model", "model.json", "--base", "base.json", "--base-at", "2024-01-01T00:00:00Z", "log")
         self.assertEqual(self.refused(*words), [
-            "base.json:3: typed wildcard in a tuple: doc:1#viewer@user:*", "base.json:4: a tuple key has no `relation`",
+            "base.json:3: tuple that the model does not take: doc:1#viewer@user:*", "base.json:4: a tuple key has no `relation`",
             "log:1: check before the base state: its snapshot is 2023-01-01T00:00:00Z",
             "log:2: its revision 2023-01-01T00:00:00Z is not later than that of the base state"])
+
+
+class Places(Case):
+    """Revisions are places in the changes feed, and timestamps are labels."""
+
+    def setUp(self):
+        super().setUp()
+        self.put("model.json", MODEL % THIS)
+
+    def at(self, seconds):
+        return "2024-01-01T00:00:%02dZ" % seconds
+
+    def words(self, log, *more):
+        self.put("log", list(log))
+        return ("openfga", "--model", "model.json", *(more or ["--from-empty"]), "log")
+
+    def refusals(self, log, *more):
+        return self.refused(*self.words(log, *more))
+
+    def audit(self, log, *more):
+        self.said = self.imported(*self.words(log, *more)).splitlines()
+        return self.audited().splitlines()
+
+    def test_one_timestamp_more_than_once(self):
+        log = [change("user:a", at=self.at(1)), change("user:a", at=self.at(1), operation="DELETE"), change("user:b", at=self.at(2)),
+               change("user:c", at=self.at(1)),
+               *[check(allowed=allowed, at=place) for place, allowed in ((0, False), (1, True), (2, False), (4, False))],
+               check("user:c", at=4), check("user:c", allowed=False, at=3), check("user:c", at=self.at(2)), check("user:c", at=3)]
+        self.assertEqual(self.audit(log), ["line 14: F10 wrong reply", "entries 8", "findings 1", "verdict dirty"])
+        self.assertEqual([row["at"] for row in self.rows("trace.jsonl") if row["kind"] == "commit"], [2, 3, 4, 5])
+
+    def test_changes_of_one_timestamp_are_one_commit_where_no_check_looks_between(self):
+        log = [change("user:a"), change("user:b"), change("user:c"), change("user:d"), check("user:b", at=2), check("user:d")]
+        self.audit(log)
+        self.assertEqual([row["add"] for row in self.rows("trace.jsonl") if row["kind"] == "commit"],
+                         [["doc:1#viewer@1", "doc:1#viewer@2"], ["doc:1#viewer@3", "doc:1#viewer@4"]])
+
+    def test_what_is_not_one_place(self):
+        log = [change("user:a", at=self.at(1)), change("user:b", at=self.at(3)), change("user:c", at=self.at(1)),
+               check(at=self.at(1)), check(at=4), check(snapshot_between=[2, 1], at=None), check(snapshot_between=[1, 2]),
+               check(snapshot_between=[1], at=None), check(snapshot_between=[1, "x"], at=None), check(token=9, at=3), check(at=-1),
+               check(at=True)]
+        self.assertEqual(self.refusals(log), [
+            "log:4: check without one snapshot: snapshot 2024-01-01T00:00:01Z is not one place: changes at or before it stand "
+            "behind later ones; give the place in the feed",
+            "log:5: check without one snapshot: place 4 is beyond the feed, which ends at place 3",
+            "log:6: check without one snapshot: `snapshot_between` is no range: place 2 stands behind place 1",
+            "log:7: the check has both of `snapshot` and `snapshot_between`; give one",
+            "log:8: `snapshot_between` is no list of two places or timestamps",
+            "log:9: `snapshot_between` is no place in the changes feed and no timestamp",
+            "log:10: check without one snapshot: place 9 is beyond the feed, which ends at place 3",
+            "log:11: `snapshot` is no place in the changes feed and no timestamp",
+            "log:12: `snapshot` is no place in the changes feed and no timestamp"])
+
+    def test_places_go_on_behind_a_base_state(self):
+        self.put("base.json", {})
+        words = ("--base", "base.json", "--base-at", "7")
+        self.put("base.json", [{"key": change("user:a")["tuple_key"]}])
+        self.assertEqual(self.audit([change("user:b"), check(at=7), check("user:b", at=7, allowed=False), check("user:b", at=8)],
+                                    *words)[-1], "verdict clean")
+        os.remove(self.path("trace.jsonl"))
+        os.remove(self.path("ids.jsonl"))
+        self.assertEqual(self.refusals([change("user:b"), check(at=6), check(at=9)], *words), [
+            "log:2: check before the base state: its snapshot is place 6",
+            "log:3: check without one snapshot: place 9 is beyond the feed, which ends at place 8"])
+
+    def test_between_two_places(self):
+        log = [change("user:a", at=self.at(1)), change("user:a", at=self.at(2), operation="DELETE"), change("user:b", at=self.at(2)),
+               check(snapshot_between=[0, 3], at=None), check("user:b", snapshot_between=[1, 2], at=None),
+               check("user:b", snapshot_between=[self.at(1), self.at(2)], at=None)]
+        self.assertEqual(self.audit(log), ["line 7: F10 wrong reply", "line 8: F10 wrong reply", "entries 4", "findings 2",
+                                           "verdict dirty"])
+        self.assertEqual(self.said[:2], ["commits 3, checks 3, content checks 0",
+                                         "between two states 3: 2 right at one of them, 1 wrong at each (2 entries)"])
+
+    def test_a_state_without_another_finding_is_taken(self):
+        """The token demands place 2, and a reply of place 2 or 3 is right; the content's token is that of place 2."""
+        content = {"version": "v", "token": 2}
+        log = [change("user:a", at=self.at(1)), change("user:b", at=self.at(2)), change("user:c", at=self.at(3)),
+               check(snapshot_between=[1, 3], at=None, token=2), check(snapshot_between=[1, 2], at=None, content=content)]
+        self.assertEqual(self.audit(log), ["line 7: F3 not latest, see line 5", "entries 2", "findings 1", "verdict dirty"])
+        self.assertEqual([row["snapshot"] for row in self.rows("trace.jsonl")[-2:]], [3, 2])
+
+    def test_more_states_than_are_looked_at(self):
+        log = [change("user:u%d" % number, at=self.at(number % 60)) for number in range(1200)]
+        self.assertEqual(self.refusals(log + [check(snapshot_between=[1, 1200], at=None)]), [
+            "log:1201: `snapshot_between` takes in 1200 commits, and 1000 states at most are looked at"])
 
 
 class Mapped(Case):

@@ -19,6 +19,7 @@ entries 11
 findings 10
 verdict dirty
 """
+SUMS = "1 reply wrong, 2 stale answers that let someone in, 0 that kept someone out, 3 undecided, 4 harmless"
 
 
 class Reports(Case):
@@ -33,31 +34,60 @@ class Reports(Case):
     def test_json_lines(self):
         run = self.report()
         self.assertEqual((run.returncode, run.stderr), (0, ""))
-        rows = [json.loads(line) for line in run.stdout.splitlines()]
-        self.assertEqual([row["finding"] for row in rows], ["F%d" % number for number in range(1, 11)])
-        self.assertEqual(rows[0], {"line": 5, "finding": "F1", "text": "stale", "kind": "check", "goal": "doc:a#viewer@1",
+        sums, *rows = [json.loads(line) for line in run.stdout.splitlines()]
+        self.assertEqual(sums, {"sums": {"wrong": 1, "let_in": 2, "kept_out": 0, "undecided": 3, "harmless": 4, "text": SUMS},
+                                "entries": 11, "findings": 10, "told": 10, "ignored": 0, "known": 0, "verdict": "dirty",
+                                "named": False})
+        self.assertEqual([(row["finding"], row["effect"], row["severity"]) for row in rows], [
+            ("F10", "wrong", "error"), ("F1", "changed", "error"), ("F3", "changed", "error"), ("F7", "undecided", "warning"),
+            ("F8", "undecided", "warning"), ("F9", "undecided", "warning"), ("F2", "none", "note"), ("F4", "none", "note"),
+            ("F5", "none", "note"), ("F6", "none", "note")])
+        self.assertRegex(rows[1].pop("key"), "^[0-9a-f]{16}$")
+        self.assertEqual(rows[1], {"line": 5, "finding": "F1", "text": "stale", "effect": "changed", "severity": "error",
+                                   "outcome": "let in", "seen": 7, "kind": "check", "goal": "doc:a#viewer@1",
                                    "snapshot": 5, "reply": True, "zookie": "z1-0000000000000007", "zookie_at": 7})
-        self.assertEqual([(row["related"], row["related_at"]) for row in rows[1:4]], [(3, 5), (4, 7), (9, 9)])
-        self.assertEqual((rows[7]["step"], rows[5]["version"]), (1, "v4"))
+        by_finding = {row["finding"]: row for row in rows}
+        self.assertEqual([(by_finding[one]["related"], by_finding[one]["related_at"]) for one in ("F2", "F3", "F4")],
+                         [(3, 5), (4, 7), (9, 9)])
+        self.assertEqual((by_finding["F8"]["step"], by_finding["F6"]["version"]), (1, "v4"))
+
+    def test_text(self):
+        lines = self.report("--form", "text").stdout.splitlines()
+        self.assertEqual(lines[0], SUMS)
+        self.assertEqual(lines[2], "line 5: F1 stale: check of doc:a#viewer@1 at snapshot 5 replied true, token of 7, "
+                         "effect changed: someone was let in")
+        self.assertEqual(len(lines), 11)
 
     def test_junit(self):
         run = self.report("--form", "junit")
         suite = xml.etree.ElementTree.fromstring(run.stdout)[0]
-        self.assertEqual((suite.get("tests"), suite.get("failures"), len(suite)), ("11", "10", 11))
-        self.assertEqual(suite[0].get("name"), "line 3: doc:a#viewer@1")
-        self.assertIsNone(suite[0].find("failure"))
-        self.assertEqual(suite[1].find("failure").get("message"), "F1 stale")
-        self.assertIn("see line 9", suite[4].find("failure").text)
+        self.assertEqual((suite.get("tests"), suite.get("failures"), len(suite)), ("11", "10", 12))
+        self.assertEqual(suite[0][0].get("value"), SUMS)
+        self.assertEqual(suite[2].get("name"), "line 5: doc:a#viewer@1")
+        self.assertEqual((suite[2].get("file"), suite[2].get("line")), ("trace.jsonl", "5"))
+        self.assertEqual(suite[2].find("failure").get("message"), "F1 stale, effect changed")
+        self.assertIn("see line 4", suite[3].find("failure").text)
+        self.assertEqual(suite[11].get("name"), "line 3: doc:a#viewer@1")
+        self.assertIsNone(suite[11].find("failure"))
 
     def test_annotations(self):
         lines = self.report("--form", "annotations").stdout.splitlines()
-        self.assertEqual(lines[3], "::error file=trace.jsonl,line=8,title=F4 open snapshot::F4 open snapshot: check of "
-                         "doc:a#viewer@1 at snapshot 9 replied false, see line 9")
-        self.assertEqual(len(lines), 10)
+        self.assertEqual(lines[0], "::notice title=new_enemy::" + SUMS)
+        self.assertEqual(lines[8], "::notice file=trace.jsonl,line=8,title=F4 open snapshot%2C effect none::F4 open snapshot: check "
+                         "of doc:a#viewer@1 at snapshot 9 replied false, see line 9, effect none")
+        self.assertEqual([line.split()[0] for line in lines], ["::notice"] + ["::error"] * 3 + ["::warning"] * 3 + ["::notice"] * 4)
+
+    def test_the_place_in_the_log(self):
+        self.put("trace.jsonl", self.get("trace.jsonl").replace('"snapshot":5,"reply":true,"zookie":"z1-0000000000000007"',
+                                                                '"snapshot":5,"reply":true,"zookie":"z1-0000000000000007","from":"a:b.jsonl:41"'))
+        row = json.loads(self.report().stdout.splitlines()[2])
+        self.assertEqual((row["from"], row["file"], row["file_line"]), ("a:b.jsonl:41", "a:b.jsonl", 41))
+        self.assertIn("::error file=a%3Ab.jsonl,line=41,", self.report("--form", "annotations").stdout)
+        self.assertIn('file="a:b.jsonl" line="41"', self.report("--form", "junit").stdout)
 
     def test_names(self):
         self.put("ids.jsonl", '{"kind":"user","type":"user","id":"anne,\\n","number":1}\n')
-        self.assertEqual(json.loads(self.report("--ids", "ids.jsonl").stdout.splitlines()[0])["named"],
+        self.assertEqual(json.loads(self.report("--ids", "ids.jsonl").stdout.splitlines()[2])["named"],
                          "doc:a#viewer@user:anne,\n")
         self.assertIn("@user:anne,%0A at", self.report("--ids", "ids.jsonl", "--form", "annotations").stdout)
         self.assertIn("@user:anne,? at", self.report("--ids", "ids.jsonl", "--form", "junit").stdout)
@@ -65,7 +95,8 @@ class Reports(Case):
     def test_clean(self):
         self.put("trace.jsonl", "")
         run = self.report(text="entries 0\nfindings 0\nverdict clean\n")
-        self.assertEqual((run.returncode, run.stdout), (0, ""))
+        self.assertEqual((run.returncode, json.loads(run.stdout)["sums"]["text"]), (
+            0, "0 replies wrong, 0 stale answers that let someone in, 0 that kept someone out, 0 harmless"))
 
     def test_reports_that_are_not_whole(self):
         lines = FOUND.splitlines()
@@ -79,6 +110,7 @@ class Reports(Case):
             FOUND.replace(" at step 1", ""): "report line 8: F8 is not `line 13: F8 bad evidence`",
             FOUND.replace("line 5:", "line 4:"): "report line 1: line 4 of the trace is no entry",
             FOUND.replace("see line 9", "see line 99"): "report line 4: the trace has no entry or commit on line 99",
+            FOUND.replace("line 5", "line " + "5" * 5000): "report line 1: no finding: %r" % ("line " + "5" * 195),
             FOUND.replace("entries 11", "entries 12"): "the report has 12 entries, and the trace 11"}
         for text, told in cases.items():
             run = self.report(text=text)

@@ -1,6 +1,7 @@
 """Random stores of each service, imported and audited, against a plain evaluator of the service's own meaning."""
 import base64
 import json
+from collections import Counter
 from random import Random
 
 from tests import openfga_service, spicedb_service
@@ -60,14 +61,59 @@ class OpenFga:
 
 
 class OpenFgaWithWildcards(OpenFga):
+    """A store whose tuples also name all users of a type."""
+
+    def __init__(self, random):
+        super().__init__(random)
+        openfga_service.allow(self.model, wildcard={})
+        self.rules = json.dumps(self.model)
+
+
+class OpenFgaWithConditions(OpenFga):
     """A store that also has what a trace can't say."""
 
     words = OpenFga.words[:-1] + ("--skip-unmapped", "log")
 
     def __init__(self, random):
         super().__init__(random)
-        openfga_service.allow_wildcards(self.model)
+        openfga_service.allow(self.model, condition="weekday")
         self.rules = json.dumps(self.model)
+
+    def write(self, at):
+        """Some tuples have a condition, which holds."""
+        page = super().write(at)
+        for change in page["changes"]:
+            if change["operation"].endswith("WRITE") and self.random.random() < 0.1:
+                change["tuple_key"]["condition"] = {"name": "weekday"}
+        return page
+
+
+class OpenFgaBetween(OpenFga):
+    """A store whose checks were evaluated somewhere between two places of its feed."""
+
+    def changes(self):
+        """Single changes, with the state behind each; their timestamps say little."""
+        states = [self.state()]
+        log = []
+        for at in range(1, WRITES // 2):
+            for change in self.write(at // 2)["changes"]:
+                key = tuple(change["tuple_key"].values())
+                states.append(states[-1] | {key} if change["operation"].endswith("WRITE") else states[-1] - {key})
+                log.append(change)
+        return log, states
+
+    def check_between(self, states):
+        """A random check, the answers of all states in between, and the line for a reply."""
+        low = self.random.randrange(len(states))
+        high = min(len(states) - 1, low + self.random.choice([0, 1, 2, 5, 9]))
+        seed = self.random.random()
+        answers = set()
+        for at in range(low, high + 1):
+            self.random.seed(seed)
+            answer, line_for = self.check(at, states[at])
+            answers.add(answer)
+        return answers, high - low + 1, lambda reply: {
+            **{key: value for key, value in line_for(reply).items() if key != "snapshot"}, "snapshot_between": [low, high]}
 
 
 class SpiceDb:
@@ -116,6 +162,23 @@ class SpiceDb:
             "permissionship": "PERMISSIONSHIP_%s_PERMISSION" % ("HAS" if reply else "NO")}}
 
 
+class SpiceDbWithWildcards(SpiceDb):
+    """A store whose relationships also name all users of a type."""
+
+    def __init__(self, random):
+        super().__init__(random)
+        spicedb_service.allow_wildcards(self.schema)
+        self.rules = spicedb_service.text_of(self.schema)
+
+
+class SpiceDbWithMixedOperators(SpiceDb):
+    """A store whose schema has operators side by side, where SpiceDB needs no parentheses."""
+
+    def __init__(self, random):
+        super().__init__(random)
+        self.rules = spicedb_service.text_of(self.schema, random)
+
+
 class RoundTrips(Case):
     def rounds(self, make):
         """Each check is logged with both replies, and the audit has to refuse the wrong one alone."""
@@ -162,7 +225,7 @@ class RoundTrips(Case):
         kept = 0
         for number in range(MODELS):
             random = Random("left out %d" % number)
-            service = OpenFgaWithWildcards(random)
+            service = OpenFgaWithConditions(random)
             log, states = [], []
             for at in range(1, 4):
                 log.append(service.write(at))
@@ -179,8 +242,42 @@ class RoundTrips(Case):
         self.assertGreater(kept, MODELS * CHECKS // 4)
         self.assertLess(kept, MODELS * CHECKS)
 
+    def test_checks_between_two_places(self):
+        """Each reply is right where some state in between has it; a wrong one is wrong at each."""
+        both = 0
+        for number in range(MODELS):
+            service = OpenFgaBetween(Random("between %d" % number))
+            log, states = service.changes()
+            wrong, entries = {}, 0
+            for _ in range(CHECKS):
+                answers, count, line_for = service.check_between(states)
+                both += len(answers) == 2
+                for reply in (True, False):
+                    log.append(line_for(reply))
+                    entries += 1 if reply in answers else count
+                    wrong.update({} if reply in answers else {"log:%d" % len(log): count})
+            self.put("rules", service.rules)
+            self.put("log", log)
+            self.imported(*service.words, "--ids", "ids%d.jsonl" % number)
+            rows = self.rows("trace.jsonl")
+            *findings, first, _, _ = self.audited().splitlines()
+            self.assertEqual(first, "entries %d" % entries)
+            found = Counter(rows[int(line.split()[1].rstrip(":")) - 1]["from"] for line in findings)
+            self.assertEqual({line.split(": ")[1] for line in findings}, {"F10 wrong reply"})
+            self.assertEqual(found, wrong, "model %d" % number)
+        self.assertGreater(both, MODELS)
+
     def test_openfga(self):
         self.rounds(OpenFga)
 
     def test_spicedb(self):
         self.rounds(SpiceDb)
+
+    def test_spicedb_with_mixed_operators(self):
+        self.rounds(SpiceDbWithMixedOperators)
+
+    def test_openfga_with_wildcards(self):
+        self.rounds(OpenFgaWithWildcards)
+
+    def test_spicedb_with_wildcards(self):
+        self.rounds(SpiceDbWithWildcards)

@@ -1,6 +1,7 @@
 """The front end for SpiceDB: what it maps, and what it refuses by file and line."""
 import os
 
+from importing.zedtokens import read_revision
 from tests.support import EXAMPLES, Case
 from tests.test_round_trips import token_text
 
@@ -50,11 +51,8 @@ class Refusals(Case):
 
     def test_permissions_by_line(self):
         cases = {
-            "viewer + banned - parent": "- beside + without parentheses: doc#view",
-            "viewer\n & banned + viewer": "+ beside & without parentheses: doc#view",
             "parent.all(view)": ".all(): doc#view",
             "parent->parent->view": "arrow behind an arrow: doc#view",
-            "viewer - nil": "nil: doc#view",
             "self": "self: doc#view",
             "editor": "doc#view reads editor, which doc does not define",
             "other->view": "doc#view reads other, which doc does not define",
@@ -70,9 +68,6 @@ class Refusals(Case):
             line = 9 + (expression.count("\n") or text.startswith("')'") or text.endswith("'}'"))
             self.assertIn("schema.zed:%d: %s" % (line, text), refusals)
 
-    def test_permission_with_types(self):
-        self.assertEqual(self.refusals([], "  permission view: user = viewer"), ["schema.zed:9: type of a permission: doc#view"])
-
     def test_schema_by_line(self):
         schema = ("use expiration\ncaveat tuesday(day string) {\n  day == \"tuesday}\"\n}\ndefinition user {}\ndefinition doc {\n"
                   "  relation viewer: user:* | user with tuesday |\n    user with expiration | user with tuesday and expiration\n"
@@ -81,7 +76,6 @@ class Refusals(Case):
         self.assertEqual(self.refusals([], schema=schema), [
             "schema.zed:1: use expiration",
             "schema.zed:2: caveat: tuesday",
-            "schema.zed:7: wildcard: user of doc#viewer",
             "schema.zed:7: caveat: user of doc#viewer",
             "schema.zed:8: expiration: user of doc#viewer",
             "schema.zed:8: caveat: user of doc#viewer",
@@ -100,6 +94,11 @@ class Refusals(Case):
             "schema.zed:3: doc#owner takes cat, which the schema does not define",
             "schema.zed:3: doc#owner takes user#x, which the schema does not define"])
 
+    def test_an_arrow_from_a_wildcard(self):
+        schema = "definition user {}\ndefinition doc {\n  relation up: doc | doc:*\n  permission view = up->view\n}\n"
+        self.assertEqual(self.refusals([], schema=schema),
+                         ["schema.zed:4: doc#view goes on from doc#up, which takes a wildcard: doc:*"])
+
     def test_watch_by_line(self):
         log = [watch(1, update("user:a")), watch(2, update("user:*")), watch(3, update("user:a", optionalCaveat={"caveatName": "c"})),
                watch(4, update("user:a", optionalExpiresAt="2024-01-01T00:00:00Z")), watch(5, update("doc:1")),
@@ -108,16 +107,16 @@ class Refusals(Case):
                watch(9, {"operation": "OPERATION_TOUCH"}), {"error": {"code": 5}}, watch(10, isCheckpoint=True),
                {"result": {"updates": 7, "changesThrough": {"token": token_text(11)}}}]
         self.assertEqual(self.refusals(log), [
-            "log:2: wildcard: doc:1#viewer@user:*", "log:3: caveat: doc:1#viewer@user:a",
+            "log:2: relationship that the schema does not take: doc:1#viewer@user:*", "log:3: caveat: doc:1#viewer@user:a",
             "log:4: expiration: doc:1#viewer@user:a",
             "log:5: relationship that the schema does not take: doc:1#viewer@doc:1",
             "log:6: relationship that the schema does not take: doc:1#view@user:a",
             "log:7: unknown operation 'OPERATION_MOVE'",
-            "log:8: the schema changes here; the rules of one schema are imported",
-            "log:9: `changesThrough` has no token whose revision is a number",
-            "log:10: `changesThrough` has no token whose revision is a number",
+            "log:8: the schema changes here, and the log has no WriteSchema of this revision",
+            "log:9: `changesThrough` has no token whose revision is a number or a snapshot of PostgreSQL",
+            "log:10: `changesThrough` has no token whose revision is a number or a snapshot of PostgreSQL",
             "log:11: a relationship has no relation",
-            "log:12: neither a response of Watch nor a check with its `request`", "log:14: `updates` is no list"])
+            "log:14: `updates` is no list"])
 
     def test_checks_by_line(self):
         log = [watch(5, update("user:a")), check(subject="group:g#member"), check(subject="user:*"), check(permission="edit"),
@@ -130,11 +129,11 @@ class Refusals(Case):
             "log:4: check of a relation that the rules do not have: doc:1#edit@user:a",
             "log:5: conditional permission: doc:1#view@user:a", "log:6: context of caveats: doc:1#view@user:a",
             "log:7: the response has no permissionship",
-            "log:8: `checkedAt` of the response has no token whose revision is a number",
+            "log:8: `checkedAt` of the response has no token whose revision is a number or a snapshot of PostgreSQL",
             "log:9: the request has no permission",
-            "log:10: the request's consistency has no token whose revision is a number",
+            "log:10: the request's consistency has no token whose revision is a number or a snapshot of PostgreSQL",
             "log:11: the subject has no type and id", "log:12: `content` is no object",
-            "log:13: `content` has no token whose revision is a number", "log:14: `version` is no text"])
+            "log:13: `content` has no token whose revision is a number or a snapshot of PostgreSQL", "log:14: `version` is no text"])
 
     def test_base_by_line(self):
         self.put("schema.zed", SCHEMA % VIEW)
@@ -143,7 +142,7 @@ class Refusals(Case):
         self.put("log", [check(at=4), watch(5, update("user:c"))])
         words = ("spicedb", "--schema", "schema.zed", "--base", "base.txt", "--base-at", token_text(5), "log")
         self.assertEqual(self.refused(*words), [
-            "base.txt:4: wildcard: doc:1#viewer@user:*", "base.txt:5: caveat: doc:1#viewer@user:b",
+            "base.txt:4: relationship that the schema does not take: doc:1#viewer@user:*", "base.txt:5: caveat: doc:1#viewer@user:b",
             "base.txt:6: expiration: doc:1#viewer@user:b",
             "base.txt:7: no relationship `type:id#relation@type:id`: 'doc:1#viewer'",
             "base.txt:8: relationship that the schema does not take: doc:1#view@user:b",
@@ -184,6 +183,36 @@ class Mapped(Case):
             up, {"exclusion": {"base": viewer, "subtract": {"union": [banned, banned]}}}]})
         self.assertEqual(self.rule_of("((viewer)) /* or\n */ + // and\n banned"), {"union": [viewer, banned]})
 
+    def test_operators_side_by_side(self):
+        """As SpiceDB reads them: union binds closest, then intersection, then exclusion."""
+        v, b, up = {"computed": "viewer"}, {"computed": "banned"}, {"tuple_to": {"tupleset": "parent", "computed": "view"}}
+        union, both = {"union": [v, b]}, {"intersection": [v, b]}
+        for expression, wanted in (("viewer + banned - viewer", {"exclusion": {"base": union, "subtract": v}}),
+                                   ("viewer - viewer + banned", {"exclusion": {"base": v, "subtract": union}}),
+                                   ("viewer & viewer + banned", {"intersection": [v, union]}),
+                                   ("viewer + banned & viewer", {"intersection": [union, v]}),
+                                   ("viewer - viewer & banned", {"exclusion": {"base": v, "subtract": both}}),
+                                   ("viewer & banned - parent->view", {"exclusion": {"base": both, "subtract": up}}),
+                                   ("viewer - banned - viewer & viewer + banned", {"exclusion": {
+                                       "base": v, "subtract": {"union": [b, {"intersection": [v, union]}]}}})):
+            self.assertEqual(self.rule_of(expression), wanted, expression)
+        self.put("schema.zed", SCHEMA % "  permission x = viewer - banned + viewer\n  permission view = viewer & x + viewer")
+        self.put("log", [check()])
+        self.assertEqual(self.imported("spicedb", "--schema", "schema.zed", "--from-empty", "log").splitlines()[0],
+                         "schema.zed:9: `viewer - banned + viewer` is read as `viewer - (banned + viewer)`: union binds closest, "
+                         "then intersection, then exclusion")
+        self.put("schema.zed", SCHEMA % "  permission view = viewer & (viewer - banned + viewer)")
+        self.assertIn("`viewer & (viewer - (banned + viewer))`: union", self.imported("spicedb", "--schema", "schema.zed", "--from-empty", "log"))
+        self.rule_of("(viewer + banned) & (viewer - banned)")
+        self.assertNotIn("is read as", self.imported("spicedb", "--schema", "schema.zed", "--from-empty", "log"))
+
+    def test_nil_and_types_of_permissions(self):
+        self.assertEqual(self.rule_of("viewer - nil"), {"exclusion": {"base": {"computed": "viewer"}, "subtract": {"this": {}}}})
+        self.put("schema.zed", "use typechecking\n" + SCHEMA % ("  permission none = nil\n  permission view: user | group#member = viewer"))
+        self.put("log", [watch(1, update("user:a")), check(), check(permission="none", reply="NO")])
+        self.imported("spicedb", "--schema", "schema.zed", "--from-empty", "log")
+        self.assertEqual(self.audited(), "entries 2\nfindings 0\nverdict clean\n")
+
     def test_tokens(self):
         self.put("schema.zed", SCHEMA % VIEW)
         hybrid = "1700000000000000000.0000000002"
@@ -195,10 +224,9 @@ class Mapped(Case):
         self.assertEqual((rows[2]["zookie"], rows[2]["revision"]), ("z1-0000000000000002", hybrid))
 
     def test_the_old_form_of_a_token(self):
-        from importing.spicedb import revision_of
-        self.assertEqual(revision_of("EgIIKg=="), 42 * 10 ** 10)
-        for text in ("", "????", "GhUK", "Gg==", "GgQKAngx", None):
-            self.assertIsNone(revision_of(text))
+        self.assertEqual(read_revision("EgIIKg=="), (42 * 10 ** 10, None, "42"))
+        for text in ("", "????", "GhUK", "Gg==", "GgQKAngx", "GgIIAQ==", None):
+            self.assertIsNone(read_revision(text))
 
 
 class Examples(Case):

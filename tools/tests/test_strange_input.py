@@ -69,6 +69,58 @@ class StrangeInput(Case):
             self.taken("spicedb", "--schema", "schema", "--base", "base", "--base-at", "1714986000000000000",
                        *(["--skip-unmapped"] * (number % 3 == 0)), "log")
 
+    def test_calls_of_openfga(self):
+        random = Random(4)
+        language = self.read("openfga", "model.fga")
+        key = {"user": "user:anne", "relation": "viewer", "object": "document:1"}
+        model = json.loads(self.read("openfga", "model.json"))
+        log = [json.loads(self.read("openfga", "log.jsonl").splitlines()[0]),
+               {"request": {"tuple_key": key}, "response": {"allowed": False}, "snapshot": 3, "token": 1, "version": "v"},
+               {"request": {"tuple_key": key}, "response": {"allowed": False}, "snapshot_between": [0, 3]},
+               {"request": {"checks": [{"tuple_key": key, "correlation_id": "1"}]}, "response": {"result": {"1": {"allowed": False}}},
+                "snapshot": "2024-05-06T09:00:00.100Z"},
+               {"request": {"type": "document", "relation": "viewer", "user": "user:x"}, "response": {"objects": ["document:1"]}, "snapshot": 1},
+               {"request": {"object": {"type": "document", "id": "1"}, "relation": "viewer", "user_filters": [{}]},
+                "response": {"users": [{"object": {"type": "user", "id": "a"}}, {"wildcard": {"type": "user"}}]}, "snapshot": 1},
+               {"authorization_model": model}, {"request": {"tuple_key": key}, "error": {"code": 4}, "status": 500, "method": "a/Check"},
+               {"request": {"tuple_key": key}, "response": {"allowed": False}, "snapshot": 3, "newest": True, "content": {}}]
+        for number in range(ROUNDS):
+            at = random.randrange(len(language))
+            cut = random.choice(["", "[", "]", "(", ")", ":", "*", "#", " but not ", " or ", "\n", "define", "type", "{", "with"])
+            text = language[:at] + cut + language[at + random.randrange(3):] if number % 2 else language
+            store = "model: |\n%s\ntuples:\n  - user: user:a\n    relation: owner\n    object: document:1\n" % (
+                "\n".join("  " + line for line in text.splitlines()))
+            at = random.randrange(len(store))
+            self.put("store.yaml", store[:at] + random.choice("|>-:\t'\"#[& \n") + store[at:] if number % 3 else store)
+            self.put("model.fga", text)
+            self.put("log", mutated_log(random, mutated_log(random, log)))
+            rules = ["--model", "store.yaml", "--base", "store.yaml", "--base-at", "0"] if number % 3 == 0 else [
+                "--model", "model.fga", "--from-empty"]
+            self.taken("openfga", *rules, *(["--skip-unmapped"] * (number % 4 == 0)), "log")
+
+    def test_calls_of_spicedb(self):
+        random = Random(5)
+        schema = self.read("spicedb", "schema.zed")
+        log = [json.loads(line) for line in self.read("spicedb", "postgres_log.jsonl").splitlines()]
+        at, page = log[0]["response"]["checkedAt"], log[0]["request"]["resource"]
+        subject = {"object": {"objectType": "wiki/user", "objectId": "fred"}}
+        has = "LOOKUP_PERMISSIONSHIP_HAS_PERMISSION"
+        log += [{"request": {"items": []}, "response": {"checkedAt": at, "pairs": [
+                    {"request": log[0]["request"], "item": {"permissionship": "PERMISSIONSHIP_NO_PERMISSION"}}, {"request": {}, "error": {"code": 1}}]}},
+                {"request": {"resourceObjectType": "wiki/page", "permission": "read", "subject": subject},
+                 "response": [{"lookedUpAt": at, "resourceObjectId": "1", "permissionship": has}]},
+                {"request": {"resource": page, "permission": "read", "subjectObjectType": "wiki/user"},
+                 "response": {"result": {"lookedUpAt": at, "subject": {"subjectObjectId": "tom", "permissionship": has}}}},
+                {"request": {"schema": schema}, "response": {"writtenAt": log[2]["result"]["changesThrough"]}},
+                {"specversion": "1.0", "type": "x/CheckPermission", "time": "2024-01-01T00:00:00Z", "data": log[0]}]
+        for number in range(ROUNDS):
+            text = "schema: |\n%s\nrelationships: |\n  wiki/team:a#manager@wiki/user:b\n" % "\n".join("  " + line for line in schema.splitlines())
+            at = random.randrange(len(text))
+            self.put("valid.yaml", text[:at] + random.choice("|>-:\t'\"#[& \n+*") + text[at:] if number % 2 else text)
+            self.put("log", mutated_log(random, mutated_log(random, log)))
+            self.taken("spicedb", "--schema", "valid.yaml", "--base", "valid.yaml", "--base-at", "Gg4KDENPUUZFQUFvQVE9PQ==",
+                       *(["--skip-unmapped"] * (number % 3 == 0)), "log")
+
     def test_events(self):
         random = Random(3)
         events = [

@@ -1,20 +1,13 @@
-//! Tests of calls that can answer want of memory, by public calls alone. `tools/refuse_growth_of_calls` refuses the first growth of each
-//! test, then the second, and so on. A call that is refused is made once more, after what stands was compared with what stood; so each
-//! test passes whichever one growth is refused.
+//! Tests of calls that can answer want of memory and that no command of the program makes, by public calls alone; `tools/refuse_growth`
+//! tries the others on the program. `tools/refuse_growth_of_calls` refuses the first growth of each test, then the second, and so on. A
+//! call that is refused is made once more, after what stands was compared with what stood; so each test passes whichever one growth is
+//! refused.
 #![tactic(auto)]
 
-#[cfg(test)]
-mod audits;
 #[cfg(test)]
 mod chains;
 #[cfg(test)]
 mod known;
-#[cfg(test)]
-mod making;
-#[cfg(test)]
-mod readers;
-#[cfg(test)]
-mod rules;
 #[cfg(test)]
 mod slices;
 #[cfg(test)]

@@ -250,10 +250,3 @@ impl Chains {
         self.times.as_slice()
     }
 }
-
-#[cfg(test)]
-impl Chains {
-    pub(crate) fn arena(&self) -> &Arena {
-        &self.arena
-    }
-}

@@ -36,8 +36,6 @@ mod repeats;
 mod row;
 mod slots;
 mod table;
-#[cfg(test)]
-mod tests;
 mod users;
 mod words;
 

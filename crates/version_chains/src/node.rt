@@ -1,7 +1,8 @@
 //! One touch as it is kept, and its links.
 
-ghost use Rattle.std.specs.Prelude.{◌≡◌, ℕ, suc, ◌≤◌, ◌<◌, length, slice_get, Some, None, MatchOption, IfSome};
-ghost use Rattle.version_chains.specs.Jumps.{AreJumps, IsBack, StandsAt};
+ghost use Rattle.std.specs.Prelude.{◌≡◌, ℕ, suc, ◌≤◌, ◌<◌, length, slice_get, Some, None, MatchOption, IfSome, option_map};
+ghost use Rattle.version_chains.specs.Jumps as jumps;
+ghost use Rattle.version_chains.specs.Jumps.{AreJumps, IsBack, StandsAt, links_behind, node_at};
 ghost use Rattle.version_chains.specs.Placed.{most};
 ghost use Rattle.version_chains.specs.declared.node.Node.{Node};
 
@@ -23,7 +24,8 @@ pub struct Node {
 
 /// The touch at a place, which counts from 1.
 pub fn at_place(nodes: &[Node], place: u32) -> Option<&Node>
-    ensures { MatchOption result ((i : ℕ) → place ≡ suc i → length nodes.now ≤ i) (λ n. StandsAt nodes.now place n.now) }
+    ensures stands { MatchOption result ((i : ℕ) → place ≡ suc i → length nodes.now ≤ i) (λ n. StandsAt nodes.now place n.now) }
+    ensures exact { option_map (λ n. n.now) result ≡ node_at nodes.now place }
 {
     if place == 0 {
         return None;
@@ -33,8 +35,9 @@ pub fn at_place(nodes: &[Node], place: u32) -> Option<&Node>
 
 /// Where the second jump from a touch leads, where it is as long as the first.
 fn second_jump(nodes: &[Node], node: &Node) -> Option<u32>
-    ensures { AreJumps nodes.now → (i : ℕ) → slice_get nodes.now i ≡ Some node.now
+    ensures back { AreJumps nodes.now → (i : ℕ) → slice_get nodes.now i ≡ Some node.now
         → IfSome result (λ place. IsBack nodes.now node.now.tuple i place) }
+    ensures exact { result ≡ jumps.second_jump nodes.now node.now }
 {
     let first = at_place(nodes, node.jump)?;
     let second = at_place(nodes, first.jump)?;
@@ -51,6 +54,7 @@ pub fn next_links(nodes: &[Node], older: u32) -> (u32, u32)
     ensures first { older ≡ 0 → result.1 ≡ suc (length nodes.now) }
     ensures later { AreJumps nodes.now → (i : ℕ) (n : Node) → older ≡ suc i → slice_get nodes.now i ≡ Some n
         → IsBack nodes.now n.tuple i result.1 }
+    ensures exact { result ≡ links_behind nodes.now older (node_at nodes.now older) }
 {
     let Some(node) = at_place(nodes, older) else {
         return (0, nodes.len() as u32 + 1);

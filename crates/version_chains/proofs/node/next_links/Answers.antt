@@ -4,6 +4,6 @@ use Rattle.version_chains.proofs.node.next_links.Goals as goal
 
 pub returns-in_default-clause-later : goal.returns-in_default-clause-later
 returns-in_default-clause-later c jumps i n place here =
-    let past = c.in_default.ensures i place in
+    let past = c.in_default.ensures.stands i place in
     let within = slice_get_within c.args.nodes.now i n here in
     absurd (omega (arith, past, within))

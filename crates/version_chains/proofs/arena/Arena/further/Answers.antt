@@ -14,7 +14,7 @@ GoesBack i s place h = (x : Touch) → slice_get h.touches i ≡ Some x → s < 
 pub returns-in-Some-at_place : goal.returns-in-Some-at_place
 returns-in-Some-at_place c =
     let read = read_item c.self.inside.nodes.items c.deref.result.now c.args.index c.in-Some.touch.now c.deref.ensures.value c.in-Some.ensures.lookup.3.0 c.in-Some.ensures.lookup.1 in
-    let far = c.in-Some-at_place.ensures in
+    let far = c.in-Some-at_place.ensures.stands in
     subst (GoesBack c.args.index c.args.at c.in-Some.touch.now.jump) c.self.view_is
     (λ x here after.
     jump_back (tuples_of c.self.inside.rows.items) (latest_of c.self.inside.rows.items) c.self.inside.named c.self.inside.held c.self.inside.nodes.items c.self.invariant.0

@@ -1,0 +1,153 @@
+"""The revision in a ZedToken of SpiceDB: a number, or a snapshot of PostgreSQL.
+
+The forms are those of SpiceDB's public source; no service was run. A token is base64 of a protocol buffer whose field 3 has the
+datastore's revision as a text in its field 1 (in the old form field 2 has a number in its field 1). On PostgreSQL that text is
+base64 of another: 1 is xmin; 2, relative to it, xmax; 3, relative to it and packed, the transactions that were running; 4 the
+writer's own transaction; 5 a time.
+"""
+import base64
+import binascii
+import re
+from functools import lru_cache
+from typing import NamedTuple, Optional
+
+NUMBER = re.compile(r"([0-9]{1,30})(?:\.([0-9]{10}))?")
+# The decimals of PostgreSQL before it had snapshots. A hybrid clock counts nanoseconds, and is much longer.
+OLDER = re.compile(r"[0-9]{1,15}\.[0-9]{1,15}")
+SHOWN = 5
+
+
+class Malformed(Exception):
+    """Bytes that are no token."""
+
+
+class Older(Exception):
+    """A revision of PostgreSQL in the older form."""
+
+    def __init__(self) -> None:
+        super().__init__("is of SpiceDB on PostgreSQL in the older form xid.xmin, which does not say what it sees")
+
+
+class Snapshot(NamedTuple):
+    """What a transaction of PostgreSQL sees: all below xmin, and those below xmax that were not running; and its own."""
+
+    xmin: int
+    xmax: int
+    running: frozenset
+    own: Optional[int]
+
+    def sees(self, transaction: int) -> bool:
+        return transaction == self.own or transaction < self.xmin or (
+            transaction < self.xmax and transaction not in self.running)
+
+    def contains(self, other: "Snapshot") -> bool:
+        """Whether it sees all that another sees, of all transactions there are."""
+        if any(other.sees(one) and one != self.own for one in self.running):
+            return False
+        above = range(self.xmax, max(self.xmax, other.xmax))
+        hidden = {one for one in (*(other.running - {other.own}), self.own) if one is not None and one in above}
+        return len(hidden) == len(above) and (other.own is None or self.sees(other.own))
+
+    def __str__(self) -> str:
+        listed = sorted(self.running)
+        shown = ",".join(map(str, listed[:SHOWN])) + (",.." if len(listed) > SHOWN else "")
+        return "%d:%d:%s%s" % (self.xmin, self.xmax, shown, "" if self.own is None else "+%d" % self.own)
+
+
+class Revision(NamedTuple):
+    """A revision as a number that rises with the datastore's, or as a snapshot; and as it is written."""
+
+    number: Optional[int]
+    snapshot: Optional[Snapshot]
+    shown: str
+
+
+def _varint(data: bytes, at: int) -> tuple[int, int]:
+    value = 0
+    for shift in range(0, 70, 7):
+        if at >= len(data):
+            break
+        byte = data[at]
+        value |= (byte & 127) << shift
+        at += 1
+        if byte < 128:
+            return value, at
+    raise Malformed
+
+
+def fields(data: bytes) -> dict[int, list]:
+    """The fields of a protocol buffer, each a number or bytes, by their tags."""
+    found: dict[int, list] = {}
+    at = 0
+    while at < len(data):
+        tag, at = _varint(data, at)
+        kind = tag & 7
+        if kind == 0:
+            value, at = _varint(data, at)
+        elif kind in (1, 2, 5):
+            size, at = _varint(data, at) if kind == 2 else (8 if kind == 1 else 4, at)
+            value, at = data[at:at + size], at + size
+        if kind not in (0, 1, 2, 5) or at > len(data):
+            raise Malformed
+        found.setdefault(tag >> 3, []).append(value)
+    return found
+
+
+def _only(found: dict[int, list], field: int, kind: type) -> Optional[object]:
+    """The last value of a field; of another kind it is malformed."""
+    value = found.get(field, [None])[-1]
+    if not isinstance(value, (kind, type(None))):
+        raise Malformed
+    return value
+
+
+def snapshot_of(data: bytes) -> Snapshot:
+    """The snapshot of a revision of PostgreSQL; raises Malformed."""
+    found = fields(data)
+    xmin, width, own = (_only(found, field, int) for field in (1, 2, 4))
+    running = set()
+    for packed in found.get(3, ()):
+        if not isinstance(packed, bytes):
+            raise Malformed
+        at = 0
+        while at < len(packed):
+            relative, at = _varint(packed, at)
+            running.add(relative)
+    width = width or 0
+    # A number below zero has its highest bit set, and is above every width.
+    if not xmin or width >= 1 << 63 or any(relative >= width for relative in running):
+        raise Malformed
+    return Snapshot(xmin, xmin + width, frozenset(xmin + relative for relative in running), own)
+
+
+def _revision_text(token: str) -> str:
+    """The datastore's revision in a token."""
+    found = fields(base64.b64decode(token, validate=True))
+    inner = _only(found, 3, bytes)
+    if inner is not None:
+        return _only(fields(inner), 1, bytes).decode("ascii")
+    return str(int(_only(fields(_only(found, 2, bytes)), 1, int)))
+
+
+def _of_text(text: str) -> Revision:
+    if OLDER.fullmatch(text):
+        raise Older
+    number = NUMBER.fullmatch(text)
+    if number:
+        return Revision(int(number[1]) * 10 ** 10 + int(number[2] or 0), None, text)
+    snapshot = snapshot_of(base64.b64decode(text, validate=True))
+    return Revision(None, snapshot, str(snapshot))
+
+
+def read_revision(text: object) -> Optional[Revision]:
+    """The revision of a token, or of a number in its place; None where the text is neither. Raises Older."""
+    return _read_text(text) if isinstance(text, str) else None
+
+
+@lru_cache(1 << 12)
+def _read_text(text: str) -> Optional[Revision]:
+    """Many checks have one token."""
+    try:
+        return _of_text(text if NUMBER.fullmatch(text) or OLDER.fullmatch(text) else _revision_text(text))
+    except (Malformed, binascii.Error, ValueError, TypeError, AttributeError):
+        return None

@@ -1,0 +1,179 @@
+"""What services and their tools print: calls that answer many questions, store files, and lines of other tools."""
+import json
+
+from importing.located import Malformed
+from importing.simple_yaml import parse_yaml
+from tests.support import Case
+from tests.test_openfga import MODEL, THIS, change
+from tests.test_openfga_dsl import DSL
+from tests.test_round_trips import token_text
+from tests.test_spicedb import SCHEMA, VIEW, thing, update, watch
+from tests.test_spicedb import check as zed_check
+
+
+def key(user, thing="doc:1", relation="viewer"):
+    return {"tuple_key": {"user": user, "relation": relation, "object": thing}}
+
+
+class CallsCase(Case):
+    def goals(self):
+        """The goals of the trace with their replies, by the names of the table."""
+        users = [row["id"] for row in self.rows("ids.jsonl")]
+        rows = [row for row in self.rows("trace.jsonl") if row["kind"] == "check"]
+        return ["%s@%s %s" % (row["goal"].split("@")[0], users[int(row["goal"].split("@")[1]) - 1], str(row["reply"]).lower())
+                for row in rows]
+
+
+class OpenFga(CallsCase):
+    def words(self, *lines):
+        self.put("model.json", MODEL % THIS)
+        self.put("log", [change("user:a"), change("user:b", at="2024-01-01T00:00:02Z"), *lines])
+        return "openfga", "--model", "model.json", "--from-empty", "log"
+
+    def test_a_batch(self):
+        checks = [key("user:%s" % name) | {"correlation_id": name} for name in "abcx"] + [
+            key("user:d") | {"correlation_id": "d", "context": {"hour": 7}}]
+        results = {"a": {"allowed": True}, "b": {"allowed": True}, "c": {"allowed": False}, "d": {"allowed": True},
+                   "x": {"error": {"input_error": "validation_error", "message": "no such relation"}}}
+        words = self.words({"request": {"checks": checks}, "response": {"result": results}, "snapshot": 2})
+        self.assertEqual(self.refused(*words), ["log:3: context of conditions: doc:1#viewer@user:d"])
+        said = self.imported(*words, "--skip-unmapped").splitlines()
+        self.assertEqual(said[0], "passed over 1: failed request (no such relation)")
+        self.assertEqual(self.goals(), ["doc:1#viewer@a true", "doc:1#viewer@b true", "doc:1#viewer@c false"])
+        self.assertIn("verdict clean", self.audited())
+        del results["a"]
+        words = self.words({"request": {"checks": checks[:1]}, "response": {"result": results}, "snapshot": 2})
+        self.assertEqual(self.run_import(*words), (2, "log:3: the response has no `allowed` (--skip-unmapped leaves it out)\nrefused 1\n"))
+
+    def test_lists(self):
+        objects = {"request": {"type": "doc", "relation": "viewer", "user": "user:a"}, "response": {"objects": ["doc:1", "doc:2"]},
+                   "snapshot": 2}
+        users = {"request": {"object": {"type": "doc", "id": "1"}, "relation": "viewer", "user_filters": [{"type": "user"}]},
+                 "response": {"users": [{"object": {"type": "user", "id": "b"}}]}, "snapshot": 1}
+        nothing = objects | {"response": {"objects": []}}
+        said = self.imported(*self.words(objects, users, nothing)).splitlines()
+        self.assertEqual(said[0], "passed over 1: call that found nothing")
+        self.assertEqual(self.goals(), ["doc:1#viewer@a true", "doc:2#viewer@a true", "doc:1#viewer@b true"])
+        self.assertEqual(self.audited().splitlines()[:2], ["line 6: F10 wrong reply", "line 7: F10 wrong reply"])
+
+    def test_users_that_are_none(self):
+        users = {"request": {"object": {"type": "doc", "id": "1"}, "relation": "viewer", "user_filters": [{}]}, "response": {"users": [
+            {"wildcard": {"type": "user"}}, {"userset": {"type": "group", "id": "g", "relation": "member"}}]}, "snapshot": 1}
+        contextual = users | {"request": users["request"] | {"contextual_tuples": [{}]},
+                              "response": {"users": [{"object": {"type": "user", "id": "b"}}]}}
+        self.assertEqual(self.run_import(*self.words(users, contextual, users | {"response": {"users": 7}}))[1].splitlines(), [
+            line + " (--skip-unmapped leaves it out)" for line in (
+                "log:3: check of a typed wildcard as the user: doc:1#viewer@user:*",
+                "log:3: check of a userset as the user: doc:1#viewer@group:g#member",
+                "log:4: contextual tuples: doc:1#viewer@user:b", "log:5: `users` is no list")] + ["refused 4"])
+
+    def test_a_content_check_asks_one_question(self):
+        line = {"request": {"checks": [key("user:a") | {"correlation_id": "1"}, key("user:b") | {"correlation_id": "2"}]},
+                "response": {"result": {"1": {"allowed": True}, "2": {"allowed": True}}}, "snapshot": 2, "content": {"version": "v"}}
+        self.assertEqual(self.refused(*self.words(line)), ["log:3: a content check asks one question, and this line 2"])
+
+    def test_changes_within_a_call(self):
+        page = {"request": {"type": "doc"}, "response": {"changes": [change("user:c", at="2024-01-01T00:00:03Z")]}}
+        self.imported(*self.words(page, {"request": key("user:c"), "response": {"allowed": True}, "snapshot": 3}))
+        self.assertIn("verdict clean", self.audited())
+
+    def test_a_store_file(self):
+        text = "name: shop\nmodel: |\n%s\ntuples:\n  - user: user:a\n    relation: owner\n    object: doc:1\n%s" % (
+            "".join("  %s\n" % line for line in DSL.splitlines()), "  - user: user:*\n    relation: owner\n    object: doc:2\n")
+        self.put("store.fga.yaml", text)
+        self.put("log", [{"request": key("user:%s" % user, thing), "response": {"allowed": allowed}, "snapshot": 0}
+                         for user, thing, allowed in (("a", "doc:1", True), ("b", "doc:1", False), ("b", "doc:2", True))])
+        words = ("openfga", "--model", "store.fga.yaml", "--base", "store.fga.yaml", "--base-at", "0", "log")
+        self.imported(*words)
+        self.assertEqual(self.audited(), "entries 3\nfindings 0\nverdict clean\n")
+        self.assertEqual(self.rows("trace.jsonl")[4]["from"], "store.fga.yaml:%d" % (text[:text.index("- user")].count("\n") + 1))
+        self.put("store.fga.yaml", text + "tests:\n  - name: t\n    check: x\n")
+        self.assertIn("passed over 1: test of a store file\n", self.imported(*words))
+        self.put("store.fga.yaml", text + "tuple_file: other.yaml\n")
+        self.assertIn("tuples in files of their own are not read; give them with --base", self.run_import(*words)[1])
+        self.put("model.fga", DSL)
+        self.put("store.fga.yaml", "model_file: ./model.fga\ntuples:\n- {user: a}\n")
+        self.assertIn("store.fga.yaml:3: YAML that is not read: {user: a}\n", self.run_import(*words)[1])
+        self.put("store.fga.yaml", "model_file: ./model.fga\n")
+        self.assertIn("commits 0, checks 3", self.imported(*words))
+
+
+class SpiceDb(CallsCase):
+    def words(self, *lines, base=None):
+        self.put("schema.zed", SCHEMA % VIEW)
+        self.put("log", [watch(5, update("user:a"), update("user:b")), *lines])
+        return "spicedb", "--schema", "schema.zed", "--from-empty", "log"
+
+    def test_bulk_checks(self):
+        def pair(user, **more):
+            return {"request": {"resource": thing("doc:1"), "permission": "view", "subject": {"object": thing("user:" + user)}}, **more}
+        pairs = [pair("a", item={"permissionship": "PERMISSIONSHIP_HAS_PERMISSION"}), pair("b", error={"code": 3, "message": "no"}),
+                 pair("c", item={"permissionship": "PERMISSIONSHIP_NO_PERMISSION"})]
+        line = {"request": {"items": [{}]}, "response": {"checkedAt": {"token": token_text(5)}, "pairs": pairs}}
+        said = self.imported(*self.words(line)).splitlines()
+        self.assertEqual(said[0], "passed over 1: failed request (3)")
+        self.assertEqual(self.goals(), ["doc:1#view@a true", "doc:1#view@c false"])
+        self.assertIn("verdict clean", self.audited())
+
+    def test_lookups(self):
+        at = {"token": token_text(5)}
+        resources = {"request": {"resourceObjectType": "doc", "permission": "view", "subject": {"object": thing("user:a")}}, "response": [
+            {"lookedUpAt": at, "resourceObjectId": name, "permissionship": "LOOKUP_PERMISSIONSHIP_HAS_PERMISSION"} for name in "12"]}
+        subjects = {"request": {"resource": thing("doc:1"), "permission": "view", "subjectObjectType": "user"}, "response": {"result": {
+            "lookedUpAt": at, "subject": {"subjectObjectId": "b", "permissionship": "LOOKUP_PERMISSIONSHIP_HAS_PERMISSION"}}}}
+        nothing = resources | {"response": []}
+        maybe = resources | {"response": [resources["response"][0] | {"permissionship": "LOOKUP_PERMISSIONSHIP_CONDITIONAL_PERMISSION"}]}
+        said = self.imported(*self.words(resources, subjects, nothing, maybe), "--skip-unmapped").splitlines()
+        self.assertEqual(said[:2], ["passed over 1: call that found nothing", "left out 1: conditional permission"])
+        self.assertEqual(self.goals(), ["doc:1#view@a true", "doc:2#view@a true", "doc:1#view@b true"])
+        self.assertEqual(self.audited().splitlines()[0], "line 5: F10 wrong reply")
+
+    def test_events_of_an_audit_log(self):
+        check = zed_check()
+        event = {"specversion": "1.0", "id": "1", "source": "/ps/one", "type": "/authzed.api.v1.PermissionsService/CheckPermission",
+                 "time": "2024-01-01T00:00:00Z", "data": {"request": check["request"], "response": check["response"]}}
+        other = event | {"type": "/authzed.api.v1.SchemaService/ReadSchema", "data": {"request": {}, "response": {}}}
+        said = self.imported(*self.words(event, other))
+        self.assertIn("passed over 1: other call (ReadSchema)\n", said)
+        self.assertEqual(self.goals(), ["doc:1#view@a true"])
+
+    def test_relationships_as_zed_prints_them(self):
+        self.words(zed_check(), zed_check(subject="user:m"), zed_check(subject="user:x", reply="NO"))
+        self.put("base", "doc:1 viewer group:g#member\ngroup:g member user:m\ngroup:g  member  user:n [expiration:2030]\n")
+        words = ("spicedb", "--schema", "schema.zed", "--base", "base", "--base-at", "4", "log")
+        self.assertEqual(self.refused(*words), ["base:3: expiration: group:g#member@user:n"])
+        self.imported(*words, "--skip-unmapped")
+        self.put("base", "doc:1 viewer group:g#member\ngroup:g member user:m\n")
+        self.imported(*words)
+        self.assertEqual(self.audited(), "entries 3\nfindings 0\nverdict clean\n")
+
+    def test_a_validation_file(self):
+        text = "schema: |-\n%srelationships: |\n  // some\n  doc:1#viewer@group:g#member\n  group:g#member@user:m\n%s" % (
+            "".join("  %s\n" % line for line in (SCHEMA % VIEW).splitlines()),
+            "assertions:\n  assertTrue:\n    - doc:1#view@user:m\nvalidation:\n  doc:1#view:\n    - \"[user:m]\"\n")
+        self.words(zed_check(subject="user:m"), zed_check())
+        self.put("valid.yaml", text)
+        words = ("spicedb", "--schema", "valid.yaml", "--base", "valid.yaml", "--base-at", "4", "log")
+        self.assertIn("passed over 1: assertions of a validation file\n", self.imported(*words))
+        self.assertEqual(self.audited(), "entries 2\nfindings 0\nverdict clean\n")
+        self.put("valid.yaml", text.replace("relation viewer: user", "relation viewer user").replace("group:g#member@user:m", "group:g"))
+        self.assertIn("valid.yaml:8: ':' should stand here, and not 'user'\n", self.run_import(*words)[1])
+        self.put("valid.yaml", "schemaFile: schema.zed\nrelationships: |\n\n  group:g\n")
+        self.assertIn("valid.yaml:4: no relationship", self.run_import(*words)[1])
+
+
+class Yaml(Case):
+    def test_values(self):
+        self.assertEqual(parse_yaml("# c\n---\na: b # c\n\"x y\": 'it''s'\nl:\n- 1\n-   k: v\n    m:\n-\n  - \"\\u0041\" # n\nd#e:f: g\nz:\n"),
+                         {"a": "b", "x y": "it's", "l": ["1", {"k": "v", "m": ""}, ["A"]], "d#e:f": "g", "z": ""})
+        self.assertEqual(parse_yaml("a: |\n   x\n\n   \ty\n    z\nb: >-\n  p\n  q\n"), {"a": "x\n\n\ty\n z\n", "b": "p q"})
+        self.assertEqual(json.dumps(parse_yaml("")), "{}")
+
+    def test_what_is_not_read(self):
+        for text, line, why in (("a: [1]", 1, "[1]"), ("a: &b c", 1, "&b c"), ("a: b\n  c: d", 2, "this line is indented as none before"),
+                                ("a:\n\tb: c", 2, "a tab in the indentation"), ("a: 'b", 1, "a text in quotation marks: 'b"),
+                                ("a: b\n---\nc: d", 2, "this line is indented as none before"),
+                                ("- " * 200 + "a", 1, "nested too deep")):
+            with self.assertRaises(Malformed) as caught:
+                parse_yaml(text)
+            self.assertEqual((caught.exception.line, str(caught.exception)), (line, "YAML that is not read: " + why))

@@ -1,0 +1,21 @@
+"""Which Python the tools need: 3.9, or they say so in one line."""
+import ast
+import glob
+import os
+import subprocess
+import sys
+
+from tests.support import TOOLS, Case
+
+
+class Versions(Case):
+    def test_all_files_are_python_3_9(self):
+        for path in glob.glob(os.path.join(TOOLS, "**", "*.py"), recursive=True):
+            with open(path, encoding="utf-8") as file:
+                ast.parse(file.read(), path, feature_version=(3, 9))
+
+    def test_an_older_python(self):
+        for package in ("lib", "importing", "parting"):
+            run = subprocess.run([sys.executable, "-c", "import sys; sys.version_info = (3, 8, 0); import %s" % package], cwd=TOOLS,
+                                 capture_output=True, text=True, timeout=60)
+            self.assertEqual((run.returncode, run.stderr), (3, "the tools need Python 3.9 or a later one, and this is 3.8\n"))
