@@ -7,7 +7,7 @@ use Rattle.version_chains.specs.contracts.places.Places as places
 use Rattle.version_chains.specs.contracts.arena.Arena as arena
 use Rattle.version_chains.specs.contracts.chains.Chains as chains
 use Rattle.namespaces.proofs.rewrite.Rewrite.TheLaws.TheKnot.{sync-Rewrite}
-use Rattle.namespaces.specs.contracts.table.Relation as relation
+use Rattle.namespaces.specs.contracts.relation.Relation as relation
 use Rattle.namespaces.specs.contracts.table.Namespace as namespace
 use Rattle.namespaces.specs.contracts.rules.Line as line
 use Rattle.namespaces.specs.contracts.rules.Rules as rules

@@ -17,18 +17,23 @@ ghost use Rattle.audit.specs.declared.plain.AuditFault.TheVariants as faults;
 
 use crate::plain::{AuditFault, trace_from};
 use evidence_check::Steps;
-use evidence_maker::{MakeFault, make};
+use evidence_maker::{Found, MakeFault, make_after};
 use json_lines::{Sink, Source, send};
 use record_text::write_record;
 use std::alloc::{AllocError, Global};
 use trace_lines::Trace;
 
-/// The steps that are made for entry `i`, or none where the maker gave up.
-pub(crate) fn steps_for(alloc: Global, trace: &Trace, i: usize) -> Result<Option<Steps>, AllocError>
+/// The steps that are made for entry `i`, by what was found for another or by a search, or none where the maker gave up.
+pub(crate) fn steps_for(
+    alloc: Global,
+    trace: &Trace,
+    i: usize,
+    found: Option<Found<'_>>,
+) -> Result<Option<Steps>, AllocError>
     requires { i < length trace.now.entries }
     ensures { IfOk result (λ o. (e : EntryValue) → slice_get trace.now.entries i ≡ Some e → IsMade trace.now e (option_map (λ v. step_values v.items) o)) }
 {
-    match make(alloc, trace, i) {
+    match make_after(alloc, trace, i, found) {
         Ok(steps) => Ok(Some(steps)),
         Err(MakeFault::GaveUp) => Ok(None),
         Err(MakeFault::OutOfMemory) => Err(AllocError),
@@ -38,19 +43,20 @@ pub(crate) fn steps_for(alloc: Global, trace: &Trace, i: usize) -> Result<Option
 /// Appends the record of the steps for the entry on a line, or the line to those of entries that have no steps.
 fn push_record(
     line: u64,
-    steps: Option<Steps>,
+    steps: Option<&Steps>,
     text: &mut String,
     given_up: &mut Vec<u64>,
 ) -> Result<(), AllocError>
-    ensures text { OnOk result (string_bytes text.new ≡ string_bytes text.old ++ record_line line (option_map (λ v. step_values v.items) steps)) }
-    ensures given_up { OnOk result (given_up.new.items ≡ given_up.old.items ++ line_without line (option_map (λ v. step_values v.items) steps)) }
+    ensures text { OnOk result (string_bytes text.new ≡ string_bytes text.old ++ record_line line (option_map (λ v. step_values v.now.items) steps.entry)) }
+    ensures given_up { OnOk result (given_up.new.items ≡ given_up.old.items
+        ++ line_without line (option_map (λ v. step_values v.now.items) steps.entry)) }
     // As a line of evidence it says the same steps.
-    ensures taken { OnOk result (IfSome steps (λ v. IsTaken line (step_values v.items))) }
+    ensures taken { OnOk result (IfSome steps.entry (λ v. IsTaken line (step_values v.now.items))) }
     ensures fits { line < 2 ^ 64 }
 {
     match steps {
         Some(steps) => {
-            write_record(line, &steps, text)?;
+            write_record(line, steps, text)?;
             Ok(())
         }
         None => {
@@ -60,15 +66,36 @@ fn push_record(
     }
 }
 
+/// What was made for the last entry that has a record.
+fn found_last<'a>(trace: &'a Trace, last: &'a Option<(usize, Steps)>) -> Option<Found<'a>> {
+    match last {
+        Some((i, steps)) if *i < trace.len() => Some(Found {
+            entry: trace.entry(*i),
+            steps,
+        }),
+        _ => None,
+    }
+}
+
 /// The text of the records for a trace, and the lines of the entries that the maker gave up.
 fn records_of(alloc: Global, trace: &Trace) -> Result<(String, Vec<u64>), AllocError>
     ensures { IfOk result (λ r. AreRecords trace.now (string_bytes r.0) r.1.items) }
 {
     let mut text = String::new(alloc);
     let mut given_up = Vec::new(alloc);
+    let mut last = None;
     for i in 0..trace.len() {
-        let steps = steps_for(alloc, trace, i)?;
-        push_record(trace.entry(i).line, steps, &mut text, &mut given_up)?;
+        let steps = steps_for(alloc, trace, i, found_last(trace, &last))?;
+        push_record(
+            trace.entry(i).line,
+            steps.as_ref(),
+            &mut text,
+            &mut given_up,
+        )?;
+        last = match steps {
+            Some(steps) => Some((i, steps)),
+            None => None,
+        };
     }
     Ok((text, given_up))
 }

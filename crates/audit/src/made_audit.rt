@@ -88,7 +88,7 @@ fn judgement_made(alloc: Global, trace: &Trace, i: usize) -> Result<Judged, Allo
     requires { i < length trace.now.entries }
     ensures { IfOk result (λ j. (e : EntryValue) → slice_get trace.now.entries i ≡ Some e → IsJudgedMade trace.now e j) }
 {
-    match steps_for(alloc, trace, i)? {
+    match steps_for(alloc, trace, i, None)? {
         Some(steps) => judge_steps(trace, trace.entry(i), &steps),
         None => Ok(Judged::Missing),
     }

@@ -1,18 +1,20 @@
 -- What a judgement shows.
-use Rattle.std.proofs.Common.{◌≡◌, ℕ, ◌+◌, Bool, true, false, not, cond, IsTrue, ◌↔◌, List, [], ◌∷◌, Option, None, Some, refl, sym, ◌∙◌, ap, subst}
+use Rattle.std.proofs.Common.{◌≡◌, ℕ, ◌+◌, Bool, true, false, not, cond, IsTrue, ◌↔◌, List, [], ◌∷◌, Option, None, Some, refl, sym, ◌∙◌, ap, subst, inl, inr}
 use Rattle.std.specs.Prelude.{Contains, option_map, slice_get, IfOk, Result, Ok, Err}
 use Rattle.std.proofs.lemmas.Map.Views.{Contains-from_any, list_any-from_Contains}
 use Rattle.tuple_text.specs.Tuples.{TupleValue, FactValue}
 use Rattle.tuple_text.specs.OrderLaws.{fact_equiv}
 use Rattle.tuple_text.proofs.ValueLemmas.{fact_eq-same}
+use Rattle.namespaces.specs.Alike.{IsAlike, AreAlike}
 use Rattle.namespaces.specs.Expression.{Expression}
-use Rattle.namespaces.specs.Lookup.{Rule, Lookup, rule_at}
+use Rattle.namespaces.specs.Lookup.{Rule, Lookup, rule_at, rule_of}
 use Rattle.version_chains.specs.Commits.{store_at}
 use Rattle.strata.specs.Meaning.{Member}
 use Rattle.strata.proofs.Rounds.{stable_law, closed_law}
 use Rattle.trace_lines.specs.Values.{TraceValue, EntryValue}
-use Rattle.judgement.specs.Judgement.{KnownValue}
-use Rattle.evidence_check.specs.Accepted.{nothing_known, IsAccepted, AreAccepted, after_step, after_steps, IsTrueOf}
+use Rattle.judgement.specs.Judgement.{KnownValue, Refuted}
+use Rattle.judgement.proofs.AlikeLemmas.{alike_refuted}
+use Rattle.evidence_check.specs.Accepted.{nothing_known, IsDisproved, IsAccepted, AreAccepted, after_step, after_steps, IsTrueOf}
 use Rattle.evidence_check.specs.Decided.{decided, dec_accepted}
 use Rattle.evidence_check.specs.Judged.{is_accepted, first_bad, is_among, by_reply, by_goal, by_steps, judged}
 use Rattle.evidence_check.specs.Members.{IsMemberAt}
@@ -57,17 +59,29 @@ none_bad rules store known k (s ∷ ss) e = by_test (λ h. none_bad rules store 
     by_test rest true t h = ((accepted_iff rules store known s).0 t, rest h)
     by_test rest false t h = absurd cc
 
--- ---- by the rule of a relation, where it is found
+-- ---- by the plain rule of a relation, where it is found
 
-pub by_rule : (o : Option Rule) (x : Expression) (P : Expression → Type 0) → Some x ≡ option_map (λ (r : Rule). r.expression) o → (P x ↔ ((r : Rule) × (o ≡ Some r) × P r.expression))
-by_rule None x P e = absurd cc
-by_rule (Some s) x P e =
-    let same : x ≡ s.expression = cc in
-    (λ p. (s, refl, subst P same p), λ t. let rule : s ≡ t.0 = (let h : Some s ≡ Some t.0 = t.1 in cc) in subst P (sym (same ∙ ap (λ (r : Rule). r.expression) rule)) t.2)
+alike_back : (a b : Expression) → IsAlike a b → IsAlike b a
+alike_back a b alike = record { gives_alike = λ l. sym (alike.gives_alike l); bars_alike = λ l. sym (alike.bars_alike l) }
 
-pub no_rule : (o : Option Rule) → None ≡ option_map (λ (r : Rule). r.expression) o → o ≡ None
+pub by_rule : (o : Option Rule) (x : Expression) (P : Expression → Type 0) → ((a b : Expression) → IsAlike a b → P a → P b)
+    → AreAlike (Some x) (option_map (λ (r : Rule). r.expression) o) → (P x ↔ ((r : Rule) × (o ≡ Some r) × P r.expression))
+by_rule None x P carry alike = absurd alike
+by_rule (Some s) x P carry alike = (
+  λ p. (s, refl, carry x s.expression alike p),
+  λ t. let rule : s ≡ t.0 = (let h : Some s ≡ Some t.0 = t.1 in cc) in
+      carry s.expression x (alike_back x s.expression alike) (subst P (sym (ap (λ (r : Rule). r.expression) rule)) t.2),
+)
+
+pub no_rule : (o : Option Rule) → AreAlike None (option_map (λ (r : Rule). r.expression) o) → o ≡ None
 no_rule None e = refl
-no_rule (Some r) e = absurd cc
+no_rule (Some r) e = absurd e
+
+pub disproved_by_rule : (rules : Lookup) (store : List TupleValue) (known : KnownValue) (f : FactValue) (x : Expression)
+    → AreAlike (Some x) (option_map (λ (r : Rule). r.expression) (rule_of rules f.set)) → (Refuted rules store known f x ↔ IsDisproved rules store known f)
+disproved_by_rule rules store known f x alike =
+    let rule = by_rule (rule_of rules f.set) x (λ e. Refuted rules store known f e) (alike_refuted rules store known f) alike in
+    (λ h. inr (rule.0 h), λ s. elim s [ inl none ↦ absurd (subst (λ (o : Option Rule). AreAlike (Some x) (option_map (λ (r : Rule). r.expression) o)) none alike) | inr t ↦ rule.1 t ])
 
 -- ---- what is known of the goal
 

@@ -6,7 +6,7 @@ ghost use Rattle.tuple_text.specs.FactRefs.{fact_value};
 ghost use Rattle.tuple_text.specs.Refs.{set_value};
 ghost use Rattle.namespaces.specs.Lookup.{rule_at};
 ghost use Rattle.namespaces.specs.View.{expression_of};
-ghost use Rattle.evidence_check.specs.Rules.{IsRuleOf};
+ghost use Rattle.evidence_check.specs.Rules.{IsPlainRuleOf};
 ghost use Rattle.version_chains.specs.Commits.{store_at};
 ghost use Rattle.judgement.specs.Facts.{marked_fact};
 ghost use Rattle.trace_lines.specs.Values.{EntryValue, entry_value};
@@ -53,13 +53,13 @@ pub fn is_proved<F: KnownFact>(trace: &Trace, at: u64, known: &Known<F>, fact: &
 fn is_given<F: KnownFact>(trace: &Trace, at: u64, known: &Known<F>, fact: MarkedFact<'_>) -> bool
     ensures { IsTrue result ↔ IsProved (rule_at trace.now.declarations at) (store_at trace.now.commits at) known.now (marked_fact fact.entry) }
 {
-    match trace.rules().body(fact.set.set, at) {
+    match trace.rules().plain_body(fact.set.set, at) {
         Some(rule) => established(rule, fact.set, fact.user, trace, at, known),
         None => false,
     }
 }
 
-/// The rule of a userset's relation, where that of another userset is at hand: facts of one relation mostly follow one another.
+/// The plain rule of a userset's relation, where that of another userset is at hand: facts of one relation mostly follow one another.
 fn rule_after<'t>(
     rules: &'t Rules,
     at: u64,
@@ -67,13 +67,13 @@ fn rule_after<'t>(
     rule: Option<&'t Rewrite>,
     set: SetRef<'_>,
 ) -> Option<&'t Rewrite>
-    requires { IsRuleOf rules.now at (set_value last) (option_map (λ r. expression_of r.now) rule) }
-    ensures { IsRuleOf rules.now at (set_value set.entry) (option_map (λ r. expression_of r.now) result) }
+    requires { IsPlainRuleOf rules.now at (set_value last) (option_map (λ r. expression_of r.now) rule) }
+    ensures { IsPlainRuleOf rules.now at (set_value set.entry) (option_map (λ r. expression_of r.now) result) }
 {
     if set.namespace == last.namespace && set.relation == last.relation {
         rule
     } else {
-        rules.body(set, at)
+        rules.plain_body(set, at)
     }
 }
 
@@ -85,7 +85,7 @@ fn is_disproved(
     rule: Option<&Rewrite>,
     fact: MarkedFact<'_>,
 ) -> bool
-    requires { IsRuleOf trace.now.declarations at (marked_fact fact).set (option_map (λ r. expression_of r.now) rule) }
+    requires { IsPlainRuleOf trace.now.declarations at (marked_fact fact).set (option_map (λ r. expression_of r.now) rule) }
     ensures { IsTrue result ↔ IsDisproved (rule_at trace.now.declarations at) (store_at trace.now.commits at) known.now (marked_fact fact.entry) }
 {
     match rule {
@@ -108,7 +108,7 @@ fn are_disproved(
     };
     let rules = trace.rules();
     let mut last = first.set.set;
-    let mut rule = rules.body(last, at);
+    let mut rule = rules.plain_body(last, at);
     for fact in facts {
         rule = rule_after(rules, at, last, rule, fact.set.set);
         last = fact.set.set;

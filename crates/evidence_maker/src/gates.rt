@@ -1,7 +1,8 @@
 //! Which facts of a cone hold, in which order that shows, and on which of them the goal leans.
 //!
-//! Each fact has a gate, and so has each place of its rule. A gate opens once as many of those that feed it as it waits for have
-//! opened, so that each link is looked at once. Nothing here is trusted: each fact is looked at again by its rule.
+//! These are the counters of Dowling and Gallier, over an and/or graph: each fact has a gate, and so has each place of its rule's plain
+//! form. A gate opens once as many of those that feed it as it waits for have opened, so that each link is looked at once. Nothing here
+//! is trusted: each fact is looked at again by its rule.
 
 use namespaces::Rewrite;
 use std::alloc::{AllocError, Global};
@@ -223,7 +224,7 @@ impl Gates {
             user: fact.user(),
             place,
         };
-        match trace.rules().body(fact.set(), at) {
+        match trace.rules().plain_body(fact.set(), at) {
             Some(rule) => self.add_place(site, rule, place),
             None => Ok(()),
         }

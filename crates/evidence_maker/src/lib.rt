@@ -21,10 +21,12 @@ mod fault;
 mod gates;
 pub mod laws;
 mod layers;
+mod like;
 mod maker;
 mod settle;
 mod slice;
 
 pub use fault::MakeFault;
 pub use goal_cone::{MAX_LINKS, MAX_USERSETS};
-pub use maker::make;
+pub use like::Found;
+pub use maker::{make, make_after};

@@ -15,6 +15,7 @@ ghost use Rattle.evidence_maker.specs.Made.{Settles, Fits, IsRecord, IsOneStep, 
 
 use crate::fault::MakeFault;
 use crate::gates::Gates;
+use crate::like::{Found, made_like};
 use crate::settle::settle;
 use crate::slice::slice;
 use evidence_check::{Judged, Step, Steps, has_too_many, judge_steps};
@@ -38,7 +39,7 @@ fn fits(line: u64, steps: &[Step]) -> bool
 }
 
 /// Whether the steps are accepted and settle the goal, and a record may hold them.
-fn is_record(trace: &Trace, entry: &Entry, steps: &Steps) -> Result<bool, AllocError>
+pub(crate) fn is_record(trace: &Trace, entry: &Entry, steps: &Steps) -> Result<bool, AllocError>
     ensures { IfOk result (λ b. IsTrue b ↔ IsRecord trace.now (entry_value entry.now) (step_values steps.now.items)) }
 {
     match judge_steps(trace, entry, steps)? {
@@ -76,13 +77,16 @@ fn no_alone(alloc: Global, entry: &Entry) -> Result<Steps, AllocError>
     Ok(steps)
 }
 
-/// Evidence for entry `i`: steps that are accepted in order, after which it is known whether the goal holds, so that the entry is
-/// supported or contradicted by them. They have at most 100,000 facts, and their record at most 2^20 bytes before its newline.
+/// Evidence for entry `i` as [`make`] gives it. Where one step is not enough, what was found for another entry of the same userset and reply
+/// is tried for this one's user before a search.
 ///
-/// Refusals: 1 GaveUp, only where one step is not enough, and either every list of facts that holds the goal and its own premises has
-/// more than 100,000 facts or reads more than [`goal_cone::MAX_LINKS`] stored usersets, or the record of the goal's whole cone has more
-/// than 2^20 bytes; 2 OutOfMemory.
-pub fn make(alloc: Global, trace: &Trace, i: usize) -> Result<Steps, MakeFault>
+/// Refusals are those of [`make`].
+pub fn make_after(
+    alloc: Global,
+    trace: &Trace,
+    i: usize,
+    found: Option<Found<'_>>,
+) -> Result<Steps, MakeFault>
     requires { i < length trace.now.entries }
     ensures accepted { IfOk result (λ v. (e : EntryValue) → slice_get trace.now.entries i ≡ Some e → Settles trace.now e (step_values v.items)) }
     ensures fits { IfOk result (λ v. fact_count (step_values v.items) ≤ MAX_FACTS) }
@@ -102,6 +106,9 @@ pub fn make(alloc: Global, trace: &Trace, i: usize) -> Result<Steps, MakeFault>
     if is_record(trace, entry, &no)? {
         return Ok(no);
     }
+    if let Some(alike) = made_like(alloc, trace, entry, found)? {
+        return Ok(alike);
+    }
     let cone = explore(alloc, trace, entry.snapshot, &entry.goal)?;
     let mut gates = Gates::of(alloc, trace, entry.snapshot, &cone)?;
     let steps = settle(alloc, trace, entry.snapshot, &cone, &mut gates)?;
@@ -113,4 +120,23 @@ pub fn make(alloc: Global, trace: &Trace, i: usize) -> Result<Steps, MakeFault>
         return Ok(steps);
     }
     Err(MakeFault::GaveUp)
+}
+
+/// Evidence for entry `i`: steps that are accepted in order, after which it is known whether the goal holds, so that the entry is
+/// supported or contradicted by them. They have at most 100,000 facts, and their record at most 2^20 bytes before its newline.
+///
+/// Refusals: 1 GaveUp, only where one step is not enough, and either every list of facts that holds the goal and its own premises has
+/// more than 100,000 facts or reads more than [`goal_cone::MAX_LINKS`] stored usersets, or the record of the goal's whole cone has more
+/// than 2^20 bytes; 2 OutOfMemory.
+pub fn make(alloc: Global, trace: &Trace, i: usize) -> Result<Steps, MakeFault>
+    requires { i < length trace.now.entries }
+    ensures accepted { IfOk result (λ v. (e : EntryValue) → slice_get trace.now.entries i ≡ Some e → Settles trace.now e (step_values v.items)) }
+    ensures fits { IfOk result (λ v. fact_count (step_values v.items) ≤ MAX_FACTS) }
+    ensures short { IfOk result (λ v. (e : EntryValue) → slice_get trace.now.entries i ≡ Some e → record_length e.line (step_values v.items) ≤ 2 ^ 20) }
+    ensures complete { result ≡ Err MakeFault.GaveUp → (e : EntryValue) → slice_get trace.now.entries i ≡ Some e →
+        IsOutgrown MAX_FACTS MAX_LINKS (rule_at trace.now.declarations e.snapshot) (store_at trace.now.commits e.snapshot) e.goal
+        ⊎ IsTooLong trace.now e }
+    ensures one_step { result ≡ Err MakeFault.GaveUp → (e : EntryValue) → slice_get trace.now.entries i ≡ Some e → ¬ IsOneStep trace.now e }
+{
+    make_after(alloc, trace, i, None)
 }

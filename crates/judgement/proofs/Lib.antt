@@ -1,2 +1,3 @@
+pub mod AlikeLemmas
 pub mod MarkedLemmas
 pub mod PassLemmas

@@ -12,3 +12,4 @@ pub mod Shapes
 pub mod Tables
 pub mod Times
 pub mod Walks
+pub mod AlikeLemmas

@@ -12,7 +12,7 @@ use Rattle.namespaces.specs.Declaration as declaration
 use Rattle.namespaces.specs.Adding.{has_repeats}
 use Rattle.namespaces.specs.Lookup.{relation_names}
 use Rattle.namespaces.specs.Shown.{show_relation, show_relations}
-use Rattle.namespaces.specs.declared.table.Relation.{Relation}
+use Rattle.namespaces.specs.declared.relation.Relation.{Relation}
 use Rattle.namespaces.proofs.Names.{has_repeats-there, has_repeats-push}
 
 abbrev pub Entry : Type 0

@@ -3,7 +3,7 @@ use Rattle.std.specs.Prelude.{List, map, String, string_bytes}
 use Rattle.std.specs.declared.alloc.Global.{Global}
 use Rattle.namespaces.specs.View.{expression_of}
 use Rattle.namespaces.specs.Declaration as declaration
-use Rattle.namespaces.specs.declared.table.Relation.{Relation}
+use Rattle.namespaces.specs.declared.relation.Relation.{Relation}
 use Rattle.namespaces.specs.declared.table.Namespace.{Namespace}
 use Rattle.namespaces.specs.declared.rules.Line.{Line}
 

@@ -13,8 +13,8 @@ ghost use Rattle.namespaces.specs.Expression as form;
 ghost use Rattle.namespaces.specs.View.{expression_of, expressions_of};
 
 use crate::fault::RulesFault;
+use crate::relation::{Relation, relation_of};
 use crate::rewrite::Rewrite;
-use crate::table::Relation;
 use indexmap::IndexMap;
 use serde_json::Value;
 use std::alloc::Global;
@@ -165,7 +165,7 @@ fn read_relation(alloc: Global, value: &Value) -> Result<(String, Relation), Rul
     let name = text_at(alloc, value, "name")?;
     let stratum = stratum(value)?;
     let rewrite = rewrite(alloc, value)?;
-    Ok((name, Relation { stratum, rewrite }))
+    Ok((name, relation_of(alloc, stratum, rewrite)?))
 }
 
 fn read_relations(alloc: Global, values: &Vec<Value>) -> Result<Vec<(String, Relation)>, RulesFault>

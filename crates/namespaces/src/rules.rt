@@ -1,6 +1,7 @@
 //! The declared namespaces, by name, by number and at a timestamp.
 ghost use Rattle.std.specs.Prelude.{◌≡◌, ℕ, ◌<◌, ◌≤◌, [], ◌∷◌, ◌++◌, length, option_map, slice_get, string_bytes, IfSome, OnOk, OnErr, IfErr};
 ghost use Rattle.tuple_text.specs.Refs.{set_value};
+ghost use Rattle.namespaces.specs.Alike.{AreAlike};
 ghost use Rattle.namespaces.specs.Declaration.{declared};
 ghost use Rattle.namespaces.specs.Lookup.{rule_of, rule_at, relation_of, relation_count, relations_of, number_of, place_of, namespace_names, namespace_numbered, relation_numbered, history_numbered};
 ghost use Rattle.namespaces.specs.View.{expression_of};
@@ -11,8 +12,9 @@ use crate::index::{Revision, note, revision_at, revision_with};
 use crate::lookups::{place_in, value_in};
 use crate::number::RelNo;
 use crate::reading::{Draft, read_draft};
+use crate::relation::Relation;
 use crate::rewrite::Rewrite;
-use crate::table::{Namespace, Relation, copied_namespace, keeps_names, keeps_strata, tested};
+use crate::table::{Namespace, copied_namespace, keeps_names, keeps_strata, tested};
 use indexmap::IndexMap;
 use serde_json::Value;
 use std::alloc::Global;
@@ -147,9 +149,18 @@ impl Rules {
         ensures { option_map (λ r. expression_of r.now) result
             ≡ option_map (λ r. r.expression) (rule_of (rule_at self.now at) (set_value set.entry)) }
     {
-        let relations = self.in_force(set.namespace, at)?;
-        let relation = value_in(relations, set.relation)?;
+        let relation = self.declared_at(set, at)?;
         Some(&relation.rewrite)
+    }
+
+    /// A plain form of the rule that `body` gives: it gives and rules out what that rule does, whatever its leaves do, and has neither a
+    /// union in a union, nor an intersection in an intersection, nor the same child twice. `None` where `body` has none.
+    pub fn plain_body(&self, set: SetRef<'_>, at: u64) -> Option<&Rewrite>
+        ensures { AreAlike (option_map (λ r. expression_of r.now) result)
+            (option_map (λ r. r.expression) (rule_of (rule_at self.now at) (set_value set.entry))) }
+    {
+        let relation = self.declared_at(set, at)?;
+        Some(&relation.plain)
     }
 
     /// Rule number `k` of a relation, counted from 0 in order of declaration, or `None` where there is none.
@@ -301,6 +312,16 @@ impl Rules {
         let revisions = value_in(&self.namespaces, namespace)?;
         let revision = revision_at(revisions.as_slice(), at)?;
         self.relations_in(revision)
+    }
+
+    /// What is declared of a relation by the last declaration in force at a timestamp.
+    fn declared_at(&self, set: SetRef<'_>, at: u64) -> Option<&Relation>
+        ensures { option_map (λ r. expression_of r.now.rewrite) result
+            ≡ option_map (λ r. r.expression) (rule_of (rule_at self.now at) (set_value set.entry)) }
+    {
+        let relations = self.in_force(set.namespace, at)?;
+        let relation = value_in(relations, set.relation)?;
+        Some(relation)
     }
 
     /// The namespace that `add` would declare.

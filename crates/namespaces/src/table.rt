@@ -14,6 +14,7 @@ ghost use Rattle.namespaces.specs.View.{expression_of};
 
 use crate::fault::RulesFault;
 use crate::reading::{Draft, reads_declared};
+use crate::relation::{Relation, relation_of};
 use crate::rewrite::{Rewrite, copied, counts_fit, has_good_names, is_deeper};
 use indexmap::IndexMap;
 use std::alloc::Global;
@@ -24,13 +25,6 @@ const MAX_DEPTH: u8 = 32;
 
 /// How many relations a namespace may have.
 const MAX_RELATIONS: usize = 256;
-
-/// What is declared of a relation, beside its name.
-#[derive(Drop)]
-pub(crate) struct Relation {
-    pub(crate) stratum: u8,
-    pub(crate) rewrite: Rewrite,
-}
 
 /// A namespace that passed every test of its own value.
 #[derive(Drop)]
@@ -108,13 +102,7 @@ fn copied_relation(
 {
     let name = String::from_str(alloc, name)?;
     let rewrite = copied(alloc, &relation.rewrite)?;
-    Ok((
-        name,
-        Relation {
-            stratum: relation.stratum,
-            rewrite,
-        },
-    ))
+    Ok((name, relation_of(alloc, relation.stratum, rewrite)?))
 }
 
 /// Whether each relation has a name that is one, and a rule of such names.

@@ -1,4 +1,4 @@
-//! Readers and writers that fail in mid-stream, and one plain audit. What a run answers on its input, with which text and status, is
+//! Readers and writers that fail in mid-stream. What a run answers on its input, with which text and status, is
 //! shown by rows.
 
 use audit::{AuditFault, Verdict, audit_joined, audit_plain};
@@ -79,15 +79,6 @@ fn readers_fail(rt: HostRuntime) -> Result<(), Fail> {
     let in_the_evidence = TRACE.len() as u64 + 4;
     assert!(rt; cut_input(alloc, &input, in_the_evidence) == Err(AuditFault::Input));
     Ok(())
-}
-
-#[test]
-fn plain_audits_answer(rt: HostRuntime) {
-    let mut trace = Held::new(TRACE.as_bytes());
-    let mut evidence = Held::new(EVIDENCE.as_bytes());
-    let mut out = Counted::new(Vec::new(rt.alloc()));
-    let answer = audit_plain(rt.alloc(), &mut trace, &mut evidence, &mut out);
-    assert!(rt; answer == Ok(Verdict::Clean));
 }
 
 #[test]

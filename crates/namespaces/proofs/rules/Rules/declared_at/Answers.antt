@@ -2,7 +2,7 @@ use Rattle.std.proofs.Common.{refl}
 use Rattle.namespaces.specs.Lookup.{relation_at}
 use Rattle.namespaces.proofs.Fields.{expression_found, expression_of_rule}
 use Rattle.namespaces.proofs.Times.{relation_at-relations_at}
-use Rattle.namespaces.proofs.rules.Rules.body.Goals as goal
+use Rattle.namespaces.proofs.rules.Rules.declared_at.Goals as goal
 
 pub returns-in_err-relations : goal.returns-in_err-relations
 returns-in_err-relations c =

@@ -10,7 +10,7 @@ use Rattle.record_text.specs.Record.{record_length}
 use Rattle.evidence_maker.specs.Made.{Settles, IsRecord, IsOneStep, IsTooLong}
 use Rattle.evidence_maker.specs.Making.{IsMade}
 use Rattle.evidence_maker.proofs.Outgrown.{outgrown_made, outgrown_lower, one_step_fails, cause_of}
-use Rattle.evidence_maker.proofs.maker.make.Goals as goal
+use Rattle.evidence_maker.proofs.maker.make_after.Goals as goal
 
 pub returns-then-branch-clause-accepted : goal.returns-then-branch-clause-accepted
 returns-then-branch-clause-accepted c = λ e at.

@@ -1,0 +1,88 @@
+//! Evidence by the way that was found for another entry.
+
+ghost use Rattle.std.specs.Prelude.{IfOk, IfSome};
+ghost use Rattle.trace_lines.specs.Values.{entry_value};
+ghost use Rattle.evidence_check.specs.Steps.{step_values};
+ghost use Rattle.evidence_maker.specs.Made.{IsRecord};
+
+use crate::maker::is_record;
+use evidence_check::{Step, Steps};
+use std::alloc::{AllocError, Global};
+use trace_lines::{Entry, Trace};
+use tuple_text::Fact;
+
+/// What was found for an entry.
+#[derive(Clone, Copy)]
+pub struct Found<'a> {
+    pub entry: &'a Entry,
+    pub steps: &'a Steps,
+}
+
+/// A user in place of another.
+#[derive(Clone, Copy)]
+struct Change {
+    from: u64,
+    to: u64,
+}
+
+fn changed_fact(alloc: Global, fact: &Fact, change: Change) -> Result<Fact, AllocError> {
+    let user = if fact.user() == change.from {
+        change.to
+    } else {
+        fact.user()
+    };
+    match Fact::of(alloc, fact.set(), user) {
+        Ok(fact) => Ok(fact),
+        Err(_) => Err(AllocError),
+    }
+}
+
+fn changed_facts(alloc: Global, facts: &[Fact], change: Change) -> Result<Vec<Fact>, AllocError> {
+    let mut changed = Vec::with_capacity(alloc, facts.len())?;
+    for fact in facts {
+        changed.push(changed_fact(alloc, fact, change)?)?;
+    }
+    Ok(changed)
+}
+
+fn changed_steps(alloc: Global, steps: &[Step], change: Change) -> Result<Steps, AllocError> {
+    let mut changed = Vec::with_capacity(alloc, steps.len())?;
+    for step in steps {
+        let step = match step {
+            Step::Yes(fact) => Step::Yes(changed_fact(alloc, fact, change)?),
+            Step::No(facts) => Step::No(changed_facts(alloc, facts, change)?),
+        };
+        changed.push(step)?;
+    }
+    Ok(changed)
+}
+
+/// The steps that were found for another entry of the same userset and reply, for this one's user, where they are a record for it.
+///
+/// Where they are not, so many steps were judged in vain. What was found is then not tried again, so that this costs no more in all than what
+/// was found.
+pub(crate) fn made_like(
+    alloc: Global,
+    trace: &Trace,
+    entry: &Entry,
+    found: Option<Found<'_>>,
+) -> Result<Option<Steps>, AllocError>
+    ensures { IfOk result (λ o. IfSome o (λ v. IsRecord trace.now (entry_value entry.now) (step_values v.items))) }
+{
+    let Some(found) = found else {
+        return Ok(None);
+    };
+    if found.entry.reply != entry.reply || found.entry.goal.set() != entry.goal.set() {
+        return Ok(None);
+    }
+    let change = Change {
+        from: found.entry.goal.user(),
+        to: entry.goal.user(),
+    };
+    let steps = changed_steps(alloc, found.steps, change)?;
+    if is_record(trace, entry, &steps)? {
+        Ok(Some(steps))
+    } else {
+        Ok(None)
+    }
+}

@@ -1,0 +1,18 @@
+-- Children that a union or an intersection joins. No public clause cites this module.
+use Rattle.std.specs.Prelude.{◌≡◌, List, [], ◌∷◌, ◌++◌, ◌⊎◌, Contains}
+use Rattle.namespaces.specs.Alike.{IsAlike}
+use Rattle.namespaces.specs.Expression.{Expression, union, inter}
+use Rattle.namespaces.specs.View.{children}
+use Rattle.namespaces.specs.declared.plain.Joint.{Joint}
+
+abbrev pub joined : Joint → List Expression → Expression
+joined Joint.Union es = union (children es)
+joined Joint.Inter es = inter (children es)
+
+-- one more child went last, or stood there before
+abbrev pub IsPut : List Expression → List Expression → Expression → Type 0
+IsPut old new e = (new ≡ old ++ e ∷ []) ⊎ ((new ≡ old) × Contains old e)
+
+-- some children join to what others join to
+abbrev pub JoinAlike : Joint → List Expression → List Expression → Type 0
+JoinAlike joint es fs = IsAlike (joined joint es) (joined joint fs)
