@@ -1,7 +1,9 @@
 #!/usr/bin/env python3
 """How the cost of an input grows: kinds of a generator of this folder at two sizes, as a table.
 
-    python3 bench/growth.py [--runs N] PROGRAM trace|hostile SMALL LARGE [KIND ..] > table
+    python3 bench/growth.py [--runs N] [--make] PROGRAM trace|hostile SMALL LARGE [KIND ..] > table
+
+With --make the program makes evidence for the trace in front of the parting line, in place of an audit.
 
 Sizes are megabytes. Seconds are processor time, the least of N runs, or of three; memory is the most that the program held, in MB. The column behind a size
 says what a megabyte costs there; the last one how many times more a megabyte costs at the large size: 1 is in proportion.
@@ -18,10 +20,16 @@ import trace
 GENERATORS = {"trace": trace, "hostile": hostile}
 
 
-def run(program, path):
-    """The processor time and the peak memory of one run, which has to end clean."""
+def cut(path):
+    """Leaves the trace alone."""
+    with open(path, "rb+") as file:
+        file.truncate(file.read().index(b"\n---\n") + 1)
+
+
+def run(words, path):
+    """The processor time and the peak memory of one run, which has to end with status 0."""
     with open(path, "rb") as file:
-        started = subprocess.Popen([program], stdin=file, stdout=subprocess.DEVNULL, stderr=subprocess.PIPE)
+        started = subprocess.Popen(words, stdin=file, stdout=subprocess.DEVNULL, stderr=subprocess.PIPE)
         said = started.stderr.read()
         _, status, used = os.wait4(started.pid, 0)
     started.returncode = os.waitstatus_to_exitcode(status)
@@ -30,12 +38,15 @@ def run(program, path):
     return used.ru_utime + used.ru_stime, used.ru_maxrss / 1000
 
 
-def cost(program, generator, kind, megabytes, count):
+def cost(program, generator, kind, megabytes, count, makes):
     """Megabytes of the input, the least seconds of so many runs, and the most memory. A process of its own makes the input: what this one holds
     would count as memory of the program that it starts."""
     with tempfile.NamedTemporaryFile() as file:
         subprocess.run([sys.executable, generator.__file__, kind, megabytes], stdout=file, check=True)
-        runs = [run(program, file.name) for _ in range(count)]
+        if makes:
+            cut(file.name)
+        words = [program, "make", "/dev/stdin"] if makes else [program]
+        runs = [run(words, file.name) for _ in range(count)]
         return os.path.getsize(file.name) / 10**6, min(seconds for seconds, _ in runs), max(memory for _, memory in runs)
 
 
@@ -50,6 +61,7 @@ def row(kind, small, large):
 def main():
     parser = argparse.ArgumentParser(description=__doc__, formatter_class=argparse.RawDescriptionHelpFormatter)
     parser.add_argument("--runs", type=int, default=3)
+    parser.add_argument("--make", action="store_true")
     parser.add_argument("program", metavar="PROGRAM")
     parser.add_argument("generator", choices=GENERATORS)
     parser.add_argument("small", metavar="SMALL")
@@ -60,7 +72,7 @@ def main():
     print("| Kind | MB | s | s per MB | memory | MB | s | s per MB | memory | Grows |")
     print("|---|---|---|---|---|---|---|---|---|---|")
     for kind in given.kinds or generator.KINDS:
-        small, large = (cost(given.program, generator, kind, size, given.runs) for size in (given.small, given.large))
+        small, large = (cost(given.program, generator, kind, size, given.runs, given.make) for size in (given.small, given.large))
         print(row(kind, small, large), flush=True)
 
 

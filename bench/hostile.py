@@ -12,6 +12,17 @@ KIND is one of
   spread_kinds   tuples of 60 relations that each lead to 250 namespaces, and up to 4,000 changes of the tuples' namespace behind them
   read_kinds     the same, where one of the relations reads a tupleset and the 250 namespaces are declared
   more_kinds     tuples that each store another relation of usersets of 250 namespaces, and changes of these that bring one relation each
+  known_kinds    a wide rule, and tuples that each store another relation of usersets, all of them declared
+  old_kinds      changes of a wide rule, and behind them tuples whose users are of 1,000 namespaces that are not declared
+  covers         such tuples, and behind them changes of their namespace
+  cube           a rule of many `this` in nested unions, usersets of a namespace that is not declared, and one record of many facts of their set
+  stored         the same with a plain rule
+  records        the same, with a record of one fact for each check
+  wide_rule      a rule of many places in nested unions and intersections of two leaves, and records of many facts
+  same_fact      the same, with one fact again and again
+  wide_computed  a rule of many places that compute 250 other relations
+  ring           groups in a circle, and checks that each of many strangers is not in it: for `make`
+  wide_make      a rule of many places that compute one relation, and objects in a chain of such rules: for `make`
   toggled        one tuple added and removed in every other commit, and checks at old snapshots
   ids            one group of users alone, and checks that a stranger is not in it
   chain          records of one chain of groups each, as long as a record may be: from the last group on
@@ -128,6 +139,188 @@ def more_kinds(size):
     return given
 
 
+def nested(leaves):
+    """A union of many places: one has at most 64 children."""
+    while len(leaves) > 64:
+        leaves = [{"union": leaves[k:k + 64]} for k in range(0, len(leaves), 64)]
+    return {"union": leaves}
+
+
+def wide(size):
+    """A relation with a rule of about so many bytes."""
+    through = {"tuple_to": {"tupleset": "viewer", "computed": "m0"}}
+    return relation("viewer", nested([THIS, through] * (size // 60)))
+
+
+def known_kinds(size):
+    """A wide rule, and tuples that each store another relation of usersets. All of these are declared."""
+    users = [{"name": f"n{j}", "relations": [relation(f"m{k}") for k in range(250)]} for j in range(min(size // 16000, 250))]
+    given = Input(size, [{"name": "doc", "relations": [wide(min(size // 4, 500000))]}, *users])
+    given.bytes = sum(len(line) + 1 for line in given.lines)
+    for n in users:
+        given.commit([f"doc:a#viewer@{n['name']}:b#m{k}" for k in range(250)])
+    while not given.is_full():
+        given.check("doc:b#viewer@10", False, [{"no": ["doc:b#viewer@10"]}])
+    return given
+
+
+def foreign(given, size):
+    """Tuples whose users are of namespaces that are not declared."""
+    k = 0
+    while given.bytes < size:
+        given.commit([f"doc:{j}#viewer@n{j % 1000}:b#m" for j in range(k, k + 100)])
+        k += 100
+
+
+def changed(given, size, relations):
+    """Changes of the namespace of documents."""
+    changes = 0
+    while given.bytes < size and changes < 4000:
+        given.at += 1
+        changes += 1
+        given.line({"kind": "namespace", "at": given.at, "name": "doc", "relations": relations})
+
+
+def old_kinds(size):
+    given = Input(size, [{"name": "doc", "relations": [relation("viewer")]}])
+    changed(given, size // 2, [wide(10000)])
+    foreign(given, size)
+    given.check("doc:b#viewer@10", False, [{"no": ["doc:b#viewer@10"]}])
+    return given
+
+
+def covers(size):
+    given = Input(size, [{"name": "doc", "relations": [relation("viewer")]}])
+    foreign(given, size // 2)
+    changed(given, size, [relation("viewer")])
+    given.check("doc:b#viewer@10", False, [{"no": ["doc:b#viewer@10"]}])
+    return given
+
+
+def refused(given, facts, snapshot=None):
+    """A check that the first of some facts does not hold, and a record that says so of all of them."""
+    given.check(facts[0], False, [{"no": facts}], snapshot)
+
+
+def barred(given, size):
+    """Usersets of a namespace that is not declared, stored in one set."""
+    k = 0
+    while given.bytes < size:
+        given.commit([f"doc:a#viewer@ghost:{j}#m" for j in range(k, k + 100)])
+        k += 100
+
+
+def facts_of(goal, size, first=0):
+    """Facts of one userset and many users, of about so many bytes, and no more than a record may have."""
+    return [f"{goal}@{first + user}" for user in range(min(size // (len(goal) + 9), 100000, (LINE - 100) // (len(goal) + 10)))]
+
+
+def asked_of_many(given):
+    """Records of as many facts as a line holds, until the input is full."""
+    first = 0
+    while not given.is_full():
+        facts = facts_of("doc:a#viewer", given.size - given.bytes, first) or ["doc:a#viewer@1"]
+        refused(given, facts)
+        first += len(facts)
+    return given
+
+
+def cube(size):
+    rule = nested([THIS] * (size // 36))
+    given = Input(size, [{"name": "doc", "relations": [relation("viewer", rule)]}])
+    given.bytes = len(given.lines[0])
+    barred(given, size * 2 // 3)
+    return asked_of_many(given)
+
+
+def stored(size):
+    given = Input(size, [{"name": "doc", "relations": [relation("viewer")]}])
+    barred(given, size // 2)
+    return asked_of_many(given)
+
+
+def records(size):
+    given = Input(size, [{"name": "doc", "relations": [relation("viewer")]}])
+    barred(given, size // 2)
+    user = 0
+    while not given.is_full():
+        refused(given, [f"doc:a#viewer@{user}"])
+        user += 1
+    return given
+
+
+def wide_rules(size, leaves):
+    """A namespace with a wide rule of about a third of the bytes, of pairs of these leaves."""
+    pairs = [{"intersection": leaves}, {"union": leaves}]
+    rule = nested(pairs * (min(size // 3, LINE * 9 // 10) // len(text(pairs))))
+    given = Input(size, [{"name": "doc", "relations": [relation("owner"), relation("viewer", rule)]}])
+    given.bytes = len(given.lines[0])
+    given.commit(["doc:b#owner@1"])
+    return given
+
+
+def wide_rule(size):
+    return owned(wide_rules(size, [THIS, {"computed": "owner"}]))
+
+
+def owned(given):
+    """Records that say of many users that they neither own nor view a document."""
+    first = 0
+    while not given.is_full():
+        many = facts_of("doc:a#viewer", (given.size - given.bytes) // 2, first) or ["doc:a#viewer@1"]
+        many = many[:len(many) // 2 + 1]
+        refused(given, many + [fact.replace("viewer", "owner") for fact in many])
+        first += len(many)
+    return given
+
+
+def same_fact(size):
+    given = wide_rules(size, [THIS, {"computed": "owner"}])
+    while not given.is_full():
+        count = min((given.size - given.bytes) // 18 + 1, 50000)
+        refused(given, ["doc:a#viewer@1"] * count + ["doc:a#owner@1"])
+    return given
+
+
+def wide_computed(size):
+    names = [f"r{k}" for k in range(250)]
+    rule = nested([{"computed": names[k % 250]} for k in range(min(size // 3, LINE * 9 // 10) // 19)])
+    given = Input(size, [{"name": "doc", "relations": [*map(relation, names), relation("viewer", rule)]}])
+    given.bytes = len(given.lines[0])
+    given.commit(["doc:b#r0@1"])
+    user = 0
+    while not given.is_full():
+        count = min(max((given.size - given.bytes) // 2700, 1), 300)
+        goals = ["doc:a#viewer", *(f"doc:a#{name}" for name in names)]
+        refused(given, [f"{goal}@{k}" for k in range(user, user + count) for goal in goals])
+        user += count
+    return given
+
+
+def ring(size):
+    groups = size // 150
+    given = Input(size, [{"name": "group", "relations": [relation("member")]}])
+    given.commit([f"group:{k}#member@group:{(k + 1) % groups}#member" for k in range(groups)])
+    user = 0
+    while not given.is_full():
+        refused(given, [f"group:0#member@{user}"])
+        user += 1
+    return given
+
+
+def wide_make(size):
+    rule = nested([{"computed": "owner"}] * (min(size, LINE * 9 // 10) * 9 // 10 // 21))
+    given = Input(size, [{"name": "doc", "relations": [relation("owner", {"union": [THIS, {"tuple_to": {"tupleset": "parent", "computed": "viewer"}}]}),
+                                                       relation("parent"), relation("viewer", rule)]}])
+    given.bytes = len(given.lines[0])
+    k = 0
+    while not given.is_full():
+        given.commit([f"doc:{j}#parent@doc:{j + 1}#..." for j in range(k, k + 100)])
+        k += 100
+    refused(given, ["doc:0#viewer@1"])
+    return given
+
+
 def toggled(size):
     given = Input(size, [{"name": "doc", "relations": [relation("viewer")]}])
     goal = "doc:readme#viewer@10"
@@ -215,6 +408,17 @@ KINDS = {
     "spread_kinds": spread_kinds,
     "read_kinds": read_kinds,
     "more_kinds": more_kinds,
+    "known_kinds": known_kinds,
+    "old_kinds": old_kinds,
+    "covers": covers,
+    "cube": cube,
+    "stored": stored,
+    "records": records,
+    "wide_rule": wide_rule,
+    "same_fact": same_fact,
+    "wide_computed": wide_computed,
+    "ring": ring,
+    "wide_make": wide_make,
     "toggled": toggled,
     "ids": ids,
     "chain": lambda size: rings(size, 1, False),

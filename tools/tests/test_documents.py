@@ -133,6 +133,12 @@ class Names(Case):
                     with self.subTest(promise=row[0][:60], word=word):
                         self.assertTrue(word.split("::")[-1] in named)
 
+    def test_the_library_call(self):
+        shown = read("ARCHITECTURE.md").split("```\n")[1]
+        program = read("crates", "tests_of_devices", "src", "in_memory.rt")
+        for part in shown.split("\n\n"):
+            self.assertIn(part, program)
+
     def test_crates(self):
         listed = re.findall(r"^(\w+)", read("crates.txt"), re.MULTILINE)
         layers = read("ARCHITECTURE.md").split("## The way of a line")[0]

@@ -1,0 +1,189 @@
+"""The command new_enemy at the top: it runs a program that was proved of the sources that stand beside it, and no other."""
+import os
+import shutil
+import subprocess
+import tempfile
+import unittest
+
+from tests.support import EXAMPLES, TOP
+
+CLEAN = "entries 1\nfindings 0\nverdict clean\n"
+PARTS = ("src", "specs", "proofs")
+# Two crates that the program stands on, itself among them, and one that it does not stand on: as many as the tests need.
+CRATES = ("new_enemy", "zookie", "tests_of_texts")
+# A kit that takes a program made before for the one that it proves.
+KIT = """#!/bin/sh
+case $1 in
+    version) echo "rattle-kit-test" ;;
+    run) mkdir -p out && cp "$PROGRAM" out/new_enemy && chmod +x out/new_enemy && sh -c "$MEANWHILE" && out/new_enemy ;;
+esac
+"""
+
+
+def write(path, text):
+    os.makedirs(os.path.dirname(path), exist_ok=True)
+    with open(path, "w", encoding="utf-8") as file:
+        file.write(text)
+
+
+def change(path, old, new):
+    with open(path, "rb") as file:
+        data = file.read()
+    assert old in data
+    with open(path, "wb") as file:
+        file.write(data.replace(old, new, 1))
+
+
+class Checkout(unittest.TestCase):
+    """A copy of some of what the command reads, where dist/ holds the program as if the gate had built it."""
+
+    def setUp(self):
+        room = tempfile.TemporaryDirectory()
+        self.addCleanup(room.cleanup)
+        self.room, self.top = room.name, os.path.join(room.name, "top")
+        for name in ("new_enemy", "crates.txt", "HANDLES", "dist/provenance", "tools/release", "crates/new_enemy/stdin"):
+            os.makedirs(os.path.dirname(self.path(name)), exist_ok=True)
+            shutil.copy(os.path.join(TOP, name), self.path(name))
+        for crate in CRATES:
+            for part in PARTS:
+                if os.path.isdir(os.path.join(TOP, "crates", crate, part)):
+                    shutil.copytree(os.path.join(TOP, "crates", crate, part), self.path("crates", crate, part))
+        kit = os.path.join(self.room, "kit", "rt")
+        write(kit, KIT)
+        os.chmod(kit, 0o755)
+        shutil.copy(os.environ["NEW_ENEMY"], self.path("dist", "new_enemy"))
+        self.shell('. dist/provenance && write_proved dist "$(sources_sum .)" ./check', kit=True)
+
+    def path(self, *names):
+        return os.path.join(self.top, *names)
+
+    def how(self, kit, meanwhile=":"):
+        path = os.pathsep.join([os.path.dirname(os.path.join(self.room, "kit", "rt"))] * kit + ["/usr/bin", "/bin"])
+        return {"env": {"PATH": path, "PROGRAM": os.environ["NEW_ENEMY"], "MEANWHILE": meanwhile}, "capture_output": True, "text": True}
+
+    def shell(self, line, kit=False):
+        return subprocess.run(["bash", "-c", line], cwd=self.top, check=True, **self.how(kit))
+
+    def run_command(self, *words, command=None, kit=False, meanwhile=":"):
+        with open(os.path.join(EXAMPLES, "one_proved_check"), "rb") as given:
+            return subprocess.run([command or self.path("new_enemy"), *words], cwd=self.room, stdin=given, timeout=60,
+                                  **self.how(kit, meanwhile))
+
+    def assert_runs(self, command=None):
+        run = self.run_command(command=command)
+        self.assertEqual((run.returncode, run.stdout, run.stderr), (0, CLEAN, ""))
+
+    def assert_refused(self, why):
+        run = self.run_command()
+        self.assertEqual((run.returncode, run.stdout), (5, ""))
+        self.assertIn("  dist/new_enemy: %s\n" % why, run.stderr)
+        self.assertIn("./new_enemy --prove", run.stderr)
+        self.assertEqual(self.run_command("--provenance").returncode, 1)
+
+
+class WhatRuns(Checkout):
+    def test_without_the_kit_and_from_anywhere(self):
+        self.assert_runs()
+        os.symlink(self.path("new_enemy"), os.path.join(self.room, "link"))
+        self.assert_runs(os.path.join(self.room, "link"))
+        subprocess.run(["cp", "-r", self.top, os.path.join(self.room, "copy")], check=True)
+        self.assert_runs(os.path.join(self.room, "copy", "new_enemy"))
+
+    def test_nothing_is_written(self):
+        subprocess.run(["chmod", "-R", "a-w", self.top], check=True)
+        before = sorted(os.walk(self.top))
+        self.assert_runs()
+        self.assertEqual(sorted(os.walk(self.top)), before)
+        subprocess.run(["chmod", "-R", "u+w", self.top], check=True)
+
+    def test_words_go_to_the_program(self):
+        self.assertIn("Usage", self.run_command("--help").stdout)
+        self.assertEqual(self.run_command("--prove", "more").returncode, 3)
+
+    def test_what_the_program_does_not_stand_on_may_change(self):
+        change(self.path("crates", "tests_of_texts", "src", "lib.rt"), b"//!", b"//! ")
+        with open(self.path("crates.txt"), "a", encoding="utf-8") as file:
+            file.write("# a comment\n")
+        self.assert_runs()
+
+
+class WhatIsRefused(Checkout):
+    def test_changed_sources(self):
+        change(self.path("crates", "zookie", "src", "token.rt"), b"19", b"18")
+        self.assert_refused("PROVED is of other sources than stand here")
+
+    def test_one_file_more_and_one_less(self):
+        write(self.path("crates", "zookie", "specs", "More.antt"), "")
+        self.assert_refused("PROVED is of other sources than stand here")
+        os.remove(self.path("crates", "zookie", "specs", "More.antt"))
+        self.assert_runs()
+        os.remove(self.path("HANDLES"))
+        self.assert_refused("PROVED is of other sources than stand here")
+
+    def test_another_list_of_crates(self):
+        change(self.path("crates.txt"), b"zookie: hex", b"zookie:")
+        self.assert_refused("PROVED is of other sources than stand here")
+
+    def test_a_changed_program(self):
+        change(self.path("dist", "new_enemy"), b"verdict clean", b"verdict dirty")
+        self.assert_refused("the program is not the one that PROVED names")
+
+    def test_a_changed_proved(self):
+        for word, why in ("sources", "PROVED is of other sources than stand here"), ("program", "the program is not the one that PROVED names"):
+            with self.subTest(word=word):
+                shutil.copy(self.path("dist", "PROVED"), self.path("kept"))
+                change(self.path("dist", "PROVED"), b"\n%s " % word.encode(), b"\n%s 0" % word.encode())
+                self.assert_refused(why)
+                os.replace(self.path("kept"), self.path("dist", "PROVED"))
+
+    def test_no_program(self):
+        os.remove(self.path("dist", "new_enemy"))
+        self.assert_refused("there is no program")
+        os.remove(self.path("dist", "PROVED"))
+        self.assert_refused("there is no PROVED")
+
+    def test_a_younger_program_is_not_taken_for_proved(self):
+        change(self.path("crates", "zookie", "src", "token.rt"), b"19", b"18")
+        write(self.path("crates", "new_enemy", "out", "new_enemy"), "#!/bin/sh\necho verdict clean\n")
+        os.chmod(self.path("crates", "new_enemy", "out", "new_enemy"), 0o755)
+        self.assert_refused("PROVED is of other sources than stand here")
+
+
+class Proving(Checkout):
+    def setUp(self):
+        super().setUp()
+        change(self.path("crates", "zookie", "src", "token.rt"), b"19", b"18")
+
+    def test_what_is_proved_here_runs(self):
+        self.assertEqual(self.run_command("--prove", kit=True).returncode, 0)
+        self.assert_runs()
+        change(self.path("crates", "zookie", "src", "token.rt"), b"18", b"17")
+        self.assert_refused("PROVED is of other sources than stand here")
+
+    def test_without_the_kit(self):
+        run = self.run_command("--prove")
+        self.assertEqual(run.returncode, 5)
+        self.assertIn("needs the Rattle kit", run.stderr)
+
+    def test_what_fails_or_changes_meanwhile(self):
+        self.assertEqual(self.run_command("--prove", kit=True, meanwhile="false").returncode, 5)
+        self.assertEqual(self.run_command().returncode, 5)
+        self.assertEqual(self.run_command("--prove", kit=True, meanwhile="echo >> ../zookie/src/token.rt").returncode, 5)
+        self.assertEqual(self.run_command().returncode, 5)
+
+    def test_release(self):
+        release = self.path("tools", "release")
+        self.assertEqual(self.run_command(command=release, kit=True).returncode, 1)
+        self.assertEqual(self.run_command("--prove", kit=True).returncode, 0)
+        run = self.run_command(command=release, kit=True)
+        self.assertEqual(run.returncode, 1)
+        self.assertIn("it was built by ./new_enemy --prove", run.stderr)
+        self.shell('. dist/provenance && write_proved crates/new_enemy/out "$(sources_sum .)" ./check', kit=True)
+        run = self.run_command("--compare", command=release)
+        self.assertEqual((run.returncode, run.stdout.splitlines()[-1]), (1, "0 passed, 1 failed"))
+        self.assertEqual(self.run_command(command=release, kit=True).returncode, 0)
+        run = self.run_command("--compare", command=release)
+        self.assertEqual((run.returncode, run.stdout.splitlines()[-1]), (0, "1 passed, 0 failed"))
+        shutil.rmtree(self.path("crates", "new_enemy", "out"))
+        self.assert_runs()
+        self.assertEqual(self.run_command("--provenance").returncode, 0)
