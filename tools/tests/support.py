@@ -17,6 +17,7 @@ from lib.programs import loaded_file
 from lib.trace import read_trace
 
 TOOLS = os.path.dirname(os.path.dirname(os.path.abspath(__file__)))
+DEV = os.path.join(TOOLS, "dev")
 TOP = os.path.dirname(TOOLS)
 EXAMPLES = os.path.join(TOP, "examples")
 

@@ -3,7 +3,7 @@ import os
 import subprocess
 import sys
 
-from tests.support import EXAMPLES, TOOLS, Case
+from tests.support import DEV, EXAMPLES, TOOLS, Case
 
 TRACE = os.path.join(EXAMPLES, "each_finding")
 RUNS = (("draw", TRACE, "3"), ("explain", TRACE, "5"), ("explain", TRACE), ("make_evidence", TRACE))
@@ -27,7 +27,7 @@ class Ends(Case):
                 self.assertEqual(self.ended(words, full), (5, "cannot write: No space left on device\n"), words)
 
     def test_no_program(self):
-        run = subprocess.run([sys.executable, os.path.join(TOOLS, "fuzz"), "/absent"], capture_output=True, text=True, timeout=60)
+        run = subprocess.run([sys.executable, os.path.join(DEV, "fuzz"), "/absent"], capture_output=True, text=True, timeout=60)
         self.assertEqual((run.returncode, run.stdout, run.stderr), (5, "", "cannot use /absent: No such file or directory\n"))
 
     def test_closed(self):

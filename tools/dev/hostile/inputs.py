@@ -6,7 +6,7 @@ from typing import Iterator, NamedTuple
 from hostile.answers import Answer
 from lib.programs import loaded_file
 
-TOP = os.path.dirname(os.path.dirname(os.path.dirname(os.path.abspath(__file__))))
+TOP = os.path.realpath(os.path.join(os.path.dirname(__file__), "..", "..", ".."))
 EXAMPLES = ("one_proved_check", "each_finding")
 
 
