@@ -10,11 +10,11 @@ import unittest
 from typing import NamedTuple
 from unittest import mock
 
-from importing.command import main as import_main
-from importing.refusals import HINT
-from lib.maker import record
-from lib.programs import loaded_file
-from lib.trace import read_trace
+from new_enemy_tools.importing.command import main as import_main
+from new_enemy_tools.importing.refusals import HINT
+from new_enemy_tools.maker import record
+from new_enemy_tools.programs import loaded_file
+from new_enemy_tools.trace import read_trace
 
 TOOLS = os.path.dirname(os.path.dirname(os.path.abspath(__file__)))
 DEV = os.path.join(TOOLS, "dev")

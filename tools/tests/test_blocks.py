@@ -4,7 +4,7 @@ import unittest
 from random import Random
 from unittest import mock
 
-from importing import located, spool
+from new_enemy_tools.importing import located, spool
 from tests import openfga_service
 from tests.test_core import RULES, CoreCase, check, content, rel, write
 from tests.test_round_trips import OpenFga, SpiceDb

@@ -7,10 +7,10 @@ import subprocess
 import sys
 from unittest import mock
 
-from importing.progress import Progress
-from lib import limits
-from lib.ids import Ids
-from lib.texts import Tuple, Userset, parse_tuple
+from new_enemy_tools.importing.progress import Progress
+from new_enemy_tools import limits
+from new_enemy_tools.ids import Ids
+from new_enemy_tools.texts import Tuple, Userset, parse_tuple
 from tests.support import TOOLS, Case
 
 RULES = {"event": "rules", "namespaces": [

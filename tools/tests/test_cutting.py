@@ -7,10 +7,10 @@ import signal
 from random import Random
 from unittest import mock
 
-from lib import limits
-from parting.blocks import Blocks
-from parting.cutting import Cut
-from parting.placing import ENTRIES, RECORDS, line_of, object_of, part_of
+from new_enemy_tools import limits
+from new_enemy_tools.parting.blocks import Blocks
+from new_enemy_tools.parting.cutting import Cut
+from new_enemy_tools.parting.placing import ENTRIES, RECORDS, line_of, object_of, part_of
 from tests.random_traces import RandomInput
 from tests.test_parts import PartsCase, answer, parts
 

@@ -8,10 +8,10 @@ from random import Random
 from typing import Iterator
 from unittest import mock
 
-from lib.effects import Effects
-from lib.order import ignored, order_findings
-from lib.texts import zookie_text
-from lib.trace import read_trace
+from new_enemy_tools.effects import Effects
+from new_enemy_tools.order import ignored, order_findings
+from new_enemy_tools.texts import zookie_text
+from new_enemy_tools.trace import read_trace
 from tests.random_traces import NAMESPACES, VIEWER, RandomInput
 from tests.support import Case
 

@@ -11,15 +11,15 @@ from random import Random
 from unittest import mock
 
 from hostile.inputs import worked_cases
-from lib import limits
-from lib.evidence import check_evidence, records_of
-from lib.files import split_joined
-from lib.judging import judge
-from lib.meaning import Settled
-from lib.order import order_lines
-from lib.reasons import Reasons
-from lib.texts import Tuple
-from lib.trace import Fault, read_trace
+from new_enemy_tools import limits
+from new_enemy_tools.evidence import check_evidence, records_of
+from new_enemy_tools.files import split_joined
+from new_enemy_tools.judging import judge
+from new_enemy_tools.meaning import Settled
+from new_enemy_tools.order import order_lines
+from new_enemy_tools.reasons import Reasons
+from new_enemy_tools.texts import Tuple
+from new_enemy_tools.trace import Fault, read_trace
 from tests.random_traces import RandomInput
 from tests.support import EXAMPLES, Case
 from tests.test_effects import ChangingInput

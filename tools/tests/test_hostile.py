@@ -6,8 +6,8 @@ from hostile.answers import Answer, wrong_with
 from hostile.inputs import worked_cases, worked_inputs
 from hostile.mutations import SIZE, mutant
 from hostile.reading import denied
-from lib.files import split_joined
-from lib.programs import loaded_file
+from new_enemy_tools.files import split_joined
+from new_enemy_tools.programs import loaded_file
 from tests.support import DEV, Case
 
 CLEAN = b"entries 1\nfindings 0\nverdict clean\n"

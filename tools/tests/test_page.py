@@ -8,8 +8,8 @@ import unittest
 from html.parser import HTMLParser
 from typing import Optional
 
-from lib.page import PAGE
-from lib.texts import zookie_text
+from new_enemy_tools.page import PAGE
+from new_enemy_tools.texts import zookie_text
 from tests.support import Case
 from tests.test_effects import BOB, check
 

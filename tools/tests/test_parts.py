@@ -13,12 +13,12 @@ import subprocess
 import tempfile
 from random import Random
 
-from lib.files import read_bytes
-from parting.command import cut_command, main
-from parting.manifest import read_manifest, report_path
-from parting.merging import answer_of
-from parting.reports import read_part_report
-from parting.running import run_part
+from new_enemy_tools.files import read_bytes
+from new_enemy_tools.parting.command import cut_command, main
+from new_enemy_tools.parting.manifest import read_manifest, report_path
+from new_enemy_tools.parting.merging import answer_of
+from new_enemy_tools.parting.reports import read_part_report
+from new_enemy_tools.parting.running import run_part
 from tests.random_traces import RandomInput
 from tests.support import EXAMPLES, TOP, Case, Run, loaded_file
 

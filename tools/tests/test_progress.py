@@ -2,7 +2,7 @@
 import io
 from unittest import mock
 
-from lib.progress import Progress
+from new_enemy_tools.progress import Progress
 from tests.support import Case
 
 

@@ -3,7 +3,7 @@ import re
 import subprocess
 from typing import NamedTuple, Optional
 
-from lib.findings import ReportFault, read_report
+from new_enemy_tools.findings import ReportFault, read_report
 
 END_SECONDS = 60
 NUMBER = r"(?:0|[1-9][0-9]*)"

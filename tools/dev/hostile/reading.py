@@ -3,13 +3,13 @@ import re
 from typing import Optional
 
 from hostile.answers import Answer
-from lib.evidence import check_evidence, records_of
-from lib.files import split_joined
-from lib.judging import judge
-from lib.meaning import Settled
-from lib.order import order_lines
-from lib.strictjson import Object
-from lib.trace import Fault, Trace, read_trace
+from new_enemy_tools.evidence import check_evidence, records_of
+from new_enemy_tools.files import split_joined
+from new_enemy_tools.judging import judge
+from new_enemy_tools.meaning import Settled
+from new_enemy_tools.order import order_lines
+from new_enemy_tools.strictjson import Object
+from new_enemy_tools.trace import Fault, Trace, read_trace
 
 
 def denied(answer: Answer, data: bytes) -> Optional[str]:
