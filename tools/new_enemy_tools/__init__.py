@@ -1,6 +1,4 @@
-"""What the tools share: the trace and its texts, rules, the store at a timestamp, and what the rules mean."""
-import sys
+"""The tools around the auditor: they make traces of a service's logs, cut them, and say what an audit found.
 
-if sys.version_info < (3, 9):
-    sys.stderr.write("the tools need Python 3.9 or a later one, and this is %d.%d\n" % sys.version_info[:2])
-    sys.exit(3)
+Libraries raise (faults.py); commands say what was raised, and exit.
+"""

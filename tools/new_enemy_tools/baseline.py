@@ -5,12 +5,13 @@ from collections import Counter
 from typing import Iterator, Optional
 
 from new_enemy_tools.effects import Told
+from new_enemy_tools.faults import ToolFault
 from new_enemy_tools.names import Names
 
 FINGERPRINT = "finding/v1"
 
 
-class BaselineFault(Exception):
+class BaselineFault(ToolFault):
     """What is wrong with a baseline, with its file and line."""
 
 

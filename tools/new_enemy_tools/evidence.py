@@ -5,6 +5,8 @@ from new_enemy_tools import limits, strictjson, texts
 from new_enemy_tools.strictjson import Object
 from new_enemy_tools.trace import Fault, Refusal, Trace, is_u64
 
+Step = Callable[[int], None]
+
 
 def _shape(value: object) -> tuple[int, list[Object]]:
     if not isinstance(value, dict):
@@ -56,12 +58,13 @@ def _take(value: object, trace: Trace, seen: dict[int, int], number: int) -> tup
     return line, steps
 
 
-def _records(data: bytes, trace: Trace, is_wanted: Callable[[bytes], bool]) -> Iterator[tuple[int, list[Object]]]:
+def _records(data: bytes, trace: Trace, is_wanted: Callable[[bytes], bool], step: Step) -> Iterator[tuple[int, list[Object]]]:
     """The line and the steps of each record that is wanted; raises Fault on the first of these that the program refuses."""
     seen: dict[int, int] = {}
     number = 0
     try:
         for number, raw in strictjson.lines_of(data):
+            step(number)
             if not is_wanted(raw):
                 continue
             try:
@@ -75,13 +78,13 @@ def _records(data: bytes, trace: Trace, is_wanted: Callable[[bytes], bool]) -> I
         raise Fault("evidence", number, str(refusal), refusal.details) from None
 
 
-def check_evidence(data: bytes, trace: Trace) -> None:
-    """Raises Fault on the first line that the program refuses."""
-    for _ in _records(data, trace, lambda raw: True):
+def check_evidence(data: bytes, trace: Trace, step: Step = lambda line: None) -> None:
+    """Raises Fault on the first line that the program refuses. `step` is told how many were read."""
+    for _ in _records(data, trace, lambda raw: True, step):
         pass
 
 
-def records_of(data: bytes, trace: Trace, lines: set[int]) -> dict[int, list[Object]]:
+def records_of(data: bytes, trace: Trace, lines: set[int], step: Step = lambda line: None) -> dict[int, list[Object]]:
     """The steps of the records for some lines of a trace; raises Fault where one of these is refused."""
     starts = tuple(b'{"line":%d,' % line for line in lines)
 
@@ -89,4 +92,4 @@ def records_of(data: bytes, trace: Trace, lines: set[int]) -> dict[int, list[Obj
         """Most records begin so, and those for other lines need no look; an escape may hide another key."""
         return raw.startswith(starts) or not raw.startswith(b'{"line":') or raw.count(b'"line"') != 1 or b"\\" in raw
 
-    return {line: steps for line, steps in _records(data, trace, is_wanted) if line in lines}
+    return {line: steps for line, steps in _records(data, trace, is_wanted, step) if line in lines}

@@ -2,6 +2,8 @@
 import re
 from typing import NamedTuple, Optional
 
+from new_enemy_tools.faults import ToolFault
+
 # Numbers of a report have no more digits than those of 64 bits.
 FINDING = re.compile(r"line ([0-9]{1,20}): (F(?:[1-9]|10)) ([a-z ]+?)(?:, see line ([0-9]{1,20})| at step ([0-9]{1,20}))?")
 FORMS = {"F1": ("stale", None), "F2": ("old token", "line"), "F3": ("not latest", "line"), "F4": ("open snapshot", "line"),
@@ -10,7 +12,7 @@ FORMS = {"F1": ("stale", None), "F2": ("old token", "line"), "F3": ("not latest"
 ON_TOKENS = ("F1", "F2", "F3", "F4", "F5", "F6")
 
 
-class ReportFault(Exception):
+class ReportFault(ToolFault):
     """What is wrong with a report, and on which of its lines."""
 
 

@@ -2,6 +2,7 @@
 import subprocess
 from typing import Iterator, NamedTuple, Optional
 
+from new_enemy_tools.faults import DeviceFault
 from new_enemy_tools.kept import Entry
 from new_enemy_tools.meaning import Link, Settled
 from new_enemy_tools.names import Names
@@ -16,7 +17,7 @@ SECONDS = 60
 YES, NO = "palegreen", "white"
 
 
-class NoDrawing(Exception):
+class NoDrawing(DeviceFault):
     """Why Graphviz gave no drawing."""
 
 

@@ -11,6 +11,7 @@ import re
 from typing import Optional
 
 from new_enemy_tools import limits, texts
+from new_enemy_tools.faults import ToolFault
 from new_enemy_tools.keys import unread
 
 KEYS = frozenset(("kind", "type", "id", "number"))
@@ -20,7 +21,7 @@ NAME = re.compile(r"n_([1-9][0-9]*)")
 ID = re.compile(r"~([1-9][0-9]*)")
 
 
-class TableFault(Exception):
+class TableFault(ToolFault):
     """What is wrong with the table, with its file and line."""
 
 

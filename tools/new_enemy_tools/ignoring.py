@@ -10,6 +10,7 @@ from datetime import date
 from typing import Callable, NamedTuple, Optional
 
 from new_enemy_tools.effects import EFFECTS
+from new_enemy_tools.faults import ToolFault
 from new_enemy_tools.findings import FORMS
 
 PATTERNS = ("namespace", "object", "relation", "user")
@@ -19,7 +20,7 @@ EXACT: dict[str, Callable[[str], bool]] = {
 WORST = ("wrong", "changed")
 
 
-class IgnoreFault(Exception):
+class IgnoreFault(ToolFault):
     """What is wrong with a row, with its file and line."""
 
 

@@ -1,6 +1,6 @@
 """What is odd in a trace that the program takes: what is not read, and what seems to mean something else than it says."""
 import unicodedata
-from typing import Iterator, NamedTuple
+from typing import Callable, Iterator, NamedTuple
 
 from new_enemy_tools import strictjson
 from new_enemy_tools.keys import Unread, unread, unread_in_expression
@@ -131,10 +131,11 @@ def odd_relations(trace: Trace, declared: dict[Name, int]) -> Iterator[Odd]:
             yield Odd(line, "relation %s#%s is read by no rule, tuple or check" % (namespace, relation))
 
 
-def odd_in(data: bytes) -> list[Odd]:
+def odd_in(data: bytes, step: Callable[[int], None] = lambda line: None) -> list[Odd]:
     """All that is odd in a trace, by its lines; raises Fault on the first line that the program refuses."""
-    trace, seen = read_trace(data), Seen()
+    trace, seen = read_trace(data, step), Seen()
     for line, raw in strictjson.lines_of(data):
+        step(line)
         seen.take(line, strictjson.value_of(raw))
     found = [*seen.odd(), *odd_versions(trace), *odd_goals(trace), *odd_relations(trace, seen.declared)]
     if not trace.entries:

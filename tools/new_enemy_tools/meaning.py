@@ -5,13 +5,14 @@ The answers explain; the program's audit does not lean on them.
 from typing import Iterator, NamedTuple, Optional
 
 from new_enemy_tools import limits
+from new_enemy_tools.faults import ToolFault
 from new_enemy_tools.rules import Place, Rules, form_of, places
 from new_enemy_tools.store import Store
 from new_enemy_tools.strictjson import Object
 from new_enemy_tools.texts import Tuple, Userset
 
 
-class Outgrown(Exception):
+class Outgrown(ToolFault):
     """A goal leads to more than is looked at."""
 
     def __init__(self) -> None:

@@ -4,6 +4,7 @@ from typing import Callable, Iterator, Optional
 
 from new_enemy_tools import limits, strictjson, texts
 from new_enemy_tools.edges import Edge, TupleEdges, first_broken, rule_edges
+from new_enemy_tools.faults import ToolFault
 from new_enemy_tools.kept import Commit, Commits, Entries, Entry
 from new_enemy_tools.quick import QuickCommit, quick_commit, quick_entry
 from new_enemy_tools.rules import Rules, RulesFault
@@ -22,13 +23,20 @@ Label = tuple[bytes, bytes]
 Names = tuple[bytes, bytes]
 
 
-class Fault(Exception):
+class Fault(ToolFault):
     """The program's one line on a refused input, and what else is to be said of it."""
 
     def __init__(self, part: str, line: int, cause: str, details: list[str]):
         super().__init__("%s line %d: %s" % (part, line, cause))
         self.line = line
         self.details = details
+
+
+class NoEntry(ToolFault):
+    """A line on which no check and no content check stands."""
+
+    def __init__(self, line: int):
+        super().__init__("line %d of the trace is no check and no content line" % line)
 
 
 class Refusal(Exception):
@@ -65,6 +73,12 @@ class Trace:
         self._declared: set[Names] = set()
         self._sound: set[tuple[Names, Names]] = set()
         self._names_of_texts: dict[bytes, Names] = {}
+
+    def entry_on(self, line: int) -> Entry:
+        """The entry on a line; raises NoEntry."""
+        if line not in self.entries:
+            raise NoEntry(line)
+        return self.entries[line]
 
     def at_of(self, line: int) -> Optional[int]:
         """The timestamp of a line: of a commit its own, of an entry its snapshot."""

@@ -50,7 +50,7 @@ class Pipes(CoreCase):
     def test_a_log_that_comes_by_a_pipe(self):
         self.given(RULES, write(1, rel()), check(1))
         for text in (self.get("log"), "[" + self.get("log").replace("}\n{", "}\n,{") + "]"):
-            run = self.run_process("import_trace", "events", "--from-empty", "/dev/stdin", stdin=text)
+            run = self.run_process("import", "events", "--from-empty", "/dev/stdin", stdin=text)
             self.assertIn("commits 1, checks 1" if text[0] == "{" else "`event` is none of", run.stderr)
 
 

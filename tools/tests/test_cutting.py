@@ -98,12 +98,12 @@ class Placing(PartsCase):
         joined = b"".join(RandomInput(Random("shared %d" % number)).refused() for number in range(12))
         one = self.cut(5, joined, "one")
         for number, (jobs, block, most) in enumerate(((1, 300, 1 << 22), (2, 300, 1 << 22), (3, 2000, 0), (4, 10_000, 2000))):
-            with mock.patch("parting.blocks.BLOCK", block), mock.patch("parting.spread.JOINED", most):
+            with mock.patch("new_enemy_tools.parting.blocks.BLOCK", block), mock.patch("new_enemy_tools.parting.spread.JOINED", most):
                 self.assert_alike(one, self.cut(5, joined, "cut%d" % number, jobs))
 
     def test_a_process_that_is_killed(self):
         folder, joined = self.path("killed"), self.put("joined", RandomInput(Random(1)).joined())
-        with mock.patch("parting.blocks.BLOCK", 300), mock.patch("parting.spread.object_of", lambda line: os.kill(os.getpid(), 9)):
+        with mock.patch("new_enemy_tools.parting.blocks.BLOCK", 300), mock.patch("new_enemy_tools.parting.spread.object_of", lambda line: os.kill(os.getpid(), 9)):
             run = parts("cut", 3, joined, folder, "--jobs", 2)
         self.assertEqual(run, (2, "", "parts: a process that places lines was killed\n"))
         self.assertEqual(os.listdir(folder), [])

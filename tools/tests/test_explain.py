@@ -191,7 +191,7 @@ class Findings(Case):
             self.assertIn("Effect changed", said)
             run = self.run_tool("draw", "trace", "5")
             self.assertEqual((run.returncode, run.stdout, run.stderr), (2, "", told + "\n"))
-            run = self.run_tool("make_evidence", "trace")
+            run = self.run_tool("make-evidence", "trace")
             self.assertEqual((run.returncode, run.stdout.count("\n"), run.stderr), (0, 1, "gave up 2\n"))
             lines = self.run_tool("report", "--form", "text", "trace", "report").stdout.splitlines()
             self.assertEqual(lines[0], "1 reply wrong, 0 stale answers that let someone in, 1 that kept someone out, 1 undecided, 0 harmless")
@@ -449,7 +449,7 @@ class Drawings(Case):
         path = os.path.join(EXAMPLES, "one_proved_check")
         self.assertIn("digraph", self.run_process("draw", path, "3").stdout)
         self.assertIn("reply is right", self.run_process("explain", path, "3").stdout)
-        self.assertEqual(self.run_process("make_evidence", path).stdout, '{"line":3,"steps":[{"yes":"doc:readme#viewer@10"}]}\n')
-        self.assertEqual(self.run_process("make_evidence").returncode, 3)
+        self.assertEqual(self.run_process("make-evidence", path).stdout, '{"line":3,"steps":[{"yes":"doc:readme#viewer@10"}]}\n')
+        self.assertEqual(self.run_process("make-evidence").returncode, 3)
         report = "entries 1\nfindings 0\nverdict clean\n"
         self.assertEqual(self.run_process("report", path, "-", stdin=report).returncode, 0)

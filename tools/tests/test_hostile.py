@@ -7,7 +7,7 @@ from hostile.inputs import worked_cases, worked_inputs
 from hostile.mutations import SIZE, mutant
 from hostile.reading import denied
 from new_enemy_tools.files import split_joined
-from new_enemy_tools.programs import loaded_file
+from hostile.loading import loaded_file
 from tests.support import DEV, Case
 
 CLEAN = b"entries 1\nfindings 0\nverdict clean\n"
@@ -66,7 +66,7 @@ class Fuzz(Case):
         with open(path, "w", encoding="utf-8") as file:
             file.write("#!/bin/sh\n" + script)
         os.chmod(path, 0o755)
-        return self.run_tool("dev/fuzz", *words, "--folder", self.room, "program")
+        return self.run_dev("fuzz", *words, "--folder", self.room, "program")
 
     def test_faults_are_kept_and_come_again(self):
         run = self.fuzz("cat > /dev/null; kill -SEGV $$\n", "--runs", "3", "--seed", "7")
@@ -110,7 +110,7 @@ class RefuseGrowth(Case):
     def table(self, status, *words):
         self.put("program.c", ASKS % status)
         subprocess.run(["cc", "-o", self.path("program"), self.path("program.c"), *words], check=True, capture_output=True)
-        return self.run_tool("dev/refuse_growth", "program", "empty_trace_is_clean")
+        return self.run_dev("refuse_growth", "program", "empty_trace_is_clean")
 
     def test_each_growth_fails_alone_and_with_all_behind_it(self):
         run = self.table(4)
@@ -153,7 +153,7 @@ class RefuseGrowthOfCalls(Case):
     def runs(self, *names):
         self.put("tests.c", TESTS)
         subprocess.run(["cc", "-o", self.path("tests"), self.path("tests.c")], check=True, capture_output=True)
-        run = self.run_tool("dev/refuse_growth_of_calls", self.path("tests"), *names)
+        run = self.run_dev("refuse_growth_of_calls", self.path("tests"), *names)
         return run.returncode, run.stdout.splitlines()
 
     def test_a_call_that_is_made_once_more(self):

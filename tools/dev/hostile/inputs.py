@@ -4,7 +4,7 @@ import os
 from typing import Iterator, NamedTuple
 
 from hostile.answers import Answer
-from new_enemy_tools.programs import loaded_file
+from hostile.loading import loaded_file
 
 TOP = os.path.realpath(os.path.join(os.path.dirname(__file__), "..", "..", ".."))
 EXAMPLES = ("one_proved_check", "each_finding")

@@ -1,8 +1,8 @@
-"""Makes a trace of the logs of a service: import_trace SERVICE .. LOG .. (docs/IMPORTING.md).
+"""Makes a trace of the logs of a service: ne import SERVICE .. LOG .. (docs/IMPORTING.md).
 
-    import_trace openfga --model MODEL (--base FILE .. --base-at TIME | --from-empty) LOG ..
-    import_trace spicedb --schema SCHEMA (--base FILE .. --base-at TOKEN | --from-empty) LOG ..
-    import_trace events (--from-empty | base writes in the log) LOG ..
+    ne import openfga --model MODEL (--base FILE .. --base-at TIME | --from-empty) LOG ..
+    ne import spicedb --schema SCHEMA (--base FILE .. --base-at TOKEN | --from-empty) LOG ..
+    ne import events (--from-empty | base writes in the log) LOG ..
 
 It writes the trace and adds to the table of ids; where anything is refused it writes neither, lists all refusals on
 standard error, and ends with status 2.
@@ -13,22 +13,23 @@ import sys
 from argparse import Namespace
 from typing import Any, Iterable, Optional
 
+from new_enemy_tools import limits
+from new_enemy_tools.commands.running import Parser
+from new_enemy_tools.faults import DeviceFault
+from new_enemy_tools.ids import Ids
 from new_enemy_tools.importing import openfga, spicedb, spicedb_schema
 from new_enemy_tools.importing.core import Core, Given
 from new_enemy_tools.importing.neutral import gather_events
-from new_enemy_tools.importing.progress import Progress
 from new_enemy_tools.importing.refusals import Refusals
 from new_enemy_tools.importing.service import ServiceRules
 from new_enemy_tools.importing.spool import Lines
-from new_enemy_tools import limits
-from new_enemy_tools.files import Parser
-from new_enemy_tools.ids import Ids, TableFault
 from new_enemy_tools.parting.faults import PartsFault
+from new_enemy_tools.progress import Progress
 
 
-def words(arguments: list[str]) -> tuple[Parser, Namespace]:
+def given_of(words: list[str]) -> tuple[Parser, Namespace]:
     """The words of the command line, and the parser that tells faults of usage."""
-    parser = Parser(prog="import_trace", description="Makes a trace of the logs of a service.")
+    parser = Parser(prog="ne import", description=__doc__)
     services = parser.add_subparsers(dest="service", required=True)
     for name, told in (("openfga", "of OpenFGA"), ("spicedb", "of SpiceDB"), ("events", "of events in a form of no service")):
         service = services.add_parser(name, help="logs " + told, description="Makes a trace of logs " + told + " (docs/IMPORTING.md).")
@@ -47,7 +48,7 @@ def words(arguments: list[str]) -> tuple[Parser, Namespace]:
         service.add_argument("--jobs", type=int, default=os.cpu_count(), metavar="N", help="how many processes read the logs (one a core)")
         service.add_argument("--name", metavar="NAME", help="a name of the service, where several of its kind have logs")
         service.add_argument("logs", nargs="+", metavar="LOG", help="a file of writes and checks, JSON lines")
-    given = parser.parse_args(arguments)
+    given = parser.parse_args(words)
     if given.jobs < 1:
         parser.error("--jobs is below 1")
     if given.skew is not None and given.skew < 0:
@@ -83,7 +84,7 @@ def gathered(given: Namespace, base: Any, refusals: Refusals, progress: Progress
     lines = Lines()
     if given.service == "events":
         for path in given.logs:
-            progress.follow("read", gather_events(path, lines, given.jobs, refusals))
+            progress.follow("read %s events", gather_events(path, lines, given.jobs, refusals))
         facts = lines.facts
         if facts.count and given.from_empty == (facts.last_base >= 0):
             first = next(iter(lines))
@@ -98,7 +99,7 @@ def gathered(given: Namespace, base: Any, refusals: Refusals, progress: Progress
         for line in log.base(path):
             lines.add(line)
     for path in given.logs:
-        progress.follow("read", log.gather(path, lines, given.jobs))
+        progress.follow("read %s events", log.gather(path, lines, given.jobs))
     return Given(log.placed(lines, given.skew), log.base_number())
 
 
@@ -137,40 +138,35 @@ def told_refused(refusals: Refusals) -> int:
     return 2
 
 
-def main(arguments: list[str]) -> int:
-    parser, given = words(arguments)
+def main(words: list[str]) -> int:
+    parser, given = given_of(words)
     base = base_at(parser, given)
     # Rows make no circles, and there are many of them to look through.
     gc.disable()
     try:
         return imported(given, base)
+    except PartsFault as fault:
+        raise DeviceFault(str(fault)) from None
+    except OSError as fault:
+        raise DeviceFault("cannot %s: %s" % ("use %s" % fault.filename if fault.filename else "keep lines in a temporary file",
+                                             fault.strerror)) from None
     finally:
         gc.enable()
 
 
 def imported(given: Namespace, base: Any) -> int:
-    refusals, progress = Refusals(given.skip_unmapped), Progress()
-    try:
+    refusals = Refusals(given.skip_unmapped)
+    with Progress() as progress:
         ids = Ids(given.ids)
         ids.take_for(given.service if given.name is None else "%s %s" % (given.service, given.name))
         made = Core(ids, given.skew, refusals, progress).trace(gathered(given, base, refusals, progress), given.jobs)
         size = write(given.trace, made.chunks, ids, refusals) if made else 0
-        progress.end()
-        told_left_out(refusals)
-        if made is None or refusals.refused:
-            return told_refused(refusals)
-    except TableFault as fault:
-        say(str(fault))
-        return 2
-    except PartsFault as fault:
-        say(str(fault))
-        return 5
-    except OSError as fault:
-        say("cannot %s: %s" % ("use %s" % fault.filename if fault.filename else "keep lines in a temporary file", fault.strerror))
-        return 5
+    told_left_out(refusals)
+    if made is None or refusals.refused:
+        return told_refused(refusals)
     for line in made.told():
         say(line)
     if size > limits.INPUT_BYTES:
-        say("the trace has %d bytes, and one program takes %d: audit it in parts, by tools/parts cut %d %s FOLDER"
+        say("the trace has %d bytes, and one program takes %d: audit it in parts, by tools/ne parts cut %d %s FOLDER"
             % (size, limits.INPUT_BYTES, size // limits.INPUT_BYTES + 2, given.trace))
     return 0

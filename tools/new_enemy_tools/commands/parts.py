@@ -1,18 +1,20 @@
 """An audit in parts, for a trace that is too large or too slow for one process (docs/SCALE.md).
 
-    parts cut N TRACE [EVIDENCE] FOLDER [--jobs N]
+    ne parts cut N TRACE [EVIDENCE] FOLDER [--jobs N]
                                                cuts into N parts by object
-    parts run PROGRAM FOLDER [--jobs N]        audits each part here, and merges
-    parts one PROGRAM FOLDER PART              audits one part, for engines that run commands on many machines
-    parts merge REPORT ..                      the whole's report and status, from the reports of all parts
+    ne parts run PROGRAM FOLDER [--jobs N]        audits each part here, and merges
+    ne parts one PROGRAM FOLDER PART              audits one part, for engines that run commands on many machines
+    ne parts merge REPORT ..                      the whole's report and status, from the reports of all parts
 
 What is refused is said on standard error, and the status is 2; a fault of usage has 3, a file that can't be read or written 5.
 """
 import os
 import sys
+from argparse import Namespace
 from typing import BinaryIO, Optional
 
-from new_enemy_tools.files import Parser, read_bytes
+from new_enemy_tools.commands.running import Parser
+from new_enemy_tools.files import read_bytes
 from new_enemy_tools.parting.cutting import Cut
 from new_enemy_tools.parting.faults import PartsFault
 from new_enemy_tools.parting.manifest import MOST_PARTS, read_manifest
@@ -21,8 +23,8 @@ from new_enemy_tools.parting.reports import read_part_report
 from new_enemy_tools.parting.running import run_all, run_part
 
 
-def words(arguments: list[str]):
-    parser = Parser(prog="parts", description="An audit in parts: a trace is cut by object, each part is audited by itself, and the reports are merged.")
+def given_of(words: list[str]) -> Namespace:
+    parser = Parser(prog="ne parts", description=__doc__)
     commands = parser.add_subparsers(dest="command", required=True)
     cut = commands.add_parser("cut", help="cuts a trace, and evidence for it, into parts by object")
     cut.add_argument("parts", type=int, metavar="N", help="how many parts")
@@ -40,7 +42,7 @@ def words(arguments: list[str]):
             command.add_argument("--jobs", type=int, default=os.cpu_count(), metavar="N", help="how many parts at a time (one a core)")
     merge = commands.add_parser("merge", help="the whole's report, from the reports of all parts")
     merge.add_argument("reports", nargs="+", metavar="REPORT", help="the reports of all parts, in any order")
-    given = parser.parse_args(arguments)
+    given = parser.parse_args(words)
     if given.command == "cut" and not 1 <= given.parts <= MOST_PARTS:
         parser.error("N is from 1 to %d" % MOST_PARTS)
     if given.command in ("cut", "run") and given.jobs < 1:
@@ -97,8 +99,8 @@ def one_command(program: str, folder: str, part: int) -> int:
     return 0
 
 
-def main(arguments: list[str]) -> int:
-    given = words(arguments)
+def main(words: list[str]) -> int:
+    given = given_of(words)
     try:
         if given.command == "cut":
             return cut_command(given.parts, given.trace, given.evidence, given.folder, given.jobs)

@@ -1,5 +1,4 @@
-#!/usr/bin/env python3
-"""What an audit found: report [--form html|text|jsonl|sarif|junit|annotations] [--ids IDS] [--out FILE] TRACE REPORT
+"""What an audit found: ne report [--form html|text|jsonl|sarif|junit|annotations] [--ids IDS] [--out FILE] TRACE REPORT
 
 Each finding has its effect, whether it mattered; the sums come first, and then the worst. REPORT may be - for standard input.
 --baseline FILE tells only what an earlier report, in JSON lines or SARIF, did not tell; --ignore FILE hides findings for a reason and
@@ -13,15 +12,15 @@ from collections import Counter
 from datetime import date
 from typing import Optional
 
-from new_enemy_tools.baseline import BaselineFault, read_baseline
+from new_enemy_tools.baseline import read_baseline
+from new_enemy_tools.commands.running import Parser
 from new_enemy_tools.effects import EFFECTS
-from new_enemy_tools.files import Parser, read_bytes, read_ids, traced, write_whole
-from new_enemy_tools.findings import ReportFault, read_report
+from new_enemy_tools.files import read_bytes, read_ids, traced, write_whole
+from new_enemy_tools.findings import read_report
 from new_enemy_tools.forms import FORMS
-from new_enemy_tools.ignoring import IgnoreFault, read_rows
+from new_enemy_tools.ignoring import read_rows
 from new_enemy_tools.names import Names
 from new_enemy_tools.page import PAGE, Writer, write_pages
-from new_enemy_tools.programs import run
 from new_enemy_tools.progress import Progress
 from new_enemy_tools.sarif import sarif
 from new_enemy_tools.telling import LeftOut, Telling, telling_of, told_of, warnings_of
@@ -29,8 +28,8 @@ from new_enemy_tools.telling import LeftOut, Telling, telling_of, told_of, warni
 ALL_FORMS = {**FORMS, "sarif": sarif}
 
 
-def words() -> Parser:
-    parser = Parser(prog="report", description=__doc__)
+def parser_of_words() -> Parser:
+    parser = Parser(prog="ne report", description=__doc__)
     parser.add_argument("--form", choices=sorted([*ALL_FORMS, "html"]), default="jsonl", help="the form of the answer (jsonl)")
     parser.add_argument("--out", metavar="FILE", help="where to write, in place of standard output")
     parser.add_argument("--ids", metavar="FILE", help="the table of ids, for names in place of numbers")
@@ -54,7 +53,7 @@ def telling_from(given: argparse.Namespace, progress: Progress) -> Telling:
     ids = read_ids(given.ids, trace)
     out = left_out(given.ignore, given.baseline, ids is not None)
     report = read_report(read_bytes(given.report).decode("utf-8", "replace"))
-    told = told_of(trace, report, lambda count: progress.step("looked at %s findings", count))
+    told = told_of(trace, report, progress.steps("looked at %s findings"))
     progress.end()
     telling = telling_of(told, trace, Names(ids), given.trace, report, out)
     for line in warnings_of(telling, out):
@@ -65,7 +64,7 @@ def telling_from(given: argparse.Namespace, progress: Progress) -> Telling:
 def write(telling: Telling, form: str, out: Optional[str], progress: Progress) -> None:
     """Writes all of it, or nothing where it goes to a file."""
     if form == "html" and out is not None:
-        write_pages(telling, out, lambda count: progress.step("wrote %s findings", count))
+        write_pages(telling, out, progress.steps("wrote %s findings"))
         return
     writer = Writer(telling, out or "")
     lines = writer.lines(writer.pages[0]) if form == "html" else ALL_FORMS[form](telling)
@@ -76,22 +75,13 @@ def write(telling: Telling, form: str, out: Optional[str], progress: Progress) -
         write_whole(out, lines)
 
 
-def main() -> int:
-    parser, progress = words(), Progress()
-    given = parser.parse_args()
-    try:
+def main(words: list[str]) -> int:
+    parser = parser_of_words()
+    given = parser.parse_args(words)
+    with Progress() as progress:
         telling = telling_from(given, progress)
-    except (ReportFault, BaselineFault, IgnoreFault) as fault:
-        progress.end()
-        sys.stderr.write("%s\n" % fault)
-        return 2
-    if given.form == "html" and given.out is None and len(telling.told) > PAGE:
-        parser.error("%d findings make more than one page; give --out FILE, and the others go to files beside it" % len(telling.told))
-    write(telling, given.form, given.out, progress)
-    progress.end()
+        if given.form == "html" and given.out is None and len(telling.told) > PAGE:
+            parser.error("%d findings make more than one page; give --out FILE, and the others go to files beside it" % len(telling.told))
+        write(telling, given.form, given.out, progress)
     worst = min((told.effect.rank for told in telling.told), default=len(EFFECTS))
     return 1 if given.fail_on is not None and worst <= EFFECTS.index(given.fail_on) else 0
-
-
-if __name__ == "__main__":
-    run(main)

@@ -1,11 +1,36 @@
-"""Programs of Python: how a tool ends, and a program as a module."""
-import functools
-import importlib.machinery
-import importlib.util
+"""What commands share: their words, and how they end."""
+import argparse
 import os
 import sys
-from types import ModuleType
-from typing import Callable, NoReturn
+from typing import Any, Callable, NoReturn, TextIO
+
+from new_enemy_tools.faults import ToolFault
+
+
+class Parser(argparse.ArgumentParser):
+    """Keeps the paragraphs of a description, and ends with status 3 on a fault of usage, as the program does."""
+
+    def __init__(self, **words: Any):
+        words.setdefault("formatter_class", argparse.RawDescriptionHelpFormatter)
+        super().__init__(**words)
+
+    def error(self, message: str) -> NoReturn:
+        self.print_usage(sys.stderr)
+        self.exit(3, "%s: %s\n" % (self.prog, message))
+
+
+def say(fault: ToolFault, stream: TextIO) -> None:
+    """The fault's line, and what else is to be said of it."""
+    stream.write("%s\n%s" % (fault, "".join("  %s\n" % detail for detail in fault.details)))
+
+
+def ended(main: Callable[[list[str]], int], words: list[str]) -> int:
+    """The status of a command; a fault that ends it is said."""
+    try:
+        return main(words)
+    except ToolFault as fault:
+        say(fault, sys.stderr)
+        return fault.status
 
 
 def run(main: Callable[[], int]) -> NoReturn:
@@ -22,19 +47,3 @@ def run(main: Callable[[], int]) -> NoReturn:
         if not isinstance(fault, BrokenPipeError):
             sys.stderr.write("cannot %s: %s\n" % ("use %s" % fault.filename if fault.filename else "write", fault.strerror))
         sys.exit(5)
-
-
-@functools.cache
-def loaded_file(path: str) -> ModuleType:
-    """A program of Python as a module, of which nothing is kept beside it."""
-    name = os.path.basename(path)
-    loader = importlib.machinery.SourceFileLoader(name, path)
-    spec = importlib.util.spec_from_loader(name, loader)
-    assert spec is not None
-    module = importlib.util.module_from_spec(spec)
-    keeps, sys.dont_write_bytecode = sys.dont_write_bytecode, True
-    try:
-        loader.exec_module(module)
-    finally:
-        sys.dont_write_bytecode = keeps
-    return module

@@ -1,14 +1,14 @@
 """Commits: the writes of one revision, as the texts of a trace, in parts that fit on a line."""
 from typing import Iterator, NamedTuple, Optional
 
+from new_enemy_tools import limits, texts
+from new_enemy_tools.edges import TupleEdges
+from new_enemy_tools.ids import Ids
 from new_enemy_tools.importing.declared import Declared
 from new_enemy_tools.importing.events import EVERY, Event, Relationship
 from new_enemy_tools.importing.refusals import Refusals
 from new_enemy_tools.importing.strata import Edges, Reason
 from new_enemy_tools.importing.wildcards import Wildcards
-from new_enemy_tools import limits, texts
-from new_enemy_tools.edges import TupleEdges
-from new_enemy_tools.ids import Ids
 from new_enemy_tools.texts import Tuple, Userset
 
 ROOM = limits.LINE_BYTES - 64_000

@@ -8,6 +8,8 @@ from functools import partial
 from itertools import chain, islice
 from typing import Iterable, Iterator, NamedTuple, Optional, Union
 
+from new_enemy_tools.edges import Name
+from new_enemy_tools.ids import Ids
 from new_enemy_tools.importing.between import STATES, Asked, Spans, States
 from new_enemy_tools.importing.commits import Commit, Writer
 from new_enemy_tools.importing.declared import Declared
@@ -15,17 +17,15 @@ from new_enemy_tools.importing.doubts import Doubts
 from new_enemy_tools.importing.events import Entry, Event
 from new_enemy_tools.importing.newest import put_newest
 from new_enemy_tools.importing.order import in_order
-from new_enemy_tools.importing.progress import Progress
 from new_enemy_tools.importing.refusals import Refusals
 from new_enemy_tools.importing.shown import Shown
 from new_enemy_tools.importing.spool import BATCH, CHECKS, Facts, Lines, Spool, row_of
 from new_enemy_tools.importing.strata import Edges, choose
 from new_enemy_tools.importing.wildcards import Wildcards
 from new_enemy_tools.importing.writing import Counts, Written
-from new_enemy_tools.edges import Name
-from new_enemy_tools.ids import Ids
-from new_enemy_tools.texts import Tuple, Userset
 from new_enemy_tools.parting.sharing import shared
+from new_enemy_tools.progress import Progress
+from new_enemy_tools.texts import Tuple, Userset
 
 Item = Union[Commit, Event]
 
@@ -124,7 +124,7 @@ class Core:
                 if self._is_known(line) or self._takes(line):
                     self.items.add(line if type(line) is tuple else row_of(line))
                 continue
-            self.progress.step("ordered", count)
+            self.progress.step("ordered %s events", count)
             if line.base or line.revision is None:
                 continue
             if commit and self._goes_on(commit, line, spans):
@@ -276,7 +276,7 @@ class Core:
         if head and not self.has_between and not self.refusals.skip:
             for chunk, counts in shared(partial(self._chunk, shown), self.items.batches(), jobs):
                 self.counts.merge(counts)
-                self.progress.step("written", self.counts.count)
+                self.progress.step("wrote %s events", self.counts.count)
                 yield chunk
             return
         self.states.take_rules(shown.declarations(self.declared))

@@ -1,9 +1,9 @@
 """The rules of an import: those from the beginning and those that change them."""
+from new_enemy_tools import limits
+from new_enemy_tools.edges import rule_edges
 from new_enemy_tools.importing.events import Event, RelationRule
 from new_enemy_tools.importing.refusals import Refusals
 from new_enemy_tools.importing.strata import Edges, Reason
-from new_enemy_tools import limits
-from new_enemy_tools.edges import rule_edges
 from new_enemy_tools.rules import Declaration, Relation, Rules, depth, places
 
 

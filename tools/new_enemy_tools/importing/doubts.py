@@ -1,8 +1,8 @@
 """Which checks hang on a tuple or a rule that was left out."""
 from typing import Iterable, Optional
 
-from new_enemy_tools.importing.strata import Edges
 from new_enemy_tools.edges import Name
+from new_enemy_tools.importing.strata import Edges
 from new_enemy_tools.rules import Rules, places
 from new_enemy_tools.texts import Tuple, Userset
 

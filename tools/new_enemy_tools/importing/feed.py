@@ -5,9 +5,9 @@ from typing import Any, Iterator, NamedTuple, Optional
 
 from new_enemy_tools.importing.events import Entry, Event, is_whole
 from new_enemy_tools.importing.order import ordered
+from new_enemy_tools.importing.reading import Bad
 from new_enemy_tools.importing.refusals import Refusals
 from new_enemy_tools.importing.spool import Lines
-from new_enemy_tools.importing.reading import Bad
 from new_enemy_tools.importing.times import nanoseconds
 
 

@@ -9,8 +9,8 @@ from json.decoder import scanstring
 from json.scanner import NUMBER_RE
 from typing import Any, BinaryIO, Iterator, NamedTuple
 
-from new_enemy_tools.importing.refusals import Refusals
 from new_enemy_tools import limits
+from new_enemy_tools.importing.refusals import Refusals
 from new_enemy_tools.strictjson import has_half_pair, is_nested_too_deep
 
 try:

@@ -5,12 +5,12 @@ from new_enemy_tools.importing import located, openfga_dsl
 from new_enemy_tools.importing.events import EVERY, Event, RelationRule, Stamp, put_stamp
 from new_enemy_tools.importing.feed import Moment, asked_of, moment_of, placed, shown_of
 from new_enemy_tools.importing.located import List, line_at, line_of
-from new_enemy_tools.importing.refusals import Refusals
 from new_enemy_tools.importing.openfga_answers import answers_of, relationship_of
 from new_enemy_tools.importing.reading import Bad, get, spelled
+from new_enemy_tools.importing.refusals import Refusals
 from new_enemy_tools.importing.service import Answer, Log, Looked, ServiceRules, nested, one_of, refuse_wild_tuplesets, text_or_none
-from new_enemy_tools.importing.spool import Lines
 from new_enemy_tools.importing.simple_yaml import beside, is_yaml, read_yaml
+from new_enemy_tools.importing.spool import Lines
 from new_enemy_tools.importing.times import nanoseconds
 
 SCHEMAS = ("1.1", "1.2")

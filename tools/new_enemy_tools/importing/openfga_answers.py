@@ -3,9 +3,9 @@ import re
 from typing import Iterator, Optional
 
 from new_enemy_tools.importing.events import EVERY, Relationship
+from new_enemy_tools.importing.passing import failure_of
 from new_enemy_tools.importing.reading import Bad, get
 from new_enemy_tools.importing.refusals import Refusals
-from new_enemy_tools.importing.passing import failure_of
 from new_enemy_tools.importing.service import Answer
 
 OBJECT = re.compile(r"([^:#\s]+):([^#\s]+)")

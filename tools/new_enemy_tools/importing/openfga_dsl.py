@@ -5,8 +5,8 @@
 import re
 from typing import NamedTuple, Optional
 
-from new_enemy_tools.importing.located import List, Malformed, Object
 from new_enemy_tools import limits
+from new_enemy_tools.importing.located import List, Malformed, Object
 
 TOKEN = re.compile(r"[ \t]+|(?P<word>[A-Za-z0-9_][A-Za-z0-9_./-]*)|(?P<sign>[\[\](),:#*])|(?P<other>.)")
 COMMENT = re.compile(r"(?:^|(?<=\s))#.*")

@@ -2,15 +2,15 @@
 from functools import partial
 from typing import Any, Iterable, Iterator, NamedTuple, Optional
 
+from new_enemy_tools import limits
 from new_enemy_tools.importing import located, passing
-from new_enemy_tools.importing.reading import Bad, get
 from new_enemy_tools.importing.events import EVERY, STAMP, Entry, Event, Line, Relationship, Stamp, newest_of, sequence_of, stamp_of
+from new_enemy_tools.importing.reading import Bad, get
 from new_enemy_tools.importing.refusals import Refusals
 from new_enemy_tools.importing.spool import Facts, Lines, batch_of
-from new_enemy_tools import limits
 from new_enemy_tools.keys import near, unread
-from new_enemy_tools.rules import places
 from new_enemy_tools.parting.sharing import shared
+from new_enemy_tools.rules import places
 
 
 def one_of(table: dict[str, bool], value: object) -> Optional[bool]:

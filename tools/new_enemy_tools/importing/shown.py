@@ -3,10 +3,10 @@ import json
 from json.encoder import encode_basestring
 from typing import Iterator
 
-from new_enemy_tools.importing.declared import Declared
 from new_enemy_tools import texts
 from new_enemy_tools.edges import Name
 from new_enemy_tools.ids import Ids
+from new_enemy_tools.importing.declared import Declared
 from new_enemy_tools.rules import Declaration, Relation, form_of
 
 encode = json.JSONEncoder(ensure_ascii=False, separators=(",", ":")).encode

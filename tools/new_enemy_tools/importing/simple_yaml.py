@@ -8,8 +8,8 @@ import os
 import re
 from typing import NamedTuple, Optional, Union
 
-from new_enemy_tools.importing.located import List, Malformed, Object, read_text
 from new_enemy_tools import limits
+from new_enemy_tools.importing.located import List, Malformed, Object, read_text
 
 QUOTED_KEY = re.compile(r"""(?P<key>"(?:[^"\\]|\\.)*"|'(?:[^']|'')*')\s*:(?:\s+|$)""")
 QUOTED = re.compile(r"""("(?:[^"\\]|\\.)*"|'(?:[^']|'')*')\s*(?:#.*)?$""")

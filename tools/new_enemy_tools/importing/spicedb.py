@@ -8,10 +8,10 @@ from new_enemy_tools.importing.located import line_of
 from new_enemy_tools.importing.reading import Bad, get
 from new_enemy_tools.importing.refusals import Refusals
 from new_enemy_tools.importing.service import Answer, Log, Looked, ServiceRules, one_of, text_or_none
-from new_enemy_tools.importing.spicedb_answers import answers_of, relationship_of, revision_at, revision_in
-from new_enemy_tools.importing.spool import Lines
 from new_enemy_tools.importing.simple_yaml import is_yaml, read_yaml
+from new_enemy_tools.importing.spicedb_answers import answers_of, relationship_of, revision_at, revision_in
 from new_enemy_tools.importing.spicedb_schema import Parser
+from new_enemy_tools.importing.spool import Lines
 from new_enemy_tools.importing.zedtokens import Older, Revision, read_revision
 
 RELATIONSHIP = re.compile(r"(?P<type>[a-z0-9_/]+):(?P<id>[A-Za-z0-9/_|\-=+]+)#(?P<relation>[a-z0-9_]+)"

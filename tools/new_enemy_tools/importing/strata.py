@@ -1,9 +1,9 @@
 """Chooses strata: the longest strict path from each relation, where no strict edge lies on a circle."""
 from typing import NamedTuple, Optional
 
-from new_enemy_tools.importing.refusals import Refusals
 from new_enemy_tools import limits
 from new_enemy_tools.edges import Edge, Name
+from new_enemy_tools.importing.refusals import Refusals
 
 
 class Reason(NamedTuple):
