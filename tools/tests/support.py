@@ -39,6 +39,13 @@ class Run(NamedTuple):
     stderr: str
 
 
+class Terminal(io.StringIO):
+    """A text that says it is a terminal."""
+
+    def isatty(self):
+        return True
+
+
 class Case(unittest.TestCase):
     """A test with a folder of its own."""
 
@@ -68,16 +75,16 @@ class Case(unittest.TestCase):
     def run_process(self, command, *words, stdin=""):
         return subprocess.run([sys.executable, NE, command, *words], cwd=self.room, input=stdin, capture_output=True, text=True, timeout=60)
 
-    def run_tool(self, command, *words, stdin=""):
+    def run_tool(self, *words, stdin="", err=None):
         """A run of a command in this process, which is quicker: its status and what it wrote."""
-        return self.run_main(lambda: ne.main([command, *words]), stdin)
+        return self.run_main(lambda: ne.main(list(words)), stdin, err)
 
     def run_dev(self, tool, *words):
         """A run of a developers' tool in this process."""
         return self.run_main(lambda: loaded_file(os.path.join(DEV, tool)).main(list(words)))
 
-    def run_main(self, main, stdin=""):
-        out, err = io.StringIO(), io.StringIO()
+    def run_main(self, main, stdin="", err=None):
+        out, err = io.StringIO(), err or io.StringIO()
         given = io.TextIOWrapper(io.BytesIO(stdin.encode()))
         with within(self.room), contextlib.redirect_stdout(out), contextlib.redirect_stderr(err), mock.patch.object(sys, "stdin", given):
             try:

@@ -3,12 +3,7 @@ import io
 from unittest import mock
 
 from new_enemy_tools.progress import Progress
-from tests.support import Case
-
-
-class Terminal(io.StringIO):
-    def isatty(self) -> bool:
-        return True
+from tests.support import Case, Terminal
 
 
 class Progresses(Case):

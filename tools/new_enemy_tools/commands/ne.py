@@ -1,6 +1,7 @@
 """One command for all that users call: ne COMMAND WORD .."""
 import importlib
 import sys
+from argparse import SUPPRESS
 from typing import NamedTuple, NoReturn
 
 from new_enemy_tools.commands.running import Parser, ended, run
@@ -28,7 +29,7 @@ def parser() -> Parser:
     listed = "\n".join("  %-14s %s" % (name, command.told) for name, command in COMMANDS.items())
     made = Parser(prog="ne", usage="ne [-h] COMMAND ...", description="The tools around the auditor.\n\ncommands:\n%s" % listed,
                   epilog="`ne COMMAND --help` says what a command takes.")
-    made.add_argument("command", metavar="COMMAND", choices=COMMANDS, help="one of those above")
+    made.add_argument("command", metavar="COMMAND", choices=COMMANDS, help=SUPPRESS)
     return made
 
 

@@ -1,10 +1,10 @@
 """An audit in parts, for a trace that is too large or too slow for one process (docs/SCALE.md).
 
     ne parts cut N TRACE [EVIDENCE] FOLDER [--jobs N]
-                                               cuts into N parts by object
-    ne parts run PROGRAM FOLDER [--jobs N]        audits each part here, and merges
-    ne parts one PROGRAM FOLDER PART              audits one part, for engines that run commands on many machines
-    ne parts merge REPORT ..                      the whole's report and status, from the reports of all parts
+                                              cuts into N parts by object
+    ne parts run PROGRAM FOLDER [--jobs N]    audits each part here, and merges
+    ne parts one PROGRAM FOLDER PART          audits one part, for engines that run commands on many machines
+    ne parts merge REPORT ..                  the whole's report and status, from the reports of all parts
 
 What is refused is said on standard error, and the status is 2; a fault of usage has 3, a file that can't be read or written 5.
 """
@@ -20,7 +20,8 @@ from new_enemy_tools.parting.faults import PartsFault
 from new_enemy_tools.parting.manifest import MOST_PARTS, read_manifest
 from new_enemy_tools.parting.merging import Answer, answer_of
 from new_enemy_tools.parting.reports import read_part_report
-from new_enemy_tools.parting.running import run_all, run_part
+from new_enemy_tools.parting.running import run_all, run_parts
+from new_enemy_tools.progress import Progress
 
 
 def given_of(words: list[str]) -> Namespace:
@@ -59,7 +60,8 @@ def _empty(folder: str) -> None:
 def _cut_files(parts: int, trace: BinaryIO, evidence: Optional[BinaryIO], folder: str, jobs: int) -> None:
     """Cuts, and takes away what it wrote where it fails."""
     try:
-        Cut(parts, folder, jobs).cut(trace, evidence).write(folder)
+        with Progress() as progress:
+            Cut(parts, folder, jobs, progress.steps("read %s bytes")).cut(trace, evidence).write(folder)
     except BaseException:
         for name in os.listdir(folder):
             os.remove(os.path.join(folder, name))
@@ -88,12 +90,25 @@ def merge_command(paths: list[str]) -> int:
     for path in paths:
         if not os.path.exists(path):
             raise PartsFault("%s is not there" % path)
-    return tell(answer_of([read_part_report(path, read_bytes(path)) for path in paths]))
+    reports = []
+    with Progress() as progress:
+        for count, path in enumerate(paths, 1):
+            reports.append(read_part_report(path, read_bytes(path)))
+            progress.step("read %s reports", count)
+        answer = answer_of(reports)
+    return tell(answer)
+
+
+def run_command(program: str, folder: str, jobs: int) -> int:
+    with Progress() as progress:
+        paths = run_all(program, folder, jobs, progress.steps("audited %s parts"))
+    return merge_command(paths)
 
 
 def one_command(program: str, folder: str, part: int) -> int:
     """The status is 0 where the program ended by itself; what it said is the report's to tell."""
-    status = run_part(program, read_manifest(folder), folder, part)
+    with Progress() as progress:
+        [status] = run_parts(program, read_manifest(folder), folder, [part], 1, progress.steps("audited %s parts"))
     if status < 0:
         raise PartsFault("part %d was killed by signal %d" % (part, -status))
     return 0
@@ -106,7 +121,9 @@ def main(words: list[str]) -> int:
             return cut_command(given.parts, given.trace, given.evidence, given.folder, given.jobs)
         if given.command == "one":
             return one_command(given.program, given.folder, given.part)
-        return merge_command(run_all(given.program, given.folder, given.jobs) if given.command == "run" else given.reports)
+        if given.command == "run":
+            return run_command(given.program, given.folder, given.jobs)
+        return merge_command(given.reports)
     except PartsFault as fault:
         sys.stderr.write("parts: %s\n" % fault)
         return 2

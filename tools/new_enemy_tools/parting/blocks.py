@@ -1,5 +1,5 @@
 """The lines of a file, many at a time."""
-from typing import BinaryIO, Iterator
+from typing import BinaryIO, Iterator, Optional
 
 from new_enemy_tools import limits
 from new_enemy_tools.files import split_joined
@@ -19,7 +19,7 @@ class Blocks:
         self.given = given
         self.is_trace = is_trace
         self.too_long = b""
-        self.rest: bytes | None = None
+        self.rest: Optional[bytes] = None
 
     def __iter__(self) -> Iterator[bytes]:
         for block in self._whole():

@@ -16,12 +16,14 @@ BUFFER = 1 << 16
 
 
 class Cut:
-    """A cut into so many parts, by so many processes."""
+    """A cut into so many parts, by so many processes. `step` is told how many bytes were read."""
 
-    def __init__(self, parts: int, folder: str, jobs: int):
+    def __init__(self, parts: int, folder: str, jobs: int, step: Callable[[int], None] = lambda count: None):
         self.parts = parts
         self.folder = folder
         self.jobs = jobs
+        self.step = step
+        self.read = 0
         # the part of each line of the trace, from 1
         self.table = array("H", [EVERYWHERE])
         self.name = blake2b(b"%d\n" % parts, digest_size=16)
@@ -45,7 +47,7 @@ class Cut:
         with ExitStack() as stack:
             files = [stack.enter_context(open(path_of(self.folder, part), "xb", buffering=BUFFER)) for part in range(1, self.parts + 1)]
             digest = blake2b(digest_size=16)
-            for done in shared(spread, _noted(blocks, digest), self.jobs):
+            for done in shared(spread, self._noted(blocks, digest), self.jobs):
                 for file, pieces in zip(files, done.pieces):
                     file.write(b"".join(pieces))
                 self.table.extend(done.table)
@@ -53,11 +55,13 @@ class Cut:
                 file.write(blocks.too_long)
             digest.update(blocks.too_long)
             self.name.update(digest.digest())
-            return [file.tell() for file in files]
+            sizes = [file.tell() for file in files]
+        return sizes
 
-
-def _noted(blocks: Blocks, digest: blake2b) -> Iterator[bytes]:
-    """The blocks, each of which the digest takes."""
-    for block in blocks:
-        digest.update(block)
-        yield block
+    def _noted(self, blocks: Blocks, digest: blake2b) -> Iterator[bytes]:
+        """The blocks, each of which the digest takes."""
+        for block in blocks:
+            digest.update(block)
+            self.read += len(block)
+            self.step(self.read)
+            yield block

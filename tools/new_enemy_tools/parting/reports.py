@@ -2,7 +2,7 @@
 import os
 import re
 import shutil
-from typing import BinaryIO, NamedTuple
+from typing import IO, NamedTuple
 
 from new_enemy_tools.parting.faults import PartsFault
 from new_enemy_tools.parting.manifest import Manifest
@@ -27,7 +27,7 @@ class PartReport(NamedTuple):
         return "part %d of %d" % (self.part, self.parts)
 
 
-def write_report(path: str, manifest: Manifest, part: int, status: int, output: BinaryIO, error: BinaryIO) -> None:
+def write_report(path: str, manifest: Manifest, part: int, status: int, output: IO[bytes], error: IO[bytes]) -> None:
     """Writes it whole or not at all."""
     sizes = []
     for file in (output, error):
