@@ -80,7 +80,7 @@ class Ids:
                              % (self.path, self.service, service))
         self.service = None if self.rows and self.service is None else service
 
-    def mark(self) -> dict:
+    def mark(self) -> dict[str, object]:
         """What a trace says of its table."""
         return {"rows": len(self.rows), "checksum": self._checksum(len(self.rows))}
 
@@ -92,13 +92,13 @@ class Ids:
 
     def refuse_other(self, mark: object) -> None:
         """Raises TableFault where a trace was written with another table, or with one that had more rows."""
-        rows = mark.get("rows") if isinstance(mark, dict) else None
-        if not isinstance(rows, int) or not isinstance(mark.get("checksum"), str):
+        rows, checksum = (mark.get("rows"), mark.get("checksum")) if isinstance(mark, dict) else (None, None)
+        if not isinstance(rows, int) or not isinstance(checksum, str):
             return
         if rows > len(self.rows):
             raise TableFault("%s has %d rows, and the table of this trace has %d or more: it is another table, or cut short"
                              % (self.path, len(self.rows), rows))
-        if self._checksum(rows) != mark["checksum"]:
+        if self._checksum(rows) != checksum:
             raise TableFault("%s is another table than that of this trace: its first %d rows are others" % (self.path, rows))
 
     def number(self, kind: str, of: str, id_text: str) -> int:
@@ -110,11 +110,11 @@ class Ids:
             number = self.numbers[row] = len(self.rows)
         return number
 
-    def has(self, goal: tuple) -> bool:
+    def has(self, goal: tuple[str, ...]) -> bool:
         """Whether the user and the object of a goal were seen; its parts are those of a tuple of a service."""
         return ("user", goal[3], goal[4]) in self.numbers and ("object", goal[0], goal[1]) in self._names
 
-    def note(self, goal: tuple) -> None:
+    def note(self, goal: tuple[str, ...]) -> None:
         self.number("user", goal[3], goal[4])
         self.object(goal[0], goal[1])
 

@@ -1,22 +1,24 @@
 """Keys that no rule reads, and the key that was meant by one."""
 from difflib import get_close_matches
 from functools import lru_cache
-from typing import AbstractSet, Collection, Iterator, NamedTuple, Optional
+from typing import Iterator, NamedTuple, Optional
 
 from new_enemy_tools.rules import FORMS, children_of, form_of
+from new_enemy_tools.strictjson import Object
 
 NEAR = 0.7
 # Likeness takes the square of a key's length, and no key that is read is longer.
 LONGEST = 64
 EXPRESSION = frozenset(FORMS)
-PARTS = {"this": frozenset(), "tuple_to": frozenset(("tupleset", "computed")), "exclusion": frozenset(("base", "subtract"))}
+PARTS: dict[str, frozenset[str]] = {
+    "this": frozenset(), "tuple_to": frozenset(("tupleset", "computed")), "exclusion": frozenset(("base", "subtract"))}
 
 
 class Unread(NamedTuple):
     """A key that no rule reads, and those that could stand there."""
 
     key: str
-    known: Collection[str]
+    known: frozenset[str]
 
     def said(self, where: str = "") -> str:
         meant = near(self.key, self.known)
@@ -28,14 +30,14 @@ def _quoted(key: str) -> str:
 
 
 @lru_cache(1 << 12)
-def near(key: str, known: Collection[str]) -> Optional[str]:
+def near(key: str, known: frozenset[str]) -> Optional[str]:
     """The known key that is most like this one, if one is."""
     folded = {one.lower(): one for one in known}
     found = get_close_matches(key.lower(), folded, 1, NEAR) if len(key) <= LONGEST else []
     return folded[found[0]] if found else None
 
 
-def unread(value: object, known: AbstractSet[str]) -> Iterator[Unread]:
+def unread(value: object, known: frozenset[str]) -> Iterator[Unread]:
     """The keys of an object that are none of these."""
     if isinstance(value, dict) and not value.keys() <= known:
         for key in value:
@@ -43,7 +45,7 @@ def unread(value: object, known: AbstractSet[str]) -> Iterator[Unread]:
                 yield Unread(key, known)
 
 
-def unread_in_expression(expression: dict) -> Iterator[Unread]:
+def unread_in_expression(expression: Object) -> Iterator[Unread]:
     """Those of an expression that has its shape."""
     yield from unread(expression, EXPRESSION)
     form = form_of(expression)

@@ -3,10 +3,11 @@ import unicodedata
 from typing import Callable, Iterator, NamedTuple
 
 from new_enemy_tools import strictjson
+from new_enemy_tools.kept import Entry
 from new_enemy_tools.keys import Unread, unread, unread_in_expression
 from new_enemy_tools.rules import places
 from new_enemy_tools.texts import Tuple, Userset
-from new_enemy_tools.trace import Entry, Trace, read_trace
+from new_enemy_tools.trace import Trace, read_trace
 
 # Importers write these beside the keys that are read.
 WRITTEN = frozenset(("from", "revision", "ids"))
@@ -34,7 +35,9 @@ class Seen:
         self.keys: dict[str, list[int]] = {}
         self.declared: dict[Name, int] = {}
 
-    def take(self, line: int, value: dict) -> None:
+    def take(self, line: int, value: object) -> None:
+        """Takes a line of a trace that is not refused."""
+        assert isinstance(value, dict)
         kind = value["kind"]
         for key in unread(value, KEYS[kind]):
             self._note(line, kind, key)

@@ -91,10 +91,12 @@ class OnATerminal(Case):
     def test_a_line_of_progress(self) -> None:
         """Where a command works for longer than is waited, which here is not at all; and the line is taken away."""
         self.put("report", REPORT)
+        self.put("long", [{"kind": "namespace", "name": "doc", "relations": [{"name": "viewer"}]}]
+                 + [{"kind": "check", "goal": "doc:plan#viewer@20", "snapshot": 9, "reply": False}] * 1_100)
         for words in (["import", "openfga", "--model", MODEL, "--from-empty", LOG], ["lint", TRACE], ["make-evidence", TRACE],
                       ["parts", "cut", "2", TRACE, "folder"], ["parts", "run", "true", "folder"], ["parts", "one", "true", "folder", "1"],
                       ["parts", "merge", "folder/part1.report", "folder/part2.report"], ["report", TRACE, "report"],
-                      ["explain", TRACE], ["explain", TRACE, "5"], ["draw", TRACE, "5"]):
+                      ["explain", TRACE], ["explain", TRACE, "5"], ["draw", "long", "5"]):
             with mock.patch.object(Progress, "SECONDS", -1.0):
                 said = self.run_tool(*words, err=Terminal()).stderr
             self.assertRegex(said, "^(?:\r[a-z ]*[0-9,]+ [a-z]+\x1b\\[K)+\r\x1b\\[K", words)

@@ -1,9 +1,9 @@
 """Which checks hang on a tuple or a rule that was left out."""
-from typing import Iterable, Optional
+from typing import Iterable, Iterator, Optional
 
 from new_enemy_tools.edges import Name
 from new_enemy_tools.importing.strata import Edges
-from new_enemy_tools.rules import Rules, places
+from new_enemy_tools.rules import Place, Rules, places
 from new_enemy_tools.texts import Tuple, Userset
 
 Node = tuple[str, str, str]
@@ -48,7 +48,7 @@ class Doubts:
                 if place.form == "tuple_to" and place.names == (one.set.relation, relation):
                     yield one.set.namespace, one.set.id, name
 
-    def _places(self, of: str):
+    def _places(self, of: str) -> Iterator[tuple[str, Place]]:
         for name in self.rules.relations(of):
             for rewrite in self.rules.rewrites(of, name):
                 for place in places(rewrite):

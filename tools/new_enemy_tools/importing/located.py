@@ -7,7 +7,7 @@ from bisect import bisect_left
 from itertools import islice
 from json.decoder import scanstring
 from json.scanner import NUMBER_RE
-from typing import Any, BinaryIO, Iterator, NamedTuple
+from typing import Any, BinaryIO, Iterator, NamedTuple, NoReturn
 
 from new_enemy_tools import limits
 from new_enemy_tools.importing.refusals import Refusals
@@ -79,7 +79,7 @@ class _Reader:
     def line(self) -> int:
         return bisect_left(self.ends, self.at) + 1
 
-    def fail(self, why: str):
+    def fail(self, why: str) -> NoReturn:
         raise Malformed(self.line(), why)
 
     def skip(self) -> str:

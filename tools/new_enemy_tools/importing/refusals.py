@@ -1,6 +1,9 @@
 """What an import refuses, by file and line; what it leaves out where it is told to; and lines that record no decision."""
 from collections import Counter
-from typing import NamedTuple, Optional
+from typing import TYPE_CHECKING, NamedTuple, Optional
+
+if TYPE_CHECKING:
+    from new_enemy_tools.importing.events import Entry
 
 HINT = " (--skip-unmapped leaves it out)"
 # Of one text in a file so many are listed; more are counted.
@@ -48,7 +51,7 @@ class Refusals:
         else:
             self.refuse(file, line, (told or ("%s: %s" % (reason, detail) if detail else reason)) + HINT)
 
-    def unmapped_check(self, event, reason: str, detail: str, told: Optional[str] = None) -> None:
+    def unmapped_check(self, event: "Entry", reason: str, detail: str, told: Optional[str] = None) -> None:
         """A check that is not mapped; a version that it issued is left out with it."""
         self.unmapped(event.file, event.line, reason, detail, told)
         if event.kind == "content" and event.version is not None:

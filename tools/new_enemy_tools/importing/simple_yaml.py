@@ -130,7 +130,7 @@ class Reader:
                 return self.block(here.indent, depth + 1)
         return ""
 
-    def text_block(self, line: Line, block) -> Text:
+    def text_block(self, line: Line, block: "re.Match[str]") -> Text:
         """The raw lines below that are indented more; the first of them says how much."""
         first = end = line.number
         while end < len(self.raw) and (not self.raw[end].strip() or _indent(self.raw[end]) > line.indent):

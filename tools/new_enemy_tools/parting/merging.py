@@ -1,7 +1,7 @@
 """The answer of the whole, from the reports of all parts."""
 import heapq
 import re
-from typing import Iterator, NamedTuple
+from typing import Iterable, Iterator, NamedTuple
 
 from new_enemy_tools.findings import ReportFault, read_report
 from new_enemy_tools.parting.faults import PartsFault
@@ -43,7 +43,8 @@ def answer_of(reports: list[PartReport]) -> Answer:
 
 def _refuse_others(reports: list[PartReport]) -> None:
     """Refuses reports that are not those of all parts of one cut."""
-    first, by_part = reports[0], {}
+    first = reports[0]
+    by_part: dict[int, PartReport] = {}
     for report in reports:
         if (report.cut, report.parts) != (first.cut, first.parts):
             raise PartsFault("%s and %s are of different cuts" % (first.path, report.path))
@@ -107,7 +108,7 @@ def _told(report: PartReport) -> list[Told]:
     return told
 
 
-def _disjoint(told: Iterator[Told]) -> Iterator[str]:
+def _disjoint(told: Iterable[Told]) -> Iterator[str]:
     """The texts; each line of the trace stands in one part."""
     line = part = 0
     for one in told:

@@ -67,7 +67,7 @@ def line_of(record: bytes) -> Optional[int]:
     return line if is_u64(line) else None
 
 
-def _value_of(line: bytes) -> dict:
+def _value_of(line: bytes) -> strictjson.Object:
     """The object of JSON that a line is; an empty one where it is none."""
     try:
         value = strictjson.value_of(line)
@@ -76,7 +76,7 @@ def _value_of(line: bytes) -> dict:
     return value if isinstance(value, dict) else {}
 
 
-class Objects(dict):
+class Objects(dict[bytes, int]):
     """The parts of objects; those last asked for are kept."""
 
     def __init__(self, parts: int):

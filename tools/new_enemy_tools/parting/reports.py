@@ -29,12 +29,12 @@ class PartReport(NamedTuple):
 
 def write_report(path: str, manifest: Manifest, part: int, status: int, output: IO[bytes], error: IO[bytes]) -> None:
     """Writes it whole or not at all."""
-    sizes = []
+    sizes: list[int] = []
     for file in (output, error):
         sizes.append(file.seek(0, os.SEEK_END))
         file.seek(0)
     head = "part %d of %d\ncut %s\nentries %d\nstatus %d\noutput %d\nerror %d\n\n" % (
-        part, manifest.parts, manifest.cut, manifest.entries[part - 1], status, *sizes)
+        part, manifest.parts, manifest.cut, manifest.entries[part - 1], status, sizes[0], sizes[1])
     with open(path + ".new", "wb") as report:
         report.write(head.encode())
         shutil.copyfileobj(output, report)

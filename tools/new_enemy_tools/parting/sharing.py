@@ -1,24 +1,24 @@
 """Blocks of a file, shared by processes."""
 import itertools
 from collections import deque
-from concurrent.futures import ProcessPoolExecutor
+from concurrent.futures import Future, ProcessPoolExecutor
 from concurrent.futures.process import BrokenProcessPool
 from multiprocessing import get_context
-from typing import Callable, Iterable, Iterator, TypeVar
+from typing import Any, Callable, Iterable, Iterator, TypeVar
 
 from new_enemy_tools.parting.faults import PartsFault
 
 Given = TypeVar("Given")
 Made = TypeVar("Made")
 # What a process of a pool does with a block; it has it from the start, so that a large table is shared and not sent.
-_work: list[Callable] = []
+_work: list[Callable[[Any], Any]] = []
 
 
-def _begin(work: Callable) -> None:
+def _begin(work: Callable[[Any], Any]) -> None:
     _work.append(work)
 
 
-def _do(given):
+def _do(given: Any) -> Any:
     return _work[0](given)
 
 
@@ -31,7 +31,7 @@ def shared(work: Callable[[Given], Made], blocks: Iterable[Given], jobs: int) ->
         yield from map(work, blocks)
         return
     with ProcessPoolExecutor(jobs, get_context("fork"), _begin, (work,)) as pool:
-        waiting = deque()
+        waiting: deque[Future[Made]] = deque()
         try:
             for block in blocks:
                 waiting.append(pool.submit(_do, block))

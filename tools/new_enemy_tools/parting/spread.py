@@ -13,7 +13,7 @@ class Spread(NamedTuple):
     # of each part, pieces of bytes that have, one behind the other, as many lines as the block
     pieces: list[list[bytes]]
     # of a trace, the part of each line
-    table: array
+    table: "array[int]"
 
 
 class Spreader:
@@ -39,7 +39,7 @@ class Spreader:
             self.pieces[part] += b"\n" * (before - self.lines[part]), lines
             self.lines[part] = before + count
 
-    def spread(self, lines: int, table: array) -> Spread:
+    def spread(self, lines: int, table: "array[int]") -> Spread:
         """What the parts have, each of so many lines; joined, but for much that stands everywhere, which is kept once."""
         pieces = self.pieces[1:]
         for part, blank in zip(pieces, self.lines[1:]):
