@@ -15,7 +15,7 @@ from new_enemy_tools.meaning import Outgrown, Settled
 from new_enemy_tools.order import Window, ignored
 from new_enemy_tools.reach import Reach
 from new_enemy_tools.texts import Tuple
-from new_enemy_tools.trace import ANY, Trace
+from new_enemy_tools.trace import Trace
 
 # The worst first.
 EFFECTS = ("wrong", "changed", "undecided", "possible", "none")
@@ -46,7 +46,6 @@ class Effects:
     def __init__(self, trace: Trace):
         self.trace = trace
         self._answers: dict[tuple[Tuple, int], bool] = {}
-        self._users: dict[int, frozenset[bytes]] = {}
 
     def holds(self, goal: Tuple, at: int) -> bool:
         """Whether a goal holds at a snapshot."""
@@ -67,23 +66,10 @@ class Effects:
         except Outgrown:
             return Effect("undecided", window.high)
 
-    def _may_touch(self, goal: Tuple, places: range) -> bool:
-        """Whether the commits of a window may touch what a goal leads to: those that touch neither its user nor a userset, and have no new
-        rules, do not. Of few commits that is quickly seen; what a commit touches is looked up once."""
-        if len(places) > self.FEW:
-            return True
-        user = str(goal.user).encode()
-        for place in places:
-            users = self._users.get(place)
-            if users is None:
-                users = self._users[place] = self.trace.users_touched(place)
-            if user in users or ANY in users:
-                return True
-        return False
-
     def _word(self, entry: Entry, window: Window) -> str:
         places = self.trace.commits.during(*window)
-        if not self._may_touch(entry.goal, places) or not Reach(self.trace, entry.goal, window).touching():
+        # Of few commits it is quickly seen that none matters.
+        if len(places) <= self.FEW and not self.trace.may_touch(places, entry.goal) or not Reach(self.trace, entry.goal, window).touching():
             return "none"
         return "possible" if self.holds(entry.goal, window.high) == entry.reply else "changed"
 

@@ -60,8 +60,7 @@ def sums_row(telling: Telling) -> Row:
             "known": len(telling.known), "verdict": report.verdict, "named": telling.names.ids is not None}
 
 
-def _json(value: Row) -> str:
-    return json.dumps(value, ensure_ascii=False, separators=(",", ":"))
+_json = json.JSONEncoder(ensure_ascii=False, separators=(",", ":")).encode
 
 
 def json_lines(telling: Telling) -> Iterator[str]:

@@ -46,6 +46,10 @@ class Commits(Sequence[Commit]):
         self.ats.append(at)
         self._kept.append(commit)
 
+    def keep_all(self, lines: list[int], ats: list[int], commits: list[bytes]) -> None:
+        """Keeps the lines of all commits."""
+        self.lines, self.ats, self._kept = lines, ats, list(commits)
+
     def __len__(self) -> int:
         return len(self._kept)
 
@@ -91,6 +95,10 @@ class Entries(Mapping[int, Entry]):
     def keep(self, line: int, entry: Union[Entry, bytes]) -> None:
         """Keeps an entry, or its line as bytes."""
         self._kept[line] = entry
+
+    def keep_all(self, entries: dict[int, bytes]) -> None:
+        """Keeps the lines of all entries."""
+        self._kept.update(entries)
 
     def __len__(self) -> int:
         return len(self._kept)

@@ -19,6 +19,11 @@ LIST = rb"\[([^\]]*)\]"
 ENTRY = re.compile(rb'\{"kind":"(check|content)","goal":"((%s:%s)#%s)@%s","snapshot":%s,"reply":(true|false)'
                    rb'(?:,"zookie":"z(?:1-|2-[wcr])[0-9a-f]{16}")?(?:,"version":"(%s{1,%d})")?'
                    % (NAME, ID, NAME, NUMBER, NUMBER, PLAIN, limits.VERSION_BYTES) + TOLD)
+# The same with each field apart.
+FIELDS = re.compile(rb'\{"kind":"(check|content)","goal":"(%s):(%s)#(%s)@(%s)","snapshot":(%s),"reply":(true|false)'
+                    rb'(?:,"zookie":"(z(?:1-|2-[wcr])[0-9a-f]{16})")?(?:,"version":"(%s{1,%d})")?'
+                    rb'(?:,"revision":"(%s*)")?(?:,"from":"(%s*)")?\}\r?\Z'
+                    % (NAME, ID, NAME, NUMBER, NUMBER, PLAIN, limits.VERSION_BYTES, PLAIN, PLAIN))
 COMMIT = re.compile(rb'\{"kind":"commit","at":(%s)(?:,"add":%s)?(?:,"remove":%s)?' % (NUMBER, LIST, LIST) + TOLD)
 PAIR = re.compile(rb'"(%s)@(%s|%s:%s#(?:%s|\.\.\.))"(?:,|\Z)' % (SET, NUMBER, NAME, ID, NAME))
 # Of a listed tuple, the bytes beside its userset and its user: two quotes, the letter @, and the comma behind it.
@@ -50,6 +55,30 @@ def quick_entry(raw: bytes) -> Optional[tuple[bytes, ...]]:
     if not found or found[1] == b"content" and (found[5] is not None) != (found[4] == b"true"):
         return None
     return found.groups()
+
+
+class QuickEntry(NamedTuple):
+    kind: str
+    namespace: str
+    id: str
+    relation: str
+    user: int
+    snapshot: int
+    reply: bool
+    zookie: Optional[str]
+    version: Optional[str]
+    revision: Optional[str]
+    source: Optional[str]
+
+
+def quick_fields(raw: bytes) -> Optional[QuickEntry]:
+    """All that an entry says."""
+    found = FIELDS.match(raw)
+    if not found or found[1] == b"content" and (found[9] is not None) != (found[7] == b"true"):
+        return None
+    kind, namespace, id_text, relation, user, snapshot, reply, *others = found.groups()
+    return QuickEntry(kind.decode(), namespace.decode(), id_text.decode(), relation.decode(), int(user), int(snapshot), reply == b"true",
+                      *[None if other is None else other.decode() for other in others])
 
 
 def quick_commit(raw: bytes) -> Optional[QuickCommit]:

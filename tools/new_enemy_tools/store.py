@@ -4,7 +4,10 @@ from typing import Iterator, Optional
 from new_enemy_tools import texts
 from new_enemy_tools.texts import Tuple, Userset
 
+NINE = b"9"[0]
 Touches = list[tuple[int, bool]]
+# a user, a timestamp, and whether the tuple was added
+Touched = tuple[bytes, int, bool]
 
 
 def _place(touches: Touches, at: int) -> int:
@@ -25,20 +28,13 @@ def _is_live(touches: Touches, at: int) -> bool:
 
 
 class _Users:
-    """The users that a userset ever had, ids apart from usersets, each with its touches."""
+    """The users that a userset ever had, as texts, each with its touches; and those that are usersets."""
 
-    def __init__(self, touches: list[tuple[bytes, int, bool]]):
-        self.ids: dict[int, Touches] = {}
-        by_text: dict[bytes, Touches] = {}
-        for user, at, live in touches:
-            by_text.setdefault(user, []).append((at, live))
-        sets = {}
-        for user, listed in by_text.items():
-            if user[:1].isdigit():
-                self.ids[int(user)] = listed
-            else:
-                sets[texts.userset_of(user.decode())] = listed
-        self.sets: dict[Userset, Touches] = sets
+    def __init__(self, touched: list[Touched]):
+        self.touches: dict[bytes, Touches] = {}
+        for user, at, live in touched:
+            self.touches.setdefault(user, []).append((at, live))
+        self.sets = {texts.userset_of(user.decode()): listed for user, listed in self.touches.items() if user[0] > NINE}
 
 
 NOBODY = _Users([])
@@ -48,7 +44,7 @@ class Store:
     """Touches are kept by the text of their userset; the users of one are told apart where it is asked for."""
 
     def __init__(self) -> None:
-        self._touches: dict[bytes, list[tuple[bytes, int, bool]]] = {}
+        self._touches: dict[bytes, list[Touched]] = {}
         self._users: dict[Userset, _Users] = {}
 
     def touch(self, at: int, given: Tuple, live: bool) -> None:
@@ -78,14 +74,16 @@ class Store:
     def _of(self, of: Userset) -> _Users:
         users = self._users.get(of)
         if users is None:
-            listed = self._touches.get(str(of).encode())
+            listed = self._touched(of)
             users = self._users[of] = NOBODY if listed is None else _Users(listed)
         return users
 
+    def _touched(self, of: Userset) -> Optional[list[Touched]]:
+        return self._touches.get(str(of).encode())
+
     def touches(self, given: Tuple) -> Touches:
         """All touches of a tuple, with their timestamps."""
-        users = self._of(given.set)
-        return (users.sets.get(given.user, []) if isinstance(given.user, Userset) else users.ids.get(given.user, []))
+        return self._of(given.set).touches.get(str(given.user).encode(), [])
 
     def touches_during(self, given: Tuple, low: int, high: int) -> Touches:
         """Those above one timestamp, up to another."""

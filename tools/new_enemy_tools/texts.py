@@ -1,13 +1,14 @@
 """The texts of docs/FORMATS.md: names, object ids, tuples, facts and zookies."""
 import functools
 import re
-from typing import NamedTuple, Optional, Union
+from typing import NamedTuple, NoReturn, Optional, Union
 
 from new_enemy_tools import limits
 
 NAME = re.compile(r"[a-z][a-z0-9_]{0,%d}" % (limits.NAME_BYTES - 1))
 OBJECT_ID = re.compile(r"[^\x00-\x20\x7f#@]+")
 NUMBER = re.compile(r"0|[1-9][0-9]{0,19}")
+ZOOKIE = re.compile("z(?:1-|2-([wcr]))([0-9a-f]{16})")
 NO_RELATION = "..."
 
 
@@ -101,9 +102,15 @@ def zookie_text(at: int) -> str:
     return "z1-%016x" % at
 
 
-@functools.lru_cache(maxsize=4_096)
+@functools.lru_cache(maxsize=1 << 16)
 def parse_zookie(text: str) -> tuple[int, Optional[str]]:
     """The timestamp, and the kind of version 2."""
+    found = ZOOKIE.fullmatch(text)
+    return (int(found[2], 16), found[1]) if found else _refuse_zookie(text)
+
+
+def _refuse_zookie(text: str) -> NoReturn:
+    """Raises ZookieFault with the first fault."""
     raw = text.encode()
     digits = 4 if raw.startswith(b"z2-") else 3
     if len(raw) != digits + 16:
@@ -113,7 +120,4 @@ def parse_zookie(text: str) -> tuple[int, Optional[str]]:
     for at in range(digits, digits + 16):
         if raw[at] not in b"0123456789abcdef":
             raise ZookieFault("bad zookie, digit at %d" % at)
-    kind = text[3] if digits == 4 else None
-    if kind is not None and kind not in "wcr":
-        raise ZookieFault("bad zookie, kind")
-    return int(raw[digits:], 16), kind
+    raise ZookieFault("bad zookie, kind")

@@ -1,12 +1,13 @@
 """Reads a trace, or says what is wrong with the first line that the program refuses."""
 import gc
-from typing import Callable, Iterator, Optional
+import re
+from typing import Callable, Iterator, Optional, Union
 
 from new_enemy_tools import limits, strictjson, texts
 from new_enemy_tools.edges import Edge, TupleEdges, first_broken, rule_edges
 from new_enemy_tools.faults import ToolFault
 from new_enemy_tools.kept import Commit, Commits, Entries, Entry
-from new_enemy_tools.quick import QuickCommit, quick_commit, quick_entry
+from new_enemy_tools.quick import QuickCommit, quick_commit, quick_entry, quick_fields
 from new_enemy_tools.rules import Rules, RulesFault
 from new_enemy_tools.store import Store
 from new_enemy_tools.strictjson import Object
@@ -14,7 +15,7 @@ from new_enemy_tools.texts import Tuple, Userset
 
 KINDS = ("namespace", "commit", "check", "content")
 NINE = b"9"[0]
-ANY = b"any"
+MEMBER = re.compile(b"@[a-z]")
 STEP = 1_024
 # Of so many texts the names are kept.
 NAMED = 100_000
@@ -30,6 +31,10 @@ class Fault(ToolFault):
         super().__init__("%s line %d: %s" % (part, line, cause))
         self.line = line
         self.details = details
+
+
+class OtherForm(Exception):
+    """A line that was not read yet has another form than importers write."""
 
 
 class NoEntry(ToolFault):
@@ -87,16 +92,11 @@ class Trace:
         place = self.commits.before(line)
         return self.commits.ats[place] if self.commits.lines[place:place + 1] == [line] else None
 
-    def users_touched(self, place: int) -> frozenset[bytes]:
-        """The users of the tuples that a commit touches, as texts; of usersets, and of new rules, only that there are any: ANY."""
-        kept = self.commits.kept(place)
-        quick = quick_commit(kept) if isinstance(kept, bytes) else None
-        if quick is not None:
-            return frozenset([ANY if user[0] > NINE else user for _, user in quick.add + quick.remove])
-        commit = self.commits[place]
-        users = [given.user for given in commit.add + commit.remove]
-        return frozenset([ANY] * (commit.changes is not None) + [
-            ANY if isinstance(user, Userset) else str(user).encode() for user in users])
+    def may_touch(self, places: range, goal: Tuple) -> bool:
+        """Whether some of these commits may touch what a goal leads to: those that touch neither its user nor a userset, and have no new
+        rules, do not."""
+        assert isinstance(goal.user, int)
+        return any(_may_touch(self.commits.kept(place), goal.user) for place in places)
 
     def line_that_issues(self, of: Userset, version: str) -> Optional[int]:
         """The line that issues a version for an object."""
@@ -108,13 +108,15 @@ class Trace:
         if entry is None:
             commit = quick_commit(raw)
             return commit is not None and self._commit_quickly(line, commit, raw)
-        kind, goal_set, thing, _reply, version = entry
-        if not self._is_known(goal_set):
-            return False
-        if version is not None and kind == b"content" and self._versions.setdefault((thing, version), line) != line:
+        if not self._is_known(entry[1]) or not self.issue(line, entry):
             return False
         self.entries.keep(line, raw)
         return True
+
+    def issue(self, line: int, entry: tuple[bytes, ...]) -> bool:
+        """Notes the version that an entry issues, if it does; False where a line issued it before."""
+        kind, _set, thing, _reply, version = entry
+        return version is None or kind != b"content" or self._versions.setdefault((thing, version), line) == line
 
     def _is_known(self, of: bytes) -> bool:
         """Whether the text of a userset has a relation that was seen to be declared."""
@@ -291,17 +293,23 @@ class Trace:
         self.entries.keep(line, self._entry_of(line, kind, value, goal))
 
     def _entry_of(self, line: int, kind: str, value: Object, goal: Tuple) -> Entry:
-        version, issued = value.get("version"), None
-        if kind == "check" and version is not None:
-            issued = self._versions.get(_label(goal.set, version))
-            issued = issued if issued is not None and issued < line else None
-        return Entry(kind, line, goal, value["snapshot"], value["reply"], value.get("zookie"), version, issued,
-                     _text_or_none(value.get("from")), _text_or_none(value.get("revision")))
+        version = value.get("version")
+        return Entry(kind, line, goal, value["snapshot"], value["reply"], value.get("zookie"), version,
+                     self._issued_before(line, kind, goal.set, version), _text_or_none(value.get("from")), _text_or_none(value.get("revision")))
+
+    def _issued_before(self, line: int, kind: str, of: Userset, version: Optional[str]) -> Optional[int]:
+        """The line before a check that issues its version."""
+        issued = self.line_that_issues(of, version) if kind == "check" and version is not None else None
+        return issued if issued is not None and issued < line else None
 
     def _entry_again(self, line: int, raw: bytes) -> Entry:
         """An entry that was taken quickly."""
-        value = strictjson.object_of(raw)
-        return self._entry_of(line, value["kind"], value, texts.parse_fact(value["goal"]))
+        read = quick_fields(raw)
+        if read is None:
+            raise OtherForm
+        goal = Tuple(Userset(read.namespace, read.id, read.relation), read.user)
+        return Entry(read.kind, line, goal, read.snapshot, read.reply, read.zookie, read.version,
+                     self._issued_before(line, read.kind, goal.set, read.version), read.source, read.revision)
 
     @staticmethod
     def _refuse_shape(kind: str, value: Object) -> None:
@@ -342,7 +350,15 @@ def _label(of: Userset, version: str) -> Label:
     return ("%s:%s" % (of.namespace, of.id)).encode(), version.encode()
 
 
-def _is_utf8(data: bytes) -> bool:
+def _may_touch(kept: Union[Commit, bytes], user: int) -> bool:
+    if isinstance(kept, bytes):
+        return b'@%d"' % user in kept or MEMBER.search(kept) is not None
+    return kept.changes is not None or any(given.user == user or isinstance(given.user, Userset) for given in kept.add + kept.remove)
+
+
+def is_utf8(data: bytes) -> bool:
+    if data.isascii():
+        return True
     try:
         data.decode("utf-8")
     except UnicodeDecodeError:
@@ -352,7 +368,7 @@ def _is_utf8(data: bytes) -> bool:
 
 def _take_lines(trace: Trace, data: bytes, step: Callable[[int], None]) -> None:
     """Raises Fault on the first line that the program refuses."""
-    line, is_quick = 0, _is_utf8(data)
+    line, is_quick = 0, is_utf8(data)
     try:
         for line, raw in strictjson.lines_of(data):
             if not (is_quick and trace.take_quickly(line, raw)):

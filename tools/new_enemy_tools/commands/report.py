@@ -7,15 +7,18 @@ until a day (docs/REPORTS.md). --form html writes a page, and of more than a tho
 The status is 0 where it was written, whatever the verdict; 1 by --fail-on; 2 where a file is refused, and then nothing is written.
 """
 import argparse
+import gc
 import sys
 from collections import Counter
 from datetime import date
-from typing import Optional
+from typing import NamedTuple, Optional
 
+from new_enemy_tools.audited import read_audited
 from new_enemy_tools.baseline import read_baseline
 from new_enemy_tools.commands.running import Parser
 from new_enemy_tools.effects import EFFECTS
-from new_enemy_tools.files import read_bytes, read_ids, traced, write_whole
+from new_enemy_tools.faults import ToolFault
+from new_enemy_tools.files import read_bytes, read_ids, read_trace_of, split_joined, write_whole
 from new_enemy_tools.findings import read_report
 from new_enemy_tools.forms import FORMS
 from new_enemy_tools.ignoring import read_rows
@@ -24,6 +27,7 @@ from new_enemy_tools.page import PAGE, Writer, write_pages
 from new_enemy_tools.progress import Progress
 from new_enemy_tools.sarif import sarif
 from new_enemy_tools.telling import LeftOut, Telling, telling_of, told_of, warnings_of
+from new_enemy_tools.trace import OtherForm, Trace
 
 ALL_FORMS = {**FORMS, "sarif": sarif}
 
@@ -48,40 +52,71 @@ def left_out(ignore: Optional[str], baseline: Optional[str], is_named: bool) -> 
     return LeftOut(rows, known, date.today())
 
 
-def telling_from(given: argparse.Namespace, progress: Progress) -> Telling:
-    trace = traced(given.trace, progress)
-    ids = read_ids(given.ids, trace)
-    out = left_out(given.ignore, given.baseline, ids is not None)
-    report = read_report(read_bytes(given.report).decode("utf-8", "replace"))
-    told = told_of(trace, report, progress.steps("looked at %s findings"))
-    progress.end()
-    telling = telling_of(told, trace, Names(ids), given.trace, report, out)
-    for line in warnings_of(telling, out):
-        sys.stderr.write(line + "\n")
-    return telling
+class Told(NamedTuple):
+    """What is to be told, and what is to be said of the rows that leave something out."""
+
+    telling: Telling
+    warnings: list[str]
+    # all forms but pages
+    lines: list[str]
 
 
-def write(telling: Telling, form: str, out: Optional[str], progress: Progress) -> None:
+class Teller:
+    """Reads what an audited trace says of its findings, or where that cannot be done, the trace in full."""
+
+    def __init__(self, given: argparse.Namespace, progress: Progress):
+        self.given, self.progress = given, progress
+        self.data = split_joined(read_bytes(given.trace))[0]
+        self.report: Optional[bytes] = None
+
+    def told(self) -> Told:
+        if self.given.form != "html":
+            try:
+                return self._told(read_audited(self.data))
+            except (OtherForm, ToolFault):
+                # Read in full, the trace may be at fault, and not what does not go with it.
+                pass
+        return self._told(read_trace_of(self.data, self.progress))
+
+    def _told(self, trace: Trace) -> Told:
+        given = self.given
+        ids = read_ids(given.ids, trace)
+        out = left_out(given.ignore, given.baseline, ids is not None)
+        if self.report is None:
+            self.report = read_bytes(given.report)
+        report = read_report(self.report.decode("utf-8", "replace"))
+        told = told_of(trace, report, self.progress.steps("looked at %s findings"))
+        telling = telling_of(told, trace, Names(ids), given.trace, report, out)
+        return Told(telling, warnings_of(telling, out), [] if given.form == "html" else list(ALL_FORMS[given.form](telling)))
+
+
+def write(told: Told, form: str, out: Optional[str], progress: Progress) -> None:
     """Writes all of it, or nothing where it goes to a file."""
     if form == "html" and out is not None:
-        write_pages(telling, out, progress.steps("wrote %s findings"))
-        return
-    writer = Writer(telling, out or "")
-    lines = writer.lines(writer.pages[0]) if form == "html" else ALL_FORMS[form](telling)
-    if out is None:
-        for line in lines:
-            sys.stdout.write(line + "\n")
+        write_pages(told.telling, out, progress.steps("wrote %s findings"))
+    elif out is not None:
+        write_whole(out, told.lines)
     else:
-        write_whole(out, lines)
+        writer = Writer(told.telling, "")
+        for line in writer.lines(writer.pages[0]) if form == "html" else told.lines:
+            sys.stdout.write(line + "\n")
 
 
 def main(words: list[str]) -> int:
     parser = parser_of_words()
     given = parser.parse_args(words)
-    with Progress() as progress:
-        telling = telling_from(given, progress)
-        if given.form == "html" and given.out is None and len(telling.told) > PAGE:
-            parser.error("%d findings make more than one page; give --out FILE, and the others go to files beside it" % len(telling.told))
-        write(telling, given.form, given.out, progress)
-    worst = min((told.effect.rank for told in telling.told), default=len(EFFECTS))
+    # What is read is kept to the end, and looking for garbage in it takes a fifth of the time.
+    gc.disable()
+    try:
+        with Progress() as progress:
+            told = Teller(given, progress).told()
+            progress.end()
+            for line in told.warnings:
+                sys.stderr.write(line + "\n")
+            if given.form == "html" and given.out is None and len(told.telling.told) > PAGE:
+                parser.error("%d findings make more than one page; give --out FILE, and the others go to files beside it" % len(told.telling.told))
+            write(told, given.form, given.out, progress)
+    finally:
+        gc.enable()
+    worst = min((one.effect.rank for one in told.telling.told), default=len(EFFECTS))
     return 1 if given.fail_on is not None and worst <= EFFECTS.index(given.fail_on) else 0
