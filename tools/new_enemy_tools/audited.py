@@ -4,6 +4,8 @@ Each of its lines has to begin as importers write them, which tells what it is, 
 asked for; one that has another form raises OtherForm, and then the trace has to be read in full.
 """
 import re
+from bisect import bisect_right
+from itertools import accumulate
 from operator import lt
 from typing import Optional
 
@@ -25,6 +27,8 @@ MEMBER = re.compile(rb"@[a-z]")
 MEMBERS = re.compile(rb'"([^"@]+)@([a-z][^"]*)"')
 # A goal that leads to more usersets than this is looked at by another way.
 FEW = 1_000
+# So many usersets are searched for among all commits before these are listed by the usersets that they touch.
+SEARCHES = 40
 
 
 class LateStore(Store):
@@ -33,19 +37,25 @@ class LateStore(Store):
     def __init__(self, ats: list[int], commits: list[bytes]):
         super().__init__()
         self._ats, self._commits = ats, commits
-        # of each userset the places of the commits that touch it
+        self._text = b"\n".join(commits)
+        self._ends: list[int] = []
+        # of each userset the places of the commits that touch it, where many usersets were asked for
         self._places: dict[bytes, list[int]] = {}
+        self._asked = 0
         self._read: dict[int, QuickCommit] = {}
 
     def _touched(self, of: Userset) -> Optional[list[Touched]]:
         text = str(of).encode()
         listed: list[Touched] = []
-        for place in dict.fromkeys(self._places_of(text)):
+        for place in self._places_of(text):
             commit, at = self._commit(place), self._ats[place]
             listed += [(user, at, live) for pairs, live in ((commit.add, True), (commit.remove, False)) for other, user in pairs if other == text]
         return listed or None
 
     def _places_of(self, text: bytes) -> list[int]:
+        self._asked += 1
+        if self._asked <= SEARCHES:
+            return self._search(b'"%s@' % text)
         if not self._places:
             known = self._places
             for place, raw in enumerate(self._commits):
@@ -54,7 +64,17 @@ class LateStore(Store):
                         known[of].append(place)
                     else:
                         known[of] = [place]
-        return self._places.get(text, [])
+        return list(dict.fromkeys(self._places.get(text, ())))
+
+    def _search(self, start: bytes) -> list[int]:
+        """The places of the commits in which a text stands."""
+        self._ends = self._ends or list(accumulate([len(raw) + 1 for raw in self._commits]))
+        found, at = [], self._text.find(start)
+        while at >= 0:
+            place = bisect_right(self._ends, at)
+            found.append(place)
+            at = self._text.find(start, self._ends[place])
+        return found
 
     def _commit(self, place: int) -> QuickCommit:
         commit = self._read.get(place) or quick_commit(self._commits[place])
@@ -77,6 +97,8 @@ class Cones:
     def may_touch(self, places: range, of: Userset) -> bool:
         if self._members is None:
             self._members = self._all_members()
+        if not self._members:
+            return False
         touched = [one for place in places for one in self._touched.get(place, ())]
         if not touched:
             return False

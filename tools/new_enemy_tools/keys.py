@@ -1,5 +1,4 @@
 """Keys that no rule reads, and the key that was meant by one."""
-from difflib import get_close_matches
 from functools import lru_cache
 from typing import Iterator, NamedTuple, Optional
 
@@ -32,6 +31,9 @@ def _quoted(key: str) -> str:
 @lru_cache(1 << 12)
 def near(key: str, known: frozenset[str]) -> Optional[str]:
     """The known key that is most like this one, if one is."""
+    # It is seldom needed, and takes long to load.
+    from difflib import get_close_matches
+
     folded = {one.lower(): one for one in known}
     found = get_close_matches(key.lower(), folded, 1, NEAR) if len(key) <= LONGEST else []
     return folded[found[0]] if found else None

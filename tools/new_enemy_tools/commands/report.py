@@ -11,7 +11,7 @@ import gc
 import sys
 from collections import Counter
 from datetime import date
-from typing import NamedTuple, Optional
+from typing import Iterable, NamedTuple, Optional
 
 from new_enemy_tools.audited import read_audited
 from new_enemy_tools.baseline import read_baseline
@@ -23,7 +23,6 @@ from new_enemy_tools.findings import read_report
 from new_enemy_tools.forms import FORMS
 from new_enemy_tools.ignoring import read_rows
 from new_enemy_tools.names import Names
-from new_enemy_tools.page import PAGE, Writer, write_pages
 from new_enemy_tools.progress import Progress
 from new_enemy_tools.sarif import sarif
 from new_enemy_tools.telling import LeftOut, Telling, telling_of, told_of, warnings_of
@@ -90,33 +89,48 @@ class Teller:
         return Told(telling, warnings_of(telling, out), [] if given.form == "html" else list(ALL_FORMS[given.form](telling)))
 
 
-def write(told: Told, form: str, out: Optional[str], progress: Progress) -> None:
+def told_quickly(given: argparse.Namespace, progress: Progress) -> Told:
+    """What is read is kept to the end, and looking for garbage in it takes a fifth of the time."""
+    gc.disable()
+    try:
+        return Teller(given, progress).told()
+    finally:
+        gc.enable()
+
+
+def write(lines: Iterable[str], out: Optional[str]) -> None:
     """Writes all of it, or nothing where it goes to a file."""
-    if form == "html" and out is not None:
-        write_pages(told.telling, out, progress.steps("wrote %s findings"))
-    elif out is not None:
-        write_whole(out, told.lines)
+    if out is not None:
+        write_whole(out, lines)
     else:
-        writer = Writer(told.telling, "")
-        for line in writer.lines(writer.pages[0]) if form == "html" else told.lines:
+        for line in lines:
             sys.stdout.write(line + "\n")
+
+
+def write_html(parser: Parser, telling: Telling, out: Optional[str], progress: Progress) -> None:
+    # The other forms need not wait until this is loaded.
+    from new_enemy_tools.page import PAGE, Writer, write_pages
+
+    if out is not None:
+        write_pages(telling, out, progress.steps("wrote %s findings"))
+        return
+    if len(telling.told) > PAGE:
+        parser.error("%d findings make more than one page; give --out FILE, and the others go to files beside it" % len(telling.told))
+    writer = Writer(telling, "")
+    write(writer.lines(writer.pages[0]), None)
 
 
 def main(words: list[str]) -> int:
     parser = parser_of_words()
     given = parser.parse_args(words)
-    # What is read is kept to the end, and looking for garbage in it takes a fifth of the time.
-    gc.disable()
-    try:
-        with Progress() as progress:
-            told = Teller(given, progress).told()
-            progress.end()
-            for line in told.warnings:
-                sys.stderr.write(line + "\n")
-            if given.form == "html" and given.out is None and len(told.telling.told) > PAGE:
-                parser.error("%d findings make more than one page; give --out FILE, and the others go to files beside it" % len(told.telling.told))
-            write(told, given.form, given.out, progress)
-    finally:
-        gc.enable()
+    with Progress() as progress:
+        told = told_quickly(given, progress)
+        progress.end()
+        for line in told.warnings:
+            sys.stderr.write(line + "\n")
+        if given.form == "html":
+            write_html(parser, told.telling, given.out, progress)
+        else:
+            write(told.lines, given.out)
     worst = min((one.effect.rank for one in told.telling.told), default=len(EFFECTS))
     return 1 if given.fail_on is not None and worst <= EFFECTS.index(given.fail_on) else 0

@@ -36,14 +36,21 @@ def ended(main: Callable[[list[str]], int], words: list[str]) -> int:
 def run(main: Callable[[], int]) -> NoReturn:
     """Ends with the status of a tool's main, or with status 5 where a file fails: in silence where nobody reads standard output."""
     try:
-        try:
-            sys.exit(main())
-        finally:
-            if sys.stdout is not None:
-                sys.stdout.flush()
+        status = _status_of(main)
+        if sys.stdout is not None:
+            sys.stdout.flush()
     except OSError as fault:
-        # Python flushes once more at its end, and that has to work.
-        os.dup2(os.open(os.devnull, os.O_WRONLY), sys.stdout.fileno())
         if not isinstance(fault, BrokenPipeError):
             sys.stderr.write("cannot %s: %s\n" % ("use %s" % fault.filename if fault.filename else "write", fault.strerror))
-        sys.exit(5)
+        status = 5
+    sys.stderr.flush()
+    # All is written, and to free what was read would take a tenth of the time.
+    os._exit(status)
+
+
+def _status_of(main: Callable[[], int]) -> int:
+    """The status, also where the words of the command line end the tool."""
+    try:
+        return main()
+    except SystemExit as end:
+        return end.code if isinstance(end.code, int) else 0
