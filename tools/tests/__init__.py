@@ -1,1 +1,1 @@
-"""Tests of the tools; `tools/test` runs them."""
+"""Tests of the tools; `tools/dev/test` runs them."""

@@ -1,8 +1,8 @@
 """Random joined input with all ten findings, and input that is refused."""
 import json
 
-from lib.maker import record
-from lib.trace import Fault, read_trace
+from new_enemy_tools.maker import record
+from new_enemy_tools.trace import Fault, read_trace
 
 THIS = {"this": {}}
 VIEWER = {"union": [THIS, {"computed": "owner"}, {"tuple_to": {"tupleset": "parent", "computed": "viewer"}}]}

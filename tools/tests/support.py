@@ -10,13 +10,15 @@ import unittest
 from typing import NamedTuple
 from unittest import mock
 
-from importing.command import main as import_main
-from importing.refusals import HINT
-from lib.maker import record
-from lib.programs import loaded_file
-from lib.trace import read_trace
+from new_enemy_tools.commands import ne
+from new_enemy_tools.importing.refusals import HINT
+from new_enemy_tools.maker import record
+from hostile.loading import loaded_file
+from new_enemy_tools.trace import read_trace
 
 TOOLS = os.path.dirname(os.path.dirname(os.path.abspath(__file__)))
+NE = os.path.join(TOOLS, "ne")
+DEV = os.path.join(TOOLS, "dev")
 TOP = os.path.dirname(TOOLS)
 EXAMPLES = os.path.join(TOP, "examples")
 
@@ -35,6 +37,13 @@ class Run(NamedTuple):
     returncode: int
     stdout: str
     stderr: str
+
+
+class Terminal(io.StringIO):
+    """A text that says it is a terminal."""
+
+    def isatty(self):
+        return True
 
 
 class Case(unittest.TestCase):
@@ -63,28 +72,31 @@ class Case(unittest.TestCase):
     def rows(self, name):
         return [json.loads(line) for line in self.get(name).splitlines()]
 
-    def run_process(self, tool, *words, stdin=""):
-        return subprocess.run([sys.executable, os.path.join(TOOLS, tool), *words], cwd=self.room, input=stdin,
-                              capture_output=True, text=True, timeout=60)
+    def run_process(self, command, *words, stdin=""):
+        return subprocess.run([sys.executable, NE, command, *words], cwd=self.room, input=stdin, capture_output=True, text=True, timeout=60)
 
-    def run_tool(self, tool, *words, stdin=""):
-        """A run of a tool in this process, which is quicker: its status and what it wrote."""
-        out, err = io.StringIO(), io.StringIO()
+    def run_tool(self, *words, stdin="", err=None):
+        """A run of a command in this process, which is quicker: its status and what it wrote."""
+        return self.run_main(lambda: ne.main(list(words)), stdin, err)
+
+    def run_dev(self, tool, *words):
+        """A run of a developers' tool in this process."""
+        return self.run_main(lambda: loaded_file(os.path.join(DEV, tool)).main(list(words)))
+
+    def run_main(self, main, stdin="", err=None):
+        out, err = io.StringIO(), err or io.StringIO()
         given = io.TextIOWrapper(io.BytesIO(stdin.encode()))
-        with within(self.room), contextlib.redirect_stdout(out), contextlib.redirect_stderr(err), \
-                mock.patch.object(sys, "argv", [tool, *words]), mock.patch.object(sys, "stdin", given):
+        with within(self.room), contextlib.redirect_stdout(out), contextlib.redirect_stderr(err), mock.patch.object(sys, "stdin", given):
             try:
-                status = loaded_file(os.path.join(TOOLS, tool)).main()
+                status = main()
             except SystemExit as end:
                 status = end.code
         return Run(status, out.getvalue(), err.getvalue())
 
     def run_import(self, *words):
         """The status and the standard error of an import in the folder."""
-        said = io.StringIO()
-        with within(self.room), contextlib.redirect_stderr(said):
-            status = import_main(list(words))
-        return status, said.getvalue()
+        run = self.run_tool("import", *words)
+        return run.returncode, run.stderr
 
     def imported(self, *words):
         """What an import says that has to work."""

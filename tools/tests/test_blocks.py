@@ -4,7 +4,7 @@ import unittest
 from random import Random
 from unittest import mock
 
-from importing import located, spool
+from new_enemy_tools.importing import located, spool
 from tests import openfga_service
 from tests.test_core import RULES, CoreCase, check, content, rel, write
 from tests.test_round_trips import OpenFga, SpiceDb
@@ -50,7 +50,7 @@ class Pipes(CoreCase):
     def test_a_log_that_comes_by_a_pipe(self):
         self.given(RULES, write(1, rel()), check(1))
         for text in (self.get("log"), "[" + self.get("log").replace("}\n{", "}\n,{") + "]"):
-            run = self.run_process("import_trace", "events", "--from-empty", "/dev/stdin", stdin=text)
+            run = self.run_process("import", "events", "--from-empty", "/dev/stdin", stdin=text)
             self.assertIn("commits 1, checks 1" if text[0] == "{" else "`event` is none of", run.stderr)
 
 

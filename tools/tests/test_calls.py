@@ -1,8 +1,8 @@
 """What services and their tools print: calls that answer many questions, store files, and lines of other tools."""
 import json
 
-from importing.located import Malformed
-from importing.simple_yaml import parse_yaml
+from new_enemy_tools.importing.located import Malformed
+from new_enemy_tools.importing.simple_yaml import parse_yaml
 from tests.support import Case
 from tests.test_openfga import MODEL, THIS, change
 from tests.test_openfga_dsl import DSL

@@ -1,17 +1,12 @@
 """The core of the importer, by neutral events: order, numbers, timestamps, strata, what is left out and what is told."""
-import io
 import json
 import os
-import pty
-import subprocess
-import sys
 from unittest import mock
 
-from importing.progress import Progress
-from lib import limits
-from lib.ids import Ids
-from lib.texts import Tuple, Userset, parse_tuple
-from tests.support import TOOLS, Case
+from new_enemy_tools import limits
+from new_enemy_tools.ids import Ids
+from new_enemy_tools.texts import Tuple, Userset, parse_tuple
+from tests.support import Case
 
 RULES = {"event": "rules", "namespaces": [
     {"name": "doc", "relations": [{"name": "viewer"}, {"name": "parent"}, {"name": "reader", "rewrite": {"union": [
@@ -257,7 +252,7 @@ class Refusals(CoreCase):
         with mock.patch.object(limits, "INPUT_BYTES", 100):
             self.lines(RULES)
         self.assertEqual(self.said.splitlines()[-1], "the trace has 308 bytes, and one program takes 100: audit it in parts, by "
-                         "tools/parts cut 5 trace.jsonl FOLDER")
+                         "tools/ne parts cut 5 trace.jsonl FOLDER")
 
     def test_more_strata_than_a_trace_has(self):
         relations = [{"name": "r0"}] + [{"name": "r%d" % n, "rewrite": {"exclusion": {
@@ -336,20 +331,12 @@ class Told(CoreCase):
         self.lines(RULES, write(1, rel()))
         self.assertIn("cannot show F10 wrong reply: there is no check\n", self.said)
 
-    def test_a_line_of_progress_on_a_terminal_alone(self):
-        class Terminal(io.StringIO):
-            def isatty(self):
-                return True
-        for stream, wanted in ((Terminal(), "\rread 4,000 events\x1b[K"), (io.StringIO(), "")):
-            Progress(stream).step("read", 4000)
-            self.assertEqual(stream.getvalue(), wanted)
-
     def test_usage(self):
         for words in (["openfga"], ["openfga", "--model", "m", "log"], ["openfga", "--model", "m", "--base", "b", "log"],
                       ["spicedb", "--schema", "s", "--base", "b", "--base-at", "?", "log"], ["events", "--skew", "-1", "log"], []):
-            run = self.run_process("import_trace", *words)
+            run = self.run_process("import", *words)
             self.assertEqual((run.returncode, run.stdout), (3, ""), words)
-            self.assertIn("usage: import_trace", run.stderr)
+            self.assertIn("usage: ne import", run.stderr)
 
     def test_a_hundred_thousand_events(self):
         self.given(RULES)
@@ -358,21 +345,10 @@ class Told(CoreCase):
                 file.write('{"event":"write","revision":%d,"add":[["doc","d%d","viewer","user","u%d"]]}\n'
                            % (number, number % 999, number))
                 file.write('{"event":"check","goal":["doc","d1","reader","user","u1"],"snapshot":%d,"reply":true}\n' % number)
-        parent, child = pty.openpty()
         began = os.times()
-        run = subprocess.Popen([sys.executable, os.path.join(TOOLS, "import_trace"), "events", "--from-empty", "log"],
-                               cwd=self.room, stderr=child)
-        os.close(child)
-        shown = b""
-        try:
-            while piece := os.read(parent, 1 << 16):
-                shown += piece
-        except OSError:
-            pass
-        os.close(parent)
-        self.assertEqual(run.wait(), 0, shown)
+        run = self.run_process("import", "events", "--from-empty", "log")
         ended = os.times()
+        self.assertEqual((run.returncode, run.stdout), (0, ""), run.stderr)
         self.assertLess(ended.children_user + ended.children_system - began.children_user - began.children_system, 20)
-        self.assertIn(b"\rread 100,000 events", shown)
-        self.assertIn(b"commits 50000, checks 50000", shown)
+        self.assertIn("commits 50000, checks 50000", run.stderr)
         self.assertEqual(self.get("trace.jsonl").count("\n"), 100_001)

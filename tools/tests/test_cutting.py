@@ -7,10 +7,10 @@ import signal
 from random import Random
 from unittest import mock
 
-from lib import limits
-from parting.blocks import Blocks
-from parting.cutting import Cut
-from parting.placing import ENTRIES, RECORDS, line_of, object_of, part_of
+from new_enemy_tools import limits
+from new_enemy_tools.parting.blocks import Blocks
+from new_enemy_tools.parting.cutting import Cut
+from new_enemy_tools.parting.placing import ENTRIES, RECORDS, line_of, object_of, part_of
 from tests.random_traces import RandomInput
 from tests.test_parts import PartsCase, answer, parts
 
@@ -98,12 +98,12 @@ class Placing(PartsCase):
         joined = b"".join(RandomInput(Random("shared %d" % number)).refused() for number in range(12))
         one = self.cut(5, joined, "one")
         for number, (jobs, block, most) in enumerate(((1, 300, 1 << 22), (2, 300, 1 << 22), (3, 2000, 0), (4, 10_000, 2000))):
-            with mock.patch("parting.blocks.BLOCK", block), mock.patch("parting.spread.JOINED", most):
+            with mock.patch("new_enemy_tools.parting.blocks.BLOCK", block), mock.patch("new_enemy_tools.parting.spread.JOINED", most):
                 self.assert_alike(one, self.cut(5, joined, "cut%d" % number, jobs))
 
     def test_a_process_that_is_killed(self):
         folder, joined = self.path("killed"), self.put("joined", RandomInput(Random(1)).joined())
-        with mock.patch("parting.blocks.BLOCK", 300), mock.patch("parting.spread.object_of", lambda line: os.kill(os.getpid(), 9)):
+        with mock.patch("new_enemy_tools.parting.blocks.BLOCK", 300), mock.patch("new_enemy_tools.parting.spread.object_of", lambda line: os.kill(os.getpid(), 9)):
             run = parts("cut", 3, joined, folder, "--jobs", 2)
         self.assertEqual(run, (2, "", "parts: a process that places lines was killed\n"))
         self.assertEqual(os.listdir(folder), [])

@@ -8,10 +8,10 @@ from random import Random
 from typing import Iterator
 from unittest import mock
 
-from lib.effects import Effects
-from lib.order import ignored, order_findings
-from lib.texts import zookie_text
-from lib.trace import read_trace
+from new_enemy_tools.effects import Effects
+from new_enemy_tools.order import ignored, order_findings
+from new_enemy_tools.texts import zookie_text
+from new_enemy_tools.trace import read_trace
 from tests.random_traces import NAMESPACES, VIEWER, RandomInput
 from tests.support import Case
 
@@ -202,12 +202,12 @@ class WithoutTheQuickLook(Case):
         for number in range(30):
             trace = read_trace(b"\n".join(ChangingInput(Random("quick look %d" % number), 40).lines()))
             told = [(entry, finding.split()[0]) for entry in trace.entries.values() for finding, _ in order_findings(trace, entry)]
-            effects, slow = Effects(trace), Effects(trace)
-            with mock.patch.object(slow, "_may_touch", lambda *_: True):
-                self.assertEqual([effects.of(*one) for one in told], [slow.of(*one) for one in told])
+            quick = [Effects(trace).of(*one) for one in told]
+            with mock.patch.object(trace, "may_touch", lambda *_: True):
+                self.assertEqual(quick, [Effects(trace).of(*one) for one in told])
             for entry, finding in told:
                 window = ignored(trace, entry, finding)
-                seen[effects._may_touch(entry.goal, trace.commits.during(*window)), effects.of(entry, finding).word] += 1
+                seen[trace.may_touch(trace.commits.during(*window), entry.goal), Effects(trace).of(entry, finding).word] += 1
         self.assertEqual(set(seen), {(False, "none"), (True, "none"), (True, "possible"), (True, "changed")})
 
 

@@ -11,15 +11,15 @@ from random import Random
 from unittest import mock
 
 from hostile.inputs import worked_cases
-from lib import limits
-from lib.evidence import check_evidence, records_of
-from lib.files import split_joined
-from lib.judging import judge
-from lib.meaning import Settled
-from lib.order import order_lines
-from lib.reasons import Reasons
-from lib.texts import Tuple
-from lib.trace import Fault, read_trace
+from new_enemy_tools import limits
+from new_enemy_tools.evidence import check_evidence, records_of
+from new_enemy_tools.files import split_joined
+from new_enemy_tools.judging import judge
+from new_enemy_tools.meaning import Settled
+from new_enemy_tools.order import order_lines
+from new_enemy_tools.reasons import Reasons
+from new_enemy_tools.texts import Tuple
+from new_enemy_tools.trace import Fault, read_trace
 from tests.random_traces import RandomInput
 from tests.support import EXAMPLES, Case
 from tests.test_effects import ChangingInput
@@ -191,7 +191,7 @@ class Findings(Case):
             self.assertIn("Effect changed", said)
             run = self.run_tool("draw", "trace", "5")
             self.assertEqual((run.returncode, run.stdout, run.stderr), (2, "", told + "\n"))
-            run = self.run_tool("make_evidence", "trace")
+            run = self.run_tool("make-evidence", "trace")
             self.assertEqual((run.returncode, run.stdout.count("\n"), run.stderr), (0, 1, "gave up 2\n"))
             lines = self.run_tool("report", "--form", "text", "trace", "report").stdout.splitlines()
             self.assertEqual(lines[0], "1 reply wrong, 0 stale answers that let someone in, 1 that kept someone out, 1 undecided, 0 harmless")
@@ -449,7 +449,7 @@ class Drawings(Case):
         path = os.path.join(EXAMPLES, "one_proved_check")
         self.assertIn("digraph", self.run_process("draw", path, "3").stdout)
         self.assertIn("reply is right", self.run_process("explain", path, "3").stdout)
-        self.assertEqual(self.run_process("make_evidence", path).stdout, '{"line":3,"steps":[{"yes":"doc:readme#viewer@10"}]}\n')
-        self.assertEqual(self.run_process("make_evidence").returncode, 3)
+        self.assertEqual(self.run_process("make-evidence", path).stdout, '{"line":3,"steps":[{"yes":"doc:readme#viewer@10"}]}\n')
+        self.assertEqual(self.run_process("make-evidence").returncode, 3)
         report = "entries 1\nfindings 0\nverdict clean\n"
         self.assertEqual(self.run_process("report", path, "-", stdin=report).returncode, 0)

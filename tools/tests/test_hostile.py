@@ -6,9 +6,9 @@ from hostile.answers import Answer, wrong_with
 from hostile.inputs import worked_cases, worked_inputs
 from hostile.mutations import SIZE, mutant
 from hostile.reading import denied
-from lib.files import split_joined
-from lib.programs import loaded_file
-from tests.support import TOOLS, Case
+from new_enemy_tools.files import split_joined
+from hostile.loading import loaded_file
+from tests.support import DEV, Case
 
 CLEAN = b"entries 1\nfindings 0\nverdict clean\n"
 DIRTY = b"line 3: F10 wrong reply\nentries 1\nfindings 1\nverdict dirty\n"
@@ -66,7 +66,7 @@ class Fuzz(Case):
         with open(path, "w", encoding="utf-8") as file:
             file.write("#!/bin/sh\n" + script)
         os.chmod(path, 0o755)
-        return self.run_tool("fuzz", *words, "--folder", self.room, "program")
+        return self.run_dev("fuzz", *words, "--folder", self.room, "program")
 
     def test_faults_are_kept_and_come_again(self):
         run = self.fuzz("cat > /dev/null; kill -SEGV $$\n", "--runs", "3", "--seed", "7")
@@ -110,7 +110,7 @@ class RefuseGrowth(Case):
     def table(self, status, *words):
         self.put("program.c", ASKS % status)
         subprocess.run(["cc", "-o", self.path("program"), self.path("program.c"), *words], check=True, capture_output=True)
-        return self.run_tool("refuse_growth", "program", "empty_trace_is_clean")
+        return self.run_dev("refuse_growth", "program", "empty_trace_is_clean")
 
     def test_each_growth_fails_alone_and_with_all_behind_it(self):
         run = self.table(4)
@@ -126,7 +126,7 @@ class RefuseGrowth(Case):
 
     def test_answers_that_may_be_given(self):
         """Of a run that tells two lines early, and of one that says something behind its output."""
-        is_right = loaded_file(os.path.join(TOOLS, "refuse_growth")).is_right
+        is_right = loaded_file(os.path.join(DEV, "refuse_growth")).is_right
         early = Answer(1, DIRTY, b"early line 3: F10 wrong reply\nearly line 4: F7 no evidence\n")
         gave_up = Answer(0, b"", b"gave up 1\n")
         out_of_memory, written = Answer(4, b"", b"out of memory\n"), Answer(5, DIRTY[:10], b"write fault after 10 bytes\n")
@@ -153,7 +153,7 @@ class RefuseGrowthOfCalls(Case):
     def runs(self, *names):
         self.put("tests.c", TESTS)
         subprocess.run(["cc", "-o", self.path("tests"), self.path("tests.c")], check=True, capture_output=True)
-        run = self.run_tool("refuse_growth_of_calls", self.path("tests"), *names)
+        run = self.run_dev("refuse_growth_of_calls", self.path("tests"), *names)
         return run.returncode, run.stdout.splitlines()
 
     def test_a_call_that_is_made_once_more(self):

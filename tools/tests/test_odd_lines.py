@@ -1,5 +1,5 @@
 """One odd line is one odd line: what records no decision is counted, what can be left out is, and what strikes all is said once."""
-from importing.refusals import HINT
+from new_enemy_tools.importing.refusals import HINT
 from tests.test_core import RULES, CoreCase, check, content, rel, write
 from tests.test_openfga import MODEL, THIS, change
 from tests.test_openfga import check as fga_check

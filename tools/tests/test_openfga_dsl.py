@@ -3,7 +3,7 @@ import json
 import os
 from random import Random
 
-from importing.openfga_dsl import read_model
+from new_enemy_tools.importing.openfga_dsl import read_model
 from tests import openfga_service
 from tests.support import EXAMPLES, Case
 from tests.test_openfga import change, check

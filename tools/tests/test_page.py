@@ -8,8 +8,8 @@ import unittest
 from html.parser import HTMLParser
 from typing import Optional
 
-from lib.page import PAGE
-from lib.texts import zookie_text
+from new_enemy_tools.page import PAGE
+from new_enemy_tools.texts import zookie_text
 from tests.support import Case
 from tests.test_effects import BOB, check
 
@@ -129,7 +129,7 @@ class Parts(Pages):
         self.put("report.txt", report)
         run = self.run_tool("report", "--form", "html", "trace.jsonl", "report.txt")
         self.assertEqual((run.returncode, run.stdout, run.stderr.splitlines()[-1]), (
-            3, "", "report: %d findings make more than one page; give --out FILE, and the others go to files beside it" % count))
+            3, "", "ne report: %d findings make more than one page; give --out FILE, and the others go to files beside it" % count))
         self.assertEqual(self.run_tool("report", "--form", "html", "--out", "a#b.html", "trace.jsonl", "report.txt").returncode, 0)
         self.assertEqual(sorted(name for name in os.listdir(self.room) if "html" in name), ["a#b.2.html", "a#b.3.html", "a#b.html"])
         pages = [Reader(self.get(name)) for name in ("a#b.html", "a#b.2.html", "a#b.3.html")]

@@ -13,12 +13,13 @@ import subprocess
 import tempfile
 from random import Random
 
-from lib.files import read_bytes
-from parting.command import cut_command, main
-from parting.manifest import read_manifest, report_path
-from parting.merging import answer_of
-from parting.reports import read_part_report
-from parting.running import run_part
+from new_enemy_tools.files import read_bytes
+from new_enemy_tools.commands import ne
+from new_enemy_tools.commands.parts import cut_command
+from new_enemy_tools.parting.manifest import read_manifest, report_path
+from new_enemy_tools.parting.merging import answer_of
+from new_enemy_tools.parting.reports import read_part_report
+from new_enemy_tools.parting.running import run_part
 from tests.random_traces import RandomInput
 from tests.support import EXAMPLES, TOP, Case, Run, loaded_file
 
@@ -50,11 +51,11 @@ def remembered(_program, trace, evidence, output, error):
 
 
 def parts(*given):
-    """A run of the tool in this process."""
+    """A run of the command in this process."""
     out, err = io.StringIO(), io.StringIO()
     with contextlib.redirect_stdout(out), contextlib.redirect_stderr(err):
         try:
-            status = main(list(map(str, given)))
+            status = ne.main(["parts", *map(str, given)])
         except SystemExit as end:
             status = end.code
     return Run(status, out.getvalue(), err.getvalue())

@@ -4,8 +4,8 @@ import os
 from collections import Counter
 from random import Random
 
-from importing.visibility import History
-from importing.zedtokens import Older, Revision, Snapshot, read_revision
+from new_enemy_tools.importing.visibility import History
+from new_enemy_tools.importing.zedtokens import Older, Revision, Snapshot, read_revision
 from tests.support import Case
 from tests.test_round_trips import CHECKS, MODELS, SpiceDb, token_text
 from tests.test_spicedb import SCHEMA, VIEW, check, update, watch

@@ -41,7 +41,7 @@ class Checkout(unittest.TestCase):
         room = tempfile.TemporaryDirectory()
         self.addCleanup(room.cleanup)
         self.room, self.top = room.name, os.path.join(room.name, "top")
-        for name in ("new_enemy", "crates.txt", "HANDLES", "dist/provenance", "tools/release", "crates/new_enemy/stdin"):
+        for name in ("new_enemy", "crates.txt", "HANDLES", "dist/provenance", "tools/dev/release", "crates/new_enemy/stdin"):
             os.makedirs(os.path.dirname(self.path(name)), exist_ok=True)
             shutil.copy(os.path.join(TOP, name), self.path(name))
         for crate in CRATES:

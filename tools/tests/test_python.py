@@ -15,7 +15,7 @@ class Versions(Case):
                 ast.parse(file.read(), path, feature_version=(3, 9))
 
     def test_an_older_python(self):
-        for package in ("lib", "importing", "parting"):
-            run = subprocess.run([sys.executable, "-c", "import sys; sys.version_info = (3, 8, 0); import %s" % package], cwd=TOOLS,
-                                 capture_output=True, text=True, timeout=60)
+        for module in ("ne", "running"):
+            run = subprocess.run([sys.executable, "-c", "import sys; sys.version_info = (3, 8, 0); import new_enemy_tools.commands." + module],
+                                 cwd=TOOLS, capture_output=True, text=True, timeout=60)
             self.assertEqual((run.returncode, run.stderr), (3, "the tools need Python 3.9 or a later one, and this is 3.8\n"))

@@ -5,10 +5,10 @@ from typing import Optional
 from unittest import mock
 
 from hostile.inputs import worked_cases
-from lib import strictjson
-from lib.files import split_joined
-from lib.texts import Tuple, Userset
-from lib.trace import Fault, Trace, read_trace
+from new_enemy_tools import strictjson
+from new_enemy_tools.files import split_joined
+from new_enemy_tools.texts import Tuple, Userset
+from new_enemy_tools.trace import Fault, Trace, read_trace
 from tests.random_traces import RandomInput
 from tests.support import Case
 from tests.test_effects import ChangingInput

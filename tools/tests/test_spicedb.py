@@ -1,7 +1,7 @@
 """The front end for SpiceDB: what it maps, and what it refuses by file and line."""
 import os
 
-from importing.zedtokens import read_revision
+from new_enemy_tools.importing.zedtokens import read_revision
 from tests.support import EXAMPLES, Case
 from tests.test_round_trips import token_text
 

@@ -1,2 +1,0 @@
-"""From the logs of a service to a trace: neutral events, the core that takes them, and a front end for each service."""
-import lib  # noqa: F401  It says which Python the tools need.

@@ -1,0 +1,4 @@
+"""The tools around the auditor: they make traces of a service's logs, cut them, and say what an audit found.
+
+Libraries raise (faults.py); commands say what was raised, and exit.
+"""

@@ -1,0 +1,172 @@
+"""Makes a trace of the logs of a service: ne import SERVICE .. LOG .. (docs/IMPORTING.md).
+
+    ne import openfga --model MODEL (--base FILE .. --base-at TIME | --from-empty) LOG ..
+    ne import spicedb --schema SCHEMA (--base FILE .. --base-at TOKEN | --from-empty) LOG ..
+    ne import events (--from-empty | base writes in the log) LOG ..
+
+It writes the trace and adds to the table of ids; where anything is refused it writes neither, lists all refusals on
+standard error, and ends with status 2.
+"""
+import gc
+import os
+import sys
+from argparse import Namespace
+from typing import Any, Iterable, Optional
+
+from new_enemy_tools import limits
+from new_enemy_tools.commands.running import Parser
+from new_enemy_tools.faults import DeviceFault
+from new_enemy_tools.ids import Ids
+from new_enemy_tools.importing import openfga, spicedb, spicedb_schema
+from new_enemy_tools.importing.core import Core, Given
+from new_enemy_tools.importing.neutral import gather_events
+from new_enemy_tools.importing.refusals import Refusals
+from new_enemy_tools.importing.service import ServiceRules
+from new_enemy_tools.importing.spool import Lines
+from new_enemy_tools.parting.faults import PartsFault
+from new_enemy_tools.progress import Progress
+
+
+def given_of(words: list[str]) -> tuple[Parser, Namespace]:
+    """The words of the command line, and the parser that tells faults of usage."""
+    parser = Parser(prog="ne import", description=__doc__)
+    services = parser.add_subparsers(dest="service", required=True)
+    for name, told in (("openfga", "of OpenFGA"), ("spicedb", "of SpiceDB"), ("events", "of events in a form of no service")):
+        service = services.add_parser(name, help="logs " + told, description="Makes a trace of logs " + told + " (docs/IMPORTING.md).")
+        if name == "openfga":
+            service.add_argument("--model", required=True, dest="rules", metavar="FILE", help="the authorization model, as JSON")
+        elif name == "spicedb":
+            service.add_argument("--schema", required=True, dest="rules", metavar="FILE", help="the text of the schema")
+        if name != "events":
+            service.add_argument("--base", action="append", default=[], metavar="FILE", help="the tuples stored at --base-at")
+            service.add_argument("--base-at", metavar="REVISION", help="the revision of the base state")
+        service.add_argument("--from-empty", action="store_true", help="the store was empty before the first write")
+        service.add_argument("--skew", type=int, metavar="MS", help="order events by time, and refuse two of different clocks within MS milliseconds if their order could change a finding")
+        service.add_argument("--skip-unmapped", action="store_true", help="count and leave out what a trace cannot say")
+        service.add_argument("--trace", default="trace.jsonl", metavar="FILE", help="the trace to write (trace.jsonl)")
+        service.add_argument("--ids", default="ids.jsonl", metavar="FILE", help="the table of ids to add to (ids.jsonl)")
+        service.add_argument("--jobs", type=int, default=os.cpu_count(), metavar="N", help="how many processes read the logs (one a core)")
+        service.add_argument("--name", metavar="NAME", help="a name of the service, where several of its kind have logs")
+        service.add_argument("logs", nargs="+", metavar="LOG", help="a file of writes and checks, JSON lines")
+    given = parser.parse_args(words)
+    if given.jobs < 1:
+        parser.error("--jobs is below 1")
+    if given.skew is not None and given.skew < 0:
+        parser.error("--skew is below 0")
+    if given.service != "events" and bool(given.base) != (given.base_at is not None):
+        parser.error("--base and --base-at go together")
+    if given.service != "events" and given.from_empty == bool(given.base):
+        parser.error("give either --base with --base-at, or --from-empty")
+    return parser, given
+
+
+LOGS = {"openfga": openfga.OpenFgaLog, "spicedb": spicedb.SpiceDbLog}
+
+
+def base_at(parser: Parser, given: Namespace) -> Any:
+    """The revision of the base state, where a front end takes one."""
+    if given.service == "events" or given.base_at is None:
+        return None
+    found = LOGS[given.service].read_base(given.base_at)
+    if found is None:
+        parser.error("--base-at is no " + LOGS[given.service].BASE)
+    return found
+
+
+def rules_of(given: Namespace, refusals: Refusals) -> Optional[ServiceRules]:
+    if given.service == "openfga":
+        return openfga.ModelReader(given.rules, refusals).read()
+    return spicedb_schema.read_schema(given.rules, refusals)
+
+
+def gathered(given: Namespace, base: Any, refusals: Refusals, progress: Progress) -> Given:
+    """All lines of the service's files, base state first."""
+    lines = Lines()
+    if given.service == "events":
+        for path in given.logs:
+            progress.follow("read %s events", gather_events(path, lines, given.jobs, refusals))
+        facts = lines.facts
+        if facts.count and given.from_empty == (facts.last_base >= 0):
+            first = next(iter(lines))
+            refusals.refuse(first.file, first.line, "give either base writes (\"base\":true) or --from-empty")
+        return Given(lines, None)
+    rules = rules_of(given, refusals)
+    if rules is None:
+        return Given(lines, None)
+    log = LOGS[given.service](rules, base, refusals)
+    lines.add(rules.event)
+    for path in given.base:
+        for line in log.base(path):
+            lines.add(line)
+    for path in given.logs:
+        progress.follow("read %s events", log.gather(path, lines, given.jobs))
+    return Given(log.placed(lines, given.skew), log.base_number())
+
+
+def write(path: str, chunks: Iterable[bytes], ids: Ids, refusals: Refusals) -> int:
+    """The trace and the new rows of the table, or neither where something is refused meanwhile. How many bytes the trace has."""
+    beside, size = path + ".part", 0
+    try:
+        with open(beside, "wb") as file:
+            for chunk in chunks:
+                size += file.write(chunk)
+        if not refusals.refused:
+            ids.append()
+            os.replace(beside, path)
+    finally:
+        if os.path.exists(beside):
+            os.remove(beside)
+    return size
+
+
+def say(text: str) -> None:
+    sys.stderr.write(text + "\n")
+
+
+def told_left_out(refusals: Refusals) -> None:
+    for note in refusals.notes.values():
+        say(note)
+    for verb, counts in (("passed over", refusals.passed), ("left out", refusals.left_out)):
+        for reason, count in sorted(counts.items()):
+            say("%s %d: %s" % (verb, count, reason))
+
+
+def told_refused(refusals: Refusals) -> int:
+    for line in refusals.lines():
+        say(line)
+    say("refused %d" % len(refusals.refused))
+    return 2
+
+
+def main(words: list[str]) -> int:
+    parser, given = given_of(words)
+    base = base_at(parser, given)
+    # Rows make no circles, and there are many of them to look through.
+    gc.disable()
+    try:
+        return imported(given, base)
+    except PartsFault as fault:
+        raise DeviceFault(str(fault)) from None
+    except OSError as fault:
+        raise DeviceFault("cannot %s: %s" % ("use %s" % fault.filename if fault.filename else "keep lines in a temporary file",
+                                             fault.strerror)) from None
+    finally:
+        gc.enable()
+
+
+def imported(given: Namespace, base: Any) -> int:
+    refusals = Refusals(given.skip_unmapped)
+    with Progress() as progress:
+        ids = Ids(given.ids)
+        ids.take_for(given.service if given.name is None else "%s %s" % (given.service, given.name))
+        made = Core(ids, given.skew, refusals, progress).trace(gathered(given, base, refusals, progress), given.jobs)
+        size = write(given.trace, made.chunks, ids, refusals) if made else 0
+    told_left_out(refusals)
+    if made is None or refusals.refused:
+        return told_refused(refusals)
+    for line in made.told():
+        say(line)
+    if size > limits.INPUT_BYTES:
+        say("the trace has %d bytes, and one program takes %d: audit it in parts, by tools/ne parts cut %d %s FOLDER"
+            % (size, limits.INPUT_BYTES, size // limits.INPUT_BYTES + 2, given.trace))
+    return 0

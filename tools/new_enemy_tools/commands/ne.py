@@ -1,0 +1,46 @@
+"""One command for all that users call: ne COMMAND WORD .."""
+import importlib
+import sys
+from argparse import SUPPRESS
+from typing import NamedTuple, NoReturn
+
+from new_enemy_tools.commands.running import Parser, ended, run
+
+
+class Command(NamedTuple):
+    """The module of a command, and what it does."""
+
+    module: str
+    told: str
+
+
+COMMANDS = {
+    "import": Command("import_logs", "makes a trace of the logs of a service"),
+    "lint": Command("lint", "lists what is odd in a trace"),
+    "make-evidence": Command("make_evidence", "finds evidence for a trace, by a plain search"),
+    "parts": Command("parts", "audits a trace that is too large for one process"),
+    "report": Command("report", "says which findings of an audit mattered, as a page, a text or rows"),
+    "explain": Command("explain", "says why an entry is allowed or denied, or why a trace is refused"),
+    "draw": Command("draw", "draws what the rules say of a goal, and what the service said"),
+}
+
+
+def parser() -> Parser:
+    listed = "\n".join("  %-14s %s" % (name, command.told) for name, command in COMMANDS.items())
+    made = Parser(prog="ne", usage="ne [-h] COMMAND ...", description="The tools around the auditor.\n\ncommands:\n%s" % listed,
+                  epilog="`ne COMMAND --help` says what a command takes.")
+    made.add_argument("command", metavar="COMMAND", choices=COMMANDS, help=SUPPRESS)
+    return made
+
+
+def main(words: list[str]) -> int:
+    name = words[0] if words and words[0] in COMMANDS else parser().parse_args(words[:1]).command
+    command = importlib.import_module("new_enemy_tools.commands." + COMMANDS[name].module)
+    return ended(command.main, words[1:])
+
+
+def run_as(old: str, name: str) -> NoReturn:
+    """Runs a command by the name of the tool that it was."""
+    if sys.stderr.isatty():
+        sys.stderr.write("tools/%s is `tools/ne %s` now; the old name goes with the next release\n" % (old, name))
+    run(lambda: main([name, *sys.argv[1:]]))

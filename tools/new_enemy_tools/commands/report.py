@@ -1,0 +1,136 @@
+"""What an audit found: ne report [--form html|text|jsonl|sarif|junit|annotations] [--ids IDS] [--out FILE] TRACE REPORT
+
+Each finding has its effect, whether it mattered; the sums come first, and then the worst. REPORT may be - for standard input.
+--baseline FILE tells only what an earlier report, in JSON lines or SARIF, did not tell; --ignore FILE hides findings for a reason and
+until a day (docs/REPORTS.md). --form html writes a page, and of more than a thousand findings the others in files beside that of --out.
+
+The status is 0 where it was written, whatever the verdict; 1 by --fail-on; 2 where a file is refused, and then nothing is written.
+"""
+import argparse
+import gc
+import sys
+from collections import Counter
+from datetime import date
+from typing import Iterable, NamedTuple, Optional
+
+from new_enemy_tools.audited import read_audited
+from new_enemy_tools.baseline import read_baseline
+from new_enemy_tools.commands.running import Parser
+from new_enemy_tools.effects import EFFECTS
+from new_enemy_tools.faults import ToolFault
+from new_enemy_tools.files import read_bytes, read_ids, read_trace_of, split_joined, write_whole
+from new_enemy_tools.findings import read_report
+from new_enemy_tools.forms import FORMS
+from new_enemy_tools.ignoring import read_rows
+from new_enemy_tools.names import Names
+from new_enemy_tools.progress import Progress
+from new_enemy_tools.sarif import sarif
+from new_enemy_tools.telling import LeftOut, Telling, telling_of, told_of, warnings_of
+from new_enemy_tools.trace import OtherForm, Trace
+
+ALL_FORMS = {**FORMS, "sarif": sarif}
+
+
+def parser_of_words() -> Parser:
+    parser = Parser(prog="ne report", description=__doc__)
+    parser.add_argument("--form", choices=sorted([*ALL_FORMS, "html"]), default="jsonl", help="the form of the answer (jsonl)")
+    parser.add_argument("--out", metavar="FILE", help="where to write, in place of standard output")
+    parser.add_argument("--ids", metavar="FILE", help="the table of ids, for names in place of numbers")
+    parser.add_argument("--baseline", metavar="FILE", help="an earlier report, as JSON lines or SARIF; only what is new is told")
+    parser.add_argument("--ignore", metavar="FILE", help="rows of findings that are not told, with reasons and days that end it")
+    parser.add_argument("--fail-on", choices=EFFECTS, metavar="EFFECT", help="status 1 where a finding that is told has this "
+                        "effect or a worse one: %s" % ", ".join(EFFECTS))
+    parser.add_argument("trace", metavar="TRACE", help="the trace, or joined input")
+    parser.add_argument("report", metavar="REPORT", help="what the audit wrote")
+    return parser
+
+
+def left_out(ignore: Optional[str], baseline: Optional[str], is_named: bool) -> LeftOut:
+    rows = [] if ignore is None else read_rows(ignore, read_bytes(ignore))
+    known: Counter[str] = Counter() if baseline is None else read_baseline(baseline, read_bytes(baseline), is_named)
+    return LeftOut(rows, known, date.today())
+
+
+class Told(NamedTuple):
+    """What is to be told, and what is to be said of the rows that leave something out."""
+
+    telling: Telling
+    warnings: list[str]
+    # all forms but pages
+    lines: list[str]
+
+
+class Teller:
+    """Reads what an audited trace says of its findings, or where that cannot be done, the trace in full."""
+
+    def __init__(self, given: argparse.Namespace, progress: Progress):
+        self.given, self.progress = given, progress
+        self.data = split_joined(read_bytes(given.trace))[0]
+        self.report: Optional[bytes] = None
+
+    def told(self) -> Told:
+        if self.given.form != "html":
+            try:
+                return self._told(read_audited(self.data))
+            except (OtherForm, ToolFault):
+                # Read in full, the trace may be at fault, and not what does not go with it.
+                pass
+        return self._told(read_trace_of(self.data, self.progress))
+
+    def _told(self, trace: Trace) -> Told:
+        given = self.given
+        ids = read_ids(given.ids, trace)
+        out = left_out(given.ignore, given.baseline, ids is not None)
+        if self.report is None:
+            self.report = read_bytes(given.report)
+        report = read_report(self.report.decode("utf-8", "replace"))
+        told = told_of(trace, report, self.progress.steps("looked at %s findings"))
+        telling = telling_of(told, trace, Names(ids), given.trace, report, out)
+        return Told(telling, warnings_of(telling, out), [] if given.form == "html" else list(ALL_FORMS[given.form](telling)))
+
+
+def told_quickly(given: argparse.Namespace, progress: Progress) -> Told:
+    """What is read is kept to the end, and looking for garbage in it takes a fifth of the time."""
+    gc.disable()
+    try:
+        return Teller(given, progress).told()
+    finally:
+        gc.enable()
+
+
+def write(lines: Iterable[str], out: Optional[str]) -> None:
+    """Writes all of it, or nothing where it goes to a file."""
+    if out is not None:
+        write_whole(out, lines)
+    else:
+        for line in lines:
+            sys.stdout.write(line + "\n")
+
+
+def write_html(parser: Parser, telling: Telling, out: Optional[str], progress: Progress) -> None:
+    # The other forms need not wait until this is loaded.
+    from new_enemy_tools.page import PAGE, Writer, write_pages
+
+    if out is not None:
+        write_pages(telling, out, progress.steps("wrote %s findings"))
+        return
+    if len(telling.told) > PAGE:
+        parser.error("%d findings make more than one page; give --out FILE, and the others go to files beside it" % len(telling.told))
+    writer = Writer(telling, "")
+    write(writer.lines(writer.pages[0]), None)
+
+
+def main(words: list[str]) -> int:
+    parser = parser_of_words()
+    given = parser.parse_args(words)
+    with Progress() as progress:
+        told = told_quickly(given, progress)
+        progress.end()
+        for line in told.warnings:
+            sys.stderr.write(line + "\n")
+        if given.form == "html":
+            write_html(parser, told.telling, given.out, progress)
+        else:
+            write(told.lines, given.out)
+    worst = min((one.effect.rank for one in told.telling.told), default=len(EFFECTS))
+    return 1 if given.fail_on is not None and worst <= EFFECTS.index(given.fail_on) else 0

@@ -1,0 +1,56 @@
+"""What commands share: their words, and how they end."""
+import argparse
+import os
+import sys
+from typing import Any, Callable, NoReturn, TextIO
+
+from new_enemy_tools.faults import ToolFault
+
+
+class Parser(argparse.ArgumentParser):
+    """Keeps the paragraphs of a description, and ends with status 3 on a fault of usage, as the program does."""
+
+    def __init__(self, **words: Any):
+        words.setdefault("formatter_class", argparse.RawDescriptionHelpFormatter)
+        super().__init__(**words)
+
+    def error(self, message: str) -> NoReturn:
+        self.print_usage(sys.stderr)
+        self.exit(3, "%s: %s\n" % (self.prog, message))
+
+
+def say(fault: ToolFault, stream: TextIO) -> None:
+    """The fault's line, and what else is to be said of it."""
+    stream.write("%s\n%s" % (fault, "".join("  %s\n" % detail for detail in fault.details)))
+
+
+def ended(main: Callable[[list[str]], int], words: list[str]) -> int:
+    """The status of a command; a fault that ends it is said."""
+    try:
+        return main(words)
+    except ToolFault as fault:
+        say(fault, sys.stderr)
+        return fault.status
+
+
+def run(main: Callable[[], int]) -> NoReturn:
+    """Ends with the status of a tool's main, or with status 5 where a file fails: in silence where nobody reads standard output."""
+    try:
+        status = _status_of(main)
+        if sys.stdout is not None:
+            sys.stdout.flush()
+    except OSError as fault:
+        if not isinstance(fault, BrokenPipeError):
+            sys.stderr.write("cannot %s: %s\n" % ("use %s" % fault.filename if fault.filename else "write", fault.strerror))
+        status = 5
+    sys.stderr.flush()
+    # All is written, and to free what was read would take a tenth of the time.
+    os._exit(status)
+
+
+def _status_of(main: Callable[[], int]) -> int:
+    """The status, also where the words of the command line end the tool."""
+    try:
+        return main()
+    except SystemExit as end:
+        return end.code if isinstance(end.code, int) else 0

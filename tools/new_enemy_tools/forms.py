@@ -1,0 +1,146 @@
+"""The forms that a report is given in for machines, and as text."""
+import json
+import re
+from html import escape
+from typing import Callable, Iterator, NamedTuple, Optional
+
+from new_enemy_tools import texts
+from new_enemy_tools.baseline import key_of
+from new_enemy_tools.effects import Told
+from new_enemy_tools.kept import Entry
+from new_enemy_tools.shown import plain
+from new_enemy_tools.telling import Telling
+
+Row = dict[str, object]
+LEVELS = {"error": "error", "warning": "warning", "note": "notice"}
+
+
+class Place(NamedTuple):
+    """A file, and a line of it."""
+
+    file: str
+    line: int
+
+
+def logged(source: Optional[str]) -> Optional[Place]:
+    """Where the import that wrote a line of the trace had it from, if it kept that."""
+    file, colon, line = (source or "").rpartition(":")
+    return Place(file, int(line)) if colon and file and re.fullmatch("[1-9][0-9]{0,17}", line) else None
+
+
+def place_of(telling: Telling, entry: Entry) -> Place:
+    """Where an entry is shown: in the log, or where that was not kept, in the trace."""
+    return logged(entry.source) or Place(telling.path, entry.line)
+
+
+def row_of(telling: Telling, told: Told) -> Row:
+    """A finding as an object; a key is there where it has a value."""
+    finding, entry, effect = told.finding, told.entry, told.effect
+    log = logged(entry.source)
+    row = {"line": finding.line, "finding": finding.finding, "text": finding.text, "effect": effect.word,
+           "severity": effect.severity, "outcome": told.outcome, "seen": effect.seen, "kind": entry.kind,
+           "goal": str(entry.goal), "named": telling.names.tuple(entry.goal) if telling.names.ids else None,
+           "snapshot": entry.snapshot, "reply": entry.reply, "zookie": entry.zookie,
+           "zookie_at": texts.parse_zookie(entry.zookie)[0] if entry.zookie is not None else None,
+           "version": entry.version, "related": finding.related,
+           "related_at": None if finding.related is None else telling.trace.at_of(finding.related), "step": finding.step,
+           "from": entry.source, "file": log and log.file, "file_line": log and log.line, "revision": entry.revision}
+    return {key: value for key, value in row.items() if value is not None}
+
+
+def keyed_row_of(telling: Telling, told: Told) -> Row:
+    """The same with the key by which a baseline knows it."""
+    return {**row_of(telling, told), "key": key_of(told, telling.names)}
+
+
+def sums_row(telling: Telling) -> Row:
+    report = telling.report
+    return {"sums": {**telling.sums._asdict(), "text": telling.said}, "entries": report.entries,
+            "findings": len(report.findings), "told": len(telling.told), "ignored": len(telling.ignored),
+            "known": len(telling.known), "verdict": report.verdict, "named": telling.names.ids is not None}
+
+
+_json = json.JSONEncoder(ensure_ascii=False, separators=(",", ":")).encode
+
+
+def json_lines(telling: Telling) -> Iterator[str]:
+    yield _json(sums_row(telling))
+    for told in telling.told:
+        yield _json(keyed_row_of(telling, told))
+
+
+def sentence(row: Row) -> str:
+    said = "%s %s: %s of %s at snapshot %s replied %s" % (
+        row["finding"], row["text"], row["kind"], row.get("named", row["goal"]), row["snapshot"], str(row["reply"]).lower())
+    for key, words in (("zookie_at", "token of %s"), ("version", "version %s"), ("related", "see line %s"),
+                       ("step", "step %s"), ("from", "from %s"), ("effect", "effect %s")):
+        said += ", " + words % row[key] if key in row else ""
+    return said + (": someone was %s" % row["outcome"] if "outcome" in row else "")
+
+
+def text(telling: Telling) -> Iterator[str]:
+    yield telling.said
+    for told in telling.told:
+        yield plain("line %d: %s" % (told.finding.line, sentence(row_of(telling, told))))
+
+
+def junit(telling: Telling) -> Iterator[str]:
+    """A test for each finding, those that are not told as skipped, and behind them one for each entry without a finding."""
+    trace = telling.trace
+    found = {finding.line for finding in telling.report.findings}
+    skipped = [(told, "ignored: " + row.reason) for told, row in telling.ignored]
+    skipped += [(told, "known from the baseline") for told in telling.known]
+    yield '<?xml version="1.0" encoding="UTF-8"?>'
+    yield '<testsuites><testsuite name="new_enemy" tests="%d" failures="%d" errors="0" skipped="%d">' % (
+        len(telling.report.findings) + len(trace.entries) - len(found), len(telling.told), len(skipped))
+    yield '<properties><property name="sums" value=%s/></properties>' % _attribute(telling.said)
+    for told in telling.told:
+        row = row_of(telling, told)
+        yield "%s><failure type=%s message=%s>%s</failure></testcase>" % (
+            _case(telling, told.entry), _attribute(told.finding.finding),
+            _attribute("%s %s, effect %s" % (row["finding"], row["text"], row["effect"])),
+            escape(_xml("%s: %s" % (row["severity"], sentence(row))), quote=False))
+    for told, why in skipped:
+        yield "%s><skipped message=%s/></testcase>" % (_case(telling, told.entry), _attribute(_xml(why)))
+    for line in trace.entries:
+        if line not in found:
+            yield _case(telling, trace.entries[line]) + "/>"
+    yield "</testsuite></testsuites>"
+
+
+def _case(telling: Telling, entry: Entry) -> str:
+    place = place_of(telling, entry)
+    return "<testcase classname=%s name=%s file=%s line=%s" % (
+        _attribute(_xml(telling.path)), _attribute(_xml("line %d: %s" % (entry.line, telling.names.tuple(entry.goal)))), _attribute(_xml(place.file)),
+        _attribute(str(place.line)))
+
+
+def _attribute(text: str) -> str:
+    return '"%s"' % escape(text)
+
+
+def _xml(text: str) -> str:
+    """Without the letters that XML has no form for."""
+    return "".join(letter if letter >= " " and letter not in "\ufffe\uffff" else "?" for letter in text)
+
+
+def annotations(telling: Telling) -> Iterator[str]:
+    """Workflow commands, as GitHub's and Gitea's runners read them."""
+    yield "::notice title=new_enemy::%s" % _data(telling.said)
+    for told in telling.told:
+        row, place = row_of(telling, told), place_of(telling, told.entry)
+        title = "%s %s, effect %s" % (row["finding"], row["text"], row["effect"])
+        yield "::%s file=%s,line=%d,title=%s::%s" % (LEVELS[told.effect.severity], _property(place.file), place.line,
+                                                     _property(title), _data(sentence(row)))
+
+
+def _data(text: str) -> str:
+    return text.replace("%", "%25").replace("\r", "%0D").replace("\n", "%0A")
+
+
+def _property(text: str) -> str:
+    return _data(text).replace(":", "%3A").replace(",", "%2C")
+
+
+FORMS: dict[str, Callable[[Telling], Iterator[str]]] = {
+    "jsonl": json_lines, "text": text, "junit": junit, "annotations": annotations}

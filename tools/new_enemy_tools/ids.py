@@ -1,0 +1,180 @@
+"""The table `ids.jsonl`: what a trace calls user ids, and the names, object ids and labels that its grammar does not take.
+
+A row is {"kind":K,"type":T,"id":ID,"number":N}, on line N; the first also says the `service` whose table it is. Rows are added at the
+end and never changed, so that what a number stands for can be read back from its line. A trace says on its first line how many rows
+its table had, and their checksum.
+"""
+import json
+from hashlib import blake2b
+import os
+import re
+from typing import Optional
+
+from new_enemy_tools import limits, texts
+from new_enemy_tools.faults import ToolFault
+from new_enemy_tools.keys import unread
+
+KEYS = frozenset(("kind", "type", "id", "number"))
+SERVICE = "service"
+KINDS = ("user", "namespace", "relation", "object", "version")
+NAME = re.compile(r"n_([1-9][0-9]*)")
+ID = re.compile(r"~([1-9][0-9]*)")
+
+
+class TableFault(ToolFault):
+    """What is wrong with the table, with its file and line."""
+
+
+def _row(value: object, number: int) -> tuple[str, str, str]:
+    for key in unread(value, KEYS | {SERVICE} if number == 1 else KEYS):
+        raise TableFault(key.said())
+    if not isinstance(value, dict) or value.get("kind") not in KINDS or value.get("number") != number \
+            or not all(isinstance(value.get(key), str) for key in ("type", "id")) or not isinstance(value.get(SERVICE, ""), str):
+        raise ValueError
+    return value["kind"], value["type"], value["id"]
+
+
+def mark_in(trace: bytes) -> object:
+    """What the first line of a trace says of its table; None where it says nothing."""
+    try:
+        first = json.loads(trace[:trace.find(b"\n") + 1] or trace)
+    except ValueError:
+        return None
+    return first.get("ids") if isinstance(first, dict) else None
+
+
+class Ids:
+    def __init__(self, path: Optional[str] = None):
+        self.path = path
+        self.rows: list[tuple[str, str, str]] = []
+        self.numbers: dict[tuple[str, str, str], int] = {}
+        self.kept = 0
+        self.service: Optional[str] = None
+        self._names: dict[tuple[str, str, str], str] = {}
+        if path and os.path.exists(path):
+            self._read(path)
+
+    def _read(self, path: str) -> None:
+        with open(path, "rb") as file:
+            for number, line in enumerate(file, 1):
+                try:
+                    value = json.loads(line)
+                    row = _row(value, number)
+                    self.service = value.get(SERVICE) if number == 1 else self.service
+                except TableFault as fault:
+                    raise TableFault("%s:%d: %s" % (path, number, fault)) from None
+                except ValueError:
+                    raise TableFault("%s:%d: no row of the table, or not number %d" % (path, number, number)) from None
+                if row in self.numbers:
+                    raise TableFault("%s:%d: this row stands on line %d too" % (path, number, self.numbers[row]))
+                if not line.endswith(b"\n"):
+                    raise TableFault("%s:%d: the line has no end" % (path, number))
+                self.rows.append(row)
+                self.numbers[row] = number
+        self.kept = len(self.rows)
+
+    def take_for(self, service: str) -> None:
+        """Says whose table it is; raises TableFault where it is another's. A table may be older than that rows say so."""
+        if self.rows and self.service not in (None, service):
+            raise TableFault("%s:1: the table is of %s, and the logs are of %s; give each service a table of its own with --ids"
+                             % (self.path, self.service, service))
+        self.service = None if self.rows and self.service is None else service
+
+    def mark(self) -> dict[str, object]:
+        """What a trace says of its table."""
+        return {"rows": len(self.rows), "checksum": self._checksum(len(self.rows))}
+
+    def _checksum(self, count: int) -> str:
+        digest = blake2b(digest_size=16)
+        for row in self.rows[:count]:
+            digest.update(json.dumps(row).encode() + b"\n")
+        return digest.hexdigest()
+
+    def refuse_other(self, mark: object) -> None:
+        """Raises TableFault where a trace was written with another table, or with one that had more rows."""
+        rows, checksum = (mark.get("rows"), mark.get("checksum")) if isinstance(mark, dict) else (None, None)
+        if not isinstance(rows, int) or not isinstance(checksum, str):
+            return
+        if rows > len(self.rows):
+            raise TableFault("%s has %d rows, and the table of this trace has %d or more: it is another table, or cut short"
+                             % (self.path, len(self.rows), rows))
+        if self._checksum(rows) != checksum:
+            raise TableFault("%s is another table than that of this trace: its first %d rows are others" % (self.path, rows))
+
+    def number(self, kind: str, of: str, id_text: str) -> int:
+        """The number of a row, which is added where it is new."""
+        row = (kind, of, id_text)
+        number = self.numbers.get(row)
+        if number is None:
+            self.rows.append(row)
+            number = self.numbers[row] = len(self.rows)
+        return number
+
+    def has(self, goal: tuple[str, ...]) -> bool:
+        """Whether the user and the object of a goal were seen; its parts are those of a tuple of a service."""
+        return ("user", goal[3], goal[4]) in self.numbers and ("object", goal[0], goal[1]) in self._names
+
+    def note(self, goal: tuple[str, ...]) -> None:
+        self.number("user", goal[3], goal[4])
+        self.object(goal[0], goal[1])
+
+    def name(self, kind: str, name: str) -> str:
+        """What a trace calls a namespace or a relation: its own name where the grammar takes it."""
+        known = self._names.get((kind, "", name))
+        if known is None:
+            is_kept = texts.is_name(name) and not NAME.fullmatch(name)
+            known = self._names[kind, "", name] = name if is_kept else "n_%d" % self.number(kind, "", name)
+        return known
+
+    def object(self, of: str, id_text: str) -> str:
+        known = self._names.get(("object", of, id_text))
+        if known is None:
+            is_kept = texts.is_object_id(id_text) and not ID.fullmatch(id_text)
+            known = id_text if is_kept else "~%d" % self.number("object", of, id_text)
+            self._names["object", of, id_text] = known
+        return known
+
+    def version(self, label: str) -> str:
+        is_kept = len(label.encode()) <= limits.VERSION_BYTES and not ID.fullmatch(label)
+        return label if is_kept else "~%d" % self.number("version", "", label)
+
+    def append(self) -> None:
+        """Writes the new rows behind those of the file."""
+        if self.path and len(self.rows) > self.kept:
+            with open(self.path, "a", encoding="utf-8") as file:
+                for number in range(self.kept, len(self.rows)):
+                    kind, of, id_text = self.rows[number]
+                    row = {"kind": kind, "type": of, "id": id_text, "number": number + 1}
+                    if number == 0 and self.service is not None:
+                        row[SERVICE] = self.service
+                    file.write(json.dumps(row, separators=(",", ":")) + "\n")
+            self.kept = len(self.rows)
+
+    def _of(self, number: int, kind: str) -> Optional[tuple[str, str, str]]:
+        row = self.rows[number - 1] if 1 <= number <= len(self.rows) else None
+        return row if row and row[0] == kind else None
+
+    def user_of(self, number: int) -> str:
+        """The user that a number stands for; the number itself where the table has none."""
+        row = self._of(number, "user")
+        return "%s:%s" % row[1:] if row else str(number)
+
+    def name_of(self, kind: str, name: str) -> str:
+        found = NAME.fullmatch(name)
+        row = self._of(int(found[1]), kind) if found else None
+        return row[2] if row else name
+
+    def id_of(self, kind: str, text: str) -> str:
+        """The object id (`object`) or label (`version`) that stands in the service for one in the trace."""
+        found = ID.fullmatch(text)
+        row = self._of(int(found[1]), kind) if found else None
+        return row[2] if row else text
+
+    def userset_of(self, of: texts.Userset) -> str:
+        relation = of.relation if of.relation == texts.NO_RELATION else self.name_of("relation", of.relation)
+        return "%s:%s#%s" % (self.name_of("namespace", of.namespace), self.id_of("object", of.id), relation)
+
+    def tuple_of(self, given: texts.Tuple) -> str:
+        user = given.user
+        shown = self.userset_of(user) if isinstance(user, texts.Userset) else self.user_of(user)
+        return "%s@%s" % (self.userset_of(given.set), shown)

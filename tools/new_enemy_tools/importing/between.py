@@ -1,0 +1,97 @@
+"""Checks that were evaluated between two revisions: right where they are right at one state in between.
+
+Such a check becomes an entry at a state where its reply is right, and the audit judges it there. Where there is no such state it
+becomes one entry for each, so that the audit says of each that the reply is wrong.
+"""
+from bisect import bisect_left, bisect_right
+from typing import Iterable, Iterator, NamedTuple, Optional
+
+from new_enemy_tools.importing.commits import Commit, Writer
+from new_enemy_tools.importing.events import Entry, Line
+from new_enemy_tools.importing.order import lowest_of
+from new_enemy_tools.meaning import Settled
+from new_enemy_tools.rules import Declaration, Rules
+from new_enemy_tools.store import Store
+from new_enemy_tools.texts import Tuple
+
+STATES = 1_000
+
+
+class Spans:
+    """The revisions that some check looks at."""
+
+    def __init__(self, lines: Iterable[Line]):
+        wanted: set[tuple[int, int]] = set()
+        for line in lines:
+            if isinstance(line, Entry):
+                wanted.add((lowest_of(line), line.snapshot))
+                if line.token is not None:
+                    wanted.add((line.token, line.token))
+        self.starts: list[int] = []
+        self.ends: list[int] = []
+        for low, high in sorted(wanted):
+            if self.ends and low <= self.ends[-1]:
+                self.ends[-1] = max(high, self.ends[-1])
+            else:
+                self.starts.append(low)
+                self.ends.append(high)
+
+    def has(self, revision: int) -> bool:
+        place = bisect_right(self.starts, revision) - 1
+        return place >= 0 and revision <= self.ends[place]
+
+
+class Asked(NamedTuple):
+    """A check between two revisions, with what its findings hang on."""
+
+    kind: str
+    goal: Tuple
+    reply: bool
+    lowest: int
+    highest: int
+    token: Optional[int]
+
+
+class States:
+    """The states of a log by their revisions, and what holds in them; all names are those of the trace."""
+
+    def __init__(self) -> None:
+        self.store, self.rules = Store(), Rules()
+        self.revisions: list[int] = []
+        self.right = self.wrong = self.entries = 0
+
+    def take(self, commit: Commit, writer: Writer) -> None:
+        for given, touch in commit.touched.items():
+            self.store.touch(commit.revision, writer.named(given), touch.live)
+
+    def take_rules(self, declarations: Iterable[Declaration]) -> None:
+        for one in declarations:
+            self.rules.keep(one)
+
+    def count(self, low: int, high: int) -> int:
+        return bisect_right(self.revisions, high) - bisect_left(self.revisions, low)
+
+    def chosen(self, asked: Asked, place: int) -> list[int]:
+        """The revision for a check that stands behind so many commits, or those of all states. At most STATES, each evaluated once."""
+        between = self.revisions[bisect_left(self.revisions, asked.lowest):bisect_right(self.revisions, asked.highest)]
+        latest_first = sorted({asked.lowest, asked.highest, *between}, reverse=True)
+        listed = sorted(latest_first, key=lambda at: self._findings(asked, at, place))
+        for at in listed:
+            if Settled(self.rules, self.store, asked.goal, at).holds() == asked.reply:
+                self.right += 1
+                return [at]
+        self.wrong += 1
+        self.entries += len(listed)
+        return listed
+
+    def _findings(self, asked: Asked, at: int, place: int) -> int:
+        """How many findings on its own tokens and order the check would have at a revision."""
+        count = place < len(self.revisions) and self.revisions[place] <= at
+        if asked.kind == "check":
+            return count + (asked.token is not None and asked.token > at)
+        return count + (place > 0 and self.revisions[place - 1] > at) + (asked.reply and asked.token != at)
+
+    def told(self) -> Iterator[str]:
+        if self.right or self.wrong:
+            yield "between two states %d: %d right at one of them, %d wrong at each (%d entries)" % (
+                self.right + self.wrong, self.right, self.wrong, self.entries)

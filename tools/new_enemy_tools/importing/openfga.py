@@ -1,0 +1,281 @@
+"""OpenFGA: an authorization model, tuple changes as ReadChanges gives them, and checks of a recorder's log."""
+from typing import Any, Iterator, Optional
+
+from new_enemy_tools.importing import located, openfga_dsl
+from new_enemy_tools.importing.events import EVERY, Event, RelationRule, Stamp, put_stamp
+from new_enemy_tools.importing.feed import Moment, asked_of, moment_of, placed, shown_of
+from new_enemy_tools.importing.located import List, line_at, line_of
+from new_enemy_tools.importing.openfga_answers import answers_of, relationship_of
+from new_enemy_tools.importing.reading import Bad, get, spelled
+from new_enemy_tools.importing.refusals import Refusals
+from new_enemy_tools.importing.service import Answer, Log, Looked, ServiceRules, nested, one_of, refuse_wild_tuplesets, text_or_none
+from new_enemy_tools.importing.simple_yaml import beside, is_yaml, read_yaml
+from new_enemy_tools.importing.spool import Lines
+from new_enemy_tools.importing.times import nanoseconds
+
+SCHEMAS = ("1.1", "1.2")
+OPERATIONS = {"TUPLE_OPERATION_WRITE": True, "TUPLE_OPERATION_DELETE": False}
+REWRITES = ("this", "computedUserset", "tupleToUserset", "union", "intersection", "difference")
+
+
+class Unmapped(Exception):
+    """A part of a model or a tuple that a trace has no form for."""
+
+    def __init__(self, line: int, reason: str, detail: str):
+        super().__init__(detail)
+        self.line, self.reason, self.detail = line, reason, detail
+
+
+class ModelReader:
+    def __init__(self, path: str, refusals: Refusals, line: int = 1):
+        """`line` is that of a model which knows none of its own."""
+        self.path, self.refusals, self.line = path, refusals, line
+
+    def read(self) -> Optional[ServiceRules]:
+        try:
+            model = self._model()
+        except located.Malformed as fault:
+            self.refusals.refuse(self.path, fault.line, str(fault))
+            return None
+        return self.rules(model)
+
+    def _model(self) -> object:
+        """The model of a file in JSON or in OpenFGA's own language, or of a store file; raises Malformed."""
+        if not is_yaml(self.path):
+            text = located.read_text(self.path)
+            return self._language(text, 1) if openfga_dsl.is_dsl(text) else located.parse(text)
+        store = read_yaml(self.path)
+        if store.get("model"):
+            return self._language(store["model"], line_of(store["model"], 1))
+        if not store.get("model_file"):
+            raise located.Malformed(1, "the store file has no `model` and no `model_file`")
+        self.path = beside(self.path, store["model_file"])
+        return self._model()
+
+    def _language(self, text: str, first: int) -> object:
+        faults: list[located.Malformed] = []
+        model = openfga_dsl.read_model(text, first, faults)
+        for fault in faults:
+            self.refusals.refuse(self.path, fault.line, str(fault))
+        return model
+
+    def rules(self, model: Any) -> Optional[ServiceRules]:
+        model = get(model, "authorization_model") or model
+        if not isinstance(model, dict) or not isinstance(get(model, "type_definitions"), list):
+            self.refusals.refuse(self.path, self.line, "no authorization model: it has no `type_definitions`")
+            return None
+        if get(model, "schema_version") not in SCHEMAS:
+            self.refusals.refuse(self.path, line_at(model, "schema_version", self.line), "schema version %r: only %s are mapped"
+                                 % (get(model, "schema_version"), " and ".join(SCHEMAS)))
+        conditions = get(model, "conditions")
+        for name in conditions if isinstance(conditions, dict) else ():
+            self.refusals.unmapped(self.path, line_at(conditions, name, self.line), "condition", name)
+        event = Event("rules", self.path, self.line)
+        takes: dict[tuple[str, str], set[tuple[str, Optional[str]]]] = {}
+        for given in get(model, "type_definitions"):
+            self._type(given, event, takes)
+        self._refuse_unknown_users(takes, event)
+        refuse_wild_tuplesets(event, takes, self.refusals)
+        return ServiceRules(event, get(model, "id"), takes)
+
+    def _type(self, given: Any, event: Event, takes: dict) -> None:
+        line = line_of(given, self.line)
+        name = get(given, "type")
+        relations = get(given, "relations")
+        relations = {} if relations is None else relations
+        if not isinstance(name, str) or not name or not isinstance(relations, dict):
+            self.refusals.refuse(self.path, line, "a type definition has no `type`, or no object as its `relations`")
+            return
+        if name in event.namespaces:
+            self.refusals.refuse(self.path, line, "type %s stands twice" % name)
+            return
+        event.namespaces[name] = []
+        listed = get(get(given, "metadata"), "relations")
+        for relation, rewrite in relations.items():
+            where = "%s#%s" % (name, relation)
+            line = line_at(relations, relation, line)
+            try:
+                mapped = self._rewrite(rewrite, relations, where, line)
+            except Unmapped as fault:
+                self.refusals.unmapped(self.path, fault.line, fault.reason, fault.detail)
+                self.refusals.doubt(name, None, relation)
+                mapped = {"this": {}}
+            event.namespaces[name].append(RelationRule(relation, mapped, line))
+            given_users = listed.get(relation) if isinstance(listed, dict) else None
+            takes[name, relation] = self._users(given_users, where, line) if _is_direct(rewrite) else set()
+            if _is_direct(rewrite) and not get(given_users, "directly_related_user_types"):
+                self.refusals.refuse(self.path, line, "%s has `this` and no `directly_related_user_types`" % where)
+
+    def _users(self, given: Any, where: str, line: int) -> set[tuple[str, Optional[str]]]:
+        users = set()
+        listed = get(given, "directly_related_user_types")
+        for user in listed if isinstance(listed, list) else ():
+            here = line_of(user, line)
+            told = "%s of %s" % (get(user, "type"), where)
+            if not isinstance(get(user, "type"), str) or not isinstance(get(user, "relation"), (str, type(None))):
+                self.refusals.refuse(self.path, here, "%s takes a user without a type" % where)
+            elif get(user, "condition"):
+                self.refusals.unmapped(self.path, here, "condition", "%s on %s" % (get(user, "condition"), told))
+            else:
+                relation = EVERY if get(user, "wildcard") is not None else get(user, "relation") or None
+                users.add((get(user, "type"), relation))
+        return users
+
+    def _refuse_unknown_users(self, takes: dict, event: Event) -> None:
+        known = {(name, relation.name) for name, listed in event.namespaces.items() for relation in listed}
+        for (name, relation), users in takes.items():
+            line = next(one.line for one in event.namespaces[name] if one.name == relation)
+            for of, of_relation in sorted(users, key=str):
+                if of not in event.namespaces or (of_relation not in (None, EVERY) and (of, of_relation) not in known):
+                    self.refusals.refuse(self.path, line, "%s#%s takes %s, which the model does not define"
+                                         % (name, relation, "%s#%s" % (of, of_relation) if of_relation else of))
+
+    def _rewrite(self, given: Any, relations: dict, where: str, line: int) -> dict:
+        line = line_of(given, line)
+        forms = [form for form in REWRITES if form in given or spelled(form) in given] if isinstance(given, dict) else []
+        if len(forms) != 1 or len(given) != 1:
+            raise Unmapped(line, "rewrite without a form", "%s has %s" % (where, _keys(given)))
+        form, inner = forms[0], get(given, forms[0])
+        if form == "this":
+            return {"this": {}}
+        if form == "computedUserset":
+            return {"computed": self._relation(inner, relations, where, line)}
+        if form == "tupleToUserset":
+            tupleset = self._relation(get(inner, "tupleset"), relations, where, line)
+            if not _is_plain(relations[tupleset]):
+                raise Unmapped(line, "tupleset that is not direct", "%s reads %s" % (where, tupleset))
+            computed = get(get(inner, "computedUserset"), "relation")
+            if not isinstance(computed, str) or not computed:
+                raise Unmapped(line, "rewrite without a form", "%s has no relation behind its tupleset" % where)
+            return {"tuple_to": {"tupleset": tupleset, "computed": computed}}
+        if form == "difference":
+            return {"exclusion": {side: self._rewrite(get(inner, side), relations, where, line)
+                                  for side in ("base", "subtract")}}
+        children = get(inner, "child")
+        if not isinstance(children, list) or not children:
+            raise Unmapped(line, "rewrite without a form", "the %s of %s has no children" % (form, where))
+        return nested(form, [self._rewrite(child, relations, where, line) for child in children])
+
+    @staticmethod
+    def _relation(given: object, relations: dict, where: str, line: int) -> str:
+        name = get(given, "relation")
+        if not isinstance(name, str) or name not in relations or get(given, "object"):
+            raise Unmapped(line_of(given, line), "rewrite without a form",
+                           "%s reads %r, which its type does not define" % (where, name))
+        return name
+
+
+def _keys(value: object) -> str:
+    return ", ".join(value) if isinstance(value, dict) and value else "none of the six forms"
+
+
+def _is_plain(rewrite: object) -> bool:
+    return isinstance(rewrite, dict) and list(rewrite) == ["this"]
+
+
+def _is_direct(rewrite: object) -> bool:
+    """Whether `this` stands anywhere in a rewrite."""
+    if isinstance(rewrite, dict):
+        return "this" in rewrite or any(_is_direct(inner) for inner in rewrite.values())
+    return isinstance(rewrite, list) and any(_is_direct(inner) for inner in rewrite)
+
+
+class OpenFgaLog(Log):
+    NOT_TAKEN = "tuple that the model does not take"
+    NO_LINE = "neither changes of ReadChanges nor a check with its `request`"
+    DECIDES = ("allowed", "result", "objects", "users")
+    OTHERS = {"Write": ("request.writes", "request.deletes"), "Expand": ("response.tree",), "Read": ("response.tuples",),
+              "ReadChanges": (), "ReadAuthorizationModel": ("response.authorization_model",),
+              "ReadAuthorizationModels": ("response.authorization_models",), "ReadAssertions": ("response.assertions",),
+              "WriteAssertions": ("request.assertions",), "GetStore": (), "ListStores": ("response.stores",), "CreateStore": (),
+              "UpdateStore": (), "DeleteStore": ()}
+    KEYS = Log.KEYS | {"snapshot", "snapshot_between", "token"}
+    RULES = (b'"type_definitions"', b'"typeDefinitions"', b'"authorization_model"', b'"authorizationModel"')
+    BASE = "place in the changes feed or time of RFC 3339"
+
+    @staticmethod
+    def read_base(text: str) -> Optional[Moment]:
+        try:
+            return moment_of(int(text) if text.isascii() and text.isdigit() else text, "--base-at")
+        except Bad:
+            return None
+
+    def base_number(self) -> Optional[int]:
+        return None if self.base_at is None else 0
+
+    def placed(self, lines: Lines, skew: Optional[int]) -> Lines:
+        return placed(lines, self.base_at or Moment(None, None, "the beginning"), self.rules.id, skew, self.refusals)
+
+    def base(self, path: str) -> Iterator[Event]:
+        """Tuples as Read gives them, pages with `tuples` or one tuple a line; or those of a store file."""
+        for line, value in self._store(path) if is_yaml(path) else located.values(path, self.refusals):
+            page = value if isinstance(value, list) else get(value, "tuples")
+            for one in page if isinstance(page, list) else [value]:
+                event = Event("write", path, line_of(one, line), 0, self.base_at.shown, base=True)
+                if self._put_key(event, one if get(one, "key") is None else get(one, "key"), True):
+                    yield event
+
+    def _store(self, path: str) -> Iterator[tuple[int, object]]:
+        """The tuples of a store file. Its tests say what is expected, and are no record of replies."""
+        try:
+            store = read_yaml(path)
+        except located.Malformed as fault:
+            self.refusals.refuse(path, fault.line, str(fault))
+            return
+        for key in "tuple_file", "tuple_files":
+            if key in store:
+                self.refusals.refuse(path, store.lines[key], "tuples in files of their own are not read; give them with --base")
+        for _ in store.get("tests") or ():
+            self.refusals.pass_over("test of a store file")
+        yield 1, store.get("tuples") or List()
+
+    def is_write(self, value: object) -> bool:
+        return isinstance(get(value, "changes"), list) or get(value, "operation") is not None
+
+    def writes(self, value: dict, stamp: Stamp, path: str, line: int) -> Iterator[Event]:
+        page = get(value, "changes")
+        for place, change in enumerate(page if isinstance(page, list) else [value]):
+            here = line_of(change, line)
+            shown = get(change, "timestamp")
+            revision = nanoseconds(shown)
+            live = one_of(OPERATIONS, get(change, "operation"))
+            if revision is None or live is None:
+                self.refusals.refuse(path, here, "a change has no `timestamp` of RFC 3339" if revision is None
+                                     else "unknown operation %r" % (get(change, "operation"),))
+                continue
+            event = put_stamp(Event("write", path, here, revision, shown), stamp, place)
+            event.time = revision if event.time is None else event.time
+            self._put_key(event, get(change, "tuple_key"), live)
+            yield event
+
+    def _put_key(self, event: Event, key: object, live: bool) -> bool:
+        try:
+            given = relationship_of(key)
+        except Bad as fault:
+            self.refusals.refuse(event.file, event.line, str(fault))
+            return False
+        return self.put(event, given, live, "condition on a tuple" if get(key, "condition") else None)
+
+    def moment(self, value: dict, content: Optional[dict]) -> Looked:
+        holder = value if content is None else content
+        asked = asked_of(value, get(holder, "token"), get(get(value, "request"), "authorization_model_id"))
+        return Looked(None, shown_of(asked), None, text_or_none(get(holder, "version"), "version"), asked)
+
+    def answers(self, value: dict) -> Iterator[Answer]:
+        return answers_of(get(value, "request"), get(value, "response"), self.refusals)
+
+    def new_rules(self, value: object) -> object:
+        request = get(value, "request")
+        return request if get(request, "type_definitions") is not None else get(value, "authorization_model")
+
+    def change(self, model: object, value: dict, stamp: Stamp, path: str, line: int) -> Iterator[Event]:
+        """A model that is in force from here on: that of WriteAuthorizationModel, or one that a recorder names."""
+        rules = ModelReader(path, self.refusals, line).rules(model)
+        model_id = get(get(value, "response"), "authorization_model_id") or get(model, "id")
+        if not isinstance(model_id, (str, type(None))):
+            raise Bad("the id of the model is no text")
+        if rules:
+            event = put_stamp(rules.event, stamp)
+            event.revision, event.shown, event.asked = 0, "model %s" % model_id, (model_id,)
+            self.take(rules)
+            yield event

@@ -1,0 +1,109 @@
+"""OpenFGA's tuples as texts, and what the answers of its calls decide."""
+import re
+from typing import Iterator, Optional
+
+from new_enemy_tools.importing.events import EVERY, Relationship
+from new_enemy_tools.importing.passing import failure_of
+from new_enemy_tools.importing.reading import Bad, get
+from new_enemy_tools.importing.refusals import Refusals
+from new_enemy_tools.importing.service import Answer
+
+OBJECT = re.compile(r"([^:#\s]+):([^#\s]+)")
+
+
+def split_object(text: object) -> tuple[str, str]:
+    found = OBJECT.fullmatch(text) if isinstance(text, str) else None
+    if not found:
+        raise Bad("%r is no object `type:id`" % (text,))
+    return found[1], found[2]
+
+
+def split_user(text: object) -> tuple[str, str, Optional[str]]:
+    if not isinstance(text, str):
+        raise Bad("%r is no user" % (text,))
+    whole, hash_sign, relation = text.rpartition("#")
+    if not hash_sign:
+        of, id_text = split_object(text)
+        return of, id_text, EVERY if id_text == "*" else None
+    if not relation:
+        raise Bad("%r is no user" % text)
+    return (*split_object(whole), relation)
+
+
+def relationship_of(key: object) -> Relationship:
+    """The tuple of a tuple key; raises Bad."""
+    relation = get(key, "relation")
+    if not isinstance(relation, str) or not relation:
+        raise Bad("a tuple key has no `relation`")
+    return Relationship(*split_object(get(key, "object")), relation, *split_user(get(key, "user")))
+
+
+def answers_of(request: object, response: object, refusals: Refusals) -> Iterator[Answer]:
+    """What a Check, a BatchCheck, a ListObjects or a ListUsers decides; raises Bad."""
+    if get(request, "checks") is not None:
+        yield from _batch(request, response, refusals)
+    elif get(request, "user_filters") is not None:
+        yield from _list_users(request, response)
+    elif get(request, "type") is not None:
+        yield from _list_objects(request, response)
+    else:
+        yield _answer(request, request, get(response, "allowed"))
+
+
+def _answer(request: object, check: object, allowed: object) -> Answer:
+    if not isinstance(allowed, bool):
+        raise Bad("the response has no `allowed`")
+    return _mapped(relationship_of(get(check, "tuple_key")), allowed, request, check)
+
+
+def _mapped(goal: Relationship, reply: bool, *asked: object) -> Answer:
+    """An answer, with what a trace has no form for in the request or the check."""
+    unmapped = None
+    if any(_contextual(one) for one in asked):
+        unmapped = "contextual tuples"
+    elif any(get(one, "context") for one in asked):
+        unmapped = "context of conditions"
+    elif goal.user_relation == EVERY:
+        unmapped = "check of a typed wildcard as the user"
+    elif goal.user_relation is not None:
+        unmapped = "check of a userset as the user"
+    return Answer(goal, reply, unmapped)
+
+
+def _contextual(asked: object) -> object:
+    given = get(asked, "contextual_tuples")
+    return given if isinstance(given, list) else get(given, "tuple_keys")
+
+
+def _list(holder: object, key: str) -> list:
+    found = get(holder, key)
+    if not isinstance(found, list):
+        raise Bad("`%s` is no list" % key)
+    return found
+
+
+def _batch(request: object, response: object, refusals: Refusals) -> Iterator[Answer]:
+    results = get(response, "result")
+    for check in _list(request, "checks"):
+        found = get(check, "correlation_id")
+        result = results.get(found) if isinstance(results, dict) and isinstance(found, str) else None
+        failed = failure_of(result, ("allowed",))
+        if failed:
+            refusals.pass_over(failed)
+        else:
+            yield _answer(request, check, get(result, "allowed"))
+
+
+def _list_objects(request: object, response: object) -> Iterator[Answer]:
+    for thing in _list(response, "objects"):
+        key = {"object": thing, "relation": get(request, "relation"), "user": get(request, "user")}
+        yield _mapped(relationship_of(key), True, request)
+
+
+def _list_users(request: object, response: object) -> Iterator[Answer]:
+    thing = "%s:%s" % (get(get(request, "object"), "type"), get(get(request, "object"), "id"))
+    for user in _list(response, "users"):
+        of, userset, every = get(user, "object"), get(user, "userset"), get(user, "wildcard")
+        shown = "%s:%s" % (get(of or userset or every, "type"), "*" if every else get(of or userset, "id"))
+        shown += "#%s" % get(userset, "relation") if userset else ""
+        yield _mapped(relationship_of({"object": thing, "relation": get(request, "relation"), "user": shown}), True, request)

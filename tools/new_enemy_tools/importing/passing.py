@@ -1,0 +1,49 @@
+"""Lines of a service that record no decision: requests that failed, and other calls."""
+from typing import Iterable, Optional
+
+from new_enemy_tools.importing.reading import Bad, get
+
+LONGEST = 60
+# What a recorder may add to say so.
+KEYS = frozenset(("error", "status", "method"))
+
+
+def failure_of(value: object, decides: Iterable[str]) -> Optional[str]:
+    """How a request failed; None where it did not, or where its response has a decision all the same."""
+    response = get(value, "response")
+    if any(get(response, key) is not None for key in decides):
+        return None
+    status = get(value, "status")
+    if isinstance(status, int) and status >= 400:
+        return "failed request (%d)" % status
+    for holder in (value, response):
+        error = get(holder, "error")
+        if error:
+            return _failed(get(error, "code") or get(error, "message") or error)
+    for holder in (value, response):
+        if get(holder, "message") is not None and get(holder, "code"):
+            return _failed(get(holder, "code"))
+    return None
+
+
+def _failed(why: object) -> str:
+    return "failed request (%s)" % str(why)[:LONGEST]
+
+
+def method_of(value: object) -> Optional[str]:
+    """The call that a line says that it is of, without the service; raises Bad."""
+    method = get(value, "method")
+    if not isinstance(method, (str, type(None))):
+        raise Bad("`method` is no text")
+    return method and method.rsplit("/", 1)[-1].rsplit(".", 1)[-1]
+
+
+def other_call_of(value: object, calls: dict[str, tuple[str, ...]]) -> Optional[str]:
+    """The call of a line that records no decision: each call has keys of its request or response that no other has."""
+    method = method_of(value)
+    if method in calls:
+        return "other call (%s)" % method
+    for call, keys in calls.items() if method is None else ():
+        if any(get(get(value, part), key) is not None for part, key in (one.split(".") for one in keys)):
+            return "other call (%s)" % call
+    return None

@@ -1,0 +1,244 @@
+"""What the front ends of the services share."""
+from functools import partial
+from typing import Any, Iterable, Iterator, NamedTuple, Optional
+
+from new_enemy_tools import limits
+from new_enemy_tools.importing import located, passing
+from new_enemy_tools.importing.events import EVERY, STAMP, Entry, Event, Line, Relationship, Stamp, newest_of, sequence_of, stamp_of
+from new_enemy_tools.importing.reading import Bad, get
+from new_enemy_tools.importing.refusals import Refusals
+from new_enemy_tools.importing.spool import Facts, Lines, batch_of
+from new_enemy_tools.keys import near, unread
+from new_enemy_tools.parting.sharing import shared
+from new_enemy_tools.rules import places
+
+
+def one_of(table: dict[str, bool], value: object) -> Optional[bool]:
+    return table.get(value) if isinstance(value, str) else None
+
+
+def text_or_none(value: object, what: str) -> Optional[str]:
+    if not isinstance(value, (str, type(None))):
+        raise Bad("`%s` is no text" % what)
+    return value
+
+
+def nested(form: str, children: list[dict]) -> dict:
+    """A union or intersection, in groups where it has more children than a trace takes."""
+    while len(children) > limits.CHILDREN:
+        children = [{form: children[at:at + limits.CHILDREN]} for at in range(0, len(children), limits.CHILDREN)]
+    return {form: children}
+
+
+class ServiceRules(NamedTuple):
+    """The rules of a model or schema, its id, and which users a relation takes: (type, relation or None)."""
+
+    event: Event
+    id: Optional[str]
+    takes: dict[tuple[str, str], set[tuple[str, Optional[str]]]]
+
+
+def refuse_wild_tuplesets(event: Event, takes: dict[tuple[str, str], set[tuple[str, Optional[str]]]], refusals: Refusals) -> None:
+    """No service lets a rule go on from every object of a type."""
+    for name, relations in event.namespaces.items():
+        for relation in relations:
+            for place in places(relation.rewrite):
+                wild = sorted(of for of, taken in takes.get((name, *place.names[:1]), ()) if taken == EVERY)
+                if place.form == "tuple_to" and wild:
+                    refusals.refuse(event.file, relation.line, "%s#%s goes on from %s#%s, which takes a wildcard: %s:*"
+                                    % (name, relation.name, name, place.names[0], wild[0]))
+
+
+class Answer(NamedTuple):
+    """A decision that a line records, and why a trace has no form for it."""
+
+    goal: Relationship
+    reply: bool
+    unmapped: Optional[str]
+
+
+class Looked(NamedTuple):
+    """The snapshot and the token of a check, and its version."""
+
+    snapshot: Optional[int]
+    shown: str
+    token: Optional[int]
+    version: Optional[str]
+    asked: Optional[tuple]
+
+
+def content_of(value: object) -> Optional[dict]:
+    content = get(value, "content")
+    if not isinstance(content, (dict, type(None))):
+        raise Bad("`content` is no object")
+    return content
+
+
+def unwrapped(value: Any) -> Any:
+    """The call within an event of CloudEvents, with its time and type; any other line as it is."""
+    data = value.get("data") if isinstance(value, dict) and "specversion" in value else None
+    if not isinstance(data, dict):
+        return value
+    found = {key: get(data, key) for key in ("request", "response", "error", "status")}
+    found.update(time=value.get("time"), method=value.get("type"))
+    return {key: one for key, one in found.items() if one is not None}
+
+
+class Log:
+    """Reads the log of a service with one set of rules; each service says how its lines are read."""
+
+    NOT_TAKEN = NO_LINE = BASE = ""
+    # the keys of a recorder's line; what stands within `request` and `response` is the service's own
+    KEYS = STAMP | passing.KEYS | {"request", "response", "version", "content", "newest"}
+    # of a response, what a decision stands in, a single one first; and the calls that have none
+    DECIDES: tuple[str, ...] = ()
+    OTHERS: dict[str, tuple[str, ...]] = {}
+    # what stands in each line that says of new rules
+    RULES: tuple[bytes, ...] = ()
+    CONTENT = frozenset(("version", "token"))
+
+    def __init__(self, rules: ServiceRules, base_at: Any, refusals: Refusals):
+        self.rules, self.base_at, self.refusals = rules, base_at, refusals
+
+    @staticmethod
+    def read_base(text: str) -> Any:
+        """The revision of the base state, in the service's own form; None where the text is none."""
+        raise NotImplementedError
+
+    def base(self, path: str) -> Iterator[Event]:
+        raise NotImplementedError
+
+    def base_number(self) -> Optional[int]:
+        """The number that stands for the revision of the base state."""
+        raise NotImplementedError
+
+    def placed(self, lines: Lines, skew: Optional[int]) -> Lines:
+        """The lines with numbers for revisions, where those of the service are more than that."""
+        raise NotImplementedError
+
+    def is_write(self, value: object) -> bool:
+        raise NotImplementedError
+
+    def writes(self, value: dict, stamp: Stamp, path: str, line: int) -> Iterator[Event]:
+        raise NotImplementedError
+
+    def new_rules(self, value: object) -> object:
+        """The rules that a line says are in force from there on; None where it says of none."""
+        raise NotImplementedError
+
+    def change(self, rules: object, value: dict, stamp: Stamp, path: str, line: int) -> Iterator[Event]:
+        """Rules of a line, as an event; raises Bad."""
+        raise NotImplementedError
+
+    def take(self, rules: ServiceRules) -> None:
+        """Lets relations take what these rules let them, too; which were in force for a tuple, the order of lines does not say."""
+        for name, taken in rules.takes.items():
+            self.rules.takes.setdefault(name, set()).update(taken)
+
+    def moment(self, value: dict, content: Optional[dict]) -> Looked:
+        """What a check looked at, and what it demanded; raises Bad."""
+        raise NotImplementedError
+
+    def answers(self, value: dict) -> Iterator[Answer]:
+        """What a line decides; raises Bad."""
+        raise NotImplementedError
+
+    def gather(self, path: str, lines: Lines, jobs: int) -> Iterator[int]:
+        """Adds the lines of a log; how many there are, now and then. New rules matter to all behind them, and are read in one process."""
+        source = located.Source(path)
+        if not source.is_lines() or any(mark in block.data for block in source.blocks() for mark in self.RULES):
+            for line in self.events(path, source.values(self.refusals)):
+                lines.add(line)
+                yield lines.facts.count
+            return
+        for data, facts, refusals in shared(partial(self._block, path), source.blocks(), jobs):
+            lines.add_batch(data, facts)
+            self.refusals.merge(refusals)
+            yield lines.facts.count
+
+    def _block(self, path: str, block: located.Block) -> tuple[bytes, Facts, Refusals]:
+        kept, self.refusals = self.refusals, Refusals(self.refusals.skip)
+        try:
+            return (*batch_of(self.events(path, located.block_values(block, path, self.refusals))), self.refusals)
+        finally:
+            self.refusals = kept
+
+    def events(self, path: str, values: Iterable[tuple[int, Any]]) -> Iterator[Line]:
+        for line, given in values:
+            value = unwrapped(given)
+            stamp = stamp_of(value if isinstance(value, dict) else {}, path, line, self.refusals)
+            try:
+                self._refuse_unread(value)
+                is_check = get(value, "request") is not None
+                if is_check and get(value.get("response"), self.DECIDES[0]) is not None:
+                    yield from self._checks(value, stamp, path, line)
+                    continue
+                changes = get(value, "response") if is_check else value
+                if self.is_write(changes):
+                    yield from self.writes(changes, stamp, path, line)
+                    continue
+                rules = self.new_rules(value)
+                if rules is not None:
+                    yield from self.change(rules, value, stamp, path, line)
+                    continue
+                passed = passing.failure_of(value, self.DECIDES) or is_check and passing.other_call_of(value, self.OTHERS)
+                if passed:
+                    self.refusals.pass_over(passed)
+                elif is_check:
+                    yield from self._checks(value, stamp, path, line)
+                else:
+                    raise Bad(self.NO_LINE)
+            except Bad as fault:
+                self.refusals.refuse(path, line, str(fault))
+
+    def _checks(self, value: dict, stamp: Stamp, path: str, line: int) -> Iterator[Entry]:
+        """A check that can't be read is left out where that is allowed; a content check issues a version, and is not."""
+        try:
+            answers = list(self.answers(value))
+            if not answers:
+                self.refusals.pass_over("call that found nothing")
+                return
+            content = content_of(value)
+            looked = self.moment(value, content)
+            newest = newest_of(value, Bad)
+            if newest and content is None:
+                raise Bad("`newest` is said of a content check")
+            if content is not None and len(answers) > 1:
+                raise Bad("a content check asks one question, and this line %d" % len(answers))
+        except Bad as fault:
+            if get(value, "content") is not None:
+                raise
+            self.refusals.unmapped(path, line, "check that can't be read", told=str(fault))
+            return
+        snapshot, shown, token, version, asked = looked
+        for place, (goal, reply, unmapped) in enumerate(answers):
+            entry = Entry("check" if content is None else "content", path, line, goal, reply, snapshot, shown, token, version, None,
+                          newest, asked, sequence_of(stamp, place), stamp.time, stamp.clock)
+            if unmapped:
+                self.refusals.unmapped_check(entry, unmapped, entry.told)
+            else:
+                yield entry
+
+    def _refuse_unread(self, value: Any) -> None:
+        """A key that is not read, in what is the recorder's; a line of the service alone may have others of its own."""
+        if get(value, "request") is not None:
+            for key in unread(value, self.KEYS):
+                raise Bad(key.said())
+            for key in unread(value.get("content"), self.CONTENT):
+                raise Bad(key.said())
+            return
+        for key in unread(value, STAMP):
+            if near(key.key, STAMP):
+                raise Bad(key.said())
+
+    def put(self, event: Event, given: Relationship, live: bool, reason: Optional[str]) -> bool:
+        """Adds a tuple to a write; one that is not mapped, for this reason or another, is left out or refused."""
+        takes = self.rules.takes.get((given.type, given.relation), ())
+        if reason is None and (given.user_type, given.user_relation) not in takes:
+            reason = self.NOT_TAKEN
+        if reason:
+            self.refusals.unmapped(event.file, event.line, reason, str(given))
+            self.refusals.doubt(*given[:3])
+            return False
+        (event.add if live else event.remove).append(given)
+        return True

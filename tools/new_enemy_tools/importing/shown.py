@@ -1,0 +1,93 @@
+"""The texts of a trace's lines."""
+import json
+from json.encoder import encode_basestring
+from typing import Iterator
+
+from new_enemy_tools import texts
+from new_enemy_tools.edges import Name
+from new_enemy_tools.ids import Ids
+from new_enemy_tools.importing.declared import Declared
+from new_enemy_tools.rules import Declaration, Relation, form_of
+
+encode = json.JSONEncoder(ensure_ascii=False, separators=(",", ":")).encode
+
+
+class Shown:
+    """Lines by the timestamps of revisions; the names of rules are put into the table before all lines."""
+
+    def __init__(self, declared: Declared, ids: Ids, strata: dict[Name, int], times: dict[int, int]):
+        self.ids, self.strata, self.times = ids, strata, times
+        first = {one.name: one for one in declared.rules.declarations if one.at is None}
+        self._head = [self._namespace(first[name]) for name in declared.head]
+        self.changes = {revision: list(map(self._namespace, changes)) for revision, changes in declared.changes.items()}
+        self.mark = encode({"ids": ids.mark()})[1:-1]
+        self.files: dict[str, str] = {}
+
+    def head(self) -> Iterator[str]:
+        for namespace in self._head:
+            yield self._marked(encode(namespace) + "\n")
+
+    def _marked(self, line: str) -> str:
+        """The first line says which table is the trace's."""
+        if self.mark:
+            line, self.mark = "%s,%s}\n" % (line.rstrip("\n")[:-1], self.mark), ""
+        return line
+
+    def _file(self, file: str) -> str:
+        """A file's name within quotation marks, of which the last is left out."""
+        known = self.files[file] = encode_basestring(file)[:-1]
+        return known
+
+    def commit(self, revision: int, shown: str, file: str, line: int, parts: list) -> Iterator[str]:
+        source = ',"revision":%s,"from":%s:%d"}\n' % (encode_basestring(shown), self._file(file), line)
+        for at, sides in enumerate(parts, self.times[revision] - len(parts) + 1):
+            listed = ['"%s":[%s]' % (key, ",".join(map(encode_basestring, side))) for key, side in zip(("add", "remove"), sides) if side]
+            yield self._marked('{"kind":"commit","at":%d%s%s' % (at, "".join("," + side for side in listed), source))
+
+    def change(self, revision: int, shown: str, file: str, line: int) -> Iterator[str]:
+        changes = self.changes.get(revision, ())
+        told = {"revision": shown, "from": "%s:%d" % (file, line)}
+        for at, change in enumerate(changes, self.times[revision] - len(changes) + 1):
+            yield self._marked(encode({**change, "at": at, **told}) + "\n")
+
+    def entry(self, row: tuple) -> str:
+        """The line of an entry, by the first fields of its row."""
+        kind, file, line, goal, reply, snapshot, shown, token, version = row[:9]
+        ids, times = self.ids, self.times
+        text = "%s:%s#%s@%d" % (ids.name("namespace", goal[0]), ids.object(goal[0], goal[1]), ids.name("relation", goal[2]),
+                                ids.number("user", goal[3], goal[4]))
+        made = '{"kind":"%s","goal":%s,"snapshot":%d,"reply":%s%s%s,"revision":%s,"from":%s:%d"}\n' % (
+            kind, encode_basestring(text), times[snapshot], "true" if reply else "false",
+            "" if token is None else ',"zookie":"%s"' % texts.zookie_text(times[token]),
+            "" if version is None else ',"version":%s' % encode_basestring(ids.version(version)), encode_basestring(shown),
+            self.files.get(file) or self._file(file), line)
+        return self._marked(made) if self.mark else made
+
+    def _namespace(self, declaration: Declaration) -> dict:
+        relations = []
+        for relation in declaration.relations:
+            stratum = self.strata[declaration.name, relation.name]
+            relations.append({"name": self.ids.name("relation", relation.name), **({"stratum": stratum} if stratum else {}),
+                              "rewrite": self._rewrite(relation.rewrite)})
+        return {"kind": "namespace", "name": self.ids.name("namespace", declaration.name), "relations": relations}
+
+    def declarations(self, declared: Declared) -> Iterator[Declaration]:
+        """All rules by the names of the trace, in force from revisions on."""
+        for one in declared.rules.declarations:
+            made = self._namespace(one)
+            yield Declaration(made["name"], one.at, [Relation(relation["name"], relation.get("stratum", 0), relation["rewrite"])
+                                                     for relation in made["relations"]])
+
+    def _rewrite(self, rewrite: dict) -> dict:
+        """The same rule with the names of the trace."""
+        form = form_of(rewrite)
+        inner = rewrite[form]
+        if form == "this":
+            return {form: {}}
+        if form == "computed":
+            return {form: self.ids.name("relation", inner)}
+        if form == "tuple_to":
+            return {form: {key: self.ids.name("relation", inner[key]) for key in ("tupleset", "computed")}}
+        if form == "exclusion":
+            return {form: {key: self._rewrite(inner[key]) for key in ("base", "subtract")}}
+        return {form: [self._rewrite(child) for child in inner]}

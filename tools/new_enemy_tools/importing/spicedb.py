@@ -1,0 +1,179 @@
+"""SpiceDB: relationships as text, the JSON of the watch stream, and checks of a recorder's log."""
+import re
+from typing import Iterator, Optional
+
+from new_enemy_tools.importing import located, visibility
+from new_enemy_tools.importing.events import EVERY, Event, Line, Relationship, Stamp, put_stamp
+from new_enemy_tools.importing.located import line_of
+from new_enemy_tools.importing.reading import Bad, get
+from new_enemy_tools.importing.refusals import Refusals
+from new_enemy_tools.importing.service import Answer, Log, Looked, ServiceRules, one_of, text_or_none
+from new_enemy_tools.importing.simple_yaml import is_yaml, read_yaml
+from new_enemy_tools.importing.spicedb_answers import answers_of, relationship_of, revision_at, revision_in
+from new_enemy_tools.importing.spicedb_schema import Parser
+from new_enemy_tools.importing.spool import Lines
+from new_enemy_tools.importing.zedtokens import Older, Revision, read_revision
+
+RELATIONSHIP = re.compile(r"(?P<type>[a-z0-9_/]+):(?P<id>[A-Za-z0-9/_|\-=+]+)#(?P<relation>[a-z0-9_]+)"
+                          r"@(?P<user_type>[a-z0-9_/]+):(?P<user_id>[A-Za-z0-9/_|\-=+]+|\*)"
+                          r"(?:#(?P<user_relation>[a-z0-9_]+|\.\.\.))?"
+                          r"(?P<traits>(?:\[.*\])*)")
+# as `zed relationship read` prints it
+READ = re.compile(RELATIONSHIP.pattern.replace("#(?P<relation>", " +(?P<relation>").replace("@(?P<user_type>", " +(?P<user_type>")
+                  .replace("(?P<traits>", " *(?P<traits>"))
+OPERATIONS = {"OPERATION_CREATE": True, "OPERATION_TOUCH": True, "OPERATION_DELETE": False}
+
+
+def key_of(revision: Revision) -> Optional[int]:
+    """What two tokens of one write have in common."""
+    return revision.snapshot.own if revision.snapshot else revision.number
+
+
+class SpiceDbLog(Log):
+    NOT_TAKEN = "relationship that the schema does not take"
+    NO_LINE = "neither a response of Watch nor a check with its `request`"
+
+    BASE = "token or revision"
+    RULES = (b'"schema"',)
+    DECIDES = ("permissionship", "pairs", "resourceObjectId", "subject", "subjectObjectId")
+    OTHERS = {"WriteRelationships": ("request.updates",), "DeleteRelationships": ("response.deletedAt",),
+              "ReadRelationships": ("request.relationshipFilter",), "ExpandPermissionTree": ("response.treeRoot",),
+              "ReadSchema": ("response.schemaText",), "ReflectSchema": (), "DiffSchema": (), "ImportBulkRelationships": (),
+              "ExportBulkRelationships": ()}
+
+    def __init__(self, rules: ServiceRules, base_at: Optional[Revision], refusals: Refusals):
+        super().__init__(rules, base_at, refusals)
+        # the changes of the schema whose text the log has
+        self.written: set[Optional[int]] = set()
+
+    @staticmethod
+    def read_base(text: str) -> Optional[Revision]:
+        try:
+            return read_revision(text)
+        except Older:
+            return None
+
+    def base_number(self) -> Optional[int]:
+        return self.base_at and (self.base_at.number or 0)
+
+    def placed(self, lines: Lines, skew: Optional[int]) -> Lines:
+        """Numbers for the snapshots of PostgreSQL; a log has either those or numbers."""
+        for key, path, line in self.refusals.updated:
+            if key not in self.written:
+                self.refusals.refuse(path, line, "the schema changes here, and the log has no WriteSchema of this revision")
+        base = self.base_at and self.base_at.snapshot
+        if base is None and not lines.facts.has_asked:
+            return lines
+        by_kind: dict[bool, Line] = {}
+        for one in lines:
+            if one.shown is not None:
+                by_kind.setdefault(one.asked is not None or isinstance(one, Event) and one.base and base is not None, one)
+        if True not in by_kind:
+            return lines
+        if False in by_kind:
+            number, snapshot = by_kind[False], by_kind[True]
+            self.refusals.refuse(number.file, number.line, "its revision %s is a number, and that of %s:%d a snapshot of PostgreSQL"
+                                 % (number.shown, snapshot.file, snapshot.line))
+            return Lines()
+        return visibility.placed(list(lines), base, skew, self.refusals)
+
+    def base(self, path: str) -> Iterator[Event]:
+        """One relationship a line, as a text; or those of a validation file."""
+        try:
+            first, text = self._validated(path) if is_yaml(path) else (1, located.read_text(path))
+        except located.Malformed as fault:
+            self.refusals.refuse(path, fault.line, str(fault))
+            return
+        for line, text in enumerate(map(str.strip, text.split("\n")), first):
+            if text and not text.startswith("//"):
+                event = Event("write", path, line, self.base_number(), self.base_at.shown, base=True)
+                if self._put_text(event, text):
+                    yield event
+
+    def _validated(self, path: str) -> tuple[int, str]:
+        """The relationships of a validation file. What it asserts is no record of replies."""
+        given = read_yaml(path)
+        for key in "assertions", "validation":
+            for _ in given.get(key) or ():
+                self.refusals.pass_over("%s of a validation file" % key)
+        relationships = given.get("relationships") or ""
+        return line_of(relationships, 1), relationships
+
+    def _put_text(self, event: Event, text: str) -> bool:
+        found = RELATIONSHIP.fullmatch(text) or READ.fullmatch(text)
+        if not found:
+            self.refusals.refuse(event.file, event.line, "no relationship `type:id#relation@type:id`: %r" % text[:200])
+            return False
+        parts = [found[name] for name in Relationship._fields]
+        parts[5] = EVERY if parts[4] == "*" else None if parts[5] == "..." else parts[5]
+        traits = found["traits"]
+        reason = None if not traits else "expiration" if traits.startswith("[expiration:") else "caveat"
+        return self.put(event, Relationship(*parts), True, reason)
+
+    def is_write(self, value: object) -> bool:
+        response = get(value, "result") or value
+        return any(get(response, key) is not None for key in ("changesThrough", "updates", "schemaUpdated"))
+
+    def writes(self, value: dict, stamp: Stamp, path: str, line: int) -> Iterator[Event]:
+        response = get(value, "result") or value
+        updates = get(response, "updates") or []
+        if not isinstance(updates, list):
+            raise Bad("`updates` is no list")
+        revision = revision_in(get(response, "changesThrough"), "`changesThrough`")
+        if get(response, "schemaUpdated"):
+            self.refusals.updated.append((key_of(revision), path, line))
+        event = put_stamp(Event("write", path, line, revision.number, revision.shown), stamp)
+        if revision.snapshot:
+            if revision.snapshot.own is None and updates:
+                raise Bad("the snapshot of `changesThrough` does not name the transaction that wrote")
+            event.asked = (revision.snapshot,)
+        for update in updates:
+            live = one_of(OPERATIONS, get(update, "operation"))
+            given = get(update, "relationship")
+            if live is None:
+                raise Bad("unknown operation %r" % (get(update, "operation"),))
+            reason = "caveat" if get(given, "optionalCaveat") else "expiration" if get(given, "optionalExpiresAt") else None
+            event.line = line_of(update, line)
+            self.put(event, relationship_of(given), live, reason)
+        event.line = line
+        if updates:
+            yield event
+
+    def moment(self, value: dict, content: Optional[dict]) -> Looked:
+        revision = revision_at(get(value, "response"))
+        token = self._token(get(value, "request"), content)
+        version = text_or_none(get(value if content is None else content, "version"), "version")
+        if token and bool(token.snapshot) != bool(revision.snapshot):
+            raise Bad("the token is of another datastore than `checkedAt`")
+        asked = (revision.snapshot, token and token.snapshot) if revision.snapshot else None
+        return Looked(revision.number, revision.shown, token and token.number, version, asked)
+
+    @staticmethod
+    def _token(request: object, content: object) -> Optional[Revision]:
+        """The token that a check demanded, or the one that was stored with a content version."""
+        if content is not None:
+            return None if get(content, "token") is None else revision_in(content, "`content`")
+        consistency = get(request, "consistency")
+        demanded = get(consistency, "atLeastAsFresh") or get(consistency, "atExactSnapshot")
+        return revision_in(demanded, "the request's consistency") if demanded else None
+
+    def answers(self, value: dict) -> Iterator[Answer]:
+        return answers_of(get(value, "request"), get(value, "response"), self.refusals)
+
+    def new_rules(self, value: object) -> object:
+        return get(get(value, "request"), "schema")
+
+    def change(self, schema: object, value: dict, stamp: Stamp, path: str, line: int) -> Iterator[Event]:
+        """The schema of a WriteSchema, in force from the revision of its response on."""
+        if not isinstance(schema, str):
+            raise Bad("`schema` is no text")
+        revision = revision_in(get(get(value, "response"), "writtenAt"), "`writtenAt` of the response")
+        if revision.snapshot and revision.snapshot.own is None:
+            raise Bad("the snapshot of `writtenAt` does not name the transaction that wrote")
+        rules = Parser(schema, path, self.refusals, line, False).schema()
+        event = put_stamp(rules.event, stamp)
+        event.line, event.revision, event.shown = line, revision.number or 0, revision.shown
+        event.asked = revision.snapshot and (revision.snapshot,)
+        self.written.add(key_of(revision))
+        self.take(rules)
+        yield event

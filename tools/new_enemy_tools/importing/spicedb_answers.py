@@ -1,0 +1,109 @@
+"""SpiceDB's relationships in JSON, and what the answers of its calls decide."""
+from typing import Iterator, Optional
+
+from new_enemy_tools.importing.events import EVERY, Relationship
+from new_enemy_tools.importing.passing import failure_of
+from new_enemy_tools.importing.reading import Bad, get
+from new_enemy_tools.importing.refusals import Refusals
+from new_enemy_tools.importing.service import Answer, one_of, text_or_none
+from new_enemy_tools.importing.zedtokens import Older, Revision, read_revision
+
+REPLIES = {"PERMISSIONSHIP_HAS_PERMISSION": True, "PERMISSIONSHIP_NO_PERMISSION": False}
+CONDITIONAL = "PERMISSIONSHIP_CONDITIONAL_PERMISSION"
+LOOKUP = "LOOKUP_"
+
+
+def revision_in(holder: object, what: str) -> Revision:
+    try:
+        revision = read_revision(get(holder, "token"))
+    except Older as fault:
+        raise Bad("%s %s" % (what, fault)) from None
+    if revision is None:
+        raise Bad("%s has no token whose revision is a number or a snapshot of PostgreSQL" % what)
+    return revision
+
+
+def _object(given: object, what: str) -> tuple[str, str]:
+    of, id_text = get(given, "objectType"), get(given, "objectId")
+    if not isinstance(of, str) or not of or not isinstance(id_text, str) or not id_text:
+        raise Bad("the %s has no type and id" % what)
+    return of, id_text
+
+
+def _subject(given: object) -> tuple[str, str, Optional[str]]:
+    relation = text_or_none(get(given, "optionalRelation"), "optionalRelation") or None
+    of, id_text = _object(get(given, "object"), "subject")
+    return of, id_text, EVERY if id_text == "*" else None if relation == "..." else relation
+
+
+def relationship_of(given: object) -> Relationship:
+    """The tuple of a relationship in JSON; raises Bad."""
+    relation = get(given, "relation")
+    if not isinstance(relation, str) or not relation:
+        raise Bad("a relationship has no relation")
+    return Relationship(*_object(get(given, "resource"), "resource"), relation, *_subject(get(given, "subject")))
+
+
+def responses_of(response: object) -> list:
+    """The answers of a call that streams them: in a list or one by one, bare or as a `result`."""
+    return [get(one, "result") or one for one in (response if isinstance(response, list) else [response])]
+
+
+def revision_at(response: object) -> Revision:
+    """The revision that a call was evaluated at."""
+    first = response if get(response, "checkedAt") is not None else responses_of(response)[0]
+    looked_up = get(first, "lookedUpAt")
+    if looked_up is not None:
+        return revision_in(looked_up, "`lookedUpAt` of the response")
+    return revision_in(get(first, "checkedAt"), "`checkedAt` of the response")
+
+
+def answers_of(request: object, response: object, refusals: Refusals) -> Iterator[Answer]:
+    """What a CheckPermission, a CheckBulkPermissions, a LookupResources or a LookupSubjects decides; raises Bad."""
+    if get(request, "items") is not None:
+        yield from _bulk(response, refusals)
+    elif get(request, "resourceObjectType") is not None:
+        for one in responses_of(response) if response else ():
+            thing = get(request, "resourceObjectType"), get(one, "resourceObjectId")
+            yield _answer(request, {"objectType": thing[0], "objectId": thing[1]}, get(request, "subject"), one)
+    elif get(request, "subjectObjectType") is not None:
+        for one in responses_of(response) if response else ():
+            found = get(one, "subject") or one
+            subject = {"object": {"objectType": get(request, "subjectObjectType"), "objectId": get(found, "subjectObjectId")},
+                       "optionalRelation": get(request, "optionalSubjectRelation")}
+            yield _answer(request, get(request, "resource"), subject, found)
+    else:
+        yield _answer(request, get(request, "resource"), get(request, "subject"), response)
+
+
+def _answer(request: object, resource: object, subject: object, found: object) -> Answer:
+    permission, said = get(request, "permission"), get(found, "permissionship")
+    if not isinstance(permission, str) or not permission:
+        raise Bad("the request has no permission")
+    goal = Relationship(*_object(resource, "resource"), permission, *_subject(subject))
+    said = said[len(LOOKUP):] if isinstance(said, str) and said.startswith(LOOKUP) else said
+    if said not in (*REPLIES, CONDITIONAL):
+        raise Bad("the response has no permissionship")
+    unmapped = None
+    if said == CONDITIONAL:
+        unmapped = "conditional permission"
+    elif get(request, "context"):
+        unmapped = "context of caveats"
+    elif goal.user_relation == EVERY:
+        unmapped = "check of a wildcard as the user"
+    elif goal.user_relation is not None:
+        unmapped = "check of a userset as the user"
+    return Answer(goal, one_of(REPLIES, said) or False, unmapped)
+
+
+def _bulk(response: object, refusals: Refusals) -> Iterator[Answer]:
+    pairs = get(response, "pairs")
+    if not isinstance(pairs, list):
+        raise Bad("`pairs` is no list")
+    for pair in pairs:
+        failed = failure_of(pair, ("item",))
+        if failed and get(pair, "item") is None:
+            refusals.pass_over(failed)
+        else:
+            asked = get(pair, "request")
+            yield _answer(asked, get(asked, "resource"), get(asked, "subject"), get(pair, "item"))

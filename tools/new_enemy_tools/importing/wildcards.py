@@ -1,0 +1,65 @@
+"""Every user of a type, where a tuple names them all: a userset of a namespace that the importer adds.
+
+It has an object for each type, whose relation stores each user of the type that a tuple or a check names. A check asks for one user,
+who is among them, so what the tuple gives or takes away is exactly what the service means.
+"""
+from typing import Iterator, Optional
+
+from new_enemy_tools.importing.events import EVERY, Entry, Event, Line, Relationship, RelationRule
+from new_enemy_tools.importing.spool import Lines
+from new_enemy_tools.texts import Userset
+
+NAMESPACE = "every"
+RELATION = "user"
+# Below all revisions, which are counted from 0.
+BEFORE = -1
+
+
+class Wildcards:
+    """The types whose users some tuple names all at once."""
+
+    def __init__(self, lines: Lines):
+        self.first: Optional[Event] = None
+        self.tuples = 0
+        self.users: dict[str, dict[Relationship, None]] = {}
+        taken = {name for event in lines.rules for name in event.namespaces}
+        self.namespace = NAMESPACE
+        while self.namespace in taken:
+            self.namespace += "_"
+        for event, given in named(lines) if lines.facts.has_every else ():
+            if given.user_relation == EVERY:
+                self.first = self.first or event
+                self.tuples += 1
+                self.users.setdefault(given.user_type, {})
+        for event, given in named(lines) if self.first else ():
+            if given.user_relation is None and given.user_type in self.users:
+                member = Relationship(self.namespace, given.user_type, RELATION, given.user_type, given.user_id)
+                self.users[given.user_type][member] = None
+
+    def set_of(self, user_type: str) -> Userset:
+        return Userset(self.namespace, user_type, RELATION)
+
+    def rules(self) -> list[Event]:
+        if self.first is None:
+            return []
+        rule = RelationRule(RELATION, {"this": {}}, self.first.line)
+        return [Event("rules", self.first.file, self.first.line, namespaces={self.namespace: [rule]})]
+
+    def write(self) -> Optional[Event]:
+        """The write of all users, before all others."""
+        if self.first is None:
+            return None
+        listed = [member for members in self.users.values() for member in members]
+        return Event("write", self.first.file, self.first.line, BEFORE, "every user of a type", add=listed)
+
+    def told(self) -> Iterator[str]:
+        if self.first is not None:
+            types = ", ".join("%d of type %s" % (len(members), name) for name, members in self.users.items())
+            yield "wildcards %d: a tuple for every user of a type stands for the users that the log names, %s" % (self.tuples, types)
+
+
+def named(lines: Lines) -> Iterator[tuple[Line, Relationship]]:
+    """The relationships that lines name."""
+    for line in lines:
+        for given in (Relationship(*line.goal),) if isinstance(line, Entry) else (*line.add, *line.remove):
+            yield line, given

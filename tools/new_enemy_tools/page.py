@@ -1,0 +1,237 @@
+"""A report as pages for people: each is whole in itself, and asks for nothing from elsewhere.
+
+The first page has the sums and the worst findings; where there are more than a thousand, the others follow in files beside it.
+"""
+import base64
+import hashlib
+import os
+from typing import Callable, Iterator, NamedTuple, Optional
+
+from new_enemy_tools.effects import EFFECTS, Told
+from new_enemy_tools.findings import FORMS
+from new_enemy_tools.forms import place_of
+from new_enemy_tools.meaning import Outgrown
+from new_enemy_tools.picture import drawn
+from new_enemy_tools.shown import markup
+from new_enemy_tools.stories import Event, Story, Teller
+from new_enemy_tools.telling import Telling
+
+PAGE = 1_000
+# So many stories are open from the start.
+OPEN = 10
+HERE = os.path.dirname(os.path.abspath(__file__))
+MEANT = {"wrong": "the reply is wrong at its own snapshot",
+         "changed": "the answer that had to be seen is another",
+         "undecided": "nothing was shown of the reply",
+         "possible": "an ignored commit touches it, and the answer is the same",
+         "none": "no ignored commit touches it"}
+COLUMNS = ("Effect", "Finding", "Where", "Question", "User", "Snapshot", "Reply", "Had to see", "Version")
+
+
+class Page(NamedTuple):
+    """Its number, from 1, and the findings that it shows."""
+
+    number: int
+    told: list[Told]
+
+
+def pages_of(telling: Telling) -> list[Page]:
+    """At least one, also where nothing was found."""
+    starts = range(0, max(1, len(telling.told)), PAGE)
+    return [Page(number, telling.told[start:start + PAGE]) for number, start in enumerate(starts, 1)]
+
+
+def path_of(path: str, number: int) -> str:
+    """Where a page stands: the first at the path, the others beside it with their numbers."""
+    if number == 1:
+        return path
+    stem, end = os.path.splitext(path)
+    return "%s.%d%s" % (stem, number, end)
+
+
+def _asset(name: str) -> str:
+    with open(os.path.join(HERE, name), encoding="utf-8") as file:
+        return file.read()
+
+
+def _counted(count: int, one: str, many: str) -> str:
+    return "%s %s" % (format(count, ","), one if count == 1 else many)
+
+
+def _hash(text: str) -> str:
+    return "'sha256-%s'" % base64.b64encode(hashlib.sha256(text.encode()).digest()).decode()
+
+
+class Writer:
+    """Writes the pages of a telling; `path` is that of the first, for the links between them."""
+
+    def __init__(self, telling: Telling, path: str):
+        self.telling, self.path = telling, path
+        self.pages = pages_of(telling)
+        self.teller = Teller(telling.trace, telling.names)
+        self.style, self.script = _asset("page.css"), _asset("page.js")
+
+    def lines(self, page: Page) -> Iterator[str]:
+        yield from self._head(page)
+        yield "<body>"
+        yield '<a class="skip" href="#all">To the table of all findings</a>'
+        yield from self._sums(page)
+        if page.told:
+            yield from self._filters(page)
+            yield from self._stories(page)
+            yield from self._table(page)
+        yield from self._links(page)
+        yield "<script>%s</script>" % self.script if page.told else ""
+        yield "</body></html>"
+
+    def _head(self, page: Page) -> Iterator[str]:
+        policy = "default-src 'none'; style-src %s; script-src %s" % (_hash(self.style), _hash(self.script))
+        yield '<!DOCTYPE html><html lang="en"><head><meta charset="utf-8">'
+        yield '<meta http-equiv="Content-Security-Policy" content="%s">' % policy
+        yield '<meta name="viewport" content="width=device-width, initial-scale=1">'
+        yield "<title>new_enemy: what the audit found%s</title>" % ("" if page.number == 1 else ", page %d" % page.number)
+        yield "<style>%s</style></head>" % self.style
+
+    def _sums(self, page: Page) -> Iterator[str]:
+        report, sums = self.telling.report, self.telling.sums
+        yield "<header><h1>What the audit found</h1>"
+        yield '<p>Verdict <span class="verdict %s">%s</span> of %s in <code>%s</code>, with %s.</p>' % (
+            report.verdict, report.verdict, _counted(report.entries, "entry", "entries"), markup(self.telling.path),
+            _counted(len(report.findings), "finding", "findings"))
+        yield '<p id="said">%s.</p><ul class="sums">' % markup(self.telling.said)
+        for count, mark, words in ((sums.wrong, "wrong", "reply wrong" if sums.wrong == 1 else "replies wrong"), (sums.let_in, "changed", "stale, let someone in"),
+                                   (sums.kept_out, "changed", "stale, kept someone out"),
+                                   (sums.undecided, "undecided", "undecided"), (sums.harmless, "none", "harmless")):
+            yield '<li><strong%s>%s</strong> %s</li>' % (' class="%s"' % mark if count else "", format(count, ","), words)
+        yield "</ul>"
+        if len(self.pages) > 1:
+            yield '<p class="soft">Page %d of %d: findings %s to %s of %s, the worst first.</p>' % (
+                page.number, len(self.pages), format((page.number - 1) * PAGE + 1, ","),
+                format((page.number - 1) * PAGE + len(page.told), ","), format(len(self.telling.told), ","))
+        yield "</header>"
+
+    def _filters(self, page: Page) -> Iterator[str]:
+        words = {told.finding.finding: FORMS[told.finding.finding][0] for told in page.told}
+        namespaces = sorted({self.telling.names.question(told.entry.goal).namespace for told in page.told})
+        choices = (("effect", "Effect", [(one, one) for one in EFFECTS]),
+                   ("finding", "Finding", [(one, "%s %s" % (one, words[one])) for one in FORMS if one in words]),
+                   ("kind", "Kind", [("check", "check"), ("content", "content check")]),
+                   ("namespace", "Namespace", [(one, one) for one in namespaces]))
+        # Without a script there is nothing to filter by.
+        yield '<form hidden aria-label="Filters">'
+        for name, label, options in choices:
+            yield '<label>%s <select name="%s"><option value="">any</option>%s</select></label>' % (label, name, "".join(
+                '<option value="%s">%s</option>' % (markup(value), markup(shown)) for value, shown in options))
+        for name, label in (("object", "Object"), ("user", "User")):
+            yield '<label>%s <input name="%s" type="search" placeholder="part of its name"></label>' % (label, name)
+        yield '<button type="reset">Show all</button><output id="count" aria-live="polite"></output></form>'
+
+    # Stories
+
+    def _stories(self, page: Page) -> Iterator[str]:
+        mattered = [told for told in page.told if told.outcome is not None]
+        if not mattered:
+            return
+        yield '<main><h2 id="mattered">What mattered</h2>'
+        for number, told in enumerate(mattered):
+            try:
+                story = self.teller.story(told)
+            except Outgrown as fault:
+                story = self.teller.short_story(told, str(fault))
+            yield from self._story(told, story, number < OPEN)
+        yield "</main>"
+
+    def _story(self, told: Told, story: Story, is_open: bool) -> Iterator[str]:
+        yield '<details class="story" id="story-%d-%s"%s %s><summary><h3>%s</h3> <span class="soft">%s</span></summary>' % (
+            told.finding.line, told.finding.finding, " open" if is_open else "", self._data(told), markup(story.title),
+            markup(self._where(told)))
+        yield "<p>%s.</p>" % markup(story.question)
+        yield '<ol class="timeline">'
+        for event in story.events:
+            yield self._event(event)
+        yield "</ol>"
+        for remark in story.remarks:
+            yield "<p>%s</p>" % markup(remark)
+        yield '<div class="pictures">'
+        for picture in story.pictures:
+            yield "<figure><figcaption>%s</figcaption>" % markup(picture.title)
+            yield from drawn(picture.reason, self.telling.names, picture.title)
+            yield "</figure>"
+        yield "</div></details>"
+
+    @staticmethod
+    def _event(event: Event) -> str:
+        where = ' <span class="soft">(%s)</span>' % markup(event.where) if event.where else ""
+        ignored = ", <strong>ignored</strong>" if event.is_ignored else ""
+        return '<li class="%s%s"><time>%d%s</time><span class="dot"></span><span class="what">%s%s%s</span></li>' % (
+            event.mark, " ignored" if event.is_ignored else "", event.at,
+            '<span class="soft">%s</span>' % markup(event.revision) if event.revision else "", markup(event.text), ignored, where)
+
+    # The table
+
+    def _data(self, told: Told) -> str:
+        question = self.telling.names.question(told.entry.goal)
+        return 'data-effect="%s" data-finding="%s" data-kind="%s" data-namespace="%s" data-object="%s" data-user="%s"' % (
+            told.effect.word, told.finding.finding, told.entry.kind, markup(question.namespace), markup(question.object),
+            markup(question.user))
+
+    def _where(self, told: Told) -> str:
+        place = place_of(self.telling, told.entry)
+        return "%s:%d" % place if told.entry.source else "line %d" % told.finding.line
+
+    def _table(self, page: Page) -> Iterator[str]:
+        yield '<h2 id="all">All findings</h2><p class="soft">%s.</p>' % markup("; ".join("%s: %s" % one for one in MEANT.items()))
+        yield '<div class="scroll" tabindex="0" role="region" aria-labelledby="all"><table>'
+        yield "<thead><tr>%s</tr></thead><tbody>" % "".join('<th scope="col">%s</th>' % column for column in COLUMNS)
+        for told in page.told:
+            yield self._row(told)
+        yield "</tbody></table></div>"
+
+    def _row(self, told: Told) -> str:
+        entry, finding, names = told.entry, told.finding, self.telling.names
+        question = names.question(entry.goal)
+        said = "%s %s" % (finding.finding, finding.text)
+        said += ", see line %d" % finding.related if finding.related is not None else ""
+        said += ", step %d" % finding.step if finding.step is not None else ""
+        effect = told.effect.word + (", %s" % told.outcome if told.outcome else "")
+        cells: list[Optional[str]] = [
+            said, self._where(told), "%s of %s:%s#%s" % (entry.kind, question.namespace, question.object, question.relation),
+            question.user, str(entry.snapshot) + (" (%s)" % entry.revision if entry.revision else ""),
+            "yes" if entry.reply else "no", None if told.effect.seen is None else str(told.effect.seen),
+            None if entry.version is None else names.version(entry.version)]
+        shown = markup(effect) if told.outcome is None else '<a href="#story-%d-%s">%s</a>' % (
+            finding.line, finding.finding, markup(effect))
+        return '<tr %s><td class="%s">%s</td>%s</tr>' % (
+            self._data(told), told.effect.word, shown, "".join("<td>%s</td>" % markup(cell or "") for cell in cells))
+
+    def _links(self, page: Page) -> Iterator[str]:
+        if len(self.pages) == 1:
+            return
+        yield '<nav class="pages" aria-label="Pages"><p>Pages:'
+        for other in self.pages:
+            address = markup(_url(os.path.basename(path_of(self.path, other.number))))
+            yield "<strong>%d</strong>" % page.number if other is page else '<a href="%s">%d</a>' % (address, other.number)
+        yield "</p></nav>"
+
+
+def _url(name: str) -> str:
+    return "./" + name.replace("%", "%25").replace("#", "%23").replace("?", "%3F")
+
+
+def write_pages(telling: Telling, path: str, step: Callable[[int], None]) -> None:
+    """Writes all pages, or none: each to a file beside its own, and then all in their places."""
+    writer, done = Writer(telling, path), 0
+    places = [(page, path_of(path, page.number)) for page in writer.pages]
+    try:
+        for page, place in places:
+            with open(place + ".part", "w", encoding="utf-8", newline="\n") as file:
+                for line in writer.lines(page):
+                    file.write(line + "\n")
+            done += len(page.told)
+            step(done)
+        for _, place in places:
+            os.replace(place + ".part", place)
+    finally:
+        for _, place in places:
+            if os.path.exists(place + ".part"):
+                os.remove(place + ".part")

@@ -1,0 +1,43 @@
+"""Blocks of a file, shared by processes."""
+import itertools
+from collections import deque
+from concurrent.futures import Future, ProcessPoolExecutor
+from concurrent.futures.process import BrokenProcessPool
+from multiprocessing import get_context
+from typing import Any, Callable, Iterable, Iterator, TypeVar
+
+from new_enemy_tools.parting.faults import PartsFault
+
+Given = TypeVar("Given")
+Made = TypeVar("Made")
+# What a process of a pool does with a block; it has it from the start, so that a large table is shared and not sent.
+_work: list[Callable[[Any], Any]] = []
+
+
+def _begin(work: Callable[[Any], Any]) -> None:
+    _work.append(work)
+
+
+def _do(given: Any) -> Any:
+    return _work[0](given)
+
+
+def shared(work: Callable[[Given], Made], blocks: Iterable[Given], jobs: int) -> Iterator[Made]:
+    """What the work makes of each block, in order; by so many processes where there are blocks enough for two."""
+    blocks = iter(blocks)
+    first = list(itertools.islice(blocks, 2))
+    blocks = itertools.chain(first, blocks)
+    if jobs == 1 or len(first) < 2:
+        yield from map(work, blocks)
+        return
+    with ProcessPoolExecutor(jobs, get_context("fork"), _begin, (work,)) as pool:
+        waiting: deque[Future[Made]] = deque()
+        try:
+            for block in blocks:
+                waiting.append(pool.submit(_do, block))
+                if len(waiting) > 2 * jobs:
+                    yield waiting.popleft().result()
+            while waiting:
+                yield waiting.popleft().result()
+        except BrokenProcessPool:
+            raise PartsFault("a process that places lines was killed") from None

@@ -1,0 +1,89 @@
+"""The form in which importers write commits and entries, recognized as bytes, without a parse of JSON.
+
+What is recognized here, lib/trace.py would take too, with the same meaning; a line of any other form it reads in full.
+"""
+import re
+from typing import NamedTuple, Optional
+
+from new_enemy_tools import limits, texts
+
+NAME = texts.NAME.pattern.encode()
+# Without the two letters that JSON escapes.
+ID = rb'[^\x00-\x20"#@\\\x7f]{1,%d}' % limits.OBJECT_ID_BYTES
+# All of these are numbers of 64 bits.
+NUMBER = rb"(?:0|[1-9][0-9]{0,18})"
+PLAIN = rb'[^"\\\x00-\x1f]'
+SET = NAME + b":" + ID + b"#" + NAME
+TOLD = rb'(?:,"revision":"%s*")?(?:,"from":"%s*")?\}\r?\Z' % (PLAIN, PLAIN)
+LIST = rb"\[([^\]]*)\]"
+ENTRY = re.compile(rb'\{"kind":"(check|content)","goal":"((%s:%s)#%s)@%s","snapshot":%s,"reply":(true|false)'
+                   rb'(?:,"zookie":"z(?:1-|2-[wcr])[0-9a-f]{16}")?(?:,"version":"(%s{1,%d})")?'
+                   % (NAME, ID, NAME, NUMBER, NUMBER, PLAIN, limits.VERSION_BYTES) + TOLD)
+# The same with each field apart.
+FIELDS = re.compile(rb'\{"kind":"(check|content)","goal":"(%s):(%s)#(%s)@(%s)","snapshot":(%s),"reply":(true|false)'
+                    rb'(?:,"zookie":"(z(?:1-|2-[wcr])[0-9a-f]{16})")?(?:,"version":"(%s{1,%d})")?'
+                    rb'(?:,"revision":"(%s*)")?(?:,"from":"(%s*)")?\}\r?\Z'
+                    % (NAME, ID, NAME, NUMBER, NUMBER, PLAIN, limits.VERSION_BYTES, PLAIN, PLAIN))
+COMMIT = re.compile(rb'\{"kind":"commit","at":(%s)(?:,"add":%s)?(?:,"remove":%s)?' % (NUMBER, LIST, LIST) + TOLD)
+PAIR = re.compile(rb'"(%s)@(%s|%s:%s#(?:%s|\.\.\.))"(?:,|\Z)' % (SET, NUMBER, NAME, ID, NAME))
+# Of a listed tuple, the bytes beside its userset and its user: two quotes, the letter @, and the comma behind it.
+BESIDE = 4
+
+Pair = tuple[bytes, bytes]
+
+
+class QuickCommit(NamedTuple):
+    """The touched tuples as their usersets and users."""
+
+    at: int
+    add: list[Pair]
+    remove: list[Pair]
+
+
+def _pairs(listed: Optional[bytes]) -> Optional[list[Pair]]:
+    """The tuples of a list; None where anything else stands among them."""
+    if not listed:
+        return []
+    pairs = PAIR.findall(listed)
+    size = BESIDE * len(pairs) - 1 + sum([len(of) + len(user) for of, user in pairs])
+    return pairs if size == len(listed) else None
+
+
+def quick_entry(raw: bytes) -> Optional[tuple[bytes, ...]]:
+    """The kind, the goal's userset, its object, the reply, and the version or None."""
+    found = ENTRY.match(raw)
+    if not found or found[1] == b"content" and (found[5] is not None) != (found[4] == b"true"):
+        return None
+    return found.groups()
+
+
+class QuickEntry(NamedTuple):
+    kind: str
+    namespace: str
+    id: str
+    relation: str
+    user: int
+    snapshot: int
+    reply: bool
+    zookie: Optional[str]
+    version: Optional[str]
+    revision: Optional[str]
+    source: Optional[str]
+
+
+def quick_fields(raw: bytes) -> Optional[QuickEntry]:
+    """All that an entry says."""
+    found = FIELDS.match(raw)
+    if not found or found[1] == b"content" and (found[9] is not None) != (found[7] == b"true"):
+        return None
+    kind, namespace, id_text, relation, user, snapshot, reply, *others = found.groups()
+    return QuickEntry(kind.decode(), namespace.decode(), id_text.decode(), relation.decode(), int(user), int(snapshot), reply == b"true",
+                      *[None if other is None else other.decode() for other in others])
+
+
+def quick_commit(raw: bytes) -> Optional[QuickCommit]:
+    found = COMMIT.match(raw)
+    if not found:
+        return None
+    add, remove = _pairs(found[2]), _pairs(found[3])
+    return None if add is None or remove is None else QuickCommit(int(found[1]), add, remove)

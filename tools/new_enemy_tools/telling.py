@@ -1,0 +1,109 @@
+"""What is to be told of an audit: its findings with their entries and effects, their sums, and what is left out."""
+from collections import Counter
+from datetime import date
+from typing import Callable, NamedTuple, Optional
+
+from new_enemy_tools.baseline import key_of
+from new_enemy_tools.effects import Effects, Sums, Told, by_effect, sums_of
+from new_enemy_tools.findings import Finding, Report, ReportFault
+from new_enemy_tools.ignoring import Row
+from new_enemy_tools.kept import Entry
+from new_enemy_tools.names import Names
+from new_enemy_tools.order import order_findings
+from new_enemy_tools.trace import Trace
+
+
+class Telling(NamedTuple):
+    """The worst findings come first."""
+
+    told: list[Told]
+    # with the row that hides each
+    ignored: list[tuple[Told, Row]]
+    # those of the baseline
+    known: list[Told]
+    trace: Trace
+    names: Names
+    path: str
+    report: Report
+
+    @property
+    def sums(self) -> Sums:
+        return sums_of(self.told)
+
+    @property
+    def said(self) -> str:
+        """The sums as a sentence, with what is not told."""
+        left = [("%d ignored", len(self.ignored)), ("%d known from the baseline", len(self.known))]
+        not_told = ", ".join(words % count for words, count in left if count)
+        return str(self.sums) + ("; not told: " + not_told if not_told else "")
+
+
+def _entry_of(number: int, finding: Finding, trace: Trace) -> Entry:
+    """The entry of a finding; raises ReportFault where the trace has none on that line."""
+    for line in (finding.line, finding.related):
+        if line is not None and trace.at_of(line) is None:
+            raise ReportFault("report line %d: the trace has no entry or commit on line %d" % (number, line))
+    if finding.line not in trace.entries:
+        raise ReportFault("report line %d: line %d of the trace is no entry" % (number, finding.line))
+    return trace.entries[finding.line]
+
+
+def told_of(trace: Trace, report: Report, step: Callable[[int], None] = lambda count: None) -> list[Told]:
+    """Each finding with its entry and effect, by effect; raises ReportFault where a report is not of this trace."""
+    if report.entries != len(trace.entries):
+        raise ReportFault("the report has %d entries, and the trace %d" % (report.entries, len(trace.entries)))
+    effects, told = Effects(trace), []
+    for number, finding in enumerate(report.findings, 1):
+        entry = _entry_of(number, finding, trace)
+        said = "%s %s" % (finding.finding, finding.text)
+        if finding.is_on_tokens and (said, finding.related) not in order_findings(trace, entry):
+            raise ReportFault("report line %d: by this trace, line %d has no `%s%s`" % (
+                number, entry.line, said, ", see line %d" % finding.related if finding.related else ""))
+        told.append(Told(finding, entry, effects.of(entry, finding.finding)))
+        step(number)
+    return by_effect(told)
+
+
+class LeftOut(NamedTuple):
+    """What a report is asked not to tell."""
+
+    rows: list[Row]
+    baseline: Counter[str]
+    today: date
+
+
+def parts_of(told: Told, names: Names) -> dict[str, str]:
+    """What a finding is found by."""
+    return {"finding": told.finding.finding, "effect": told.effect.word, "kind": told.entry.kind, "key": key_of(told, names),
+            **names.question(told.entry.goal)._asdict()}
+
+
+def telling_of(told: list[Told], trace: Trace, names: Names, path: str, report: Report,
+               out: Optional[LeftOut] = None) -> Telling:
+    """Each finding is told, ignored, or known from the baseline; a key that stands there once is known once."""
+    telling = Telling([], [], [], trace, names, path, report)
+    rows = [] if out is None else [row for row in out.rows if row.until >= out.today]
+    left = Counter() if out is None else Counter(out.baseline)
+    for one in told:
+        parts = parts_of(one, names) if rows or left else {}
+        row = next((row for row in rows if row.hides(parts)), None)
+        if row is not None:
+            telling.ignored.append((one, row))
+        elif left and left[parts["key"]] > 0:
+            left[parts["key"]] -= 1
+            telling.known.append(one)
+        else:
+            telling.told.append(one)
+    return telling
+
+
+def warnings_of(telling: Telling, out: LeftOut) -> list[str]:
+    """What is to be said of rows that hide nothing any more."""
+    used = {row.place for _, row in telling.ignored}
+    said = []
+    for row in out.rows:
+        if row.until < out.today:
+            said.append("%s: ended on %s (%s); what it hid is told again" % (row.place, row.until, row.reason))
+        elif row.place not in used:
+            said.append("%s: hides nothing" % row.place)
+    return said

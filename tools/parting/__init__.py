@@ -1,2 +1,0 @@
-"""An audit in parts: traces that are cut by object, and reports that are merged. docs/SCALE.md has the rule and the formats."""
-import lib  # noqa: F401  It says which Python the tools need.
