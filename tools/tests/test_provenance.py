@@ -172,7 +172,7 @@ class Proving(Checkout):
         self.assertEqual(self.run_command().returncode, 5)
 
     def test_release(self):
-        release = self.path("tools", "release")
+        release = self.path("tools", "dev", "release")
         self.assertEqual(self.run_command(command=release, kit=True).returncode, 1)
         self.assertEqual(self.run_command("--prove", kit=True).returncode, 0)
         run = self.run_command(command=release, kit=True)
