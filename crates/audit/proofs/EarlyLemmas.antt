@@ -9,7 +9,7 @@ use Rattle.std.proofs.lemmas.Grind.{flat_map-append, merely}
 use Rattle.std.proofs.lemmas.List.Elements.{All-nil, All-push, All-weaker}
 use Rattle.trace_lines.specs.Values.{TraceValue, EntryValue}
 use Rattle.evidence_check.specs.Steps.{StepValue}
-use Rattle.audit.specs.Audit.{HasRisen}
+use Rattle.audit.specs.Devices.{HasRisen}
 use Rattle.audit.specs.Early.{IsEarlyLine, WriterState, WentOut, TellsEarly, early_text}
 use Rattle.findings.specs.Findings.{found_on, on_line}
 use Rattle.audit.specs.Shared.{nothing_found, found_at, has_finding}

@@ -1,6 +1,6 @@
 -- Joined input: its front, and what stands behind it.
 use Rattle.std.proofs.Common.{◌≡◌, ◌⊎◌, ℕ, ◌+◌, ◌<◌, ◌≤◌, ◌^◌, true, List, [], ◌++◌, length, length-append, Option, Some, None, Result, Ok, Err, refl, sym, ap, subst, ◌∙◌, append_assoc, append-nil, arith, inl, inr}
-use Rattle.std.specs.Prelude.{IfOk, IfErr, IfSome, OnOk}
+use Rattle.std.specs.Prelude.{IfOk, IfErr, IfSome}
 use Rattle.std.specs.declared.vec.Vec.{Vec}
 use Rattle.std.specs.declared.alloc.Global.{Global}
 use Rattle.std.proofs.lemmas.List.{append_cancel_left}
@@ -19,13 +19,14 @@ use Rattle.evidence_check.specs.declared.cause.EvidenceFault.{EvidenceFault}
 use Rattle.evidence_check.specs.declared.judged.Judged.{Judged}
 use Rattle.evidence_check.specs.Steps.{StepValue}
 use Rattle.findings.proofs.WrongReplies.{named_by_bytes}
-use Rattle.findings.specs.Findings.{findings_of}
 use Rattle.findings.specs.Headline.{IsRightAndFresh, IsTraceRightAndFresh}
 use Rattle.findings.specs.WrongReplies.{NamesOnlyWrongReplies}
-use Rattle.audit.specs.Audit.{Audits, Breaks, FailsWriting, IsOfBehind, IsOfDevices, IsOfFront, IsOfJoined, IsWrite, RefusesTrace, report_on, verdict_of}
+use Rattle.audit.specs.Audit.{Audits, Breaks, FailsWriting, IsOfBehind, IsOfDevices, IsOfFront, IsOfJoined, IsWrite, RefusesTrace}
 use Rattle.json_lines.specs.declared.lines.InputFault.{InputFault}
 use Rattle.json_lines.specs.declared.lines.InputFault.TheVariants as input
-use Rattle.audit.proofs.Readers.{devices_of_writing, of_writing}
+use Rattle.audit.specs.Answers.{Told, IsReport}
+use Rattle.audit.specs.Devices.{Writing}
+use Rattle.audit.proofs.Readers.{devices_of_writing}
 use Rattle.audit.specs.Joined.{OfParts, HasNoParts, IsRead, of_input}
 use Rattle.audit.specs.declared.plain.AuditFault.{AuditFault}
 use Rattle.audit.specs.declared.plain.AuditFault.TheVariants as faults
@@ -105,6 +106,15 @@ pub evidence_read : {R : Type 0} (given : R → List ℕ) (ends : R → ℕ) (ol
     → (evidence : List (Option (List StepValue))) × AreJudged t evidence v.items × IsRead given ends old new rest (λ b. evidence_of t.entries true b ≡ Ok evidence)
 evidence_read given ends old new rest t v h = (h.0.2.1.0, h.0.2.1.2, ((h.0.0, h.0.1, (h.0.2.0, h.0.2.1.1)), h.1, h.2))
 
+-- The trace in front of the marker, and behind it the evidence that judges so: what both parts say.
+pub parts_said : {R : Type 0} (given : R → List ℕ) (ends : R → ℕ) (old mid new : R) (rest : RestValue) (t : TraceValue) (evidence : List (Option (List StepValue)))
+    → IsFront (given old) (given mid) rest (λ a. trace_of true a ≡ Ok t) → ends mid + ends_left rest.ended ≡ ends old + 1
+    → IsRead given ends mid new rest (λ b. evidence_of t.entries true b ≡ Ok evidence)
+    → OfWhole given ends old new (OfParts (λ a b. (trace_of true a ≡ Ok t) × (evidence_of t.entries true b ≡ Ok evidence)))
+parts_said given ends old mid new rest t evidence front ended read =
+    parts_read given ends old mid new rest (λ a. trace_of true a ≡ Ok t) front (λ b. evidence_of t.entries true b ≡ Ok evidence)
+    (λ a b. (trace_of true a ≡ Ok t) × (evidence_of t.entries true b ≡ Ok evidence)) ended read (λ a b is by. (is, by))
+
 -- ---- what both parts say
 
 module _ {R : Type 0} (given : R → List ℕ) (ends : R → ℕ) (old new : R) where
@@ -116,13 +126,19 @@ module _ {R : Type 0} (given : R → List ℕ) (ends : R → ℕ) (old new : R) 
     on_both : (Q : List ℕ → List ℕ → Type 0) → ((a b : List ℕ) → trace_of true a ≡ Ok t → evidence_of t.entries true b ≡ Ok evidence → Q a b) → OfWhole given ends old new (OfParts Q)
     on_both Q f = whole_parts-map (λ a b. (trace_of true a ≡ Ok t) × (evidence_of t.entries true b ≡ Ok evidence)) Q (λ a b h. f a b h.0 h.1) says
 
-    pub joined_audited : (r : Result Verdict AuditFault) (went now : List ℕ) → OnOk r (now ≡ went ++ report_on t evidence) → IfOk r (λ v. v ≡ verdict_of (findings_of t evidence))
-        → IfOk r (λ v. OfWhole given ends old new (OfParts (λ a b. Audits a b went now v)))
-    joined_audited (Ok v) went now report verdict = on_both (λ a b. Audits a b went now v) (λ a b is by. (t, evidence, is, by, report, verdict))
-    joined_audited (Err e) went now report verdict = tt
+    pub joined_audited : (out : Writing) (r : Result Verdict AuditFault) → Told (IsReport t evidence) out r
+        → IfOk r (λ v. OfWhole given ends old new (OfParts (λ a b. Audits a b out.before.taken out.after.taken v)))
+    joined_audited out (Ok v) told =
+        on_both (λ a b. Audits a b out.before.taken out.after.taken v)
+        (λ a b is by. (t, evidence, is, by, told.text.2 ∙ ap (λ (l : List ℕ). out.before.taken ++ l) told.text.1.0, told.text.1.1))
+    joined_audited out (Err e) told = tt
 
-    pub joined_broken : (went now : List ℕ) (n : ℕ) → FailsWriting went now n (report_on t evidence) → OfWhole given ends old new (OfParts (λ a b. Breaks a b went now n))
-    joined_broken went now n fails = on_both (λ a b. Breaks a b went now n) (λ a b is by. (t, evidence, is, by, fails))
+    pub joined_broken : (out : Writing) (r : Result Verdict AuditFault) → Told (IsReport t evidence) out r
+        → (n : ℕ) → r ≡ Err (faults.Write n) → OfWhole given ends old new (OfParts (λ a b. Breaks a b out.before.taken out.after.taken n))
+    joined_broken out r told n is =
+        let h = told.write n is in
+        on_both (λ a b. Breaks a b out.before.taken out.after.taken n)
+        (λ a b is by. (t, evidence, is, by, subst (λ (l : List ℕ). FailsWriting out.before.taken out.after.taken n l) h.2.0 h.3))
 
     pub joined_right : IsRightAndFresh t → OfWhole given ends old new (OfParts (λ a b. IsTraceRightAndFresh a))
     joined_right right = on_both (λ a b. IsTraceRightAndFresh a) (λ a b is by. (t, is, right))
@@ -165,19 +181,6 @@ pub joined_long : (fault : InputFault) (e : AuditFault) → e ≡ of_input fault
 joined_long input.Read e is h = cc
 joined_long input.TooLong e is h = refl
 joined_long input.OutOfMemory e is h = cc
-
--- ---- what writing never answers
-
-abbrev IsRefusal : AuditFault → Type 0
-IsRefusal (faults.Trace f) = Unit {0}
-IsRefusal (faults.Evidence f) = Unit {0}
-IsRefusal faults.Joined = Unit {0}
-IsRefusal _ = ⊥
-
-pub never_refused : (r : Result Verdict AuditFault) (e : AuditFault) → IfErr r (λ x. (x ≡ faults.OutOfMemory) ⊎ IsWrite x) → r ≡ Err e → IsRefusal e → ⊥
-never_refused r e h is =
-    of_writing (λ (x : AuditFault). IsRefusal x → ⊥) (λ x. x) (λ n x. x) e
-    (subst (λ (x : Result Verdict AuditFault). IfErr x (λ y. (y ≡ faults.OutOfMemory) ⊎ IsWrite y)) is h)
 
 pub devices_of_report : (r : Result Verdict AuditFault) (input out : Type 0) → IfErr r (λ e. (e ≡ faults.OutOfMemory) ⊎ IsWrite e) → IfErr r (λ e. IsWrite e → out)
     → IfErr r (IsOfDevices input ⊥ ⊥ out)

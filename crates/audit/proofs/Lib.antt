@@ -1,3 +1,4 @@
+pub mod Answering
 pub mod EarlyLemmas
 pub mod JoinedLemmas
 pub mod MadeRecords

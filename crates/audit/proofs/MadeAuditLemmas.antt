@@ -1,9 +1,7 @@
 -- What is found on evidence that is made for a trace.
 use Rattle.std.proofs.Common.{◌≡◌, inl, inr, ℕ, zero, suc, ◌+◌, List, [], ◌∷◌, ◌++◌, length, true, Option, None, Some, Result, Ok, Err, refl, sym, ap, subst, ◌∙◌, arith, length-append, append_assoc}
-use Rattle.std.specs.Prelude.{IfSome, IfOk, OnOk, slice_get}
+use Rattle.std.specs.Prelude.{IfSome, OnOk, slice_get}
 use Rattle.std.specs.List.{AllZip, range_with_len}
-use Rattle.json_lines.specs.Given.{OfWhole}
-use Rattle.json_lines.proofs.Given.{of_whole-map}
 use Rattle.trace_lines.specs.Traces.{trace_of}
 use Rattle.trace_lines.specs.Values.{TraceValue, EntryValue}
 use Rattle.evidence_check.specs.Evidences.{steps_of}
@@ -13,17 +11,20 @@ use Rattle.evidence_check.specs.declared.judged.Judged.{Judged}
 use Rattle.findings.specs.Findings.{found_by, found_where, found_on, on_line, findings_from, findings_of}
 use Rattle.findings.specs.declared.finding.Finding.{Finding}
 use Rattle.findings.specs.Headline.{IsRightAndFresh, IsTraceRightAndFresh}
-use Rattle.findings.specs.Report.{report_text}
 use Rattle.findings.proofs.EachFinding.{HoldsOfTokens, each_finding}
-use Rattle.audit.specs.Audit.{FailsWriting, report_on, verdict_of}
+use Rattle.audit.specs.Audit.{FailsWriting}
 use Rattle.audit.specs.Made.{IsMade, AreMade}
-use Rattle.audit.specs.MadeAudit.{AuditsMade, BreaksMade, WhateverIsMade, IsOfMaker, AreOfMaker, IsFoundMade}
+use Rattle.audit.specs.MadeAudit.{AuditsMade, BreaksMade, WhateverIsMade, IsOfMaker, AreOfMaker, IsFoundMade, AuditedMade}
 use Rattle.audit.specs.Shared.{found_lines}
 use Rattle.audit.specs.declared.shared.Found.{Found}
 use Rattle.audit.specs.declared.plain.AuditFault.{AuditFault}
 use Rattle.audit.specs.declared.plain.Verdict.{Verdict}
-use Rattle.audit.specs.declared.plain.Verdict.TheVariants.{Clean}
-use Rattle.audit.proofs.Readers.{answered_clean}
+use Rattle.audit.specs.Answers.{TraceRead, Told, IsReport, TellsOfTrace}
+use Rattle.audit.specs.Devices.{Reading, Writing, Writer, OfAll}
+use Rattle.audit.proofs.Answering.{tells_of, told_clean}
+use Rattle.audit.proofs.Readers.{of_all-map}
+use Rattle.findings.proofs.WrongReplies.{named_by_bytes}
+use Rattle.findings.specs.WrongReplies.{HasOnlyWrongRepliesNamed}
 
 -- ---- what is found
 
@@ -90,34 +91,30 @@ made_findings t found findings is each =
 
 -- ---- what a reader says
 
-text_made : (t : TraceValue) (fs : List Finding) (n : ℕ) (given : List (Option (List StepValue))) → fs ≡ findings_of t given → n ≡ length t.entries → report_text fs n ≡ report_on t given
-text_made t fs n given same count = ap (λ (l : List Finding). report_text l n) same ∙ ap (report_text (findings_of t given)) count
-
-module _ {A : Type 0} (given_a : A → List ℕ) (ends_a : A → ℕ) (a0 a1 : A) (t : TraceValue) (says : OfWhole given_a ends_a a0 a1 (λ a. trace_of true a ≡ Ok t)) where
-  pub audited_made : (r : Result Verdict AuditFault) (old new : List ℕ) (fs : List Finding) (n : ℕ) (given : List (Option (List StepValue))) → AreMade t t.entries given
-      → fs ≡ findings_of t given → n ≡ length t.entries → OnOk r (new ≡ old ++ report_text fs n) → IfOk r (λ v. v ≡ verdict_of fs)
-      → IfOk r (λ v. OfWhole given_a ends_a a0 a1 (λ a. AuditsMade a old new v))
-  audited_made (Ok v) old new fs n given made same count w e =
-      of_whole-map given_a ends_a a0 a1 (λ a. trace_of true a ≡ Ok t) (λ a. AuditsMade a old new v)
-      (λ a is. (t, given, is, made, (w ∙ ap (λ (l : List ℕ). old ++ l) (text_made t fs n given same count), e ∙ ap verdict_of same))) says
-  audited_made (Err f) old new fs n given made same count w e = tt
-
-  pub broken_made : (old new : List ℕ) (k : ℕ) (fs : List Finding) (n : ℕ) (given : List (Option (List StepValue))) → AreMade t t.entries given → fs ≡ findings_of t given → n ≡ length t.entries
-      → FailsWriting old new k (report_text fs n) → OfWhole given_a ends_a a0 a1 (λ a. BreaksMade a old new k)
-  broken_made old new k fs n given made same count w =
-      of_whole-map given_a ends_a a0 a1 (λ a. trace_of true a ≡ Ok t) (λ a. BreaksMade a old new k)
-      (λ a is. (t, given, is, made, subst (λ (l : List ℕ). FailsWriting old new k l) (text_made t fs n given same count) w)) says
-
-  pub clean_made : (r : Result Verdict AuditFault) (fs : List Finding) (given : List (Option (List StepValue))) → fs ≡ findings_of t given
-      → ((evidence : List (Option (List StepValue))) → findings_of t evidence ≡ [] → IsRightAndFresh t) → IfOk r (λ v. v ≡ verdict_of fs) → r ≡ Ok Clean
-      → OfWhole given_a ends_a a0 a1 IsTraceRightAndFresh
-  clean_made (Ok v) fs given same law e clean =
-      of_whole-map given_a ends_a a0 a1 (λ a. trace_of true a ≡ Ok t) IsTraceRightAndFresh (λ a is. (t, is, law given (sym same ∙ answered_clean v fs e clean))) says
-  clean_made (Err f) fs given same law e clean = absurd cc
-
-  pub whatever_made : (r : Result Verdict AuditFault) (P : TraceValue → List Finding → Type 0)
+module _ (trace : Reading) (t : TraceValue) (says : OfAll trace (λ a. trace_of true a ≡ Ok t)) where
+  whatever_made : (r : Result Verdict AuditFault) (P : TraceValue → List Finding → Type 0)
       → ((a : List ℕ) (given : List (Option (List StepValue))) → trace_of true a ≡ Ok t → AreMade t t.entries given → P t (findings_of t given))
-      → OnOk r (OfWhole given_a ends_a a0 a1 (WhateverIsMade P))
+      → OnOk r (OfAll trace (WhateverIsMade P))
   whatever_made (Ok v) P h =
-      of_whole-map given_a ends_a a0 a1 (λ a. trace_of true a ≡ Ok t) (WhateverIsMade P) (λ a is. (t, is, λ given made. h a given is made)) says
+      of_all-map trace (λ a. trace_of true a ≡ Ok t) (WhateverIsMade P) (λ a is. (t, is, λ given made. h a given is made)) says
   whatever_made (Err f) P h = tt
+
+module _ (trace : Reading) (out : Writing) (t : TraceValue) (read : TraceRead trace (Ok t)) where
+  pub audited_made : (given : List (Option (List StepValue))) (r : Result Verdict AuditFault) → AreMade t t.entries given
+      → ((evidence : List (Option (List StepValue))) → findings_of t evidence ≡ [] → IsRightAndFresh t) → Told (IsReport t given) out r → AuditedMade trace out r
+  audited_made given r made law told =
+      record {
+        tells =
+            tells_of AuditsMade BreaksMade (IsReport t given) trace out t r read told
+            (λ a text old new v is says went. (t, given, is, made, (went ∙ ap (λ (l : List ℕ). old ++ l) says.0, says.1)))
+            (λ a text old new v n is says fails. (t, given, is, made, subst (λ (l : List ℕ). FailsWriting old new n l) says.0 fails));
+        headline = λ clean.
+            of_all-map trace (λ a. trace_of true a ≡ Ok t) IsTraceRightAndFresh (λ a is. (t, is, law given (told_clean t given out r told clean))) read.given;
+        wrong_replies = whatever_made trace t read.given r HasOnlyWrongRepliesNamed (λ a given is made. named_by_bytes a t given is);
+        given_up = whatever_made trace t read.given r AreOfMaker (λ a given is made. of_maker t given made);
+      }
+
+-- what could not be audited, and nothing was written
+pub made_fault : (trace : Reading) (w : Writer) (e : AuditFault) → TellsOfTrace AuditsMade BreaksMade trace (record { before = w; after = w }) (Err e)
+    → AuditedMade trace (record { before = w; after = w }) (Err e)
+made_fault trace w e tells = record { tells = tells; headline = λ is. absurd (cc (is)); wrong_replies = tt; given_up = tt }

@@ -1,56 +1,60 @@
--- What two readers say, put together.
-use Rattle.std.proofs.Common.{◌≡◌, ◌⊎◌, inl, inr, ℕ, true, false, List, [], ◌∷◌, ◌++◌, Option, Result, Ok, Err, refl, subst, sym, ◌∙◌}
-use Rattle.std.specs.Prelude.{IfOk, IfErr, IsErrAnd, OnOk}
-use Rattle.json_lines.specs.Given.{OfBytes, OfWhole, OfInput}
-use Rattle.json_lines.proofs.Given.{of_bytes-map, of_whole-map, of_input-map}
+-- What readers say and what a writer took, put together.
+use Rattle.std.proofs.Common.{◌≡◌, ◌⊎◌, inl, inr, ℕ, true, false, List, [], ◌∷◌, Option, Result, Ok, Err, arith, refl, subst, sym, ◌∙◌, append-nil}
+use Rattle.std.specs.Prelude.{IfErr, IsErrAnd}
+use Rattle.json_lines.proofs.Given.{of_bytes-map, of_whole-map, of_input-map, next-refl}
 use Rattle.trace_lines.specs.Values.{TraceValue}
 use Rattle.trace_lines.specs.Traces.{trace_of}
-use Rattle.evidence_check.specs.Reading as evidence
 use Rattle.evidence_check.specs.Reading.{evidence_of}
 use Rattle.evidence_check.specs.Steps.{StepValue}
 use Rattle.evidence_check.specs.declared.cause.EvidenceCause.TheVariants as evidence_causes
 use Rattle.evidence_check.specs.declared.cause.EvidenceFault.{EvidenceFault}
-use Rattle.audit.specs.Audit.{Audits, Breaks, RefusesEvidence, CutsEvidence, IsOfDevices, IsOfEvidence, IsOfNoDevice, IsUnwritten, IsWrite, FailsWriting, report_on, verdict_of}
-use Rattle.findings.proofs.WrongReplies.{named_by_bytes}
-use Rattle.findings.specs.Findings.{findings_of}
-use Rattle.findings.specs.WrongReplies.{NamesOnlyWrongReplies}
+use Rattle.trace_lines.specs.declared.cause.Cause.TheVariants as causes
+use Rattle.trace_lines.specs.declared.cause.TraceFault.{TraceFault}
+use Rattle.audit.specs.Audit.{RefusesEvidence, RefusesEvidenceFor, CutsEvidence, IsOfDevices, IsOfEvidence, IsOfTrace, IsOfNoDevice, IsUnwritten, IsWrite, verdict_of}
+use Rattle.std.proofs.KnownBytes.{Appends-nil}
+use Rattle.audit.specs.Devices.{Reader, Reading, Writer, OfCame, OfAll, OfAny, OfBoth, GivesFew, GivesNext, StandsBehind}
 use Rattle.findings.specs.declared.finding.Finding.{Finding}
 use Rattle.audit.specs.declared.plain.Verdict.{Verdict}
 use Rattle.audit.specs.declared.plain.Verdict.TheVariants.{Clean}
 use Rattle.audit.specs.declared.plain.AuditFault.{AuditFault}
 use Rattle.audit.specs.declared.plain.AuditFault.TheVariants as faults
 
-module _ {A B : Type 0} (given_a : A → List ℕ) (ends_a : A → ℕ) (a0 a1 : A) (given_b : B → List ℕ) (ends_b : B → ℕ) (b0 b1 : B) (t : TraceValue)
-    (says : OfWhole given_a ends_a a0 a1 (λ a. trace_of true a ≡ Ok t)) where
-  pub refused_evidence : (f : EvidenceFault) → OfInput given_b ends_b b0 b1 (λ b. evidence.FailsBy f.cause f (evidence_of t.entries true b))
-      → OfWhole given_a ends_a a0 a1 (λ a. OfInput given_b ends_b b0 b1 (λ b. RefusesEvidence a b f))
-  refused_evidence f h =
-      of_whole-map given_a ends_a a0 a1 (λ a. trace_of true a ≡ Ok t) (λ a. OfInput given_b ends_b b0 b1 (λ b. RefusesEvidence a b f))
-      (λ a is. of_input-map given_b ends_b b0 b1 (λ b. evidence.FailsBy f.cause f (evidence_of t.entries true b)) (λ b. RefusesEvidence a b f) (λ b by. (t, is, by)) h) says
+pub of_all-map : (r : Reading) (P Q : List ℕ → Type 0) → ((a : List ℕ) → P a → Q a) → OfAll r P → OfAll r Q
+of_all-map r P Q f h = of_whole-map (λ (s : Reader). s.given) (λ (s : Reader). s.ends) r.before r.after P Q f h
 
-  pub cut_evidence : (f : EvidenceFault) → OfBytes given_b b0 b1 (λ b. evidence_of t.entries false b ≡ Err f)
-      → OfWhole given_a ends_a a0 a1 (λ a. OfBytes given_b b0 b1 (λ b. CutsEvidence a b f))
+pub of_any-map : (r : Reading) (P Q : List ℕ → Type 0) → ((a : List ℕ) → P a → Q a) → OfAny r P → OfAny r Q
+of_any-map r P Q f h = of_input-map (λ (s : Reader). s.given) (λ (s : Reader). s.ends) r.before r.after P Q f h
+
+pub of_came-map : (r : Reading) (P Q : List ℕ → Type 0) → ((a : List ℕ) → P a → Q a) → OfCame r P → OfCame r Q
+of_came-map r P Q f h = of_bytes-map (λ (s : Reader). s.given) r.before r.after P Q f h
+
+-- what holds of a device that a call leaves alone
+pub few_at_rest : (r : Reader) → GivesFew (record { before = r; after = r })
+few_at_rest r = ([], sym (append-nil r.given), omega (arith))
+
+pub next_at_rest : (r : Reader) → GivesNext (record { before = r; after = r })
+next_at_rest r = next-refl (λ (s : Reader). s.given) (λ (s : Reader). s.ends) (λ (s : Reader). s.left) r
+
+pub behind_at_rest : (w : Writer) → StandsBehind (record { before = w; after = w })
+behind_at_rest w = ([], sym (append-nil w.taken), Appends-nil w.held)
+
+module _ (trace evidence : Reading) (t : TraceValue) (says : OfAll trace (λ a. trace_of true a ≡ Ok t)) where
+  pub refused_evidence : (f : EvidenceFault) → OfAny evidence (λ b. RefusesEvidenceFor t b f) → OfAll trace (λ a. OfAny evidence (λ b. RefusesEvidence a b f))
+  refused_evidence f h =
+      of_all-map trace (λ a. trace_of true a ≡ Ok t) (λ a. OfAny evidence (λ b. RefusesEvidence a b f))
+      (λ a is. of_any-map evidence (λ b. RefusesEvidenceFor t b f) (λ b. RefusesEvidence a b f) (λ b by. (t, is, by)) h) says
+
+  pub cut_evidence : (f : EvidenceFault) → OfCame evidence (λ b. evidence_of t.entries false b ≡ Err f) → OfAll trace (λ a. OfCame evidence (λ b. CutsEvidence a b f))
   cut_evidence f h =
-      of_whole-map given_a ends_a a0 a1 (λ a. trace_of true a ≡ Ok t) (λ a. OfBytes given_b b0 b1 (λ b. CutsEvidence a b f))
-      (λ a is. of_bytes-map given_b b0 b1 (λ b. evidence_of t.entries false b ≡ Err f) (λ b. CutsEvidence a b f) (λ b by. (t, is, by)) h) says
+      of_all-map trace (λ a. trace_of true a ≡ Ok t) (λ a. OfCame evidence (λ b. CutsEvidence a b f))
+      (λ a is. of_came-map evidence (λ b. evidence_of t.entries false b ≡ Err f) (λ b. CutsEvidence a b f) (λ b by. (t, is, by)) h) says
 
   -- what the bytes of both say, where they are a trace and evidence for it
-  pub on_both : (P : List ℕ → List ℕ → Type 0) (given : List (Option (List StepValue))) → OfWhole given_b ends_b b0 b1 (λ b. evidence_of t.entries true b ≡ Ok given)
-      → ((a b : List ℕ) → trace_of true a ≡ Ok t → evidence_of t.entries true b ≡ Ok given → P a b)
-      → OfWhole given_a ends_a a0 a1 (λ a. OfWhole given_b ends_b b0 b1 (λ b. P a b))
+  pub on_both : (P : List ℕ → List ℕ → Type 0) (given : List (Option (List StepValue))) → OfAll evidence (λ b. evidence_of t.entries true b ≡ Ok given)
+      → ((a b : List ℕ) → trace_of true a ≡ Ok t → evidence_of t.entries true b ≡ Ok given → P a b) → OfBoth trace evidence P
   on_both P given h f =
-      of_whole-map given_a ends_a a0 a1 (λ a. trace_of true a ≡ Ok t) (λ a. OfWhole given_b ends_b b0 b1 (λ b. P a b))
-      (λ a is. of_whole-map given_b ends_b b0 b1 (λ b. evidence_of t.entries true b ≡ Ok given) (λ b. P a b) (λ b by. f a b is by) h) says
-
-  pub audited_if : (r : Result Verdict AuditFault) (old new : List ℕ) (given : List (Option (List StepValue))) → OfWhole given_b ends_b b0 b1 (λ b. evidence_of t.entries true b ≡ Ok given)
-      → OnOk r (new ≡ old ++ report_on t given) → IfOk r (λ v. v ≡ verdict_of (findings_of t given))
-      → IfOk r (λ v. OfWhole given_a ends_a a0 a1 (λ a. OfWhole given_b ends_b b0 b1 (λ b. Audits a b old new v)))
-  audited_if (Ok v) old new given h w e = on_both (λ a b. Audits a b old new v) given h (λ a b is by. (t, given, is, by, w, e))
-  audited_if (Err f) old new given h w e = tt
-
-  pub broken : (old new : List ℕ) (n : ℕ) (given : List (Option (List StepValue))) → OfWhole given_b ends_b b0 b1 (λ b. evidence_of t.entries true b ≡ Ok given)
-      → FailsWriting old new n (report_on t given) → OfWhole given_a ends_a a0 a1 (λ a. OfWhole given_b ends_b b0 b1 (λ b. Breaks a b old new n))
-  broken old new n given h w = on_both (λ a b. Breaks a b old new n) given h (λ a b is by. (t, given, is, by, w))
+      of_all-map trace (λ a. trace_of true a ≡ Ok t) (λ a. OfAll evidence (λ b. P a b))
+      (λ a is. of_all-map evidence (λ b. evidence_of t.entries true b ≡ Ok given) (λ b. P a b) (λ b by. f a b is by) h) says
 
 -- of the faults of writing
 pub of_writing : (P : AuditFault → Type 0) → P faults.OutOfMemory → ((n : ℕ) → P (faults.Write n)) → (e : AuditFault) → (e ≡ faults.OutOfMemory) ⊎ IsWrite e → P e
@@ -92,10 +96,6 @@ devices_of_writing (Err faults.Joined) trace evidence out of at = tt
 devices_of_writing (Err faults.Input) trace evidence out (inl e) at = absurd cc
 devices_of_writing (Err faults.Input) trace evidence out (inr w) at = absurd w
 
-pub all_kept : (r : Result Verdict AuditFault) (trace evidence out : Type 0) → trace → evidence → OnOk r out → OnOk r (trace × evidence × out)
-all_kept (Ok v) trace evidence out a b c = (a, b, c)
-all_kept (Err f) trace evidence out a b c = tt
-
 pub unwritten_without_device : (e : AuditFault) → IsOfNoDevice e → IsUnwritten e
 unwritten_without_device (faults.Trace f) h = tt
 unwritten_without_device (faults.Evidence f) h = tt
@@ -105,17 +105,27 @@ unwritten_without_device faults.Limits h = tt
 unwritten_without_device faults.Joined h = tt
 unwritten_without_device faults.Input h = tt
 
-pub all_unfailed : (r : Result Verdict AuditFault) (trace evidence out : Type 0) → trace → evidence → IfErr r (λ e. IsUnwritten e → out) → IfErr r (λ e. IsOfNoDevice e → trace × evidence × out)
-all_unfailed (Ok v) trace evidence out a b c = tt
-all_unfailed (Err f) trace evidence out a b c = λ h. (a, b, c (unwritten_without_device f h))
+abbrev IsRefusal : AuditFault → Type 0
+IsRefusal (faults.Trace f) = Unit {0}
+IsRefusal (faults.Evidence f) = Unit {0}
+IsRefusal faults.Joined = Unit {0}
+IsRefusal _ = ⊥
 
--- of the reply that a finding F10 calls wrong, where both readers gave all
-pub named_if : {V E A B : Type 0} (r : Result V E) (given_a : A → List ℕ) (ends_a : A → ℕ) (a0 a1 : A) (given_b : B → List ℕ) (ends_b : B → ℕ) (b0 b1 : B) (t : TraceValue) (given : List (Option (List StepValue)))
-    → OfWhole given_a ends_a a0 a1 (λ a. trace_of true a ≡ Ok t) → OfWhole given_b ends_b b0 b1 (λ b. evidence_of t.entries true b ≡ Ok given)
-    → IfOk r (λ v. OfWhole given_a ends_a a0 a1 (λ a. OfWhole given_b ends_b b0 b1 (λ b. NamesOnlyWrongReplies a b)))
-named_if (Ok v) given_a ends_a a0 a1 given_b ends_b b0 b1 t given says h =
-    on_both given_a ends_a a0 a1 given_b ends_b b0 b1 t says (λ a b. NamesOnlyWrongReplies a b) given h (λ a b is by. (t, given, is, by, named_by_bytes a t given is))
-named_if (Err e) given_a ends_a a0 a1 given_b ends_b b0 b1 t given says h = tt
+-- writing never answers a refusal
+pub never_refused : {V : Type 0} (r : Result V AuditFault) (e : AuditFault) → IfErr r (λ x. (x ≡ faults.OutOfMemory) ⊎ IsWrite x) → r ≡ Err e → IsRefusal e → ⊥
+never_refused {V} r e h is =
+    of_writing (λ (x : AuditFault). IsRefusal x → ⊥) (λ x. x) (λ n x. x) e
+    (subst (λ (x : Result V AuditFault). IfErr x (λ y. (y ≡ faults.OutOfMemory) ⊎ IsWrite y)) is h)
+
+-- a fault of the trace is of its reader, where that failed, or else of no device
+pub devices_of_trace : (e : AuditFault) (trace evidence out : Type 0) → IsOfTrace e → ((f : TraceFault) → e ≡ faults.Trace f → f.cause ≡ causes.Read → trace) → IsOfDevices ⊥ trace evidence out e
+devices_of_trace (faults.Trace f) trace evidence out of at = at f refl
+devices_of_trace (faults.Evidence f) trace evidence out of at = absurd of
+devices_of_trace (faults.Write n) trace evidence out of at = absurd of
+devices_of_trace faults.OutOfMemory trace evidence out of at = tt
+devices_of_trace faults.Limits trace evidence out of at = absurd of
+devices_of_trace faults.Joined trace evidence out of at = absurd of
+devices_of_trace faults.Input trace evidence out of at = absurd of
 
 no_findings : (fs : List Finding) → verdict_of fs ≡ Clean → fs ≡ []
 no_findings [] h = refl

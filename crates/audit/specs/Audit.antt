@@ -1,5 +1,5 @@
 -- What an audit answers and writes.
-use Rattle.std.specs.Prelude.{◌≡◌, ◌≢◌, ℕ, ◌+◌, ◌≤◌, true, false, List, [], ◌∷◌, ◌++◌, length, take, Option, Ok, Err, ⊤}
+use Rattle.std.specs.Prelude.{◌≡◌, ◌≢◌, ℕ, ◌≤◌, true, false, List, [], ◌∷◌, ◌++◌, length, take, Option, Ok, Err, ⊤}
 use Rattle.trace_lines.specs.Values.{TraceValue}
 use Rattle.trace_lines.specs.Traces.{trace_of}
 use Rattle.trace_lines.specs.Results.{FailsBy}
@@ -56,9 +56,13 @@ IsOfBytes a b P = (t : TraceValue) × (given : List (Option (List StepValue))) �
 abbrev pub RefusesTrace : List ℕ → TraceFault → Type 0
 RefusesTrace a f = FailsBy f.cause f (trace_of true a)
 
+-- the fault is that of the bytes of evidence for a trace
+abbrev pub RefusesEvidenceFor : TraceValue → List ℕ → EvidenceFault → Type 0
+RefusesEvidenceFor t b f = evidence.FailsBy f.cause f (evidence_of t.entries true b)
+
 -- the bytes say a trace, and the fault is that of the evidence for it
 abbrev pub RefusesEvidence : List ℕ → List ℕ → EvidenceFault → Type 0
-RefusesEvidence a b f = (t : TraceValue) × (trace_of true a ≡ Ok t) × evidence.FailsBy f.cause f (evidence_of t.entries true b)
+RefusesEvidence a b f = (t : TraceValue) × (trace_of true a ≡ Ok t) × RefusesEvidenceFor t b f
 
 -- the bytes say a trace and evidence for it, and the report on them went out up to its first n bytes
 abbrev pub Breaks : List ℕ → List ℕ → List ℕ → List ℕ → ℕ → Type 0
@@ -67,10 +71,6 @@ Breaks a b old new n =
     × FailsWriting old new n (report_on t given)
 
 -- ---- the devices
-
--- a count of failures rose by one
-abbrev pub HasRisen : ℕ → ℕ → Type 0
-HasRisen old new = new ≡ old + 1
 
 -- The reader of the evidence failed, and the fault is of the line that its bytes had come to.
 abbrev pub CutsEvidence : List ℕ → List ℕ → EvidenceFault → Type 0

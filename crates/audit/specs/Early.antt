@@ -3,7 +3,7 @@ use Rattle.std.specs.Prelude.{◌≡◌, ◌⊎◌, ℕ, Bool, true, false, List
 use Rattle.std.specs.List.{flat_map}
 use Rattle.trace_lines.specs.Values.{TraceValue, EntryValue}
 use Rattle.evidence_check.specs.Steps.{StepValue}
-use Rattle.audit.specs.Audit.{HasRisen}
+use Rattle.audit.specs.Devices.{HasRisen}
 use Rattle.findings.specs.Findings.{found_on, on_line}
 use Rattle.findings.specs.Report.{line_text}
 use Rattle.findings.specs.declared.finding.Finding.{Finding}

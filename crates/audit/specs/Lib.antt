@@ -1,4 +1,6 @@
+pub mod Answers
 pub mod Audit
+pub mod Devices
 pub mod Early
 pub mod History
 pub mod Joined

@@ -4,27 +4,19 @@ ghost use Rattle.std.specs.Prelude.{◌≡◌, ◌⊎◌, ◌↔◌, ◌<◌, �
 ghost use Rattle.std.specs.List.{flat_map};
 ghost use Rattle.audit_slices.specs.Board.{IsNamedBy};
 ghost use Rattle.audit_slices.specs.Reports.{report_items};
-ghost use Rattle.json_lines.specs.Given.{OfBytes, OfWhole, OfInput, AreNext, StandBehind};
-ghost use Rattle.json_lines.specs.declared.lines.TheConstants.{CHUNK};
-ghost use Rattle.json_lines.specs.declared.reading.TheConstants.{MAX_INPUT};
-ghost use Rattle.trace_lines.specs.declared.cause.Cause.TheVariants as causes;
-ghost use Rattle.trace_lines.specs.declared.cause.TraceFault.{TraceFault};
-ghost use Rattle.trace_lines.specs.Traces.{trace_of};
-ghost use Rattle.evidence_check.specs.declared.cause.EvidenceCause.TheVariants as evidence_causes;
-ghost use Rattle.evidence_check.specs.declared.cause.EvidenceFault.{EvidenceFault};
 ghost use Rattle.evidence_check.specs.Evidences.{evidence_value};
-ghost use Rattle.audit.specs.Audit.{Audits, Breaks, RefusesTrace, RefusesEvidence, CutsEvidence, HasRisen, IsOfBytes, IsOfDevices, IsOfNoDevice, IsUnwritten, IsOfAudit};
+ghost use Rattle.audit.specs.Answers.{Audited};
+ghost use Rattle.audit.specs.Audit.{IsOfAudit, IsOfBytes};
+ghost use Rattle.audit.specs.Devices.{reads, writes, OfBoth};
 ghost use Rattle.audit.specs.Early.{WriterState, WentOut, TellsEarly, state_of};
-ghost use Rattle.findings.specs.Findings.{findings_of, on_line};
-ghost use Rattle.findings.specs.Headline.{IsTraceRightAndFresh};
 ghost use Rattle.audit.specs.Shared.{found_at, has_finding, all_found, are_within_limits};
 ghost use Rattle.audit.specs.Told.{IsLineOf, line_for};
-ghost use Rattle.findings.specs.WrongReplies.{NamesOnlyWrongReplies};
 ghost use Rattle.audit.specs.declared.plain.AuditFault.TheVariants as faults;
-ghost use Rattle.audit.specs.declared.plain.Verdict.TheVariants.{Clean};
+ghost use Rattle.findings.specs.Findings.{findings_of, on_line};
 
 use crate::finder::Finder;
-use crate::plain::{AuditFault, Verdict, audit_by};
+use crate::plain::{AuditFault, Verdict, audit_with};
+use crate::reading::evidence_from;
 use crate::shared::{EntryCheck, Found, are_within_limits, gathered};
 use audit_slices::{Alert, Board, Free, Names, SliceReport, Watch, cut, run_pool};
 use evidence_check::Evidence;
@@ -191,7 +183,7 @@ struct Tellers<'r, 'e, R: Threads + Wait + Sync, E: Sink> {
     ghost filled: { 0 < size },
 }
 
-impl<'r, 'e, R: Threads + Wait + Sync, E: Sink> Finder for Tellers<'r, 'e, R, E> {
+impl<'r, 'e, B: Source, R: Threads + Wait + Sync, E: Sink> Finder<B> for Tellers<'r, 'e, R, E> {
     ghost use Rattle.std.specs.Thread.{IsSync};
 
     ghost asks = { λ _. IsSync R.row };
@@ -204,17 +196,25 @@ impl<'r, 'e, R: Threads + Wait + Sync, E: Sink> Finder for Tellers<'r, 'e, R, E>
         &mut self,
         alloc: Global,
         trace: &Trace,
-        evidence: &Evidence,
-    ) -> Result<Vec<Finding>, AllocError> {
-        findings_early(
+        evidence: &mut B,
+    ) -> Result<Vec<Finding>, AuditFault> {
+        let evidence = match evidence_from(alloc, evidence, trace) {
+            Ok(evidence) => evidence,
+            Err(fault) => return Err(fault),
+        };
+        let early = &mut *self.early;
+        match findings_early(
             self.rt,
             alloc,
             trace,
-            evidence,
-            &mut *self.early,
+            &evidence,
+            early,
             self.workers,
             self.size,
-        )
+        ) {
+            Ok(findings) => Ok(findings),
+            Err(_) => Err(AuditFault::OutOfMemory),
+        }
     }
 }
 
@@ -233,41 +233,20 @@ pub fn audit_early<A: Source, B: Source, W: Sink, E: Sink, R: Threads + Wait + S
     workers: usize,
     slice: usize,
 ) -> Result<Verdict, AuditFault>
-    // The report on what the readers gave, to their ends, went out whole, and the verdict is its last line.
-    ensures audits { IfOk result (λ v. OfWhole A.given A.ends trace.old trace.new (λ a. OfWhole B.given B.ends evidence.old evidence.new (λ b.
-        Audits a b (W.taken out.old) (W.taken out.new) v))) }
-    ensures flushed { OnOk result (W.flushes out.new ≡ W.flushes out.old + 1) }
-    // A clean verdict says that each reply is what the rules mean over the tuples committed up to its snapshot, and that no check is older
-    // than its zookie, nor than any access change committed before the content check of the version that it names.
-    ensures headline { result ≡ Ok Clean → OfWhole A.given A.ends trace.old trace.new IsTraceRightAndFresh }
-    // Whatever the verdict: a reply that a finding F10 calls wrong is wrong.
-    ensures wrong_replies { IfOk result (λ _. OfWhole A.given A.ends trace.old trace.new (λ a. OfWhole B.given B.ends evidence.old evidence.new (λ b. NamesOnlyWrongReplies a b))) }
-    // A refusal holds of every input that begins with the bytes that came.
-    ensures trace { (f : TraceFault) → result ≡ Err (faults.Trace f) → OfInput A.given A.ends trace.old trace.new (λ a. RefusesTrace a f) }
-    ensures trace_cut { (f : TraceFault) → result ≡ Err (faults.Trace f) → f.cause ≡ causes.Read → OfBytes A.given trace.old trace.new (λ a. trace_of false a ≡ Err f) }
-    ensures evidence { (f : EvidenceFault) → result ≡ Err (faults.Evidence f) → OfWhole A.given A.ends trace.old trace.new (λ a. OfInput B.given B.ends evidence.old evidence.new (λ b.
-        RefusesEvidence a b f)) }
-    ensures evidence_cut { (f : EvidenceFault) → result ≡ Err (faults.Evidence f) → f.cause ≡ evidence_causes.Read
-        → OfWhole A.given A.ends trace.old trace.new (λ a. OfBytes B.given evidence.old evidence.new (λ b. CutsEvidence a b f)) }
-    ensures write { (n : ℕ) → result ≡ Err (faults.Write n) → OfWhole A.given A.ends trace.old trace.new (λ a. OfWhole B.given B.ends evidence.old evidence.new (λ b.
-        Breaks a b (W.taken out.old) (W.taken out.new) n)) }
-    ensures unwritten { IfErr result (λ e. IsUnwritten e → W.taken out.new ≡ W.taken out.old) }
-    // Also of readers that never end.
-    ensures most { OfBytes A.given trace.old trace.new (λ a. length a ≤ MAX_INPUT + CHUNK) × OfBytes B.given evidence.old evidence.new (λ b. length b ≤ MAX_INPUT + CHUNK) }
-    // Of devices in memory: what came is what the readers had left, and what went out stands behind what the writer held.
-    ensures known { AreNext A.given A.ends A.remaining trace.old trace.new × AreNext B.given B.ends B.remaining evidence.old evidence.new }
-    ensures held { StandBehind W.taken W.contents out.old out.new }
-    ensures devices { IfErr result (IsOfDevices ⊥ (HasRisen (A.failures trace.old) (A.failures trace.new)) (HasRisen (B.failures evidence.old) (B.failures evidence.new))
-        (HasRisen (W.failures out.old) (W.failures out.new) ⊎ HasRisen (W.idle out.old) (W.idle out.new))) }
-    // Any other answer comes only where no device failed.
-    ensures kept { OnOk result ((A.failures trace.new ≡ A.failures trace.old) × (B.failures evidence.new ≡ B.failures evidence.old) × (W.failures out.new ≡ W.failures out.old)) }
-    ensures unfailed { IfErr result (λ e. IsOfNoDevice e → (A.failures trace.new ≡ A.failures trace.old) × (B.failures evidence.new ≡ B.failures evidence.old) × (W.failures out.new ≡ W.failures out.old)) }
-    ensures faults { IfErr result (λ e. IsOfAudit e ⊎ (e ≡ faults.Limits)) }
+    ensures audited { Audited (reads A.given A.ends A.failures A.remaining trace.old trace.new)
+        (reads B.given B.ends B.failures B.remaining evidence.old evidence.new)
+        (writes W.taken W.flushes W.failures W.idle W.contents out.old out.new) result }
+    ensures kinds { IfErr result (λ e. IsOfAudit e ⊎ (e ≡ faults.Limits)) }
     ensures limits { result ≡ Err faults.Limits ↔ (are_within_limits workers slice ≡ false) }
-    ensures unread { result ≡ Err faults.Limits → (trace.new ≡ trace.old) × (evidence.new ≡ evidence.old) × (out.new ≡ out.old) × (early.new ≡ early.old) }
-    // Lines went out of entries that have just these findings, and the last may be cut where `early` failed or took none of some bytes.
-    ensures early { (early.new ≡ early.old) ⊎ OfWhole A.given A.ends trace.old trace.new (λ a. OfWhole B.given B.ends evidence.old evidence.new (λ b.
-        IsOfBytes a b (λ t given. TellsEarly t given (state_of E.taken E.failures E.idle early.old) (state_of E.taken E.failures E.idle early.new)))) }
+    ensures unread { result ≡ Err faults.Limits →
+        (trace.new ≡ trace.old) × (evidence.new ≡ evidence.old) × (out.new ≡ out.old) × (early.new ≡ early.old) }
+    // Lines went out of entries that have just these findings, and the last may be cut where `early` failed or took none
+    // of some bytes.
+    ensures early { (early.new ≡ early.old)
+        ⊎ OfBoth (reads A.given A.ends A.failures A.remaining trace.old trace.new)
+        (reads B.given B.ends B.failures B.remaining evidence.old evidence.new)
+        (λ a b. IsOfBytes a b (λ t given. TellsEarly t given (state_of E.taken E.failures E.idle early.old)
+        (state_of E.taken E.failures E.idle early.new))) }
 {
     if !are_within_limits(workers, slice) {
         return Err(AuditFault::Limits);
@@ -278,5 +257,5 @@ pub fn audit_early<A: Source, B: Source, W: Sink, E: Sink, R: Threads + Wait + S
         workers,
         size: slice,
     };
-    audit_by(alloc, trace, evidence, out, &mut finder)
+    audit_with(alloc, trace, evidence, out, &mut finder)
 }

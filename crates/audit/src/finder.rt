@@ -1,18 +1,21 @@
 //! How an audit comes by the findings.
 
-ghost use Rattle.std.specs.Prelude.{◌≡◌, ℕ, List, Option, IfOk};
+ghost use Rattle.std.specs.Prelude.{◌≡◌, ◌⊎◌, ℕ, true, List, Option, Ok, IfOk};
 ghost use Rattle.trace_lines.specs.Values.{TraceValue};
-ghost use Rattle.evidence_check.specs.Evidences.{evidence_value};
+ghost use Rattle.evidence_check.specs.Reading.{evidence_of};
 ghost use Rattle.evidence_check.specs.Steps.{StepValue};
-ghost use Rattle.findings.specs.Findings.{findings_of};
+ghost use Rattle.audit.specs.Answers.{AreFound, EvidenceRead};
+ghost use Rattle.audit.specs.Devices.{reads, OfAll};
 
-use evidence_check::Evidence;
-use findings::{Finding, findings_of};
-use std::alloc::{AllocError, Global};
+use crate::plain::AuditFault;
+use crate::reading::judgements_from;
+use findings::{Finding, findings_judged};
+use json_lines::Source;
+use std::alloc::Global;
 use trace_lines::Trace;
 
-/// How an audit comes by the findings.
-pub(crate) trait Finder {
+/// How an audit comes by the findings on a trace, by the evidence of a reader.
+pub(crate) trait Finder<B: Source> {
     // What it needs of its handles.
     ghost asks: { Self → Type 0 };
 
@@ -26,19 +29,22 @@ pub(crate) trait Finder {
         &mut self,
         alloc: Global,
         trace: &Trace,
-        evidence: &Evidence,
-    ) -> Result<Vec<Finding>, AllocError>
+        evidence: &mut B,
+    ) -> Result<Vec<Finding>, AuditFault>
         requires { asks self.old }
-        ensures found { IfOk result (λ v. v.items ≡ findings_of trace.now (evidence_value evidence.now)) }
+        ensures read { EvidenceRead (AreFound trace.now) trace.now
+            (reads B.given B.ends B.failures B.remaining evidence.old evidence.new) result }
         ensures mark { mark self.new ≡ mark self.old }
-        ensures tells { tells trace.now (evidence_value evidence.now) self.old self.new };
+        ensures tells { (self.new ≡ self.old) ⊎ OfAll (reads B.given B.ends B.failures B.remaining evidence.old evidence.new)
+            (λ b. (given : List (Option (List StepValue))) × (evidence_of trace.now.entries true b ≡ Ok given)
+            × tells trace.now given self.old self.new) };
 }
 
-/// It finds them in the calling thread.
+/// It finds them in the calling thread, and lets each record go once it has judged by it.
 #[derive(Drop)]
 pub(crate) struct OneThread;
 
-impl Finder for OneThread {
+impl<B: Source> Finder<B> for OneThread {
     ghost use Rattle.std.specs.Prelude.{⊤};
 
     ghost asks = { λ _. ⊤ };
@@ -51,8 +57,15 @@ impl Finder for OneThread {
         &mut self,
         alloc: Global,
         trace: &Trace,
-        evidence: &Evidence,
-    ) -> Result<Vec<Finding>, AllocError> {
-        findings_of(alloc, trace, evidence)
+        evidence: &mut B,
+    ) -> Result<Vec<Finding>, AuditFault> {
+        let judgements = match judgements_from(alloc, evidence, trace) {
+            Ok(judgements) => judgements,
+            Err(fault) => return Err(fault),
+        };
+        match findings_judged(alloc, trace, &judgements) {
+            Ok(findings) => Ok(findings),
+            Err(_) => Err(AuditFault::OutOfMemory),
+        }
     }
 }

@@ -7,18 +7,22 @@ ghost use Rattle.json_lines.specs.Lines.{ComeAtMost};
 ghost use Rattle.trace_lines.specs.Traces.{trace_of};
 ghost use Rattle.trace_lines.specs.declared.cause.TraceFault.{TraceFault};
 ghost use Rattle.evidence_check.specs.Judging.{GivesJudged};
-ghost use Rattle.evidence_check.specs.Reading as evidence;
 ghost use Rattle.evidence_check.specs.Reading.{evidence_of};
 ghost use Rattle.evidence_check.specs.declared.cause.EvidenceFault.{EvidenceFault};
-ghost use Rattle.audit.specs.Audit.{Audits, Breaks, RefusesTrace, RefusesEvidence, HasRisen, IsOfDevices, IsUnwritten, IsOfFront, IsOfBehind, IsOfJoined};
+ghost use Rattle.audit.specs.Audit.{Audits, Breaks, RefusesTrace, RefusesEvidence, RefusesEvidenceFor, IsOfDevices, IsUnwritten, IsOfFront, IsOfBehind, IsOfJoined};
+ghost use Rattle.audit.specs.Devices.{HasRisen};
 ghost use Rattle.findings.specs.Headline.{IsTraceRightAndFresh};
 ghost use Rattle.audit.specs.Joined.{OfParts, HasNoParts, IsRead, of_input};
 ghost use Rattle.findings.specs.WrongReplies.{NamesOnlyWrongReplies};
 ghost use Rattle.audit.specs.declared.plain.AuditFault.TheVariants as faults;
 ghost use Rattle.audit.specs.declared.plain.Verdict.TheVariants.{Clean};
 
-use crate::plain::{AuditFault, Verdict, audit_judged, of_evidence, of_trace};
+use crate::plain::{AuditFault, Verdict};
+use crate::reading::{of_evidence, of_trace};
+use crate::telling::tell_findings;
 use evidence_check::{Judged, judge_evidence_behind};
+use findings::findings_judged;
+use findings::laws::right_and_fresh_without_findings;
 use json_lines::{CHUNK, InputFault, MAX_INPUT, Rest, Sink, Source};
 use std::alloc::Global;
 use trace_lines::{Trace, TraceFront, read_trace_front};
@@ -68,7 +72,7 @@ fn judgements_behind<R: Source>(
     trace: &Trace,
 ) -> Result<Vec<Judged>, AuditFault>
     ensures given { IfOk result (λ v. IsRead R.given R.ends input.old input.new rest (λ b. GivesJudged trace.now (Ok v) (evidence_of trace.now.entries true b))) }
-    ensures evidence { (f : EvidenceFault) → result ≡ Err (faults.Evidence f) → IsRead R.given R.ends input.old input.new rest (λ b. evidence.FailsBy f.cause f (evidence_of trace.now.entries true b)) }
+    ensures evidence { (f : EvidenceFault) → result ≡ Err (faults.Evidence f) → IsRead R.given R.ends input.old input.new rest (λ b. RefusesEvidenceFor trace.now b f) }
     ensures joined { result ≡ Err faults.Joined → ComesPast rest.room (R.given input.old) (R.given input.new) rest.at_hand }
     ensures most { ComeAtMost (rest.room + CHUNK) (R.given input.old) (R.given input.new) rest.at_hand }
     ensures known { AreNext R.given R.ends R.remaining input.old input.new }
@@ -119,9 +123,14 @@ pub fn audit_joined<R: Source, W: Sink>(
     ensures faults { IfErr result IsOfJoined }
 {
     let (trace, rest) = trace_of_front(alloc, input)?;
+    right_and_fresh_without_findings(&trace);
     let judgements = match judgements_behind(alloc, rest, input, &trace) {
         Ok(judgements) => judgements,
         Err(fault) => return Err(fault),
     };
-    audit_judged(alloc, &trace, &judgements, out)
+    let findings = match findings_judged(alloc, &trace, &judgements) {
+        Ok(findings) => findings,
+        Err(_) => return Err(AuditFault::OutOfMemory),
+    };
+    tell_findings(alloc, &findings, trace.len(), out)
 }

@@ -1,24 +1,20 @@
 //! Evidence for a whole trace, as text.
 
-ghost use Rattle.std.specs.Prelude.{◌≡◌, ◌⊎◌, ℕ, ◌+◌, ◌<◌, ◌≤◌, ◌^◌, ◌++◌, List, length, true, false, Ok, Err, Some, IfOk, IfErr, OnOk, IfSome, option_map, slice_get, string_bytes};
-ghost use Rattle.json_lines.specs.Given.{OfBytes, OfWhole, OfInput, AreNext, StandBehind};
-ghost use Rattle.json_lines.specs.declared.lines.TheConstants.{CHUNK};
-ghost use Rattle.json_lines.specs.declared.reading.TheConstants.{MAX_INPUT};
-ghost use Rattle.trace_lines.specs.declared.cause.Cause.TheVariants as causes;
-ghost use Rattle.trace_lines.specs.declared.cause.TraceFault.{TraceFault};
-ghost use Rattle.trace_lines.specs.Traces.{trace_of};
+ghost use Rattle.std.specs.Prelude.{◌≡◌, ℕ, ◌<◌, ◌^◌, ◌++◌, List, length, Some, IfOk, IfErr, OnOk, IfSome, option_map, slice_get, string_bytes};
 ghost use Rattle.trace_lines.specs.Values.{EntryValue};
 ghost use Rattle.evidence_check.specs.Steps.{step_values};
 ghost use Rattle.record_text.specs.ReadBack.{IsTaken};
-ghost use Rattle.audit.specs.Audit.{RefusesTrace, HasRisen, IsOfDevices, IsOfNoDevice, IsWrite, IsUnwritten, FailsWriting};
+ghost use Rattle.audit.specs.Answers.{Told, TellsOfTrace};
+ghost use Rattle.audit.specs.Devices.{reads, writes};
 ghost use Rattle.audit.specs.History.{IsOfHistory};
 ghost use Rattle.audit.specs.Made.{IsMade, record_line, line_without, AreRecords, MakesRecords, BreaksMaking};
-ghost use Rattle.audit.specs.declared.plain.AuditFault.TheVariants as faults;
 
-use crate::plain::{AuditFault, trace_from};
+use crate::plain::AuditFault;
+use crate::reading::trace_from;
+use crate::telling::tell;
 use evidence_check::Steps;
 use evidence_maker::{Found, MakeFault, make_after};
-use json_lines::{Sink, Source, send};
+use json_lines::{Sink, Source};
 use record_text::write_record;
 use std::alloc::{AllocError, Global};
 use trace_lines::Trace;
@@ -102,24 +98,11 @@ fn records_of(alloc: Global, trace: &Trace) -> Result<(String, Vec<u64>), AllocE
 
 /// Writes the records for a trace, and answers the lines of the entries that the maker gave up.
 fn tell_records<W: Sink>(alloc: Global, trace: &Trace, out: &mut W) -> Result<Vec<u64>, AuditFault>
-    ensures told { IfOk result (λ v. (text : List ℕ) × AreRecords trace.now text v.items × (W.taken out.new ≡ W.taken out.old ++ text)) }
-    ensures flushed { OnOk result (W.flushes out.new ≡ W.flushes out.old + 1) }
-    ensures write { (n : ℕ) → result ≡ Err (faults.Write n) →
-        (text : List ℕ) × (lines : List ℕ) × AreRecords trace.now text lines × FailsWriting (W.taken out.old) (W.taken out.new) n text }
-    ensures device { IfErr result (λ e. IsWrite e → HasRisen (W.failures out.old) (W.failures out.new) ⊎ HasRisen (W.idle out.old) (W.idle out.new)) }
-    ensures kept { OnOk result (W.failures out.new ≡ W.failures out.old) }
-    ensures faults { IfErr result (λ e. (e ≡ faults.OutOfMemory) ⊎ IsWrite e) }
-    ensures unwritten { IfErr result (λ e. IsUnwritten e → W.taken out.new ≡ W.taken out.old) }
-    ensures unfailed { IfErr result (λ e. IsUnwritten e → W.failures out.new ≡ W.failures out.old) }
-    ensures held { StandBehind W.taken W.contents out.old out.new }
+    ensures { Told (λ text v. AreRecords trace.now text v.items)
+        (writes W.taken W.flushes W.failures W.idle W.contents out.old out.new) result }
 {
     let (text, given_up) = records_of(alloc, trace)?;
-    match send(out, text.as_bytes()) {
-        Ok(()) => Ok(given_up),
-        Err(unsent) => Err(AuditFault::Write {
-            written: unsent.written,
-        }),
-    }
+    tell(text.as_str(), given_up, out)
 }
 
 /// Writes evidence for a trace as [`make_records`] does, and answers the lines of the entries that the maker gave up.
@@ -128,28 +111,15 @@ pub fn make_records_listing<A: Source, W: Sink>(
     trace: &mut A,
     out: &mut W,
 ) -> Result<Vec<u64>, AuditFault>
-    // The records for the trace that the reader gave, to its end, went out whole.
-    ensures told { IfOk result (λ v. OfWhole A.given A.ends trace.old trace.new (λ a. MakesRecords a (W.taken out.old) (W.taken out.new) v.items)) }
-    ensures flushed { OnOk result (W.flushes out.new ≡ W.flushes out.old + 1) }
-    // A refusal holds of every input that begins with the bytes that came.
-    ensures trace { (f : TraceFault) → result ≡ Err (faults.Trace f) → OfInput A.given A.ends trace.old trace.new (λ a. RefusesTrace a f) }
-    ensures trace_cut { (f : TraceFault) → result ≡ Err (faults.Trace f) → f.cause ≡ causes.Read → OfBytes A.given trace.old trace.new (λ a. trace_of false a ≡ Err f) }
-    // The first n bytes went out, and no others.
-    ensures write { (n : ℕ) → result ≡ Err (faults.Write n) → OfWhole A.given A.ends trace.old trace.new (λ a. BreaksMaking a (W.taken out.old) (W.taken out.new) n) }
-    ensures unwritten { IfErr result (λ e. IsUnwritten e → W.taken out.new ≡ W.taken out.old) }
-    // Also of a reader that never ends.
-    ensures most { OfBytes A.given trace.old trace.new (λ a. length a ≤ MAX_INPUT + CHUNK) }
-    // Of devices in memory: what came is what the reader had left, and what went out stands behind what the writer held.
-    ensures known { AreNext A.given A.ends A.remaining trace.old trace.new }
-    ensures held { StandBehind W.taken W.contents out.old out.new }
-    ensures devices { IfErr result (IsOfDevices ⊥ (HasRisen (A.failures trace.old) (A.failures trace.new)) ⊥
-        (HasRisen (W.failures out.old) (W.failures out.new) ⊎ HasRisen (W.idle out.old) (W.idle out.new))) }
-    // Any other answer comes only where no device failed.
-    ensures kept { OnOk result ((A.failures trace.new ≡ A.failures trace.old) × (W.failures out.new ≡ W.failures out.old)) }
-    ensures unfailed { IfErr result (λ e. IsOfNoDevice e → (A.failures trace.new ≡ A.failures trace.old) × (W.failures out.new ≡ W.failures out.old)) }
-    ensures faults { IfErr result IsOfHistory }
+    ensures told { TellsOfTrace (λ a old new v. MakesRecords a old new v.items) BreaksMaking
+        (reads A.given A.ends A.failures A.remaining trace.old trace.new)
+        (writes W.taken W.flushes W.failures W.idle W.contents out.old out.new) result }
+    ensures kinds { IfErr result IsOfHistory }
 {
-    let trace = trace_from(alloc, trace)?;
+    let trace = match trace_from(alloc, trace) {
+        Ok(trace) => trace,
+        Err(fault) => return Err(fault),
+    };
     tell_records(alloc, &trace, out)
 }
 
@@ -164,27 +134,11 @@ pub fn make_records<A: Source, W: Sink>(
     trace: &mut A,
     out: &mut W,
 ) -> Result<u64, AuditFault>
-    // The records for the trace that the reader gave, to its end, went out whole.
-    ensures told { IfOk result (λ n. OfWhole A.given A.ends trace.old trace.new (λ a.
-        (lines : List ℕ) × MakesRecords a (W.taken out.old) (W.taken out.new) lines × (n ≡ length lines))) }
-    ensures flushed { OnOk result (W.flushes out.new ≡ W.flushes out.old + 1) }
-    // A refusal holds of every input that begins with the bytes that came.
-    ensures trace { (f : TraceFault) → result ≡ Err (faults.Trace f) → OfInput A.given A.ends trace.old trace.new (λ a. RefusesTrace a f) }
-    ensures trace_cut { (f : TraceFault) → result ≡ Err (faults.Trace f) → f.cause ≡ causes.Read → OfBytes A.given trace.old trace.new (λ a. trace_of false a ≡ Err f) }
-    // The first n bytes went out, and no others.
-    ensures write { (n : ℕ) → result ≡ Err (faults.Write n) → OfWhole A.given A.ends trace.old trace.new (λ a. BreaksMaking a (W.taken out.old) (W.taken out.new) n) }
-    ensures unwritten { IfErr result (λ e. IsUnwritten e → W.taken out.new ≡ W.taken out.old) }
-    // Also of a reader that never ends.
-    ensures most { OfBytes A.given trace.old trace.new (λ a. length a ≤ MAX_INPUT + CHUNK) }
-    // Of devices in memory: what came is what the reader had left, and what went out stands behind what the writer held.
-    ensures known { AreNext A.given A.ends A.remaining trace.old trace.new }
-    ensures held { StandBehind W.taken W.contents out.old out.new }
-    ensures devices { IfErr result (IsOfDevices ⊥ (HasRisen (A.failures trace.old) (A.failures trace.new)) ⊥
-        (HasRisen (W.failures out.old) (W.failures out.new) ⊎ HasRisen (W.idle out.old) (W.idle out.new))) }
-    // Any other answer comes only where no device failed.
-    ensures kept { OnOk result ((A.failures trace.new ≡ A.failures trace.old) × (W.failures out.new ≡ W.failures out.old)) }
-    ensures unfailed { IfErr result (λ e. IsOfNoDevice e → (A.failures trace.new ≡ A.failures trace.old) × (W.failures out.new ≡ W.failures out.old)) }
-    ensures faults { IfErr result IsOfHistory }
+    ensures told { TellsOfTrace
+        (λ a old new n. (lines : List ℕ) × MakesRecords a old new lines × (n ≡ length lines)) BreaksMaking
+        (reads A.given A.ends A.failures A.remaining trace.old trace.new)
+        (writes W.taken W.flushes W.failures W.idle W.contents out.old out.new) result }
+    ensures kinds { IfErr result IsOfHistory }
 {
     match make_records_listing(alloc, trace, out) {
         Ok(given_up) => Ok(given_up.len() as u64),

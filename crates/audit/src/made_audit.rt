@@ -1,31 +1,24 @@
 //! The audit on evidence that is made for its trace.
 
-ghost use Rattle.std.specs.Prelude.{◌≡◌, ◌⊎◌, ◌↔◌, ℕ, ◌+◌, ◌<◌, ◌≤◌, ◌^◌, List, Option, Some, length, slice_get, true, false, Ok, Err, IfOk, IfErr, OnOk};
+ghost use Rattle.std.specs.Prelude.{◌≡◌, ◌⊎◌, ◌↔◌, ◌<◌, ◌≤◌, ◌^◌, List, Option, Some, length, slice_get, false, Err, IfOk, IfErr};
 ghost use Rattle.std.specs.List.{AllZip, flat_map, range_with_len};
-ghost use Rattle.json_lines.specs.Given.{OfBytes, OfWhole, OfInput, AreNext, StandBehind};
-ghost use Rattle.json_lines.specs.declared.lines.TheConstants.{CHUNK};
-ghost use Rattle.json_lines.specs.declared.reading.TheConstants.{MAX_INPUT};
-ghost use Rattle.trace_lines.specs.declared.cause.Cause.TheVariants as causes;
-ghost use Rattle.trace_lines.specs.declared.cause.TraceFault.{TraceFault};
-ghost use Rattle.trace_lines.specs.Traces.{trace_of};
 ghost use Rattle.trace_lines.specs.Values.{EntryValue};
 ghost use Rattle.audit_slices.specs.Board.{IsNamedBy};
 ghost use Rattle.audit_slices.specs.Reports.{report_items};
 ghost use Rattle.evidence_check.specs.Steps.{StepValue};
 ghost use Rattle.findings.specs.Findings.{findings_of};
-ghost use Rattle.findings.specs.Headline.{IsTraceRightAndFresh};
-ghost use Rattle.findings.specs.WrongReplies.{HasOnlyWrongRepliesNamed};
-ghost use Rattle.audit.specs.Audit.{RefusesTrace, HasRisen, IsOfDevices, IsOfNoDevice, IsUnwritten};
+ghost use Rattle.audit.specs.Devices.{reads, writes};
 ghost use Rattle.audit.specs.History.{IsOfHistory};
 ghost use Rattle.audit.specs.Made.{AreMade};
-ghost use Rattle.audit.specs.MadeAudit.{AuditsMade, BreaksMade, WhateverIsMade, AreOfMaker, IsJudgedMade, IsFoundMade};
+ghost use Rattle.audit.specs.MadeAudit.{AuditedMade, IsJudgedMade, IsFoundMade};
 ghost use Rattle.audit.specs.Shared.{has_finding, are_within_limits};
 ghost use Rattle.audit.specs.declared.plain.AuditFault.TheVariants as faults;
-ghost use Rattle.audit.specs.declared.plain.Verdict.TheVariants.{Clean};
 
 use crate::made::steps_for;
-use crate::plain::{AuditFault, Verdict, tell_findings, trace_from};
+use crate::plain::{AuditFault, Verdict};
+use crate::reading::trace_from;
 use crate::shared::{Found, are_within_limits, gathered, is_any};
+use crate::telling::tell_findings;
 use audit_slices::{Blind, Board, Check, Free, Names, SliceReport, cut, run_pool};
 use evidence_check::{Judged, judge_steps};
 use findings::laws::right_and_fresh_without_findings;
@@ -153,37 +146,19 @@ fn audit_made_by<A: Source, W: Sink, R: Threads + Wait + Sync>(
 ) -> Result<Verdict, AuditFault>
     requires workers { (0 < workers) × (workers ≤ 16) }
     requires size { 0 < size }
-    // The report on the trace that the reader gave, to its end, and on evidence that was made for it, went out whole, and the verdict is its last line.
-    ensures audits { IfOk result (λ v. OfWhole A.given A.ends trace.old trace.new (λ a. AuditsMade a (W.taken out.old) (W.taken out.new) v)) }
-    ensures flushed { OnOk result (W.flushes out.new ≡ W.flushes out.old + 1) }
-    // A clean verdict says that each reply is what the rules mean over the tuples committed up to its snapshot, and that no check is older
-    // than its zookie, nor than any access change committed before the content check of the version that it names.
-    ensures headline { result ≡ Ok Clean → OfWhole A.given A.ends trace.old trace.new IsTraceRightAndFresh }
-    // Whatever the verdict: a reply that a finding F10 calls wrong is wrong.
-    ensures wrong_replies { OnOk result (OfWhole A.given A.ends trace.old trace.new (WhateverIsMade HasOnlyWrongRepliesNamed)) }
-    // Whatever the verdict: F7 is found only where the maker gave up, and F8 and F9 nowhere.
-    ensures given_up { OnOk result (OfWhole A.given A.ends trace.old trace.new (WhateverIsMade AreOfMaker)) }
-    // A refusal holds of every input that begins with the bytes that came.
-    ensures trace { (f : TraceFault) → result ≡ Err (faults.Trace f) → OfInput A.given A.ends trace.old trace.new (λ a. RefusesTrace a f) }
-    ensures trace_cut { (f : TraceFault) → result ≡ Err (faults.Trace f) → f.cause ≡ causes.Read → OfBytes A.given trace.old trace.new (λ a. trace_of false a ≡ Err f) }
-    // The first n bytes went out, and no others.
-    ensures write { (n : ℕ) → result ≡ Err (faults.Write n) → OfWhole A.given A.ends trace.old trace.new (λ a. BreaksMade a (W.taken out.old) (W.taken out.new) n) }
-    ensures unwritten { IfErr result (λ e. IsUnwritten e → W.taken out.new ≡ W.taken out.old) }
-    // Also of a reader that never ends.
-    ensures most { OfBytes A.given trace.old trace.new (λ a. length a ≤ MAX_INPUT + CHUNK) }
-    // Of devices in memory: what came is what the reader had left, and what went out stands behind what the writer held.
-    ensures known { AreNext A.given A.ends A.remaining trace.old trace.new }
-    ensures held { StandBehind W.taken W.contents out.old out.new }
-    ensures devices { IfErr result (IsOfDevices ⊥ (HasRisen (A.failures trace.old) (A.failures trace.new)) ⊥
-        (HasRisen (W.failures out.old) (W.failures out.new) ⊎ HasRisen (W.idle out.old) (W.idle out.new))) }
-    // Any other answer comes only where no device failed.
-    ensures kept { OnOk result ((A.failures trace.new ≡ A.failures trace.old) × (W.failures out.new ≡ W.failures out.old)) }
-    ensures unfailed { IfErr result (λ e. IsOfNoDevice e → (A.failures trace.new ≡ A.failures trace.old) × (W.failures out.new ≡ W.failures out.old)) }
-    ensures faults { IfErr result IsOfHistory }
+    ensures made { AuditedMade (reads A.given A.ends A.failures A.remaining trace.old trace.new)
+        (writes W.taken W.flushes W.failures W.idle W.contents out.old out.new) result }
+    ensures kinds { IfErr result IsOfHistory }
 {
-    let trace = trace_from(alloc, trace)?;
+    let trace = match trace_from(alloc, trace) {
+        Ok(trace) => trace,
+        Err(fault) => return Err(fault),
+    };
     right_and_fresh_without_findings(&trace);
-    let findings = findings_made(rt, alloc, &trace, workers, size)?;
+    let findings = match findings_made(rt, alloc, &trace, workers, size) {
+        Ok(findings) => findings,
+        Err(_) => return Err(AuditFault::OutOfMemory),
+    };
     tell_findings(alloc, &findings, trace.len(), out)
 }
 
@@ -203,33 +178,9 @@ pub fn audit_made<A: Source, W: Sink, R: Threads + Wait + Sync>(
     workers: usize,
     slice: usize,
 ) -> Result<Verdict, AuditFault>
-    // The report on the trace that the reader gave, to its end, and on evidence that was made for it, went out whole, and the verdict is its last line.
-    ensures audits { IfOk result (λ v. OfWhole A.given A.ends trace.old trace.new (λ a. AuditsMade a (W.taken out.old) (W.taken out.new) v)) }
-    ensures flushed { OnOk result (W.flushes out.new ≡ W.flushes out.old + 1) }
-    // A clean verdict says that each reply is what the rules mean over the tuples committed up to its snapshot, and that no check is older
-    // than its zookie, nor than any access change committed before the content check of the version that it names.
-    ensures headline { result ≡ Ok Clean → OfWhole A.given A.ends trace.old trace.new IsTraceRightAndFresh }
-    // Whatever the verdict: a reply that a finding F10 calls wrong is wrong.
-    ensures wrong_replies { OnOk result (OfWhole A.given A.ends trace.old trace.new (WhateverIsMade HasOnlyWrongRepliesNamed)) }
-    // Whatever the verdict: F7 is found only where the maker gave up, and F8 and F9 nowhere.
-    ensures given_up { OnOk result (OfWhole A.given A.ends trace.old trace.new (WhateverIsMade AreOfMaker)) }
-    // A refusal holds of every input that begins with the bytes that came.
-    ensures trace { (f : TraceFault) → result ≡ Err (faults.Trace f) → OfInput A.given A.ends trace.old trace.new (λ a. RefusesTrace a f) }
-    ensures trace_cut { (f : TraceFault) → result ≡ Err (faults.Trace f) → f.cause ≡ causes.Read → OfBytes A.given trace.old trace.new (λ a. trace_of false a ≡ Err f) }
-    // The first n bytes went out, and no others.
-    ensures write { (n : ℕ) → result ≡ Err (faults.Write n) → OfWhole A.given A.ends trace.old trace.new (λ a. BreaksMade a (W.taken out.old) (W.taken out.new) n) }
-    ensures unwritten { IfErr result (λ e. IsUnwritten e → W.taken out.new ≡ W.taken out.old) }
-    // Also of a reader that never ends.
-    ensures most { OfBytes A.given trace.old trace.new (λ a. length a ≤ MAX_INPUT + CHUNK) }
-    // Of devices in memory: what came is what the reader had left, and what went out stands behind what the writer held.
-    ensures known { AreNext A.given A.ends A.remaining trace.old trace.new }
-    ensures held { StandBehind W.taken W.contents out.old out.new }
-    ensures devices { IfErr result (IsOfDevices ⊥ (HasRisen (A.failures trace.old) (A.failures trace.new)) ⊥
-        (HasRisen (W.failures out.old) (W.failures out.new) ⊎ HasRisen (W.idle out.old) (W.idle out.new))) }
-    // Any other answer comes only where no device failed.
-    ensures kept { OnOk result ((A.failures trace.new ≡ A.failures trace.old) × (W.failures out.new ≡ W.failures out.old)) }
-    ensures unfailed { IfErr result (λ e. IsOfNoDevice e → (A.failures trace.new ≡ A.failures trace.old) × (W.failures out.new ≡ W.failures out.old)) }
-    ensures faults { IfErr result (λ e. IsOfHistory e ⊎ (e ≡ faults.Limits)) }
+    ensures made { AuditedMade (reads A.given A.ends A.failures A.remaining trace.old trace.new)
+        (writes W.taken W.flushes W.failures W.idle W.contents out.old out.new) result }
+    ensures kinds { IfErr result (λ e. IsOfHistory e ⊎ (e ≡ faults.Limits)) }
     ensures limits { result ≡ Err faults.Limits ↔ (are_within_limits workers slice ≡ false) }
     ensures unread { result ≡ Err faults.Limits → (trace.new ≡ trace.old) × (out.new ≡ out.old) }
 {

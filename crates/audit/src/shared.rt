@@ -1,28 +1,20 @@
 //! The audit by several workers, who share the entries.
 
-ghost use Rattle.std.specs.Prelude.{◌≡◌, ◌⊎◌, ◌↔◌, ◌<◌, ◌≤◌, ◌^◌, ◌+◌, ◌++◌, ℕ, List, Option, length, true, false, Ok, Err, IfOk, IfErr, OnOk, is_some};
+ghost use Rattle.std.specs.Prelude.{◌≡◌, ◌⊎◌, ◌↔◌, ◌<◌, ◌≤◌, ◌^◌, ◌++◌, ℕ, List, Option, length, true, false, Err, IfOk, IfErr, OnOk, is_some};
 ghost use Rattle.std.specs.List.{flat_map, list_any};
 ghost use Rattle.audit_slices.specs.Board.{IsNamedBy};
 ghost use Rattle.audit_slices.specs.Reports.{report_items};
-ghost use Rattle.json_lines.specs.Given.{OfBytes, OfWhole, OfInput, AreNext, StandBehind};
-ghost use Rattle.json_lines.specs.declared.lines.TheConstants.{CHUNK};
-ghost use Rattle.json_lines.specs.declared.reading.TheConstants.{MAX_INPUT};
-ghost use Rattle.trace_lines.specs.declared.cause.Cause.TheVariants as causes;
-ghost use Rattle.trace_lines.specs.declared.cause.TraceFault.{TraceFault};
-ghost use Rattle.trace_lines.specs.Traces.{trace_of};
-ghost use Rattle.evidence_check.specs.declared.cause.EvidenceCause.TheVariants as evidence_causes;
-ghost use Rattle.evidence_check.specs.declared.cause.EvidenceFault.{EvidenceFault};
 ghost use Rattle.evidence_check.specs.Evidences.{evidence_value};
-ghost use Rattle.audit.specs.Audit.{Audits, Breaks, RefusesTrace, RefusesEvidence, CutsEvidence, HasRisen, IsOfDevices, IsOfNoDevice, IsUnwritten, IsOfAudit};
-ghost use Rattle.findings.specs.Findings.{findings_of};
-ghost use Rattle.findings.specs.Headline.{IsTraceRightAndFresh};
+ghost use Rattle.audit.specs.Answers.{Audited};
+ghost use Rattle.audit.specs.Audit.{IsOfAudit};
+ghost use Rattle.audit.specs.Devices.{reads, writes};
 ghost use Rattle.audit.specs.Shared.{found_at, has_finding, all_found, found_lines, are_within_limits};
-ghost use Rattle.findings.specs.WrongReplies.{NamesOnlyWrongReplies};
 ghost use Rattle.audit.specs.declared.plain.AuditFault.TheVariants as faults;
-ghost use Rattle.audit.specs.declared.plain.Verdict.TheVariants.{Clean};
+ghost use Rattle.findings.specs.Findings.{findings_of};
 
 use crate::finder::Finder;
-use crate::plain::{AuditFault, Verdict, audit_by, audit_plain};
+use crate::plain::{AuditFault, Verdict, audit_plain, audit_with};
+use crate::reading::evidence_from;
 use audit_slices::{Blind, Board, Check, Free, MOST_WORKERS, Names, SliceReport, cut, run_pool};
 use evidence_check::Evidence;
 use findings::{Finding, What, found_on, push_found};
@@ -187,7 +179,7 @@ struct Workers<'r, R: Threads + Wait + Sync> {
     ghost filled: { 0 < size },
 }
 
-impl<'r, R: Threads + Wait + Sync> Finder for Workers<'r, R> {
+impl<'r, B: Source, R: Threads + Wait + Sync> Finder<B> for Workers<'r, R> {
     ghost use Rattle.std.specs.Prelude.{⊤};
     ghost use Rattle.std.specs.Thread.{IsSync};
 
@@ -201,9 +193,16 @@ impl<'r, R: Threads + Wait + Sync> Finder for Workers<'r, R> {
         &mut self,
         alloc: Global,
         trace: &Trace,
-        evidence: &Evidence,
-    ) -> Result<Vec<Finding>, AllocError> {
-        findings_by(self.rt, alloc, trace, evidence, self.workers, self.size)
+        evidence: &mut B,
+    ) -> Result<Vec<Finding>, AuditFault> {
+        let evidence = match evidence_from(alloc, evidence, trace) {
+            Ok(evidence) => evidence,
+            Err(fault) => return Err(fault),
+        };
+        match findings_by(self.rt, alloc, trace, &evidence, self.workers, self.size) {
+            Ok(findings) => Ok(findings),
+            Err(_) => Err(AuditFault::OutOfMemory),
+        }
     }
 }
 
@@ -221,38 +220,13 @@ pub fn audit<A: Source, B: Source, W: Sink, R: Threads + Wait + Sync>(
     workers: usize,
     slice: usize,
 ) -> Result<Verdict, AuditFault>
-    // The report on what the readers gave, to their ends, went out whole, and the verdict is its last line.
-    ensures audits { IfOk result (λ v. OfWhole A.given A.ends trace.old trace.new (λ a. OfWhole B.given B.ends evidence.old evidence.new (λ b.
-        Audits a b (W.taken out.old) (W.taken out.new) v))) }
-    ensures flushed { OnOk result (W.flushes out.new ≡ W.flushes out.old + 1) }
-    // A clean verdict says that each reply is what the rules mean over the tuples committed up to its snapshot, and that no check is older
-    // than its zookie, nor than any access change committed before the content check of the version that it names.
-    ensures headline { result ≡ Ok Clean → OfWhole A.given A.ends trace.old trace.new IsTraceRightAndFresh }
-    // Whatever the verdict: a reply that a finding F10 calls wrong is wrong.
-    ensures wrong_replies { IfOk result (λ _. OfWhole A.given A.ends trace.old trace.new (λ a. OfWhole B.given B.ends evidence.old evidence.new (λ b. NamesOnlyWrongReplies a b))) }
-    // A refusal holds of every input that begins with the bytes that came.
-    ensures trace { (f : TraceFault) → result ≡ Err (faults.Trace f) → OfInput A.given A.ends trace.old trace.new (λ a. RefusesTrace a f) }
-    ensures trace_cut { (f : TraceFault) → result ≡ Err (faults.Trace f) → f.cause ≡ causes.Read → OfBytes A.given trace.old trace.new (λ a. trace_of false a ≡ Err f) }
-    ensures evidence { (f : EvidenceFault) → result ≡ Err (faults.Evidence f) → OfWhole A.given A.ends trace.old trace.new (λ a. OfInput B.given B.ends evidence.old evidence.new (λ b.
-        RefusesEvidence a b f)) }
-    ensures evidence_cut { (f : EvidenceFault) → result ≡ Err (faults.Evidence f) → f.cause ≡ evidence_causes.Read
-        → OfWhole A.given A.ends trace.old trace.new (λ a. OfBytes B.given evidence.old evidence.new (λ b. CutsEvidence a b f)) }
-    ensures write { (n : ℕ) → result ≡ Err (faults.Write n) → OfWhole A.given A.ends trace.old trace.new (λ a. OfWhole B.given B.ends evidence.old evidence.new (λ b.
-        Breaks a b (W.taken out.old) (W.taken out.new) n)) }
-    ensures unwritten { IfErr result (λ e. IsUnwritten e → W.taken out.new ≡ W.taken out.old) }
-    // Also of readers that never end.
-    ensures most { OfBytes A.given trace.old trace.new (λ a. length a ≤ MAX_INPUT + CHUNK) × OfBytes B.given evidence.old evidence.new (λ b. length b ≤ MAX_INPUT + CHUNK) }
-    // Of devices in memory: what came is what the readers had left, and what went out stands behind what the writer held.
-    ensures known { AreNext A.given A.ends A.remaining trace.old trace.new × AreNext B.given B.ends B.remaining evidence.old evidence.new }
-    ensures held { StandBehind W.taken W.contents out.old out.new }
-    ensures devices { IfErr result (IsOfDevices ⊥ (HasRisen (A.failures trace.old) (A.failures trace.new)) (HasRisen (B.failures evidence.old) (B.failures evidence.new))
-        (HasRisen (W.failures out.old) (W.failures out.new) ⊎ HasRisen (W.idle out.old) (W.idle out.new))) }
-    // Any other answer comes only where no device failed.
-    ensures kept { OnOk result ((A.failures trace.new ≡ A.failures trace.old) × (B.failures evidence.new ≡ B.failures evidence.old) × (W.failures out.new ≡ W.failures out.old)) }
-    ensures unfailed { IfErr result (λ e. IsOfNoDevice e → (A.failures trace.new ≡ A.failures trace.old) × (B.failures evidence.new ≡ B.failures evidence.old) × (W.failures out.new ≡ W.failures out.old)) }
-    ensures faults { IfErr result (λ e. IsOfAudit e ⊎ (e ≡ faults.Limits)) }
+    ensures audited { Audited (reads A.given A.ends A.failures A.remaining trace.old trace.new)
+        (reads B.given B.ends B.failures B.remaining evidence.old evidence.new)
+        (writes W.taken W.flushes W.failures W.idle W.contents out.old out.new) result }
+    ensures kinds { IfErr result (λ e. IsOfAudit e ⊎ (e ≡ faults.Limits)) }
     ensures limits { result ≡ Err faults.Limits ↔ (are_within_limits workers slice ≡ false) }
-    ensures unread { result ≡ Err faults.Limits → (trace.new ≡ trace.old) × (evidence.new ≡ evidence.old) × (out.new ≡ out.old) }
+    ensures unread { result ≡ Err faults.Limits →
+        (trace.new ≡ trace.old) × (evidence.new ≡ evidence.old) × (out.new ≡ out.old) }
 {
     if !are_within_limits(workers, slice) {
         return Err(AuditFault::Limits);
@@ -265,5 +239,5 @@ pub fn audit<A: Source, B: Source, W: Sink, R: Threads + Wait + Sync>(
         workers,
         size: slice,
     };
-    audit_by(alloc, trace, evidence, out, &mut finder)
+    audit_with(alloc, trace, evidence, out, &mut finder)
 }

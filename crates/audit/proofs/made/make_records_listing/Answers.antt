@@ -1,36 +1,23 @@
-use Rattle.std.proofs.Common.{◌≡◌, true, Ok}
-use Rattle.std.proofs.lemmas.Result.{IfOk-weaker, IfErr-weaker}
-use Rattle.json_lines.proofs.Given.{of_whole-map}
-use Rattle.json_lines.specs.Given.{OfWhole}
-use Rattle.trace_lines.specs.Traces.{trace_of}
-use Rattle.audit.specs.Audit.{IsOfNoDevice, IsUnwritten}
-use Rattle.audit.specs.History.{IsOfHistory}
-use Rattle.audit.specs.Made.{MakesRecords, BreaksMaking}
-use Rattle.audit.proofs.Readers.{of_writing, devices_of_writing, unwritten_without_device}
+use Rattle.std.proofs.Common.{Result, subst}
+use Rattle.trace_lines.specs.Values.{TraceValue}
+use Rattle.audit.specs.Answers.{TraceRead}
+use Rattle.audit.specs.Devices.{reads, writer, writes}
+use Rattle.audit.specs.declared.plain.AuditFault.{AuditFault}
+use Rattle.audit.specs.Made.{AreRecords, MakesRecords, BreaksMaking}
+use Rattle.audit.proofs.Answering.{tells_of, trace_not_read, history_kinds}
 use Rattle.audit.proofs.made.make_records_listing.Goals as goal
+
+pub returns-in-Err-clause-told : goal.returns-in-Err-clause-told
+returns-in-Err-clause-told g c =
+    trace_not_read (λ a old new v. MakesRecords a old new v.items) BreaksMaking (reads g.A.Source.given g.A.Source.ends g.A.Source.failures g.A.Read.remaining c.args.trace.now c.trace_from.new.reader) (writer g.W.Sink.taken g.W.Sink.flushes g.W.Sink.failures g.W.Sink.idle g.W.Write.contents c.args.out.now) c.in-Err.fault
+    (subst (λ (r : Result TraceValue AuditFault). TraceRead (reads g.A.Source.given g.A.Source.ends g.A.Source.failures g.A.Read.remaining c.args.trace.now c.trace_from.new.reader) r) c.in-Err.is c.trace_from.ensures)
 
 pub returns-clause-told : goal.returns-clause-told
 returns-clause-told g c =
-    let old = g.W.Sink.taken c.args.out.now in
-    let new = g.W.Sink.taken c.tell_records.new.out in
-    IfOk-weaker c.tell_records.result _ (λ v. OfWhole g.A.Source.given g.A.Source.ends c.args.trace.now c.trace_from.new.reader (λ a. MakesRecords a old new v.items))
-    (λ v h. of_whole-map g.A.Source.given g.A.Source.ends c.args.trace.now c.trace_from.new.reader (λ a. trace_of true a ≡ Ok c.in_ok-trace.trace) (λ a. MakesRecords a old new v.items)
-    (λ a is. (c.in_ok-trace.trace, is, h.0, h.1, h.2)) c.in_ok-trace.ensures.given) c.tell_records.ensures.told
+    tells_of (λ a old new v. MakesRecords a old new v.items) BreaksMaking (λ text v. AreRecords c.in-Ok.trace text v.items) (reads g.A.Source.given g.A.Source.ends g.A.Source.failures g.A.Read.remaining c.args.trace.now c.trace_from.new.reader) (writes g.W.Sink.taken g.W.Sink.flushes g.W.Sink.failures g.W.Sink.idle g.W.Write.contents c.args.out.now c.tell_records.new.out) c.in-Ok.trace c.tell_records.result
+    (subst (λ (r : Result TraceValue AuditFault). TraceRead (reads g.A.Source.given g.A.Source.ends g.A.Source.failures g.A.Read.remaining c.args.trace.now c.trace_from.new.reader) r) c.in-Ok.is c.trace_from.ensures) c.tell_records.ensures
+    (λ a text old new v is says went. (c.in-Ok.trace, is, text, says, went))
+    (λ a text old new v n is says fails. (c.in-Ok.trace, is, text, v.items, says, fails))
 
-pub returns-clause-write : goal.returns-clause-write
-returns-clause-write g c = λ n e.
-    of_whole-map g.A.Source.given g.A.Source.ends c.args.trace.now c.trace_from.new.reader (λ a. trace_of true a ≡ Ok c.in_ok-trace.trace)
-    (λ a. BreaksMaking a (g.W.Sink.taken c.args.out.now) (g.W.Sink.taken c.tell_records.new.out) n)
-    (λ a is. let h = c.tell_records.ensures.write n e in (c.in_ok-trace.trace, is, h.0, h.1, h.2, h.3)) c.in_ok-trace.ensures.given
-
-pub returns-clause-devices : goal.returns-clause-devices
-returns-clause-devices g c = devices_of_writing c.tell_records.result _ ⊥ _ c.tell_records.ensures.faults c.tell_records.ensures.device
-
-pub returns-clause-unfailed : goal.returns-clause-unfailed
-returns-clause-unfailed g c =
-    IfErr-weaker c.tell_records.result (λ e. IsUnwritten e → g.W.Sink.failures c.tell_records.new.out ≡ g.W.Sink.failures c.args.out.now)
-    (λ e. IsOfNoDevice e → (g.A.Source.failures c.trace_from.new.reader ≡ g.A.Source.failures c.args.trace.now) × (g.W.Sink.failures c.tell_records.new.out ≡ g.W.Sink.failures c.args.out.now))
-    (λ e h none. (c.in_ok-trace.ensures.kept, h (unwritten_without_device e none))) c.tell_records.ensures.unfailed
-
-pub returns-clause-faults : goal.returns-clause-faults
-returns-clause-faults g c = IfErr-weaker c.tell_records.result _ IsOfHistory (of_writing IsOfHistory tt (λ n. tt)) c.tell_records.ensures.faults
+pub returns-clause-kinds : goal.returns-clause-kinds
+returns-clause-kinds g c = history_kinds _ (writes g.W.Sink.taken g.W.Sink.flushes g.W.Sink.failures g.W.Sink.idle g.W.Write.contents c.args.out.now c.tell_records.new.out) c.tell_records.result c.tell_records.ensures

@@ -10,5 +10,5 @@ returns-clause-refused g c = elim c.match-history.branch [
   | in-Err w ↦ λ two.
       let same : w.status_of-status.result ≡ 2 = omega (arith, two, w.status-is) in
       fault_of_trace c.new-trace.result c.history.new.trace c.new-trace.ensures.moved c.new-trace.ensures.stops w.in-Err.fault w.status_of-status.result
-      w.status_of-status.ensures.status (inl w.in-Err.ensures.faults) (λ f is. c.history.ensures.trace f (w.in-Err.is ∙ ap (λ (x : AuditFault). Err x) is)) same
+      w.status_of-status.ensures.status (inl w.in-Err.ensures.kinds) (λ f is. c.history.ensures.told.trace_refused f (w.in-Err.is ∙ ap (λ (x : AuditFault). Err x) is)) same
 ]

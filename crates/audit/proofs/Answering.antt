@@ -1,0 +1,472 @@
+-- What a call answers, by what its parts did.
+use Rattle.std.proofs.Common.{◌≡◌, ◌≢◌, ◌⊎◌, inl, inr, ℕ, true, false, List, [], ◌++◌, Option, Result, Ok, Err, refl, sym, ap, subst, ◌∙◌, length}
+use Rattle.std.specs.Prelude.{IfErr}
+use Rattle.std.specs.declared.vec.Vec.{Vec}
+use Rattle.std.specs.declared.alloc.Global.{Global}
+use Rattle.trace_lines.specs.Values.{TraceValue}
+use Rattle.trace_lines.specs.Traces.{trace_of}
+use Rattle.evidence_check.specs.Reading.{evidence_of}
+use Rattle.evidence_check.specs.Steps.{StepValue}
+use Rattle.evidence_check.specs.declared.cause.EvidenceCause.TheVariants as evidence_causes
+use Rattle.evidence_check.specs.declared.cause.EvidenceFault.{EvidenceFault}
+use Rattle.findings.specs.Findings.{findings_of}
+use Rattle.findings.specs.Headline.{IsRightAndFresh, IsTraceRightAndFresh}
+use Rattle.findings.specs.Report.{report_text}
+use Rattle.findings.specs.WrongReplies.{NamesOnlyWrongReplies}
+use Rattle.findings.specs.declared.finding.Finding.{Finding}
+use Rattle.findings.proofs.WrongReplies.{named_by_bytes}
+use Rattle.audit.specs.Answers.{TraceRead, EvidenceRead, Told, IsReport, AreFound, TellsOfTrace, Audited}
+use Rattle.audit.specs.Audit.{Audits, Breaks, FailsWriting, RefusesEvidenceFor, IsOfAudit, IsOfBytes, IsOfEvidence, IsOfNoDevice, IsOfTrace, verdict_of}
+use Rattle.audit.specs.Devices.{Reader, Reading, Writer, Writing, OfAll, OfAny, OfBoth, OfCame, GivesFew, GivesNext, ReaderFailed, ReaderHeld}
+use Rattle.audit.specs.History.{IsOfHistory}
+use Rattle.audit.specs.declared.plain.Verdict.{Verdict}
+use Rattle.audit.specs.declared.plain.Verdict.TheVariants.{Clean}
+use Rattle.audit.specs.declared.plain.AuditFault.{AuditFault}
+use Rattle.audit.specs.declared.plain.AuditFault.TheVariants as faults
+use Rattle.audit.proofs.Readers.{of_all-map, few_at_rest, next_at_rest, behind_at_rest, refused_evidence, cut_evidence, on_both, of_writing, never_refused, devices_of_trace, devices_of_evidence, devices_of_writing, unwritten_without_device, answered_clean}
+
+-- ---- what is told
+
+fault_same : {V : Type 0} (e f : AuditFault) → ◌≡◌ {A = Result V AuditFault} (Err e) (Err f) → e ≡ f
+fault_same e f is = cc
+
+pub told_no_memory : {V : Type 0} (Says : List ℕ → V → Type 0) (w : Writer) → Told Says (record { before = w; after = w }) (Err faults.OutOfMemory)
+told_no_memory Says w =
+    record {
+      text = tt;
+      flushed = tt;
+      write = λ n is. absurd (cc (is));
+      failed = λ is. absurd is;
+      kept = tt;
+      kinds = inl refl;
+      unwritten = λ is. refl;
+      unfailed = λ is. refl;
+      held = behind_at_rest w;
+    }
+
+pub told-map : {V : Type 0} (P Q : List ℕ → V → Type 0) (out : Writing) (r : Result V AuditFault) → ((text : List ℕ) (v : V) → P text v → Q text v) → Told P out r → Told Q out r
+told-map P Q out (Ok v) f told =
+    record {
+      text = (told.text.0, f told.text.0 v told.text.1, told.text.2);
+      flushed = told.flushed;
+      write = λ n is. absurd (cc (is));
+      failed = tt;
+      kept = told.kept;
+      kinds = tt;
+      unwritten = tt;
+      unfailed = tt;
+      held = told.held;
+    }
+told-map P Q out (Err e) f told =
+    record {
+      text = tt;
+      flushed = tt;
+      write = λ n is. let h = told.write n is in (h.0, h.1, f h.1 h.0 h.2, h.3);
+      failed = told.failed;
+      kept = tt;
+      kinds = told.kinds;
+      unwritten = told.unwritten;
+      unfailed = told.unfailed;
+      held = told.held;
+    }
+
+-- the report of findings is that on a trace by the evidence that has them
+pub as_report : (t : TraceValue) (given : List (Option (List StepValue))) (found : List Finding) (n : ℕ) (out : Writing) (r : Result Verdict AuditFault) → found ≡ findings_of t given → n ≡ length t.entries
+    → Told (λ text v. (text ≡ report_text found n) × (v ≡ verdict_of found)) out r → Told (IsReport t given) out r
+as_report t given found n out r same count told =
+    told-map (λ text v. (text ≡ report_text found n) × (v ≡ verdict_of found)) (IsReport t given) out r
+    (λ text v h. (h.0 ∙ ap (λ (fs : List Finding). report_text fs n) same ∙ ap (report_text (findings_of t given)) count, h.1 ∙ ap verdict_of same)) told
+
+-- a clean verdict is told where nothing is found
+pub told_clean : (t : TraceValue) (given : List (Option (List StepValue))) (out : Writing) (r : Result Verdict AuditFault) → Told (IsReport t given) out r → r ≡ Ok Clean → findings_of t given ≡ []
+told_clean t given out (Ok v) told clean = answered_clean {E = AuditFault} v (findings_of t given) told.text.1.1 clean
+told_clean t given out (Err e) told clean = absurd (cc (clean))
+
+-- ---- what was read
+
+module _ (t : TraceValue) (r : Reading) where
+  -- reading evidence stopped at this fault, which is told so
+  pub evidence_stopped : {V : Type 0} (Says : List (Option (List StepValue)) → V → Type 0) (fault : EvidenceFault) (e : AuditFault) → OfAny r (λ b. RefusesEvidenceFor t b fault)
+      → (fault.cause ≡ evidence_causes.Read → OfCame r (λ b. evidence_of t.entries false b ≡ Err fault)) → GivesFew r → GivesNext r
+      → (fault.cause ≡ evidence_causes.Read → ReaderFailed r) → (fault.cause ≢ evidence_causes.Read → ReaderHeld r)
+      → ((f : EvidenceFault) → e ≡ faults.Evidence f → f ≡ fault) → (IsOfNoDevice e → fault.cause ≢ evidence_causes.Read) → IsOfEvidence e → EvidenceRead {V = V} Says t r (Err e)
+  evidence_stopped {V} Says fault e refused cut few next failed held told device kinds =
+      let same = λ (f : EvidenceFault) (is : ◌≡◌ {A = Result V AuditFault} (Err e) (Err (faults.Evidence f))). told f (fault_same {V = V} e (faults.Evidence f) is) in
+      record {
+        given = tt;
+        refused = λ f is. subst (λ (x : EvidenceFault). OfAny r (λ b. RefusesEvidenceFor t b x)) (sym (same f is)) refused;
+        cut = λ f is read.
+            subst (λ (x : EvidenceFault). OfCame r (λ b. evidence_of t.entries false b ≡ Err x)) (sym (same f is)) (cut (subst (λ (x : EvidenceFault). x.cause ≡ evidence_causes.Read) (same f is) read));
+        few = few;
+        next = next;
+        failed = λ f is read. failed (subst (λ (x : EvidenceFault). x.cause ≡ evidence_causes.Read) (same f is) read);
+        held = tt;
+        unfailed = λ none. held (device none);
+        kinds = kinds;
+      }
+
+  module _ {V X : Type 0} (P : List (Option (List StepValue)) → V → Type 0) (Q : List (Option (List StepValue)) → X → Type 0) where
+    pub read-map : (v : V) (x : X) → ((given : List (Option (List StepValue))) → P given v → Q given x) → EvidenceRead P t r (Ok v) → EvidenceRead Q t r (Ok x)
+    read-map v x f h =
+        record {
+          given = (h.given.0, f h.given.0 h.given.1, h.given.2);
+          refused = λ g is. absurd (cc (is));
+          cut = λ g is. absurd (cc (is));
+          few = h.few;
+          next = h.next;
+          failed = λ g is. absurd (cc (is));
+          held = h.held;
+          unfailed = tt;
+          kinds = tt;
+        }
+
+    pub read_fault : (e : AuditFault) → EvidenceRead P t r (Err e) → EvidenceRead Q t r (Err e)
+    read_fault e h =
+        record {
+          given = tt;
+          refused = λ f is. h.refused f (ap (λ (y : AuditFault). Err y) (fault_same {V = X} e (faults.Evidence f) is));
+          cut = λ f is. h.cut f (ap (λ (y : AuditFault). Err y) (fault_same {V = X} e (faults.Evidence f) is));
+          few = h.few;
+          next = h.next;
+          failed = λ f is. h.failed f (ap (λ (y : AuditFault). Err y) (fault_same {V = X} e (faults.Evidence f) is));
+          held = tt;
+          unfailed = h.unfailed;
+          kinds = h.kinds;
+        }
+
+    -- there was no memory for what was to be made of it
+    pub read_no_memory : (v : V) → EvidenceRead P t r (Ok v) → EvidenceRead Q t r (Err faults.OutOfMemory)
+    read_no_memory v h =
+        record {
+          given = tt;
+          refused = λ f is. absurd (cc (is));
+          cut = λ f is. absurd (cc (is));
+          few = h.few;
+          next = h.next;
+          failed = λ f is. absurd (cc (is));
+          held = tt;
+          unfailed = λ none. h.held;
+          kinds = tt;
+        }
+
+-- ---- calls that read a trace alone
+
+never_of_trace : (e : AuditFault) → IsOfTrace e → (n : ℕ) → e ≡ faults.Write n → ⊥
+never_of_trace (faults.Trace f) of n is = absurd (cc (is))
+never_of_trace (faults.Evidence f) of n is = of
+never_of_trace (faults.Write k) of n is = of
+never_of_trace faults.OutOfMemory of n is = absurd (cc (is))
+never_of_trace faults.Limits of n is = of
+never_of_trace faults.Joined of n is = of
+never_of_trace faults.Input of n is = of
+
+never_evidence : (e : AuditFault) → IsOfTrace e → (f : EvidenceFault) → e ≡ faults.Evidence f → ⊥
+never_evidence (faults.Trace g) of f is = absurd (cc (is))
+never_evidence (faults.Evidence g) of f is = of
+never_evidence (faults.Write k) of f is = of
+never_evidence faults.OutOfMemory of f is = absurd (cc (is))
+never_evidence faults.Limits of f is = of
+never_evidence faults.Joined of f is = of
+never_evidence faults.Input of f is = of
+
+pub trace_not_read : {V : Type 0} (Tells : List ℕ → List ℕ → List ℕ → V → Type 0) (Breaks : List ℕ → List ℕ → List ℕ → ℕ → Type 0) (trace : Reading) (w : Writer) (e : AuditFault)
+    → TraceRead trace (Err e) → TellsOfTrace Tells Breaks trace (record { before = w; after = w }) (Err e)
+trace_not_read {V} Tells Breaks trace w e read =
+    record {
+      told = tt;
+      flushed = tt;
+      trace_refused = λ f is. read.refused f (ap (λ (x : AuditFault). Err x) (fault_same {V = V} e (faults.Trace f) is));
+      trace_cut = λ f is. read.cut f (ap (λ (x : AuditFault). Err x) (fault_same {V = V} e (faults.Trace f) is));
+      write = λ n is. absurd (never_of_trace e read.kinds n (fault_same {V = V} e (faults.Write n) is));
+      unwritten = λ is. refl;
+      most = read.few;
+      known = read.next;
+      held = behind_at_rest w;
+      devices = devices_of_trace e _ ⊥ _ read.kinds (λ f is. read.failed f (ap (λ (x : AuditFault). Err x) is));
+      kept = tt;
+      unfailed = λ none. (read.unfailed none, refl);
+    }
+
+pub tells_of : {V : Type 0} (Tells : List ℕ → List ℕ → List ℕ → V → Type 0) (Breaks : List ℕ → List ℕ → List ℕ → ℕ → Type 0) (Says : List ℕ → V → Type 0) (trace : Reading) (out : Writing)
+    (t : TraceValue) (r : Result V AuditFault) → TraceRead trace (Ok t) → Told Says out r
+    → ((a text old new : List ℕ) (v : V) → trace_of true a ≡ Ok t → Says text v → new ≡ old ++ text → Tells a old new v)
+    → ((a text old new : List ℕ) (v : V) (n : ℕ) → trace_of true a ≡ Ok t → Says text v → FailsWriting old new n text → Breaks a old new n)
+    → TellsOfTrace Tells Breaks trace out r
+tells_of Tells Breaks Says trace out t (Ok v) read told tells breaks =
+    record {
+      told =
+          of_all-map trace (λ a. trace_of true a ≡ Ok t) (λ a. Tells a out.before.taken out.after.taken v)
+          (λ a is. tells a told.text.0 out.before.taken out.after.taken v is told.text.1 told.text.2) read.given;
+      flushed = told.flushed;
+      trace_refused = λ f is. absurd (cc (is));
+      trace_cut = λ f is. absurd (cc (is));
+      write = λ n is. absurd (cc (is));
+      unwritten = tt;
+      most = read.few;
+      known = read.next;
+      held = told.held;
+      devices = tt;
+      kept = (read.held, told.kept);
+      unfailed = tt;
+    }
+tells_of {V} Tells Breaks Says trace out t (Err e) read told tells breaks =
+    record {
+      told = tt;
+      flushed = tt;
+      trace_refused = λ f is. absurd (never_refused (Err e) (faults.Trace f) told.kinds is tt);
+      trace_cut = λ f is. absurd (never_refused (Err e) (faults.Trace f) told.kinds is tt);
+      write = λ n is.
+          let h = told.write n is in
+          of_all-map trace (λ a. trace_of true a ≡ Ok t) (λ a. Breaks a out.before.taken out.after.taken n)
+          (λ a says. breaks a h.1 out.before.taken out.after.taken h.0 n says h.2 h.3) read.given;
+      unwritten = told.unwritten;
+      most = read.few;
+      known = read.next;
+      held = told.held;
+      devices = devices_of_writing {V = V} (Err e) _ ⊥ _ told.kinds told.failed;
+      kept = tt;
+      unfailed = λ none. (read.held, told.unfailed (unwritten_without_device e none));
+    }
+
+-- the same call with another answer
+pub tells-map : {V X : Type 0} (Tells : List ℕ → List ℕ → List ℕ → V → Type 0) (Also : List ℕ → List ℕ → List ℕ → X → Type 0) (Breaks : List ℕ → List ℕ → List ℕ → ℕ → Type 0)
+    (trace : Reading) (out : Writing) (v : V) (x : X) → ((a old new : List ℕ) → Tells a old new v → Also a old new x)
+    → TellsOfTrace Tells Breaks trace out (Ok v) → TellsOfTrace Also Breaks trace out (Ok x)
+tells-map Tells Also Breaks trace out v x f h =
+    record {
+      told =
+          of_all-map trace (λ a. Tells a out.before.taken out.after.taken v) (λ a. Also a out.before.taken out.after.taken x)
+          (λ a. f a out.before.taken out.after.taken) h.told;
+      flushed = h.flushed;
+      trace_refused = λ f is. absurd (cc (is));
+      trace_cut = λ f is. absurd (cc (is));
+      write = λ n is. absurd (cc (is));
+      unwritten = tt;
+      most = h.most;
+      known = h.known;
+      held = h.held;
+      devices = tt;
+      kept = h.kept;
+      unfailed = tt;
+    }
+
+pub tells_fault : {V X : Type 0} (Tells : List ℕ → List ℕ → List ℕ → V → Type 0) (Also : List ℕ → List ℕ → List ℕ → X → Type 0) (Breaks : List ℕ → List ℕ → List ℕ → ℕ → Type 0)
+    (trace : Reading) (out : Writing) (e : AuditFault) → TellsOfTrace Tells Breaks trace out (Err e) → TellsOfTrace Also Breaks trace out (Err e)
+tells_fault {V} {X} Tells Also Breaks trace out e h =
+    record {
+      told = tt;
+      flushed = tt;
+      trace_refused = λ f is. h.trace_refused f (ap (λ (x : AuditFault). Err x) (fault_same {V = X} e (faults.Trace f) is));
+      trace_cut = λ f is. h.trace_cut f (ap (λ (x : AuditFault). Err x) (fault_same {V = X} e (faults.Trace f) is));
+      write = λ n is. h.write n (ap (λ (x : AuditFault). Err x) (fault_same {V = X} e (faults.Write n) is));
+      unwritten = h.unwritten;
+      most = h.most;
+      known = h.known;
+      held = h.held;
+      devices = h.devices;
+      kept = tt;
+      unfailed = h.unfailed;
+    }
+
+pub tells_at_rest : {V : Type 0} (Tells : List ℕ → List ℕ → List ℕ → V → Type 0) (Breaks : List ℕ → List ℕ → List ℕ → ℕ → Type 0) (a : Reader) (w : Writer)
+    → TellsOfTrace Tells Breaks (record { before = a; after = a }) (record { before = w; after = w }) (Err faults.Limits)
+tells_at_rest Tells Breaks a w =
+    record {
+      told = tt;
+      flushed = tt;
+      trace_refused = λ f is. absurd (cc (is));
+      trace_cut = λ f is. absurd (cc (is));
+      write = λ n is. absurd (cc (is));
+      unwritten = λ is. refl;
+      most = few_at_rest a;
+      known = next_at_rest a;
+      held = behind_at_rest w;
+      devices = tt;
+      kept = tt;
+      unfailed = λ none. (refl, refl);
+    }
+
+pub history_of_trace : (e : AuditFault) → IsOfTrace e → IsOfHistory e
+history_of_trace (faults.Trace f) h = h
+history_of_trace (faults.Evidence f) h = absurd h
+history_of_trace (faults.Write n) h = absurd h
+history_of_trace faults.OutOfMemory h = tt
+history_of_trace faults.Limits h = absurd h
+history_of_trace faults.Joined h = absurd h
+history_of_trace faults.Input h = absurd h
+
+pub history_kinds : {V : Type 0} (Says : List ℕ → V → Type 0) (out : Writing) (r : Result V AuditFault) → Told Says out r → IfErr r IsOfHistory
+history_kinds Says out (Ok v) told = tt
+history_kinds Says out (Err e) told = of_writing IsOfHistory tt (λ n. tt) e told.kinds
+
+-- ---- audits
+
+pub audit_kinds : {V : Type 0} (Says : List ℕ → V → Type 0) (out : Writing) (r : Result V AuditFault) → Told Says out r → IfErr r IsOfAudit
+audit_kinds Says out (Ok v) told = tt
+audit_kinds Says out (Err e) told = of_writing IsOfAudit tt (λ n. tt) e told.kinds
+
+pub kinds_of_trace : (e : AuditFault) → IsOfTrace e → IsOfAudit e
+kinds_of_trace (faults.Trace f) h = h
+kinds_of_trace (faults.Evidence f) h = absurd h
+kinds_of_trace (faults.Write n) h = absurd h
+kinds_of_trace faults.OutOfMemory h = tt
+kinds_of_trace faults.Limits h = absurd h
+kinds_of_trace faults.Joined h = absurd h
+kinds_of_trace faults.Input h = absurd h
+
+pub kinds_of_evidence : (e : AuditFault) → IsOfEvidence e → IsOfAudit e
+kinds_of_evidence (faults.Trace f) h = absurd h
+kinds_of_evidence (faults.Evidence f) h = h
+kinds_of_evidence (faults.Write n) h = absurd h
+kinds_of_evidence faults.OutOfMemory h = tt
+kinds_of_evidence faults.Limits h = absurd h
+kinds_of_evidence faults.Joined h = absurd h
+kinds_of_evidence faults.Input h = absurd h
+
+never_of_evidence : (e x : AuditFault) → IsOfEvidence e → e ≡ x → ((f : EvidenceFault) → faults.Evidence f ≡ x → ⊥) → faults.OutOfMemory ≢ x → ⊥
+never_of_evidence (faults.Trace f) x of is no_evidence no_memory = of
+never_of_evidence (faults.Evidence f) x of is no_evidence no_memory = no_evidence f is
+never_of_evidence (faults.Write n) x of is no_evidence no_memory = of
+never_of_evidence faults.OutOfMemory x of is no_evidence no_memory = no_memory is
+never_of_evidence faults.Limits x of is no_evidence no_memory = of
+never_of_evidence faults.Joined x of is no_evidence no_memory = of
+never_of_evidence faults.Input x of is no_evidence no_memory = of
+
+-- the trace was refused, and nothing else touched
+pub audited_no_trace : (trace : Reading) (b : Reader) (w : Writer) (e : AuditFault) → TraceRead trace (Err e)
+    → Audited trace (record { before = b; after = b }) (record { before = w; after = w }) (Err e)
+audited_no_trace trace b w e read =
+    let same = λ (f : AuditFault) (is : ◌≡◌ {A = Result Verdict AuditFault} (Err e) (Err f)). fault_same {V = Verdict} e f is in
+    record {
+      audits = tt;
+      flushed = tt;
+      headline = λ is. absurd (cc (is));
+      wrong_replies = tt;
+      trace_refused = λ f is. read.refused f (ap (λ (x : AuditFault). Err x) (same (faults.Trace f) is));
+      trace_cut = λ f is. read.cut f (ap (λ (x : AuditFault). Err x) (same (faults.Trace f) is));
+      evidence_refused = λ f is. absurd (never_evidence e read.kinds f (same (faults.Evidence f) is));
+      evidence_cut = λ f is. absurd (never_evidence e read.kinds f (same (faults.Evidence f) is));
+      write = λ n is. absurd (never_of_trace e read.kinds n (same (faults.Write n) is));
+      unwritten = λ is. refl;
+      most = (read.few, few_at_rest b);
+      known = (read.next, next_at_rest b);
+      held = behind_at_rest w;
+      devices = devices_of_trace e _ _ _ read.kinds (λ f is. read.failed f (ap (λ (x : AuditFault). Err x) is));
+      kept = tt;
+      unfailed = λ none. (read.unfailed none, refl, refl);
+    }
+
+-- the evidence was refused, and nothing was written
+pub audited_no_evidence : {V : Type 0} (Says : List (Option (List StepValue)) → V → Type 0) (trace evidence : Reading) (w : Writer) (t : TraceValue) (e : AuditFault) → TraceRead trace (Ok t)
+    → EvidenceRead Says t evidence (Err e) → Audited trace evidence (record { before = w; after = w }) (Err e)
+audited_no_evidence Says trace evidence w t e read given =
+    let same = λ (f : AuditFault) (is : ◌≡◌ {A = Result Verdict AuditFault} (Err e) (Err f)). fault_same {V = Verdict} e f is in
+    record {
+      audits = tt;
+      flushed = tt;
+      headline = λ is. absurd (cc (is));
+      wrong_replies = tt;
+      trace_refused = λ f is. absurd (never_of_evidence e (faults.Trace f) given.kinds (same (faults.Trace f) is) (λ g h. cc (h)) (λ h. cc (h)));
+      trace_cut = λ f is. absurd (never_of_evidence e (faults.Trace f) given.kinds (same (faults.Trace f) is) (λ g h. cc (h)) (λ h. cc (h)));
+      evidence_refused = λ f is. refused_evidence trace evidence t read.given f (given.refused f (ap (λ (x : AuditFault). Err x) (same (faults.Evidence f) is)));
+      evidence_cut = λ f is cut. cut_evidence trace evidence t read.given f (given.cut f (ap (λ (x : AuditFault). Err x) (same (faults.Evidence f) is)) cut);
+      write = λ n is. absurd (never_of_evidence e (faults.Write n) given.kinds (same (faults.Write n) is) (λ g h. cc (h)) (λ h. cc (h)));
+      unwritten = λ is. refl;
+      most = (read.few, given.few);
+      known = (read.next, given.next);
+      held = behind_at_rest w;
+      devices = devices_of_evidence e _ _ _ given.kinds (λ f is. given.failed f (ap (λ (x : AuditFault). Err x) is));
+      kept = tt;
+      unfailed = λ none. (read.held, given.unfailed none, refl);
+    }
+
+-- what was found was told
+pub audited : (trace evidence : Reading) (out : Writing) (t : TraceValue) (found : Vec Finding Global) (r : Result Verdict AuditFault) → TraceRead trace (Ok t)
+    → (by : EvidenceRead (AreFound t) t evidence (Ok found)) → ((given : List (Option (List StepValue))) → findings_of t given ≡ [] → IsRightAndFresh t)
+    → Told (IsReport t by.given.0) out r → Audited trace evidence out r
+audited trace evidence out t found (Ok v) read by law told =
+    let given = by.given.0 in
+    record {
+      audits =
+          on_both trace evidence t read.given (λ a b. Audits a b out.before.taken out.after.taken v) given by.given.2
+          (λ a b is says. (t, given, is, says, told.text.2 ∙ ap (λ (l : List ℕ). out.before.taken ++ l) told.text.1.0, told.text.1.1));
+      flushed = told.flushed;
+      headline = λ clean.
+          of_all-map trace (λ a. trace_of true a ≡ Ok t) IsTraceRightAndFresh
+          (λ a is. (t, is, law given (told_clean t given out (Ok v) told clean))) read.given;
+      wrong_replies =
+          on_both trace evidence t read.given NamesOnlyWrongReplies given by.given.2 (λ a b is says. (t, given, is, says, named_by_bytes a t given is));
+      trace_refused = λ f is. absurd (cc (is));
+      trace_cut = λ f is. absurd (cc (is));
+      evidence_refused = λ f is. absurd (cc (is));
+      evidence_cut = λ f is. absurd (cc (is));
+      write = λ n is. absurd (cc (is));
+      unwritten = tt;
+      most = (read.few, by.few);
+      known = (read.next, by.next);
+      held = told.held;
+      devices = tt;
+      kept = (read.held, by.held, told.kept);
+      unfailed = tt;
+    }
+audited trace evidence out t found (Err e) read by law told =
+    let given = by.given.0 in
+    record {
+      audits = tt;
+      flushed = tt;
+      headline = λ is. absurd (cc (is));
+      wrong_replies = tt;
+      trace_refused = λ f is. absurd (never_refused (Err e) (faults.Trace f) told.kinds is tt);
+      trace_cut = λ f is. absurd (never_refused (Err e) (faults.Trace f) told.kinds is tt);
+      evidence_refused = λ f is. absurd (never_refused (Err e) (faults.Evidence f) told.kinds is tt);
+      evidence_cut = λ f is. absurd (never_refused (Err e) (faults.Evidence f) told.kinds is tt);
+      write = λ n is.
+          let h = told.write n is in
+          on_both trace evidence t read.given (λ a b. Breaks a b out.before.taken out.after.taken n) given by.given.2
+          (λ a b is says. (t, given, is, says, subst (λ (text : List ℕ). FailsWriting out.before.taken out.after.taken n text) h.2.0 h.3));
+      unwritten = told.unwritten;
+      most = (read.few, by.few);
+      known = (read.next, by.next);
+      held = told.held;
+      devices = devices_of_writing {V = Verdict} (Err e) _ _ _ told.kinds told.failed;
+      kept = tt;
+      unfailed = λ none. (read.held, by.held, told.unfailed (unwritten_without_device e none));
+    }
+
+-- nothing was asked for that is within the limits, and nothing touched
+pub audited_at_rest : (a b : Reader) (w : Writer)
+    → Audited (record { before = a; after = a }) (record { before = b; after = b }) (record { before = w; after = w }) (Err faults.Limits)
+audited_at_rest a b w =
+    record {
+      audits = tt;
+      flushed = tt;
+      headline = λ is. absurd (cc (is));
+      wrong_replies = tt;
+      trace_refused = λ f is. absurd (cc (is));
+      trace_cut = λ f is. absurd (cc (is));
+      evidence_refused = λ f is. absurd (cc (is));
+      evidence_cut = λ f is. absurd (cc (is));
+      write = λ n is. absurd (cc (is));
+      unwritten = λ is. refl;
+      most = (few_at_rest a, few_at_rest b);
+      known = (next_at_rest a, next_at_rest b);
+      held = behind_at_rest w;
+      devices = tt;
+      kept = tt;
+      unfailed = λ none. (refl, refl, refl);
+    }
+
+-- what is told of evidence for a trace is told of the bytes of both
+pub told_by_bytes : (trace evidence : Reading) (t : TraceValue) (N : Type 0) (P : TraceValue → List (Option (List StepValue)) → Type 0) → OfAll trace (λ a. trace_of true a ≡ Ok t)
+    → N ⊎ OfAll evidence (λ b. (given : List (Option (List StepValue))) × (evidence_of t.entries true b ≡ Ok given) × P t given)
+    → N ⊎ OfBoth trace evidence (λ a b. IsOfBytes a b P)
+told_by_bytes trace evidence t N P says (inl not) = inl not
+told_by_bytes trace evidence t N P says (inr told) =
+    inr
+    (of_all-map trace (λ a. trace_of true a ≡ Ok t) (λ a. OfAll evidence (λ b. IsOfBytes a b P))
+    (λ a is. of_all-map evidence (λ b. (given : List (Option (List StepValue))) × (evidence_of t.entries true b ≡ Ok given) × P t given) (λ b. IsOfBytes a b P) (λ b h. (t, h.0, is, h.1, h.2)) told) says)
+
+pub told_of : (evidence : Reading) (t : TraceValue) (P : List (Option (List StepValue)) → Type 0) (given : List (Option (List StepValue))) → OfAll evidence (λ b. evidence_of t.entries true b ≡ Ok given) → P given
+    → OfAll evidence (λ b. (given : List (Option (List StepValue))) × (evidence_of t.entries true b ≡ Ok given) × P given)
+told_of evidence t P given says told =
+    of_all-map evidence (λ b. evidence_of t.entries true b ≡ Ok given) (λ b. (x : List (Option (List StepValue))) × (evidence_of t.entries true b ≡ Ok x) × P x) (λ b is. (given, is, told)) says

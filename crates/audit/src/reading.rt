@@ -1,0 +1,85 @@
+//! What an audit reads.
+
+ghost use Rattle.std.specs.Prelude.{◌≡◌, ◌≢◌, List, Option};
+ghost use Rattle.trace_lines.specs.declared.cause.Cause.TheVariants as causes;
+ghost use Rattle.trace_lines.specs.declared.cause.TraceFault.{TraceFault};
+ghost use Rattle.evidence_check.specs.declared.cause.EvidenceCause.TheVariants as evidence_causes;
+ghost use Rattle.evidence_check.specs.declared.cause.EvidenceFault.{EvidenceFault};
+ghost use Rattle.evidence_check.specs.Evidences.{evidence_value};
+ghost use Rattle.evidence_check.specs.Judging.{AreJudged};
+ghost use Rattle.audit.specs.Answers.{TraceRead, EvidenceRead};
+ghost use Rattle.audit.specs.Audit.{IsOfNoDevice, IsOfTrace, IsOfEvidence};
+ghost use Rattle.audit.specs.Devices.{reads};
+ghost use Rattle.audit.specs.declared.plain.AuditFault.TheVariants as faults;
+
+use crate::plain::AuditFault;
+use evidence_check::{
+    Evidence, EvidenceCause, EvidenceFault, Judged, judge_evidence, read_evidence,
+};
+use json_lines::Source;
+use std::alloc::Global;
+use trace_lines::{Cause, Trace, TraceFault, read_trace};
+
+/// The trace of a reader.
+pub(crate) fn trace_from<R: Source>(alloc: Global, reader: &mut R) -> Result<Trace, AuditFault>
+    ensures { TraceRead (reads R.given R.ends R.failures R.remaining reader.old reader.new) result }
+{
+    match read_trace(alloc, reader) {
+        Ok(trace) => Ok(trace),
+        Err(fault) => Err(of_trace(fault)),
+    }
+}
+
+/// A fault of the trace, where want of memory is told as such.
+pub(crate) fn of_trace(fault: TraceFault) -> AuditFault
+    ensures same { (f : TraceFault) → result ≡ faults.Trace f → f ≡ fault }
+    ensures device { IsOfNoDevice result → fault.cause ≢ causes.Read }
+    ensures kinds { IsOfTrace result }
+{
+    match fault.cause {
+        Cause::OutOfMemory => AuditFault::OutOfMemory,
+        _ => AuditFault::Trace(fault),
+    }
+}
+
+/// A fault of the evidence, where want of memory is told as such.
+pub(crate) fn of_evidence(fault: EvidenceFault) -> AuditFault
+    ensures same { (f : EvidenceFault) → result ≡ faults.Evidence f → f ≡ fault }
+    ensures device { IsOfNoDevice result → fault.cause ≢ evidence_causes.Read }
+    ensures kinds { IsOfEvidence result }
+{
+    match fault.cause {
+        EvidenceCause::OutOfMemory => AuditFault::OutOfMemory,
+        _ => AuditFault::Evidence(fault),
+    }
+}
+
+/// The evidence of a reader for a trace.
+pub(crate) fn evidence_from<R: Source>(
+    alloc: Global,
+    reader: &mut R,
+    trace: &Trace,
+) -> Result<Evidence, AuditFault>
+    ensures { EvidenceRead (λ given v. evidence_value v ≡ given) trace.now
+        (reads R.given R.ends R.failures R.remaining reader.old reader.new) result }
+{
+    match read_evidence(alloc, reader, trace) {
+        Ok(evidence) => Ok(evidence),
+        Err(fault) => Err(of_evidence(fault)),
+    }
+}
+
+/// How the evidence of a reader judges each entry of a trace, each record as it is read.
+pub(crate) fn judgements_from<R: Source>(
+    alloc: Global,
+    reader: &mut R,
+    trace: &Trace,
+) -> Result<Vec<Judged>, AuditFault>
+    ensures { EvidenceRead (λ given v. AreJudged trace.now given v.items) trace.now
+        (reads R.given R.ends R.failures R.remaining reader.old reader.new) result }
+{
+    match judge_evidence(alloc, reader, trace) {
+        Ok(judgements) => Ok(judgements),
+        Err(fault) => Err(of_evidence(fault)),
+    }
+}
