@@ -1,14 +1,42 @@
 //! The commands, as `clap` has them.
 
+ghost use Rattle.std.specs.Prelude.{◌≡◌, IfOk, false, codes};
+ghost use Rattle.clap.specs.Words.{app_of, new_rule, rule_of};
+ghost use Rattle.clap.specs.declared.builder.command.Command.TheViews.{out-Command};
+ghost use Rattle.command_line.specs.Commands as spec;
+
 use clap::{Arg, ArgAction, Command, value_parser};
 use std::alloc::{AllocError, Global};
 
 /// A file that a command reads.
-fn file<'a>(alloc: Global, name: &'a str, help: &'a str) -> Arg<'a> {
+fn file<'a>(alloc: Global, name: &'a str, help: &'a str) -> Arg<'a>
+    ensures rule { rule_of result ≡ spec.file name.entry.now }
+    ensures local { result.global ≡ false }
+{
     Arg::new(alloc, name).required(true).help(help)
 }
 
-fn number<'a>(alloc: Global, name: &'a str, usual: &'a str, help: &'a str) -> Arg<'a> {
+fn optional<'a>(alloc: Global, name: &'a str, help: &'a str) -> Arg<'a>
+    ensures rule { rule_of result ≡ new_rule name.entry.now }
+    ensures local { result.global ≡ false }
+{
+    Arg::new(alloc, name).help(help)
+}
+
+fn flag<'a>(alloc: Global, name: &'a str, help: &'a str) -> Arg<'a>
+    ensures rule { rule_of result ≡ spec.flag name.entry.now }
+    ensures local { result.global ≡ false }
+{
+    Arg::new(alloc, name)
+        .long(name)
+        .action(ArgAction::SetTrue)
+        .help(help)
+}
+
+fn number<'a>(alloc: Global, name: &'a str, usual: &'a str, help: &'a str) -> Arg<'a>
+    ensures rule { rule_of result ≡ spec.number name.entry.now usual.entry.now }
+    ensures local { result.global ≡ false }
+{
     Arg::new(alloc, name)
         .long(name)
         .value_name("N")
@@ -17,17 +45,33 @@ fn number<'a>(alloc: Global, name: &'a str, usual: &'a str, help: &'a str) -> Ar
         .help(help)
 }
 
-fn audit<'a>(alloc: Global) -> Result<Command<'a>, AllocError> {
+fn evidence<'a>(alloc: Global) -> Arg<'a>
+    ensures rule { rule_of result ≡ new_rule (codes "EVIDENCE") }
+    ensures local { result.global ≡ false }
+{
+    optional(
+        alloc,
+        "EVIDENCE",
+        "The evidence for its replies, JSON lines",
+    )
+}
+
+fn making<'a>(alloc: Global) -> Arg<'a>
+    ensures rule { rule_of result ≡ spec.flag (codes "make") }
+    ensures local { result.global ≡ false }
+{
+    flag(
+        alloc,
+        "make",
+        "Make the evidence for each entry as it is checked",
+    )
+}
+
+fn audit<'a>(alloc: Global, evidence: Arg<'a>, make: Arg<'a>) -> Result<Command<'a>, AllocError>
+    ensures { rule_of evidence.entry ≡ new_rule (codes "EVIDENCE") → evidence.entry.global ≡ false → rule_of make.entry ≡ spec.flag (codes "make") → make.entry.global ≡ false
+        → IfOk result (λ c. (app_of c ≡ spec.audit) × ((out-Command c).has_globals ≡ false)) }
+{
     let trace = file(alloc, "TRACE", "The trace, JSON lines");
-    let evidence = Arg::new(alloc, "EVIDENCE")
-        .required_unless_present("make")?
-        .help("The evidence for its replies, JSON lines");
-    let make = Arg::new(alloc, "make")
-        .long("make")
-        .action(ArgAction::SetTrue)
-        .conflicts_with("EVIDENCE")?
-        .conflicts_with("early")?
-        .help("Make the evidence for each entry as it is checked");
     let workers = number(
         alloc,
         "workers",
@@ -40,10 +84,11 @@ fn audit<'a>(alloc: Global) -> Result<Command<'a>, AllocError> {
         "64",
         "How many entries a thread takes at a time, 1 to 4096",
     );
-    let early = Arg::new(alloc, "early")
-        .long("early")
-        .action(ArgAction::SetTrue)
-        .help("Tell an entry's first finding on standard error as soon as it is seen");
+    let early = flag(
+        alloc,
+        "early",
+        "Tell an entry's first finding on standard error as soon as it is seen",
+    );
     Command::new(alloc, "audit")
         .about("Audits a trace by evidence for its replies, read or made, and writes a report")
         .after_help(
@@ -57,34 +102,43 @@ fn audit<'a>(alloc: Global) -> Result<Command<'a>, AllocError> {
         .arg(early)
 }
 
-fn make<'a>(alloc: Global) -> Result<Command<'a>, AllocError> {
-    let list = Arg::new(alloc, "list")
-        .long("list")
-        .action(ArgAction::SetTrue)
-        .help("Name the line of each entry that has no record on standard error");
+fn make<'a>(alloc: Global) -> Result<Command<'a>, AllocError>
+    ensures { IfOk result (λ c. (app_of c ≡ spec.make) × ((out-Command c).has_globals ≡ false)) }
+{
+    let trace = file(alloc, "TRACE", "The trace, JSON lines");
+    let list = flag(
+        alloc,
+        "list",
+        "Name the line of each entry that has no record on standard error",
+    );
     Command::new(alloc, "make")
         .about("Writes evidence for a trace: a record for each entry that can be settled")
         .after_help(
             "Example: new_enemy make trace.jsonl > evidence.jsonl\n\nHow many entries have no record is told on standard error.",
         )
-        .arg(file(alloc, "TRACE", "The trace, JSON lines"))?
+        .arg(trace)?
         .arg(list)
 }
 
-fn history<'a>(alloc: Global) -> Result<Command<'a>, AllocError> {
+fn history<'a>(alloc: Global) -> Result<Command<'a>, AllocError>
+    ensures { IfOk result (λ c. (app_of c ≡ spec.history) × ((out-Command c).has_globals ≡ false)) }
+{
+    let trace = file(alloc, "TRACE", "The trace, JSON lines");
+    let tuple = file(
+        alloc,
+        "TUPLE",
+        "The relation tuple, namespace:object_id#relation@user",
+    );
     Command::new(alloc, "history")
         .about("Writes when a relation tuple was added and removed, newest first")
         .after_help("Example: new_enemy history trace.jsonl doc:readme#viewer@10")
-        .arg(file(alloc, "TRACE", "The trace, JSON lines"))?
-        .arg(file(
-            alloc,
-            "TUPLE",
-            "The relation tuple, namespace:object_id#relation@user",
-        ))
+        .arg(trace)?
+        .arg(tuple)
 }
 
-/// The program with its commands. Which words it takes the program's tests alone say.
-pub(crate) fn program<'a>(alloc: Global) -> Result<Command<'a>, AllocError> {
+fn with_commands<'a>(alloc: Global, audit: Command<'a>) -> Result<Command<'a>, AllocError>
+    ensures { app_of audit.entry ≡ spec.audit → (out-Command audit.entry).has_globals ≡ false → IfOk result (λ c. (app_of c ≡ spec.program) × ((out-Command c).has_globals ≡ false)) }
+{
     Command::new(alloc, "new_enemy")
         .bin_name("new_enemy")?
         .version("0.1.0 (rattle-kit-13b)")
@@ -95,7 +149,25 @@ pub(crate) fn program<'a>(alloc: Global) -> Result<Command<'a>, AllocError> {
             "Without a command it audits what standard input gives until its end: the trace, a line ---, and the evidence.",
         )
         .no_binary_name(true)
-        .subcommand(audit(alloc)?)?
+        .subcommand(audit)?
         .subcommand(make(alloc)?)?
         .subcommand(history(alloc)?)
+}
+
+/// The program with its commands, without rules between arguments: which words it takes its contract says.
+pub(crate) fn program<'a>(alloc: Global) -> Result<Command<'a>, AllocError>
+    ensures { IfOk result (λ c. (app_of c ≡ spec.program) × ((out-Command c).has_globals ≡ false)) }
+{
+    let audit = audit(alloc, evidence(alloc), making(alloc))?;
+    with_commands(alloc, audit)
+}
+
+/// The same with the rules between arguments, for the texts of what is refused.
+pub(crate) fn strict<'a>(alloc: Global) -> Result<Command<'a>, AllocError> {
+    let evidence = evidence(alloc).required_unless_present("make")?;
+    let make = making(alloc)
+        .conflicts_with("EVIDENCE")?
+        .conflicts_with("early")?;
+    let audit = audit(alloc, evidence, make)?;
+    with_commands(alloc, audit)
 }

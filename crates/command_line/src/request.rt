@@ -1,10 +1,13 @@
 //! Requests, and the words that ask for them.
 
-ghost use Rattle.std.specs.Prelude.{◌≡◌, ◌≢◌, [], Ok, IfOk, IfSome};
+ghost use Rattle.std.specs.Prelude.{◌≡◌, [], ◌∷◌, Ok, Some, None, true, false, not, is_some, List, Option, IfOk, IfErr, IfSome, codes, map, slice_get, string_bytes, option_map};
+ghost use Rattle.clap.specs.Words.{Row, Text, rows_of, found_of, first_of, one_of, subcommand_of, subcommand_rows_of, takes, kind_of, FailsBy, fault_of};
+ghost use Rattle.command_line.specs.Commands as spec;
+ghost use Rattle.command_line.specs.Asked.{IsAuditFound, IsMakeFound, IsHistoryFound, asked_by, asked_in, command_of, is_plain_word, audits, makes, tells};
 ghost use Rattle.command_line.specs.declared.request.Answer.TheVariants.{Asks};
 ghost use Rattle.command_line.specs.declared.request.Request.TheVariants.{Joined};
 
-use crate::commands::program;
+use crate::commands::{program, strict};
 use clap::error::ErrorKind;
 use clap::{ArgMatches, Error};
 use std::alloc::{AllocError, Global};
@@ -45,38 +48,119 @@ pub enum Answer<'a> {
     Refuses(String),
 }
 
-fn audit_of<'a>(matches: &ArgMatches<'a>) -> Option<Request<'a>>
-    ensures { IfSome result (λ r. r ≢ Joined) }
+/// The matches of the words, by the commands without rules between their arguments.
+fn parsed<'a>(alloc: Global, words: &'a [String]) -> Result<ArgMatches<'a>, Error>
+    ensures matches { IfOk result (λ m. subcommand_rows_of m ≡ subcommand_of spec.program (map string_bytes words.entry.now)) }
+    ensures passes { IfErr result (λ e. takes spec.program (map string_bytes words.entry.now) ≡ true → kind_of e ≡ ErrorKind.OutOfMemory) }
+    ensures kinds { FailsBy (fault_of spec.program (map string_bytes words.entry.now)) result }
 {
-    Some(Request::Audit {
-        trace: matches.get_str("TRACE")?,
-        evidence: matches.get_str("EVIDENCE"),
-        workers: matches.get_one::<u64>("workers")?,
-        slice: matches.get_one::<u64>("slice")?,
-        early: matches.get_flag("early"),
-    })
+    program(alloc)?.try_get_matches_from(words)
+}
+
+/// The text of an argument.
+fn text<'a>(matches: &ArgMatches<'a>, id: &str) -> Option<&'a str>
+    ensures { option_map (λ s. s.now) result ≡ first_of id.now (rows_of (found_of matches.now)) }
+{
+    matches.get_str(id)
+}
+
+/// The number of an argument.
+fn number(matches: &ArgMatches, id: &str) -> Option<u64>
+    ensures one { one_of id.now (rows_of (found_of matches.now)) ≡ Some (codes "1") → result ≡ Some 1 }
+    ensures slice { one_of id.now (rows_of (found_of matches.now)) ≡ Some (codes "64") → result ≡ Some 64 }
+{
+    matches.get_one::<u64>(id)
+}
+
+/// Whether a flag was given.
+fn has(matches: &ArgMatches, id: &str) -> bool
+    ensures yes { one_of id.now (rows_of (found_of matches.now)) ≡ Some (codes "true") → result ≡ true }
+    ensures no { one_of id.now (rows_of (found_of matches.now)) ≡ Some (codes "false") → result ≡ false }
+{
+    matches.get_flag(id)
+}
+
+/// The request of what was found for `audit`, where evidence or `--make` is there, and not both, and not `--make` with `--early`.
+fn audited<'a>(
+    trace: Option<&'a str>,
+    evidence: Option<&'a str>,
+    make: bool,
+    workers: Option<u64>,
+    slice: Option<u64>,
+    early: bool,
+) -> Option<Request<'a>>
+    ensures asked { (t : Text) → option_map (λ s. s.now) trace.entry ≡ Some t → make ≡ not (is_some evidence.entry) → workers ≡ Some 1 → slice ≡ Some 64 → early ≡ false
+        → option_map asked_by result ≡ Some (audits t (option_map (λ s. s.now) evidence.entry) 1 64 false) }
+    ensures named { IfSome result (λ r. command_of (asked_by r) ≡ Some (codes "audit")) }
+{
+    if evidence.is_some() == make {
+        return None;
+    }
+    if early && make {
+        return None;
+    }
+    match (trace, workers, slice) {
+        (Some(trace), Some(workers), Some(slice)) => {
+            Some(Request::Audit {
+                trace,
+                evidence,
+                workers,
+                slice,
+                early,
+            })
+        }
+        _ => None,
+    }
+}
+
+fn audit_of<'a>(matches: &ArgMatches<'a>) -> Option<Request<'a>>
+    ensures asked { (t : Text) (e : Option Text) → IsAuditFound (rows_of (found_of matches.now)) t e
+        → option_map asked_by result ≡ Some (audits t e 1 64 false) }
+    ensures named { IfSome result (λ r. command_of (asked_by r) ≡ Some (codes "audit")) }
+{
+    let trace = text(matches, "TRACE");
+    let evidence = text(matches, "EVIDENCE");
+    let make = has(matches, "make");
+    let workers = number(matches, "workers");
+    let slice = number(matches, "slice");
+    let early = has(matches, "early");
+    audited(trace, evidence, make, workers, slice, early)
 }
 
 fn make_of<'a>(matches: &ArgMatches<'a>) -> Option<Request<'a>>
-    ensures { IfSome result (λ r. r ≢ Joined) }
+    ensures asked { (t : Text) → IsMakeFound (rows_of (found_of matches.now)) t
+        → option_map asked_by result ≡ Some (makes t false) }
+    ensures named { IfSome result (λ r. command_of (asked_by r) ≡ Some (codes "make")) }
 {
-    Some(Request::Make {
-        trace: matches.get_str("TRACE")?,
-        list: matches.get_flag("list"),
-    })
+    let list = has(matches, "list");
+    match text(matches, "TRACE") {
+        Some(trace) => Some(Request::Make { trace, list }),
+        None => None,
+    }
 }
 
 fn history_of<'a>(matches: &ArgMatches<'a>) -> Option<Request<'a>>
-    ensures { IfSome result (λ r. r ≢ Joined) }
+    ensures asked { (t u : Text) → IsHistoryFound (rows_of (found_of matches.now)) t u
+        → option_map asked_by result ≡ Some (tells t u) }
+    ensures named { IfSome result (λ r. command_of (asked_by r) ≡ Some (codes "history")) }
 {
-    Some(Request::History {
-        trace: matches.get_str("TRACE")?,
-        tuple: matches.get_str("TUPLE")?,
-    })
+    let trace = text(matches, "TRACE");
+    let tuple = text(matches, "TUPLE");
+    match (trace, tuple) {
+        (Some(trace), Some(tuple)) => Some(Request::History { trace, tuple }),
+        _ => None,
+    }
 }
 
 fn request_of<'a>(matches: &ArgMatches<'a>) -> Option<Request<'a>>
-    ensures { IfSome result (λ r. r ≢ Joined) }
+    ensures audit { (rows : List Row) (t : Text) (e : Option Text) → subcommand_rows_of matches.now ≡ Some (codes "audit", rows) → IsAuditFound rows t e
+        → option_map asked_by result ≡ Some (audits t e 1 64 false) }
+    ensures make { (rows : List Row) (t : Text) → subcommand_rows_of matches.now ≡ Some (codes "make", rows) → IsMakeFound rows t
+        → option_map asked_by result ≡ Some (makes t false) }
+    ensures history { (rows : List Row) (t u : Text) → subcommand_rows_of matches.now ≡ Some (codes "history", rows) → IsHistoryFound rows t u
+        → option_map asked_by result ≡ Some (tells t u) }
+    ensures named { IfSome result (λ r. option_map (λ p. p.0) (subcommand_rows_of matches.now) ≡ command_of (asked_by r)) }
+    ensures some { IfSome result (λ r. is_some (command_of (asked_by r)) ≡ true) }
 {
     match matches.subcommand()? {
         ("audit", found) => audit_of(found),
@@ -90,24 +174,46 @@ fn told(alloc: Global, error: &Error) -> Result<String, AllocError> {
     format!(in alloc; "{error}")
 }
 
+/// What is shown for words that ask for nothing, by the commands with their rules.
+fn refused<'a>(alloc: Global, words: &'a [String]) -> Result<Answer<'a>, AllocError>
+    ensures { IfOk result (λ a. asked_in a ≡ None) }
+{
+    match strict(alloc)?.try_get_matches_from(words) {
+        Ok(_matches) => Ok(Answer::Refuses(format!(in alloc; "usage")?)),
+        Err(error) if error.kind() == ErrorKind::OutOfMemory => Err(AllocError),
+        Err(error) if error.use_stderr() => Ok(Answer::Refuses(told(alloc, &error)?)),
+        Err(error) => Ok(Answer::Shows(told(alloc, &error)?)),
+    }
+}
+
 /// Reads the words behind the program's name.
 ///
 /// Without words joined input is asked for. Words that name no command, lack one of its words, have one too many,
-/// repeat an option or give it no number below 2^64 are refused.
+/// repeat an option or give it no number below 2^64 are refused, and so is an audit with both evidence and `--make`, or with
+/// neither, or of `--make` with `--early`.
 pub fn read_words<'a>(alloc: Global, words: &'a [String]) -> Result<Answer<'a>, AllocError>
     ensures joined { IfOk result (λ a. a ≡ Asks Joined → words.now ≡ []) }
     ensures none { words.now ≡ [] → result ≡ Ok (Asks Joined) }
+    // What is asked for is what the first word names, and the audit of joined input where there is none.
+    ensures first { IfOk result (λ a. IfSome (asked_in a) (λ r. slice_get (map string_bytes words.now) 0 ≡ command_of r)) }
+    ensures audit { (t e : Text) → map string_bytes words.now ≡ codes "audit" ∷ t ∷ e ∷ [] → is_plain_word t ≡ true → is_plain_word e ≡ true
+        → IfOk result (λ a. asked_in a ≡ Some (audits t (Some e) 1 64 false)) }
+    ensures audit_made { (t : Text) → map string_bytes words.now ≡ codes "audit" ∷ t ∷ codes "--make" ∷ [] → is_plain_word t ≡ true
+        → IfOk result (λ a. asked_in a ≡ Some (audits t None 1 64 false)) }
+    ensures make { (t : Text) → map string_bytes words.now ≡ codes "make" ∷ t ∷ [] → is_plain_word t ≡ true
+        → IfOk result (λ a. asked_in a ≡ Some (makes t false)) }
+    ensures history { (t u : Text) → map string_bytes words.now ≡ codes "history" ∷ t ∷ u ∷ [] → is_plain_word t ≡ true → is_plain_word u ≡ true
+        → IfOk result (λ a. asked_in a ≡ Some (tells t u)) }
 {
     if words.is_empty() {
         return Ok(Answer::Asks(Request::Joined));
     }
-    match program(alloc)?.try_get_matches_from(words) {
+    match parsed(alloc, words) {
         Ok(matches) => match request_of(&matches) {
             Some(request) => Ok(Answer::Asks(request)),
-            None => Ok(Answer::Refuses(format!(in alloc; "usage")?)),
+            None => refused(alloc, words),
         },
         Err(error) if error.kind() == ErrorKind::OutOfMemory => Err(AllocError),
-        Err(error) if error.use_stderr() => Ok(Answer::Refuses(told(alloc, &error)?)),
-        Err(error) => Ok(Answer::Shows(told(alloc, &error)?)),
+        Err(_error) => refused(alloc, words),
     }
 }

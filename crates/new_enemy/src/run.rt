@@ -1,6 +1,6 @@
 //! The program, over any runtime, reader and writers.
 
-ghost use Rattle.std.specs.Prelude.{◌≡◌, ◌≢◌, ◌↔◌, ◌+◌, ◌<◌, ◌≤◌, ◌⊎◌, [], length, Ok, Err, false, ⊤};
+ghost use Rattle.std.specs.Prelude.{◌≡◌, ◌≢◌, ◌↔◌, ◌+◌, ◌<◌, ◌≤◌, ◌⊎◌, [], length, map, Ok, Err, None, false, ⊤, IfSome, string_bytes};
 ghost use Rattle.json_lines.specs.Devices.{moved_by, failures_of, stops_of};
 ghost use Rattle.json_lines.specs.Given.{OfBytes, OfWhole, OfInput, AreNext, StandBehind};
 ghost use Rattle.json_lines.specs.declared.lines.TheConstants.{CHUNK};
@@ -15,6 +15,7 @@ ghost use Rattle.findings.specs.Headline.{IsTraceRightAndFresh};
 ghost use Rattle.audit.specs.Joined.{OfParts};
 ghost use Rattle.new_enemy.specs.Files.{IsCleanAudit, IsDirtyAudit, IsCleanAuditMade, IsDirtyAuditMade, IsMadeEvidence, IsToldHistory, IsNoTrace, IsNoAudit, OfRun, OfFiles, file_failures};
 ghost use Rattle.new_enemy.specs.Run.{IsRefused, OfEveryInput, IsCleanRun, IsDirtyRun};
+ghost use Rattle.new_enemy.specs.Words.{IsAsked, RanAudit, RanAuditAlone, RanMake, RanHistory};
 ghost use Rattle.new_enemy.specs.declared.run.Ran.TheVariants as ran;
 ghost use Rattle.audit.specs.declared.plain.Verdict.TheVariants.{Clean, Dirty};
 
@@ -74,6 +75,8 @@ fn audit_paths<W: Sink, E: Sink, P: Files + Threads + Wait + Sync>(
     ensures dirty { result.0 ≡ 1 → OfRun result.1 ⊥ (λ t e. IsDirtyAudit t e (W.taken out.old) (W.taken out.new))
         (λ t. IsDirtyAuditMade t (W.taken out.old) (W.taken out.new)) (λ t. ⊥) (λ t. ⊥) ⊥ }
     ensures files { OfRun result.1 ⊥ (λ t e. ⊤) (λ t. ⊤) (λ t. ⊥) (λ t. ⊥) ⊤ }
+    ensures ran { IfSome paths.entry.1 (λ _. RanAudit result.0 result.1) }
+    ensures ran_alone { paths.entry.1 ≡ None → RanAuditAlone result.0 result.1 }
     ensures flushed { result.0 ≤ 1 → W.flushes out.new ≡ W.flushes out.old + 1 }
     ensures limits { result.0 ≡ 3 → are_within_limits sharing.workers sharing.slice ≡ false }
     ensures unread { result.0 ≡ 3 → OfRun result.1 ⊥ (λ t e. (moved_by t ≡ []) × (moved_by e ≡ [])) (λ t. moved_by t ≡ []) (λ t. ⊥) (λ t. ⊥) ⊥ }
@@ -111,6 +114,7 @@ fn make_for_path<W: Sink, E: Sink, P: Files>(
 ) -> (u8, Ran<P::File>)
     ensures made { result.0 ≡ 0 → OfRun result.1 ⊥ (λ t e. ⊥) (λ t. ⊥) (λ t. IsMadeEvidence t (W.taken out.old) (W.taken out.new)) (λ t. ⊥) ⊥ }
     ensures files { OfRun result.1 ⊥ (λ t e. ⊥) (λ t. ⊥) (λ t. ⊤) (λ t. ⊥) ⊤ }
+    ensures ran { RanMake result.0 result.1 }
     ensures flushed { result.0 ≤ 1 → W.flushes out.new ≡ W.flushes out.old + 1 }
     ensures refused { result.0 ≡ 2 → OfRun result.1 ⊥ (λ t e. ⊥) (λ t. ⊥) (λ t. IsNoTrace t) (λ t. ⊥) ⊥ }
     ensures device { result.0 ≡ 5 → result.1 ≢ ran.Nothing → (0 < file_failures result.1) ⊎ (HasRisen (W.failures out.old) (W.failures out.new) ⊎ HasRisen (W.idle out.old) (W.idle out.new)) }
@@ -139,6 +143,7 @@ fn history_in_path<W: Sink, E: Sink, P: Files>(
     ensures told { result.0 ≡ 0 → OfRun result.1 ⊥ (λ t e. ⊥) (λ t. ⊥) (λ t. ⊥)
         (λ t. (v : TupleValue) × (tuple_at tuple.now ≡ Ok v) × IsToldHistory v t (W.taken out.old) (W.taken out.new)) ⊥ }
     ensures files { OfRun result.1 ⊥ (λ t e. ⊥) (λ t. ⊥) (λ t. ⊥) (λ t. ⊤) ⊤ }
+    ensures ran { RanHistory result.0 result.1 }
     ensures flushed { result.0 ≤ 1 → W.flushes out.new ≡ W.flushes out.old + 1 }
     ensures refused { result.0 ≡ 2 → OfRun result.1 ⊥ (λ t e. ⊥) (λ t. ⊥) (λ t. ⊥) (λ t. IsNoTrace t) ((f : TupleFault) × (tuple_at tuple.now ≡ Err f)) }
     ensures device { result.0 ≡ 5 → result.1 ≢ ran.Nothing → (0 < file_failures result.1) ⊎ (HasRisen (W.failures out.old) (W.failures out.new) ⊎ HasRisen (W.idle out.old) (W.idle out.new)) }
@@ -180,6 +185,8 @@ pub fn run_words<R: Source, W: Sink, E: Sink, P: Files + Threads + Wait + Sync>(
     err: &mut E,
 ) -> (u8, Ran<P::File>)
     ensures joined { result.1 ≡ ran.Joined ↔ words.now ≡ [] }
+    // Words that name an audit are run as one, and so on: status 0 where nothing was read is help alone.
+    ensures asked { IsAsked (map string_bytes words.now) result.0 result.1 }
     // The report on all that was read went out, its verdict is clean, and the trace is right and fresh.
     ensures clean { result.0 ≡ 0 → OfRun result.1
         (OfWhole R.given R.ends input.old input.new (OfParts (λ a b. Audits a b (W.taken out.old) (W.taken out.new) Clean))
@@ -261,6 +268,8 @@ pub fn run_on<R: Read, W: Write, E: Write, P: Files + Threads + Wait + Sync>(
     err: E,
 ) -> (u8, Ran<P::File>, (Counted<R>, Counted<W>, Counted<E>))
     ensures joined { result.1 ≡ ran.Joined ↔ words.now ≡ [] }
+    // Words that name an audit are run as one, and so on: status 0 where nothing was read is help alone.
+    ensures asked { IsAsked (map string_bytes words.now) result.0 result.1 }
     // All that was read, to its end, is a trace and evidence for it, all that was written is the report on them, and the trace is right
     // and fresh.
     ensures clean { result.0 ≡ 0 → OfRun result.1 (IsCleanRun result.2.0 result.2.1) (λ t e. IsCleanAudit t e [] (moved_by result.2.1))

@@ -1,0 +1,22 @@
+-- The numbers that stand where none is written.
+use Rattle.std.proofs.Common.{ap, ◌∙◌, ◌≡◌, ◌<◌, ◌^◌, ℕ, List, Option, Some, None, Result, Ok, Err, codes, rules, arith, Bor, Bool, true, false, not, is_some, if◌then◌else◌, option_map}
+use Rattle.std.specs.Str.Parse.{IsNumeral, ParsesUnsigned, digits_value, without_leading_plus}
+use Rattle.clap.specs.Words.{ReadsOne, Text}
+
+pub read_as_unsigned : (E : Type 0) (G : List ℕ → Result ℕ E → Type 0) (k n : ℕ) (t : List ℕ) (r : Option ℕ) → ReadsOne G t r
+    → ((x : Result ℕ E) → G t x → ParsesUnsigned k 10 t x) → IsNumeral 10 (without_leading_plus t) → digits_value 10 (without_leading_plus t) ≡ n → n < 2 ^ k → r ≡ Some n
+read_as_unsigned E G k n t (Some v) h only numeral is small = ap (λ (x : ℕ). Some x) ((only (Ok v) h).1 ∙ is)
+read_as_unsigned E G k n t None h only numeral is small = absurd (only (Err h.0) h.1 (numeral, rw is small))
+
+pub one_is_numeral : IsNumeral 10 (codes "1")
+one_is_numeral = (omega arith, (omega arith, search rules))
+
+pub slice_is_numeral : IsNumeral 10 (codes "64")
+slice_is_numeral = (omega arith, (omega arith, (omega arith, search rules)))
+
+-- evidence is made where none is named
+pub made_or_named : (named : Option (Bor Text)) (e found : Option Text) (make : Bool) → option_map (λ s. s.now) named ≡ e
+    → (found ≡ Some (codes "true") → make ≡ true) → (found ≡ Some (codes "false") → make ≡ false)
+    → found ≡ Some (if is_some e then codes "false" else codes "true") → make ≡ not (is_some named)
+made_or_named None e found make is given left m = given (rw (← is) at m)
+made_or_named (Some s) e found make is given left m = left (rw (← is) at m)

@@ -1,0 +1,177 @@
+-- What clap's function of the words gives at the plain forms.
+use Rattle.std.specs.Prelude.{slice_index_or, ◌≡◌, Bool, true, false, ℕ, Some, None, codes, List, [], ◌∷◌, ◌==◌, not, ◌&&◌}
+use Rattle.std.proofs.Common.{refl, sym, true≢false, ap, ap₂, ◌∙◌}
+use Rattle.clap.specs.Walk.{Row, Text, Rule, Walk, Held, Step, idle, value, word_met, walked, after_step, to_positional, arg_by_index, nothing_held, walk_from, finished, rows_after}
+use Rattle.clap.specs.Simple.{subcommand_of, Shape, built}
+use Rattle.clap.specs.Takes.{takes, level_passes, walk_passes, word_passes, step_passes, turn_passes, settle_passes, default_passes, is_valid}
+use Rattle.clap.specs.Faults.{is_simple_and_free}
+use Rattle.std.specs.List.{list_all}
+use Rattle.clap.proofs.OnLiterals.{clap_on_literals}
+use Rattle.command_line.specs.Commands.{program}
+use Rattle.command_line.specs.Asked.{is_plain_word, IsAuditFound, IsMakeFound, IsHistoryFound}
+
+pub simple : is_simple_and_free program ≡ true
+simple = refl
+
+is_false : (b : Bool) → not b ≡ true → b ≡ false
+is_false false e = refl
+is_false true e = absurd (true≢false (sym e))
+
+-- a plain word goes to a positional
+met : (c : List Rule) (position : ℕ) (t : Text) (h : Held) → is_plain_word t ≡ true → word_met c [] false idle position t h ≡ (h, value)
+met c position [] h p = refl
+met c position (x ∷ xs) h p = let f = is_false (x == 45) p in simp f refl
+
+passes : (s : Shape) (t : Text) (h : Held) → is_plain_word t ≡ true → word_passes s [] false idle t h ≡ true
+passes s [] h p = refl
+passes s (x ∷ xs) h p = let f = is_false (x == 45) p in simp f refl
+
+-- the shape of a subcommand, as built
+abbrev pub sub : ℕ → Shape
+sub n = slice_index_or (built program).subs n (built program).top
+
+-- between two words, where nothing waits
+abbrev at : Held → ℕ → Walk
+at h position = record { held = h; waiting = idle; position = position; is_trailing = false; stopped = None }
+
+abbrev placed : Shape → ℕ → Text → Held → Walk
+placed s position t h = to_positional s.rules (arg_by_index s.rules position) t (at h position) h
+
+abbrev may_be_placed : Shape → ℕ → Held → Bool
+may_be_placed s position h = step_passes s position h value
+
+step : (s : Shape) (position : ℕ) (t : Text) (h : Held) → is_plain_word t ≡ true → walked s.rules [] (at h position) t ≡ placed s position t h
+unfolding walked
+step s position t h p = ap (λ (m : Held × Step). after_step s.rules t (at h position) m.0 m.1) (met s.rules position t h p)
+
+turn : (s : Shape) (position : ℕ) (t : Text) (h : Held) → is_plain_word t ≡ true → turn_passes s [] (at h position) t ≡ may_be_placed s position h
+turn s position t h p = ap₂ (λ (b : Bool) (m : Held × Step). b && step_passes s position m.0 m.1) (passes s t h p) (met s.rules position t h p)
+
+-- what is asked after the words
+abbrev ends : Shape → Walk → Bool
+ends s w = settle_passes s.rules s.args_override_self w.held && (list_all default_passes s.rules && is_valid s (finished s.rules w.held) false)
+
+abbrev level : Shape → Bool → Bool → Walk → Bool
+level s x y w = (x && (y && true)) && ends s w
+
+-- two words that are no options
+two_pass : (s : Shape) (t e : Text) → is_plain_word t ≡ true → is_plain_word e ≡ true → placed s 1 t nothing_held ≡ at (placed s 1 t nothing_held).held 2
+    → level s (may_be_placed s 1 nothing_held) (may_be_placed s 2 (placed s 1 t nothing_held).held) (placed s 2 e (placed s 1 t nothing_held).held) ≡ true
+    → level_passes s [] nothing_held (t ∷ e ∷ []) false ≡ true
+unfolding walk_passes
+two_pass s t e p q second ok =
+    let after = step s 1 t nothing_held p ∙ second in
+    let ended = ap (λ (w : Walk). walked s.rules [] w e) after ∙ step s 2 e (placed s 1 t nothing_held).held q in
+    let turned = ap (λ (w : Walk). turn_passes s [] w e) after ∙ turn s 2 e (placed s 1 t nothing_held).held q in
+    ap (λ (x : Bool). level s x (turn_passes s [] (walked s.rules [] (walk_from nothing_held) t) e) (walked s.rules [] (walked s.rules [] (walk_from nothing_held) t) e)) (turn s 1 t nothing_held p)
+    ∙ (ap₂ (λ (y : Bool) (w : Walk). level s (may_be_placed s 1 nothing_held) y w) turned ended ∙ ok)
+
+two_rows : (s : Shape) (t e : Text) → is_plain_word t ≡ true → is_plain_word e ≡ true → placed s 1 t nothing_held ≡ at (placed s 1 t nothing_held).held 2
+    → rows_after s.rules [] (t ∷ e ∷ []) ≡ finished s.rules (placed s 2 e (placed s 1 t nothing_held).held).held
+two_rows s t e p q second =
+    let after = step s 1 t nothing_held p ∙ second in
+    ap (λ (w : Walk). finished s.rules w.held) (ap (λ (w : Walk). walked s.rules [] w e) after ∙ step s 2 e (placed s 1 t nothing_held).held q)
+
+-- ---- `audit` with two words
+
+below_audit : (t e : Text) → takes program (codes "audit" ∷ t ∷ e ∷ []) ≡ (level_passes (sub 0) [] nothing_held (t ∷ e ∷ []) false && true)
+unfolding clap_on_literals
+below_audit t e = refl
+
+pub audit_taken : (t e : Text) → is_plain_word t ≡ true → is_plain_word e ≡ true → takes program (codes "audit" ∷ t ∷ e ∷ []) ≡ true
+unfolding clap_on_literals
+audit_taken t e p q = below_audit t e ∙ ap (λ (b : Bool). b && true) (two_pass (sub 0) t e p q refl refl)
+
+abbrev pub audit_rows : Text → Text → List Row
+audit_rows t e = finished (sub 0).rules (placed (sub 0) 2 e (placed (sub 0) 1 t nothing_held).held).held
+
+within_audit : (t e : Text) → subcommand_of program (codes "audit" ∷ t ∷ e ∷ []) ≡ Some (codes "audit", rows_after (sub 0).rules [] (t ∷ e ∷ []))
+unfolding clap_on_literals
+within_audit t e = refl
+
+pub audit_is : (t e : Text) → is_plain_word t ≡ true → is_plain_word e ≡ true → subcommand_of program (codes "audit" ∷ t ∷ e ∷ []) ≡ Some (codes "audit", audit_rows t e)
+audit_is t e p q = within_audit t e ∙ ap (λ (rows : List Row). Some (codes "audit", rows)) (two_rows (sub 0) t e p q refl)
+
+pub audit_found : (t e : Text) → IsAuditFound (audit_rows t e) t (Some e)
+audit_found t e = record { trace = refl; evidence = refl; make = refl; workers = refl; slice = refl; early = refl }
+
+-- ---- `audit` with a word and `--make`
+
+abbrev pub made_rows : Text → List Row
+made_rows t = finished (sub 0).rules (walked (sub 0).rules [] (placed (sub 0) 1 t nothing_held) (codes "--make")).held
+
+-- a word that is no option, and then one that is known
+then_passes : (s : Shape) (t e : Text) → is_plain_word t ≡ true
+    → level s (may_be_placed s 1 nothing_held) (turn_passes s [] (placed s 1 t nothing_held) e) (walked s.rules [] (placed s 1 t nothing_held) e) ≡ true
+    → level_passes s [] nothing_held (t ∷ e ∷ []) false ≡ true
+unfolding walk_passes
+then_passes s t e p ok =
+    ap₂ (λ (x : Bool) (w : Walk). level s x (turn_passes s [] w e) (walked s.rules [] w e)) (turn s 1 t nothing_held p) (step s 1 t nothing_held p) ∙ ok
+
+then_rows : (s : Shape) (t e : Text) → is_plain_word t ≡ true
+    → rows_after s.rules [] (t ∷ e ∷ []) ≡ finished s.rules (walked s.rules [] (placed s 1 t nothing_held) e).held
+then_rows s t e p = ap (λ (w : Walk). finished s.rules (walked s.rules [] w e).held) (step s 1 t nothing_held p)
+
+pub made_taken : (t : Text) → is_plain_word t ≡ true → takes program (codes "audit" ∷ t ∷ codes "--make" ∷ []) ≡ true
+unfolding clap_on_literals
+made_taken t p = below_audit t (codes "--make") ∙ ap (λ (b : Bool). b && true) (then_passes (sub 0) t (codes "--make") p refl)
+
+pub made_is : (t : Text) → is_plain_word t ≡ true → subcommand_of program (codes "audit" ∷ t ∷ codes "--make" ∷ []) ≡ Some (codes "audit", made_rows t)
+made_is t p = within_audit t (codes "--make") ∙ ap (λ (rows : List Row). Some (codes "audit", rows)) (then_rows (sub 0) t (codes "--make") p)
+
+pub made_found : (t : Text) → IsAuditFound (made_rows t) t None
+unfolding clap_on_literals
+made_found t = record { trace = refl; evidence = refl; make = refl; workers = refl; slice = refl; early = refl }
+
+-- ---- `make` with a word
+
+one_passes : (s : Shape) (t : Text) → is_plain_word t ≡ true
+    → ((may_be_placed s 1 nothing_held && true) && ends s (placed s 1 t nothing_held)) ≡ true
+    → level_passes s [] nothing_held (t ∷ []) false ≡ true
+unfolding walk_passes
+one_passes s t p ok =
+    ap₂ (λ (x : Bool) (w : Walk). (x && true) && ends s w) (turn s 1 t nothing_held p) (step s 1 t nothing_held p) ∙ ok
+
+abbrev pub make_rows : Text → List Row
+make_rows t = finished (sub 1).rules (placed (sub 1) 1 t nothing_held).held
+
+below_make : (t : Text) → takes program (codes "make" ∷ t ∷ []) ≡ (level_passes (sub 1) [] nothing_held (t ∷ []) false && true)
+unfolding clap_on_literals
+below_make t = refl
+
+pub make_taken : (t : Text) → is_plain_word t ≡ true → takes program (codes "make" ∷ t ∷ []) ≡ true
+unfolding clap_on_literals
+make_taken t p = below_make t ∙ ap (λ (b : Bool). b && true) (one_passes (sub 1) t p refl)
+
+within_make : (t : Text) → subcommand_of program (codes "make" ∷ t ∷ []) ≡ Some (codes "make", rows_after (sub 1).rules [] (t ∷ []))
+unfolding clap_on_literals
+within_make t = refl
+
+pub make_is : (t : Text) → is_plain_word t ≡ true → subcommand_of program (codes "make" ∷ t ∷ []) ≡ Some (codes "make", make_rows t)
+make_is t p = within_make t ∙ ap (λ (w : Walk). Some (codes "make", finished (sub 1).rules w.held)) (step (sub 1) 1 t nothing_held p)
+
+pub make_found : (t : Text) → IsMakeFound (make_rows t) t
+make_found t = record { trace = refl; list = refl }
+
+-- ---- `history` with two words
+
+abbrev pub history_rows : Text → Text → List Row
+history_rows t e = finished (sub 2).rules (placed (sub 2) 2 e (placed (sub 2) 1 t nothing_held).held).held
+
+below_history : (t e : Text) → takes program (codes "history" ∷ t ∷ e ∷ []) ≡ (level_passes (sub 2) [] nothing_held (t ∷ e ∷ []) false && true)
+unfolding clap_on_literals
+below_history t e = refl
+
+pub history_taken : (t e : Text) → is_plain_word t ≡ true → is_plain_word e ≡ true → takes program (codes "history" ∷ t ∷ e ∷ []) ≡ true
+unfolding clap_on_literals
+history_taken t e p q = below_history t e ∙ ap (λ (b : Bool). b && true) (two_pass (sub 2) t e p q refl refl)
+
+within_history : (t e : Text) → subcommand_of program (codes "history" ∷ t ∷ e ∷ []) ≡ Some (codes "history", rows_after (sub 2).rules [] (t ∷ e ∷ []))
+unfolding clap_on_literals
+within_history t e = refl
+
+pub history_is : (t e : Text) → is_plain_word t ≡ true → is_plain_word e ≡ true → subcommand_of program (codes "history" ∷ t ∷ e ∷ []) ≡ Some (codes "history", history_rows t e)
+history_is t e p q = within_history t e ∙ ap (λ (rows : List Row). Some (codes "history", rows)) (two_rows (sub 2) t e p q refl)
+
+pub history_found : (t e : Text) → IsHistoryFound (history_rows t e) t e
+history_found t e = record { trace = refl; tuple = refl }

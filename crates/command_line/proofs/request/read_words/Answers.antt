@@ -1,0 +1,63 @@
+use Rattle.std.proofs.Common.{rules, ap, ◌∙◌, sym, map, option_map, string_bytes, Some, None, List}
+use Rattle.clap.specs.Words.{Text, subcommand_of, takes}
+use Rattle.command_line.specs.Commands.{program}
+use Rattle.command_line.proofs.Plain.{audit_rows, audit_is, audit_found, audit_taken, made_rows, made_is, made_found, made_taken, make_rows, make_is, make_found, make_taken, history_rows, history_is, history_found, history_taken}
+use Rattle.command_line.specs.Asked.{asked_by, command_of}
+use Rattle.command_line.proofs.First.{named}
+use Rattle.command_line.proofs.request.read_words.Goals as goal
+
+pub returns-in-Some-clause-audit : goal.returns-in-Some-clause-audit
+returns-in-Some-clause-audit c t e ws p q = c.in-Some.ensures.audit (audit_rows t e) t (Some e) (c.in-Ok.ensures.matches ∙ (ap (λ (words : List Text). subcommand_of program words) ws ∙ audit_is t e p q)) (audit_found t e)
+
+pub returns-in-Some-clause-audit_made : goal.returns-in-Some-clause-audit_made
+returns-in-Some-clause-audit_made c t ws p = c.in-Some.ensures.audit (made_rows t) t None (c.in-Ok.ensures.matches ∙ (ap (λ (words : List Text). subcommand_of program words) ws ∙ made_is t p)) (made_found t)
+
+pub returns-in-Some-clause-make : goal.returns-in-Some-clause-make
+returns-in-Some-clause-make c t ws p = c.in-Some.ensures.make (make_rows t) t (c.in-Ok.ensures.matches ∙ (ap (λ (words : List Text). subcommand_of program words) ws ∙ make_is t p)) (make_found t)
+
+pub returns-in-Some-clause-history : goal.returns-in-Some-clause-history
+returns-in-Some-clause-history c t u ws p q = c.in-Some.ensures.history (history_rows t u) t u (c.in-Ok.ensures.matches ∙ (ap (λ (words : List Text). subcommand_of program words) ws ∙ history_is t u p q)) (history_found t u)
+
+pub returns-in-Some-clause-first : goal.returns-in-Some-clause-first
+returns-in-Some-clause-first c =
+    named (map string_bytes c.args.words.now) (command_of (asked_by c.in-Some.request)) c.in-Ok.ensures.kinds (sym (ap (option_map (λ p. p.0)) c.in-Ok.ensures.matches) ∙ c.in-Some.ensures.named) c.in-Some.ensures.some
+
+pub returns-in-Ok-clause-audit : goal.returns-in-Ok-clause-audit
+returns-in-Ok-clause-audit c t e ws p q =
+    let bad = c.in-None.ensures.audit (audit_rows t e) t (Some e) (c.in-Ok.ensures.matches ∙ (ap (λ (words : List Text). subcommand_of program words) ws ∙ audit_is t e p q)) (audit_found t e) in
+    absurd cc
+
+pub returns-clause-audit : goal.returns-clause-audit
+returns-clause-audit c t e ws p q =
+    let memory = c.in-Err.ensures.passes (ap (λ (words : List Text). takes program words) ws ∙ audit_taken t e p q) in
+    absurd (search rules)
+
+pub returns-in-Ok-clause-audit_made : goal.returns-in-Ok-clause-audit_made
+returns-in-Ok-clause-audit_made c t ws p =
+    let bad = c.in-None.ensures.audit (made_rows t) t None (c.in-Ok.ensures.matches ∙ (ap (λ (words : List Text). subcommand_of program words) ws ∙ made_is t p)) (made_found t) in
+    absurd cc
+
+pub returns-clause-audit_made : goal.returns-clause-audit_made
+returns-clause-audit_made c t ws p =
+    let memory = c.in-Err.ensures.passes (ap (λ (words : List Text). takes program words) ws ∙ made_taken t p) in
+    absurd (search rules)
+
+pub returns-in-Ok-clause-make : goal.returns-in-Ok-clause-make
+returns-in-Ok-clause-make c t ws p =
+    let bad = c.in-None.ensures.make (make_rows t) t (c.in-Ok.ensures.matches ∙ (ap (λ (words : List Text). subcommand_of program words) ws ∙ make_is t p)) (make_found t) in
+    absurd cc
+
+pub returns-clause-make : goal.returns-clause-make
+returns-clause-make c t ws p =
+    let memory = c.in-Err.ensures.passes (ap (λ (words : List Text). takes program words) ws ∙ make_taken t p) in
+    absurd (search rules)
+
+pub returns-in-Ok-clause-history : goal.returns-in-Ok-clause-history
+returns-in-Ok-clause-history c t u ws p q =
+    let bad = c.in-None.ensures.history (history_rows t u) t u (c.in-Ok.ensures.matches ∙ (ap (λ (words : List Text). subcommand_of program words) ws ∙ history_is t u p q)) (history_found t u) in
+    absurd cc
+
+pub returns-clause-history : goal.returns-clause-history
+returns-clause-history c t u ws p q =
+    let memory = c.in-Err.ensures.passes (ap (λ (words : List Text). takes program words) ws ∙ history_taken t u p q) in
+    absurd (search rules)

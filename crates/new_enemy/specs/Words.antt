@@ -1,0 +1,54 @@
+-- Which words ask for which run.
+use Rattle.std.specs.Prelude.{◌≡◌, ◌⊎◌, ℕ, true, List, [], ◌∷◌, Option, Some, None, codes, slice_get, ⊤}
+use Rattle.command_line.specs.Asked.{is_plain_word}
+use Rattle.new_enemy.specs.declared.run.Ran.{Ran}
+use Rattle.new_enemy.specs.declared.run.Ran.TheVariants as ran
+
+-- a run without its files: there was no memory for it, or one of them could not be opened
+abbrev pub IsHindered : ℕ → Type 0
+IsHindered status = (status ≡ 4) ⊎ (status ≡ 5)
+
+-- a trace was audited by evidence from a file, or that was hindered
+abbrev pub RanAudit : {F : Type 0} → ℕ → Ran F → Type 0
+RanAudit status (ran.Audited trace evidence) = ⊤
+RanAudit status ran.Nothing = IsHindered status
+RanAudit status _ = ⊥
+
+-- a trace was audited by evidence that was made for it
+abbrev pub RanAuditAlone : {F : Type 0} → ℕ → Ran F → Type 0
+RanAuditAlone status (ran.AuditedAlone trace) = ⊤
+RanAuditAlone status ran.Nothing = IsHindered status
+RanAuditAlone status _ = ⊥
+
+-- evidence was made for a trace
+abbrev pub RanMake : {F : Type 0} → ℕ → Ran F → Type 0
+RanMake status (ran.Made trace) = ⊤
+RanMake status ran.Nothing = IsHindered status
+RanMake status _ = ⊥
+
+-- a tuple's history was told, or its text is none of a tuple
+abbrev pub RanHistory : {F : Type 0} → ℕ → Ran F → Type 0
+RanHistory status (ran.Told trace) = ⊤
+RanHistory status ran.Nothing = (status ≡ 2) ⊎ IsHindered status
+RanHistory status _ = ⊥
+
+-- the run is of the command that the word names, and of joined input where there is no word
+abbrev pub IsOfCommand : {F : Type 0} → Option (List ℕ) → Ran F → Type 0
+IsOfCommand word ran.Joined = word ≡ None
+IsOfCommand word (ran.Audited trace evidence) = word ≡ Some (codes "audit")
+IsOfCommand word (ran.AuditedAlone trace) = word ≡ Some (codes "audit")
+IsOfCommand word (ran.Made trace) = word ≡ Some (codes "make")
+IsOfCommand word (ran.Told trace) = word ≡ Some (codes "history")
+IsOfCommand word ran.Nothing = ⊤
+
+-- The run is what its words ask for. A plain word does not begin with a hyphen.
+pub record IsAsked {F : Type 0} (words : List (List ℕ)) (status : ℕ) (run : Ran F) : Type 0 where
+  pub audit : (t e : List ℕ) → words ≡ codes "audit" ∷ t ∷ e ∷ [] → is_plain_word t ≡ true → is_plain_word e ≡ true
+      → RanAudit status run
+  pub audit_made : (t : List ℕ) → words ≡ codes "audit" ∷ t ∷ codes "--make" ∷ [] → is_plain_word t ≡ true
+      → RanAuditAlone status run
+  pub make : (t : List ℕ) → words ≡ codes "make" ∷ t ∷ [] → is_plain_word t ≡ true → RanMake status run
+  pub history : (t u : List ℕ) → words ≡ codes "history" ∷ t ∷ u ∷ [] → is_plain_word t ≡ true → is_plain_word u ≡ true
+      → RanHistory status run
+  -- of all words whatever
+  pub first : IsOfCommand (slice_get words 0) run
