@@ -129,6 +129,8 @@ class Names(Case):
             if len(row) == 4 and words_of(row[1]):
                 crates = words_of(row[1]) + re.findall(r"`(\w+)::", row[2])
                 named = names_in([source for crate in crates for source in sources(crate, "src")], r"(?:fn|ensures|struct) (\w+)")
+                # A contract that several calls share is a record, and its clauses are the fields.
+                named |= names_in([source for crate in crates for source in sources(crate, "specs")], r"pub (?:record )?(\w+)")
                 for word in words_of(row[2]):
                     with self.subTest(promise=row[0][:60], word=word):
                         self.assertTrue(word.split("::")[-1] in named)
