@@ -4,8 +4,8 @@ The effect of a finding on tokens is one of
   none      no ignored commit touches what the goal leads to
   possible  some does, and the reply is the answer at the newest state that had to be seen
   changed   some does, and the reply is not the answer there
-A wrong reply is `wrong`; what lacks good evidence, or whose goal leads to too much to be looked at, is `undecided`. The answers are the tools' own; the program's audit does not
-lean on them.
+A wrong reply is `wrong`; what lacks good evidence, or whose goal leads to too much to be looked at, is `undecided`. The answers are the
+tools' own; the program's audit does not lean on them.
 """
 from typing import Iterable, NamedTuple, Optional
 
@@ -46,6 +46,7 @@ class Effects:
     def __init__(self, trace: Trace):
         self.trace = trace
         self._answers: dict[tuple[Tuple, int], bool] = {}
+        self._touched: dict[tuple[Tuple, Window], bool] = {}
 
     def holds(self, goal: Tuple, at: int) -> bool:
         """Whether a goal holds at a snapshot."""
@@ -66,10 +67,17 @@ class Effects:
         except Outgrown:
             return Effect("undecided", window.high)
 
+    def _is_touched(self, goal: Tuple, window: Window) -> bool:
+        """Whether commits of a window touch what a goal leads to. Of few commits it is quickly seen that none does."""
+        known = self._touched.get((goal, window))
+        if known is None:
+            places = self.trace.commits.during(*window)
+            is_quick = len(places) <= self.FEW and not self.trace.may_touch(places, goal)
+            known = self._touched[goal, window] = not is_quick and bool(Reach(self.trace, goal, window).touching())
+        return known
+
     def _word(self, entry: Entry, window: Window) -> str:
-        places = self.trace.commits.during(*window)
-        # Of few commits it is quickly seen that none matters.
-        if len(places) <= self.FEW and not self.trace.may_touch(places, entry.goal) or not Reach(self.trace, entry.goal, window).touching():
+        if not self._is_touched(entry.goal, window):
             return "none"
         return "possible" if self.holds(entry.goal, window.high) == entry.reply else "changed"
 

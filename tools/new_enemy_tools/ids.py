@@ -5,9 +5,9 @@ end and never changed, so that what a number stands for can be read back from it
 its table had, and their checksum.
 """
 import json
-from hashlib import blake2b
 import os
 import re
+from hashlib import blake2b
 from typing import Optional
 
 from new_enemy_tools import limits, texts
@@ -19,6 +19,7 @@ SERVICE = "service"
 KINDS = ("user", "namespace", "relation", "object", "version")
 NAME = re.compile(r"n_([1-9][0-9]*)")
 ID = re.compile(r"~([1-9][0-9]*)")
+encode = json.JSONEncoder(separators=(",", ":")).encode
 
 
 class TableFault(ToolFault):
@@ -32,6 +33,11 @@ def _row(value: object, number: int) -> tuple[str, str, str]:
             or not all(isinstance(value.get(key), str) for key in ("type", "id")) or not isinstance(value.get(SERVICE, ""), str):
         raise ValueError
     return value["kind"], value["type"], value["id"]
+
+
+def is_kept(id_text: str) -> bool:
+    """Whether a trace has an object id as it is."""
+    return texts.is_object_id(id_text) and not (id_text[0] == "~" and ID.fullmatch(id_text))
 
 
 def mark_in(trace: bytes) -> object:
@@ -110,9 +116,13 @@ class Ids:
             number = self.numbers[row] = len(self.rows)
         return number
 
+    def known_users(self, given: list[tuple[str, str]]) -> list[Optional[int]]:
+        """The numbers of users by their types and ids, None where there is none yet."""
+        return [self.numbers.get(("user", of, id_text)) for of, id_text in given]
+
     def has(self, goal: tuple[str, ...]) -> bool:
         """Whether the user and the object of a goal were seen; its parts are those of a tuple of a service."""
-        return ("user", goal[3], goal[4]) in self.numbers and ("object", goal[0], goal[1]) in self._names
+        return ("user", goal[3], goal[4]) in self.numbers and (is_kept(goal[1]) or ("object", goal[0], goal[1]) in self.numbers)
 
     def note(self, goal: tuple[str, ...]) -> None:
         self.number("user", goal[3], goal[4])
@@ -122,21 +132,16 @@ class Ids:
         """What a trace calls a namespace or a relation: its own name where the grammar takes it."""
         known = self._names.get((kind, "", name))
         if known is None:
-            is_kept = texts.is_name(name) and not NAME.fullmatch(name)
-            known = self._names[kind, "", name] = name if is_kept else "n_%d" % self.number(kind, "", name)
+            stays = texts.is_name(name) and not NAME.fullmatch(name)
+            known = self._names[kind, "", name] = name if stays else "n_%d" % self.number(kind, "", name)
         return known
 
     def object(self, of: str, id_text: str) -> str:
-        known = self._names.get(("object", of, id_text))
-        if known is None:
-            is_kept = texts.is_object_id(id_text) and not ID.fullmatch(id_text)
-            known = id_text if is_kept else "~%d" % self.number("object", of, id_text)
-            self._names["object", of, id_text] = known
-        return known
+        return id_text if is_kept(id_text) else "~%d" % self.number("object", of, id_text)
 
     def version(self, label: str) -> str:
-        is_kept = len(label.encode()) <= limits.VERSION_BYTES and not ID.fullmatch(label)
-        return label if is_kept else "~%d" % self.number("version", "", label)
+        stays = len(label.encode()) <= limits.VERSION_BYTES and not ID.fullmatch(label)
+        return label if stays else "~%d" % self.number("version", "", label)
 
     def append(self) -> None:
         """Writes the new rows behind those of the file."""
@@ -147,7 +152,7 @@ class Ids:
                     row = {"kind": kind, "type": of, "id": id_text, "number": number + 1}
                     if number == 0 and self.service is not None:
                         row[SERVICE] = self.service
-                    file.write(json.dumps(row, separators=(",", ":")) + "\n")
+                    file.write(encode(row) + "\n")
             self.kept = len(self.rows)
 
     def _of(self, number: int, kind: str) -> Optional[tuple[str, str, str]]:

@@ -54,7 +54,7 @@ class Pipes(CoreCase):
             self.assertIn("commits 1, checks 1" if text[0] == "{" else "`event` is none of", run.stderr)
 
 
-class Blocks(CoreCase):
+class BlockCase(CoreCase):
     def outcome(self, words, jobs, size):
         for name in ("trace.jsonl", "ids.jsonl"):
             self.put(name, "") if name == "ids.jsonl" else None
@@ -62,6 +62,8 @@ class Blocks(CoreCase):
             status, said = self.run_import(*words, "--jobs", str(jobs))
         return status, said, self.get("trace.jsonl") if status == 0 else None, self.get("ids.jsonl")
 
+
+class Blocks(BlockCase):
     def same(self, *words):
         first = self.outcome(words, 1, 1 << 20)
         for jobs, size in ((1, 700), (2, 3000)):

@@ -69,7 +69,7 @@ class OldNames(Case):
     def test_one_line_on_a_terminal(self) -> None:
         for name, command in OLD.items():
             parent, child = pty.openpty()
-            ended = subprocess.run([os.path.join(TOOLS, name), "--help"], stdout=subprocess.PIPE, stderr=child, timeout=60)
+            ended = subprocess.run([sys.executable, os.path.join(TOOLS, name), "--help"], stdout=subprocess.PIPE, stderr=child, timeout=60)
             os.close(child)
             self.assertEqual(os.read(parent, 1 << 16).decode(),
                              "tools/%s is `tools/ne %s` now; the old name goes with the next release\r\n" % (name, command))

@@ -64,13 +64,16 @@ class Transcripts(Case):
     def test_reports(self):
         self.show("docs", "REPORTS.md")
 
+    def test_recording(self):
+        self.show("docs", "RECORDING.md")
+
     def test_scale(self):
         self.show("docs", "SCALE.md")
 
     def test_every_example_and_document(self):
         documents = [["README.md"], *(["docs", name] for name in sorted(os.listdir(os.path.join(TOP, "docs"))))]
         commands = {names[-1]: [command for command, _ in transcripts(read(*names))] for names in documents}
-        self.assertEqual([name for name in commands if commands[name]], ["README.md", "FORMATS.md", "IMPORTING.md", "REPORTS.md", "SCALE.md"])
+        self.assertEqual([name for name in commands if commands[name]], ["README.md", "FORMATS.md", "IMPORTING.md", "RECORDING.md", "REPORTS.md", "SCALE.md"])
         shown = " ".join(command for each in commands.values() for command in each)
         for example in os.listdir(os.path.join(TOP, "examples")):
             self.assertIn("examples/" + example, shown)

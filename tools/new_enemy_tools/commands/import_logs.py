@@ -18,6 +18,7 @@ from new_enemy_tools.commands.running import Parser
 from new_enemy_tools.faults import DeviceFault
 from new_enemy_tools.ids import Ids
 from new_enemy_tools.importing import openfga, spicedb, spicedb_schema
+from new_enemy_tools.importing.chained import in_chain
 from new_enemy_tools.importing.core import Core, Given
 from new_enemy_tools.importing.neutral import gather_events
 from new_enemy_tools.importing.refusals import Refusals
@@ -83,9 +84,11 @@ def gathered(given: Namespace, base: Any, refusals: Refusals, progress: Progress
     """All lines of the service's files, base state first."""
     lines = Lines()
     if given.service == "events":
-        for path in given.logs:
+        chained = in_chain(given.logs, refusals)
+        for path in chained or given.logs:
             progress.follow("read %s events", gather_events(path, lines, given.jobs, refusals))
         facts = lines.facts
+        facts.is_chained = chained is not None
         if facts.count and given.from_empty == (facts.last_base >= 0):
             first = next(iter(lines))
             refusals.refuse(first.file, first.line, "give either base writes (\"base\":true) or --from-empty")

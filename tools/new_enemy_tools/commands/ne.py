@@ -8,20 +8,21 @@ from new_enemy_tools.commands.running import Parser, ended, run
 
 
 class Command(NamedTuple):
-    """The module of a command, and what it does."""
+    """The module of a command within the package, and what it does."""
 
     module: str
     told: str
 
 
 COMMANDS = {
-    "import": Command("import_logs", "makes a trace of the logs of a service"),
-    "lint": Command("lint", "lists what is odd in a trace"),
-    "make-evidence": Command("make_evidence", "finds evidence for a trace, by a plain search"),
-    "parts": Command("parts", "audits a trace that is too large for one process"),
-    "report": Command("report", "says which findings of an audit mattered, as a page, a text or rows"),
-    "explain": Command("explain", "says why an entry is allowed or denied, or why a trace is refused"),
-    "draw": Command("draw", "draws what the rules say of a goal, and what the service said"),
+    "import": Command("commands.import_logs", "makes a trace of the logs of a service"),
+    "lint": Command("commands.lint", "lists what is odd in a trace"),
+    "make-evidence": Command("commands.make_evidence", "finds evidence for a trace, by a plain search"),
+    "parts": Command("commands.parts", "audits a trace that is too large for one process"),
+    "report": Command("commands.report", "says which findings of an audit mattered, as a page, a text or rows"),
+    "explain": Command("commands.explain", "says why an entry is allowed or denied, or why a trace is refused"),
+    "draw": Command("commands.draw", "draws what the rules say of a goal, and what the service said"),
+    "record": Command("recording.command", "records what a service decides, as a proxy in front of it"),
 }
 
 
@@ -35,7 +36,7 @@ def parser() -> Parser:
 
 def main(words: list[str]) -> int:
     name = words[0] if words and words[0] in COMMANDS else parser().parse_args(words[:1]).command
-    command = importlib.import_module("new_enemy_tools.commands." + COMMANDS[name].module)
+    command = importlib.import_module("new_enemy_tools." + COMMANDS[name].module)
     return ended(command.main, words[1:])
 
 

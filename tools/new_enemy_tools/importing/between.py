@@ -7,8 +7,6 @@ from bisect import bisect_left, bisect_right
 from typing import Iterable, Iterator, NamedTuple, Optional
 
 from new_enemy_tools.importing.commits import Commit, Writer
-from new_enemy_tools.importing.events import Entry, Line
-from new_enemy_tools.importing.order import lowest_of
 from new_enemy_tools.meaning import Settled
 from new_enemy_tools.rules import Declaration, Rules
 from new_enemy_tools.store import Store
@@ -18,17 +16,19 @@ STATES = 1_000
 
 
 class Spans:
-    """The revisions that some check looks at."""
+    """The revisions that some check looks at, which are gone through where one is asked for."""
 
-    def __init__(self, lines: Iterable[Line]):
-        wanted: set[tuple[int, int]] = set()
-        for line in lines:
-            if isinstance(line, Entry):
-                wanted.add((lowest_of(line), line.snapshot))
-                if line.token is not None:
-                    wanted.add((line.token, line.token))
+    def __init__(self, spans: Iterable[tuple[int, int, Optional[int]]]):
+        self.spans = iter(spans)
         self.starts: list[int] = []
         self.ends: list[int] = []
+
+    def _gather(self) -> None:
+        wanted: set[tuple[int, int]] = set()
+        for low, high, token in self.spans:
+            wanted.add((low, high))
+            if token is not None:
+                wanted.add((token, token))
         for low, high in sorted(wanted):
             if self.ends and low <= self.ends[-1]:
                 self.ends[-1] = max(high, self.ends[-1])
@@ -37,6 +37,8 @@ class Spans:
                 self.ends.append(high)
 
     def has(self, revision: int) -> bool:
+        if not self.starts:
+            self._gather()
         place = bisect_right(self.starts, revision) - 1
         return place >= 0 and revision <= self.ends[place]
 
@@ -50,6 +52,7 @@ class Asked(NamedTuple):
     lowest: int
     highest: int
     token: Optional[int]
+    newest: bool = False
 
 
 class States:
@@ -76,6 +79,9 @@ class States:
         between = self.revisions[bisect_left(self.revisions, asked.lowest):bisect_right(self.revisions, asked.highest)]
         latest_first = sorted({asked.lowest, asked.highest, *between}, reverse=True)
         listed = sorted(latest_first, key=lambda at: self._findings(asked, at, place))
+        if asked.newest and asked.kind == "content":
+            # The earliest that it can be, so that no later check of its version has to see more than there was.
+            listed.sort(key=lambda at: (asked.token not in (None, at), at))
         for at in listed:
             if Settled(self.rules, self.store, asked.goal, at).holds() == asked.reply:
                 self.right += 1
@@ -90,6 +96,10 @@ class States:
         if asked.kind == "check":
             return count + (asked.token is not None and asked.token > at)
         return count + (place > 0 and self.revisions[place - 1] > at) + (asked.reply and asked.token != at)
+
+    def place(self, at: int) -> int:
+        """Behind how many commits a state is."""
+        return bisect_right(self.revisions, at)
 
     def told(self) -> Iterator[str]:
         if self.right or self.wrong:

@@ -64,6 +64,8 @@ class Writer:
         self.declared, self.wildcards, self.ids, self.edges, self.refusals = declared, wildcards, ids, edges, refusals
         self.tuple_edges = TupleEdges(declared.rules)
         self.stored: dict[Tuple, None] = {}
+        # what stands around an object id in tuples of users, by type and relation
+        self.around: dict[tuple[str, str], tuple[str, str]] = {}
 
     def write(self, commit: Commit, event: Event) -> None:
         commit.revision = event.revision
@@ -76,6 +78,20 @@ class Writer:
                     if texts_of is commit.add:
                         self._store(event, one, relationship)
                     texts_of.append(self.text(one))
+
+    def text_of(self, given: tuple) -> Optional[str]:
+        """The text of a relationship that gives one tuple of one user and no edge; None for any other, which `write` takes."""
+        of, thing, relation, user_type, user_id, user_relation = given
+        name = of, relation
+        around = self.around.get(name)
+        if user_relation is not None or around is None and (
+                name in self.declared.tuplesets or not self.declared.rules.is_declared(of, relation)):
+            return None
+        number = self.ids.number("user", user_type, user_id)
+        if around is None:
+            after = "#%s@" % self.ids.name("relation", relation)
+            around = self.around[name] = "%s:" % self.ids.name("namespace", of), after
+        return "%s%s%s%d" % (around[0], self.ids.object(of, thing), around[1], number)
 
     def is_repeated(self, commit: Commit, event: Event) -> bool:
         """Whether a write says again what the commit has."""

@@ -2,6 +2,7 @@
 from typing import Iterable, Iterator, Optional
 
 from new_enemy_tools.edges import Name
+from new_enemy_tools.importing.checks import Checks, column
 from new_enemy_tools.importing.strata import Edges
 from new_enemy_tools.rules import Place, Rules, places
 from new_enemy_tools.texts import Tuple, Userset
@@ -53,6 +54,12 @@ class Doubts:
             for rewrite in self.rules.rewrites(of, name):
                 for place in places(rewrite):
                     yield name, place
+
+    def has_any(self, checks: Checks) -> bool:
+        """Whether one of these checks hangs on something in doubt."""
+        pairs = column(checks.pair_of)
+        return not self.relations.isdisjoint(checks.pairs) or bool(self.nodes) and any(
+            (checks.pairs[pair][0], thing, checks.pairs[pair][1]) in self.nodes for pair, thing in zip(pairs, checks.objects.split("\n")))
 
     def has(self, goal: Userset) -> bool:
         name: Name = (goal.namespace, goal.relation)

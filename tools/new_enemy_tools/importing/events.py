@@ -13,9 +13,14 @@ from new_enemy_tools.rules import RulesFault, places, shape_of_expression
 EVERY = "*"
 STAMP = frozenset(("sequence", "time", "clock"))
 EVERY_EVENT = STAMP | {"event", "file", "line"}
-ENTRY = EVERY_EVENT | {"goal", "snapshot", "snapshot_between", "reply", "token", "version"}
+ENTRY = EVERY_EVENT | {"goal", "snapshot", "snapshot_between", "newest_between", "reply", "token", "version"}
 KEYS = {"rules": EVERY_EVENT | {"revision", "namespaces"}, "write": EVERY_EVENT | {"revision", "base", "add", "remove"},
-        "check": ENTRY, "content": ENTRY | {"newest"}}
+        "check": ENTRY, "content": ENTRY | {"newest"},
+        "gap": EVERY_EVENT | {"from", "to", "reason", "lost"}, "unmapped": EVERY_EVENT | {"reason", "detail", "userset", "version"},
+        "log": EVERY_EVENT | {"number", "before", "service", "cursor", "revision", "rules_sha256", "behind"},
+        "place": EVERY_EVENT | {"cursor", "revision", "rules_sha256", "behind"}, "closed": EVERY_EVENT | {"count", "sha256"}}
+# Lines of a recorder for itself and for the chain of its files.
+RECORDER = frozenset(("log", "place", "closed"))
 NAMESPACE, RELATION = frozenset(("name", "relations")), frozenset(("name", "rewrite"))
 SLOTS = {"slots": True} if sys.version_info >= (3, 10) else {}
 
@@ -50,7 +55,8 @@ class RelationRule(NamedTuple):
 class Entry(NamedTuple):
     """A check or a content check; its snapshot and token are numbers that rise with the service's time.
 
-    One with a `lowest` was evaluated somewhere from there to its snapshot. `asked` is what the service says of its snapshot and token,
+    One with a `lowest` was evaluated somewhere from there to its snapshot; where it is the `newest` too, the newest state was asked for.
+    `asked` is what the service says of its snapshot and token,
     where that is no number yet.
     """
 
@@ -240,13 +246,15 @@ def _write(event: Event, value: dict) -> None:
 
 def _snapshot(value: dict) -> tuple[Optional[int], int]:
     """The lowest revision that a check may have looked at, where there are several, and the highest."""
-    between = value.get("snapshot_between")
+    key = "snapshot_between" if value.get("newest_between") is None else "newest_between"
+    between = value.get(key)
     if between is None:
         return None, _whole(value, "snapshot")
-    if value.get("snapshot") is not None:
-        raise _Fault("both `snapshot` and `snapshot_between`")
+    for other in "snapshot", "snapshot_between":
+        if other != key and value.get(other) is not None:
+            raise _Fault("both `%s` and `%s`" % (other, key))
     if not isinstance(between, list) or len(between) != 2 or not all(map(is_whole, between)) or between[0] > between[1]:
-        raise _Fault("`snapshot_between` is no list of two whole numbers, the lower one first")
+        raise _Fault("`%s` is no list of two whole numbers, the lower one first" % key)
     return between[0], between[1]
 
 
@@ -257,17 +265,45 @@ def _entry(kind: str, file: str, line: int, value: dict, stamp: Stamp) -> Entry:
     token = _whole(value, "token", True)
     if not isinstance(value.get("reply"), bool):
         raise _Fault("`reply` is neither true nor false")
-    newest = newest_of(value, _Fault)
+    newest = newest_of(value, _Fault) or value.get("newest_between") is not None
     if not isinstance(value.get("version"), (str, type(None))):
         raise _Fault("`version` is no text")
     return Entry(kind, file, line, goal, value["reply"], snapshot, shown, token, value.get("version"), lowest, newest, None,
                  sequence_of(stamp), stamp.time, stamp.clock)
 
 
-def _event(value: object, file: str, line: int, refusals: Refusals) -> Line:
-    if not isinstance(value, dict) or value.get("event") not in ("rules", "write", "check", "content"):
+def _gap(event: Event, value: dict, refusals: Refusals) -> None:
+    """A time of which a recorder says that its log has not all of it."""
+    start, end, lost = value.get("from"), value.get("to"), value.get("lost")
+    if nanoseconds(end) is None or start is not None and nanoseconds(start) is None or not isinstance(value.get("reason"), str):
+        raise _Fault("a gap has no `reason`, or its `from` and `to` are no times of RFC 3339")
+    count = " (%d lost)" % lost if is_whole(lost) and lost else ""
+    refusals.note("gap %s:%d" % (event.file, event.line),
+                  "gap %sto %s: %s%s" % ("" if start is None else "from %s " % start, end, value["reason"], count))
+    refusals.note("gaps", "the log has gaps: a verdict says nothing of what was asked in them")
+
+
+def _unmapped(value: dict, file: str, line: int, refusals: Refusals) -> None:
+    """What a recorder saw and has no form for."""
+    userset, version, reason = value.get("userset"), value.get("version"), value.get("reason")
+    for listed in userset, version:
+        if listed is not None and (not isinstance(listed, list) or len(listed) != 3):
+            raise _Fault("`userset` or `version` is no list of three texts")
+    if not isinstance(reason, str):
+        raise _Fault("`reason` is no text")
+    refusals.unmapped(file, line, reason, str(value.get("detail") or ""))
+    if userset:
+        refusals.doubt(*userset)
+    if version:
+        refusals.versions.add(tuple(version))
+
+
+def _event(value: object, file: str, line: int, refusals: Refusals) -> Optional[Line]:
+    if not isinstance(value, dict) or not isinstance(value.get("event"), str) or value["event"] not in KEYS:
         raise _Fault("`event` is none of rules, write, check, content")
     _refuse_unread(value, KEYS[value["event"]])
+    if value["event"] in RECORDER:
+        return None
     stamp = stamp_of(value, file, line, refusals)
     source, source_line = value.get("file", file), value.get("line", line)
     if not isinstance(source, str) or not is_whole(source_line):
@@ -275,7 +311,11 @@ def _event(value: object, file: str, line: int, refusals: Refusals) -> Line:
     if value["event"] in ("check", "content"):
         return _entry(value["event"], source, source_line, value, stamp)
     event = put_stamp(Event(value["event"], source, source_line), stamp)
-    if event.kind == "rules":
+    if event.kind == "unmapped":
+        return _unmapped(value, source, source_line, refusals)
+    if event.kind == "gap":
+        _gap(event, value, refusals)
+    elif event.kind == "rules":
         event.revision = _whole(value, "revision", True)
         event.shown = None if event.revision is None else str(event.revision)
         event.namespaces = _namespaces(value, source_line)
@@ -288,6 +328,8 @@ def read_events(values: Iterable[tuple[int, object]], path: str, refusals: Refus
     """Neutral events from JSON lines."""
     for line, value in values:
         try:
-            yield _event(value, path, line, refusals)
+            event = _event(value, path, line, refusals)
+            if event is not None:
+                yield event
         except _Fault as fault:
             refusals.refuse(path, line, str(fault))

@@ -1,13 +1,14 @@
 """OpenFGA's changes feed: revisions are places in it, counted from 1 behind the base state, and timestamps are labels."""
 from bisect import bisect_right
 from itertools import accumulate
-from typing import Any, Iterator, NamedTuple, Optional
+from typing import Any, Iterator, NamedTuple, Optional, Union
 
-from new_enemy_tools.importing.events import Entry, Event, is_whole
+from new_enemy_tools.importing.checks import Checks
+from new_enemy_tools.importing.events import Entry, Event, Line, is_whole
 from new_enemy_tools.importing.order import ordered
 from new_enemy_tools.importing.reading import Bad
 from new_enemy_tools.importing.refusals import Refusals
-from new_enemy_tools.importing.spool import Lines
+from new_enemy_tools.importing.spool import CHECKS, Lines, WriteRow, line_of, row_of
 from new_enemy_tools.importing.times import nanoseconds
 
 
@@ -141,6 +142,8 @@ class Models:
             return self.top(place)
 
     def range(self, low: int, high: int, model: Optional[str]) -> tuple[int, int]:
+        if low == high >= 0 and len(self.ids) == 1 and (model is None or self.ids[0] in (None, model)):
+            return low * STRIDE, low * STRIDE
         for start, end in self._spans(model):
             first, last = max(low * STRIDE, start), min(self.top(high), end - 1)
             if first <= last:
@@ -156,33 +159,46 @@ def placed(lines: Lines, base: Moment, model: Optional[str], skew: Optional[int]
     """Puts numbers for the timestamps of changes, for changes of the model and for what checks ask; the lines that have one."""
     feed, models, numbers = _changes(lines, base, model, skew, refusals)
     made = Lines()
-    for row in lines.rows():
-        if isinstance(row, Event):
-            if row.base:
-                row.revision = 0
-            elif row.revision is not None:
-                row.group = row.revision if row.kind == "write" else None
-                row.revision = next(numbers)
-            made.add(row)
+
+    def numbered(line: Union[Event, tuple]) -> Optional[Line]:
+        if not isinstance(line, Event):
+            return _place(Entry._make(line), feed, models, refusals)
+        if line.base:
+            line.revision = 0
+        elif line.revision is not None:
+            line.group = line.revision if line.kind == "write" else None
+            line.revision = next(numbers)
+        return line
+
+    def numbered_row(row: tuple) -> Optional[tuple]:
+        if row[0] in CHECKS:
+            kept = numbered(row)
+            return kept and row_of(kept)
+        return (*row[:3], 0, *row[4:]) if row[5] else (*row[:3], next(numbers), *row[4:6], row[3], *row[7:])
+
+    for found in lines.stream():
+        looks = _looks(found, feed, models) if isinstance(found, Checks) else None
+        if looks is not None:
+            made.add_checks(found._replace(looks=looks), numbered_row)
             continue
-        number = _quick_number(row, feed, models)
-        line = Entry._make(row)
-        try:
-            made.add(_place(line, feed, models) if number is None else line._replace(snapshot=number, asked=None))
-        except OtherModel:
-            refusals.unmapped_check(line, "check with another model", line.told)
-        except Bad as fault:
-            refusals.unmapped_check(line, "check without one snapshot", str(fault))
+        for line in map(line_of, found.rows()) if isinstance(found, Checks) else (found,):
+            kept = numbered(line)
+            if kept is not None:
+                made.add(kept)
     return made
 
 
 def _changes(lines: Lines, base: Moment, model: Optional[str], skew: Optional[int],
              refusals: Refusals) -> tuple[Feed, Models, Iterator[int]]:
     """The feed and the models of a log, and the number of each change in the order of its lines."""
-    changes = [line for line in lines if isinstance(line, Event) and line.revision is not None and not line.base]
+    def changes() -> Iterator[Union[Event, WriteRow]]:
+        return (event for event in lines.events() if event.revision is not None and not event.base)
+
+    are_sorted = skew is not None or all(event.sequence is not None for event in changes())
+    as_read = list(changes()) if are_sorted else []
     # What is wrong with the order is refused once, where all lines are put into it.
-    in_order = ordered(list(changes), skew, Refusals())
-    models, times, last, numbers = Models(model), [], 0, {}
+    in_order = ordered(list(as_read), skew, Refusals()) if are_sorted else changes()
+    models, times, last, numbers, by_event = Models(model), [], 0, [], {}
     for event in in_order:
         if event.kind == "rules":
             last += 1
@@ -192,21 +208,28 @@ def _changes(lines: Lines, base: Moment, model: Optional[str], skew: Optional[in
                 refusals.refuse(event.file, event.line, "its revision %s is not later than that of the base state" % event.shown)
             times.append(event.revision)
             last = len(times) * STRIDE
-        numbers[id(event)] = last
-    return Feed(base, times), models, iter([numbers.get(id(event), 0) for event in changes])
+        if are_sorted:
+            by_event[id(event)] = last
+        else:
+            numbers.append(last)
+    return Feed(base, times), models, iter([by_event.get(id(event), 0) for event in as_read] if are_sorted else numbers)
 
 
-def _quick_number(row: tuple, feed: Feed, models: Models) -> Optional[int]:
-    """The number of a check that names its place and nothing else, where there is one model; as `_place` has it."""
-    (snapshot, token, model) = row[11]
-    place = snapshot[0][0] if len(snapshot) == 1 and token is None and model is None and len(models.ids) == 1 else None
-    if place is None or not feed.first <= place <= feed.first + len(feed.times):
+def _looks(checks: Checks, feed: Feed, models: Models) -> Optional[list[tuple]]:
+    """The looks of checks with their numbers; None where some look has none."""
+    known: dict[tuple, tuple] = {}
+    try:
+        for look in checks.looks:
+            asked = look[5]
+            if asked not in known:
+                known[asked] = _numbers(Asked(*asked), feed, models)
+    except (OtherModel, Bad):
         return None
-    return (place - feed.first) * STRIDE
+    return [(reply, known[asked][0], shown, known[asked][2], version, None) for reply, _, shown, _, version, asked in checks.looks]
 
 
-def _place(entry: Entry, feed: Feed, models: Models) -> Entry:
-    asked = Asked(*entry.asked)
+def _numbers(asked: Asked, feed: Feed, models: Models) -> tuple[int, Optional[int], Optional[int]]:
+    """The number of a check's snapshot, the lowest where it has several, and the number of its token; raises OtherModel and Bad."""
     moments = [Moment(*one) for one in asked.snapshot]
     lowest = None
     if len(moments) == 1:
@@ -216,4 +239,15 @@ def _place(entry: Entry, feed: Feed, models: Models) -> Entry:
     token = None
     if asked.token is not None:
         token = models.demanded(max(feed.place(Moment(*asked.token), "token"), 0), asked.model)
-    return entry._replace(snapshot=snapshot, lowest=lowest, token=token, asked=None)
+    return snapshot, lowest, token
+
+
+def _place(entry: Entry, feed: Feed, models: Models, refusals: Refusals) -> Optional[Entry]:
+    try:
+        snapshot, lowest, token = _numbers(Asked(*entry.asked), feed, models)
+        return entry._replace(snapshot=snapshot, lowest=lowest, token=token, asked=None)
+    except OtherModel:
+        refusals.unmapped_check(entry, "check with another model", entry.told)
+    except Bad as fault:
+        refusals.unmapped_check(entry, "check without one snapshot", str(fault))
+    return None

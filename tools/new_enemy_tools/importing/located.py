@@ -266,10 +266,15 @@ def block_values(block: Block, path: str, refusals: Refusals) -> Iterator[tuple[
     for number, line in enumerate(block.data.split(b"\n"), block.first):
         line = line.strip(BLANK)
         if line:
-            try:
-                yield number, _line_value(line)
-            except ValueError as fault:
-                refusals.refuse(path, number, "not JSON" if isinstance(fault, json.JSONDecodeError) else str(fault))
+            yield from line_values(number, line, path, refusals)
+
+
+def line_values(number: int, line: bytes, path: str, refusals: Refusals) -> Iterator[tuple[int, object]]:
+    """The JSON value of one line, or none where it is refused."""
+    try:
+        yield number, _line_value(line)
+    except ValueError as fault:
+        refusals.refuse(path, number, "not JSON" if isinstance(fault, json.JSONDecodeError) else str(fault))
 
 
 def values(path: str, refusals: Refusals) -> Iterator[tuple[int, Any]]:

@@ -1,23 +1,61 @@
 """Logs of neutral events, by as many processes as there are."""
-from functools import partial
 from typing import Iterator, Union
 
 from new_enemy_tools.importing import located
-from new_enemy_tools.importing.events import read_events
+from new_enemy_tools.importing.block import Reader, Usual, When
+from new_enemy_tools.importing.checks import Look
+from new_enemy_tools.importing.events import Event, Line, read_events
 from new_enemy_tools.importing.refusals import Refusals
-from new_enemy_tools.importing.spool import Facts, Lines, batch_of
+from new_enemy_tools.importing.shapes import GOAL, ID, LABEL, REPLY, TEXT, TIME, WHOLE, Field, Form, Said, field, form
+from new_enemy_tools.importing.spool import Lines, Read
 from new_enemy_tools.parting.sharing import shared
 
 # Rules have no row, and stay with the process that gathers.
 RULES = b'"rules"'
-Read = tuple[bytes, Facts, Refusals]
+def _goal(path: str, thing: bytes) -> dict[str, Field]:
+    """The fields of a tuple that stands at a path."""
+    patterns = (TEXT + b"+", thing, TEXT + b"+", TEXT + b"+", TEXT + b"+")
+    return {"%s.%d" % (path, place): field(b'"(%s)"' % pattern, name) for place, (pattern, name) in enumerate(zip(patterns, GOAL))}
 
 
-def _block(path: str, skip: bool, block: located.Block) -> Union[Read, located.Block]:
-    if RULES in block.data:
-        return block
-    refusals = Refusals(skip)
-    return (*batch_of(read_events(located.block_values(block, path, refusals), path, refusals)), refusals)
+CHECK = form({**_goal("goal", ID), "snapshot": field(WHOLE, "snapshot"), "reply": field(REPLY, "reply"), "token": field(WHOLE, "token"),
+              "version": field(LABEL, "version"), "time": field(TIME, "time")}, "event")
+CONTENT = Form(CHECK.fields, CHECK.fixed | {("newest",)})
+WRITE = form({**_goal("add.0", TEXT + b"+"), **_goal("remove.0", TEXT + b"+"), "revision": field(WHOLE, "revision"),
+              "time": field(TIME, "time")}, "event", "base", "add.0.5", "remove.0.5")
+
+
+def look_of(said: Said) -> Look:
+    snapshot, token, version = said["snapshot"], said.get("token"), said.get("version")
+    return Look(said["reply"] == b"true", int(snapshot), snapshot.decode(), token and int(token), version and version.decode(), None)
+
+
+def when_of(said: Said) -> When:
+    return When(int(said["revision"]), said["revision"].decode())
+
+
+USUAL = Usual(CHECK, CONTENT, WRITE, look_of, when_of, lambda *_: True)
+
+
+class Events:
+    """The events of a log."""
+
+    def __init__(self, path: str, refusals: Refusals):
+        self.path, self.refusals = path, refusals
+        self.reader = Reader(path, USUAL)
+
+    def block(self, block: located.Block) -> Union[tuple[Read, Refusals], located.Block]:
+        """What a process makes of a block without rules."""
+        if RULES in block.data:
+            return block
+        refusals = Refusals(self.refusals.skip)
+        read, = self.pieces(block, refusals)
+        return read, refusals
+
+    def pieces(self, block: located.Block, refusals: Refusals) -> Iterator[Union[Read, Event]]:
+        def full(number: int, line: bytes) -> list[Line]:
+            return list(read_events(located.line_values(number, line, self.path, refusals), self.path, refusals))
+        return self.reader.pieces(block, full)
 
 
 def gather_events(path: str, lines: Lines, jobs: int, refusals: Refusals) -> Iterator[int]:
@@ -28,11 +66,12 @@ def gather_events(path: str, lines: Lines, jobs: int, refusals: Refusals) -> Ite
             lines.add(line)
             yield lines.facts.count
         return
-    for found in shared(partial(_block, path, refusals.skip), source.blocks(), jobs):
+    events = Events(path, refusals)
+    for found in shared(events.block, source.blocks(), jobs):
         if isinstance(found, located.Block):
-            for line in read_events(located.block_values(found, path, refusals), path, refusals):
-                lines.add(line)
+            for piece in events.pieces(found, refusals):
+                lines.add_piece(piece)
         else:
-            lines.add_batch(*found[:2])
-            refusals.merge(found[2])
+            lines.add_piece(found[0])
+            refusals.merge(found[1])
         yield lines.facts.count

@@ -63,7 +63,7 @@ class Witnesses:
 def put_newest(stream: list[Line], skew: Optional[int], refusals: Refusals) -> list[Line]:
     """The events with each such content check in its place, as far up as the checks of its version let it."""
     witnesses = Witnesses(stream, skew)
-    writes = [(number, event) for number, event in enumerate(stream) if isinstance(event, Event)]
+    writes = [(number, event) for number, event in enumerate(stream) if isinstance(event, Event) and event.revision is not None]
     revisions = [event.revision for _, event in writes]
     named: dict[tuple, int] = {}
     for number, event in enumerate(stream):
@@ -72,7 +72,8 @@ def put_newest(stream: list[Line], skew: Optional[int], refusals: Refusals) -> l
     places: list[tuple[int, int, int]] = []
     kept = []
     for number, event in enumerate(stream):
-        count = bisect_right(revisions, event.snapshot) if isinstance(event, Entry) and event.newest else len(writes)
+        moves = isinstance(event, Entry) and event.newest and event.lowest is None
+        count = bisect_right(revisions, event.snapshot) if moves else len(writes)
         place = (number, 0, number)
         if count < len(writes) and writes[count][0] < number:
             later = writes[count][1]

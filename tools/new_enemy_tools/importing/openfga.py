@@ -1,7 +1,10 @@
 """OpenFGA: an authorization model, tuple changes as ReadChanges gives them, and checks of a recorder's log."""
+from functools import lru_cache
 from typing import Any, Iterator, Optional
 
 from new_enemy_tools.importing import located, openfga_dsl
+from new_enemy_tools.importing.block import When
+from new_enemy_tools.importing.checks import Look
 from new_enemy_tools.importing.events import EVERY, Event, RelationRule, Stamp, put_stamp
 from new_enemy_tools.importing.feed import Moment, asked_of, moment_of, placed, shown_of
 from new_enemy_tools.importing.located import List, line_at, line_of
@@ -9,6 +12,7 @@ from new_enemy_tools.importing.openfga_answers import answers_of, relationship_o
 from new_enemy_tools.importing.reading import Bad, get, spelled
 from new_enemy_tools.importing.refusals import Refusals
 from new_enemy_tools.importing.service import Answer, Log, Looked, ServiceRules, nested, one_of, refuse_wild_tuplesets, text_or_none
+from new_enemy_tools.importing.shapes import ID, LABEL, PART, REPLY, REST, TEXT, TIME, WHOLE, Field, Said, field, form
 from new_enemy_tools.importing.simple_yaml import beside, is_yaml, read_yaml
 from new_enemy_tools.importing.spool import Lines
 from new_enemy_tools.importing.times import nanoseconds
@@ -16,6 +20,21 @@ from new_enemy_tools.importing.times import nanoseconds
 SCHEMAS = ("1.1", "1.2")
 OPERATIONS = {"TUPLE_OPERATION_WRITE": True, "TUPLE_OPERATION_DELETE": False}
 REWRITES = ("this", "computedUserset", "tupleToUserset", "union", "intersection", "difference")
+
+MOMENT = b'(?:%s|"(%s+)")' % (WHOLE, TEXT)
+
+
+def _goal(path: str, thing: bytes) -> dict[str, Field]:
+    """The fields of a tuple key at a path."""
+    return {path + "object": field(b'"(%s+):(%s)"' % (PART, thing), "type", "id"), path + "relation": field(b'"(%s+)"' % TEXT, "relation"),
+            path + "user": field(b'"(%s+):((?!\\*")%s+)"' % (PART, REST), "user_type", "user_id")}
+
+
+@lru_cache(1 << 12)
+def _moment(place: Optional[bytes], text: Optional[bytes]) -> Optional[tuple]:
+    """The moment that a place or a text gives, as a row has it; raises Bad."""
+    given = int(place) if place else text and text.decode()
+    return None if given is None else tuple(moment_of(given, "a moment"))
 
 
 class Unmapped(Exception):
@@ -191,6 +210,15 @@ class OpenFgaLog(Log):
               "UpdateStore": (), "DeleteStore": ()}
     KEYS = Log.KEYS | {"snapshot", "snapshot_between", "token"}
     RULES = (b'"type_definitions"', b'"typeDefinitions"', b'"authorization_model"', b'"authorizationModel"')
+    ASKED = {**_goal("request.tuple_key.", ID), "request.authorization_model_id": field(b'"(%s*)"' % TEXT, "model"),
+             "response.allowed": field(REPLY, "reply"), "snapshot": field(MOMENT, "place", "moment"), "time": field(TIME, "time")}
+    FIXED = ("request.consistency", "response.resolution")
+    CHECK = form({**ASKED, "token": field(MOMENT, "token_place", "token"), "version": field(LABEL, "version")}, *FIXED)
+    CONTENT_CHECK = form({**ASKED, "content.token": field(MOMENT, "token_place", "token"), "content.version": field(LABEL, "version")},
+                         *FIXED)
+    WRITE = form({"%s%s" % (page, path): one for page in ("", "changes.0.") for path, one in {
+        **_goal("tuple_key.", REST + b"+"), "timestamp": field(b'"(%s+)"' % TEXT, "timestamp")}.items()} | {"time": field(TIME, "time")},
+        "operation", "changes.0.operation", "continuation_token")
     BASE = "place in the changes feed or time of RFC 3339"
 
     @staticmethod
@@ -255,6 +283,20 @@ class OpenFgaLog(Log):
             self.refusals.refuse(event.file, event.line, str(fault))
             return False
         return self.put(event, given, live, "condition on a tuple" if get(key, "condition") else None)
+
+    def when_of(self, said: Said) -> Optional[When]:
+        shown = said["timestamp"].decode()
+        revision = nanoseconds(shown)
+        return None if revision is None else When(revision, shown, revision)
+
+    def look_of(self, said: Said) -> Optional[Look]:
+        version, model = said.get("version"), said.get("model")
+        try:
+            snapshot, token = _moment(said["place"], said["moment"]), _moment(said.get("token_place"), said.get("token"))
+        except Bad:
+            return None
+        return Look(said["reply"] == b"true", None, snapshot[2], None, version and version.decode(),
+                    ((snapshot,), token, model.decode() if model else None))
 
     def moment(self, value: dict, content: Optional[dict]) -> Looked:
         holder = value if content is None else content

@@ -15,7 +15,7 @@ def in_order(lines: Iterable[Line], facts: Facts, skew: Optional[int], refusals:
     """The lines in their order; only those that stamps order are held in memory."""
     if skew is not None or facts.is_sequenced:
         return ordered(list(lines), skew, refusals)
-    if len(facts.files) > 1:
+    if len(facts.files) > 1 and not facts.is_chained:
         second = list(facts.files)[1]
         refusals.refuse(second, facts.files[second], "events of several files (%s) have no order: give each line the `sequence` "
                         "of one sequencer, or a `time` and --skew MS" % ", ".join(facts.files))

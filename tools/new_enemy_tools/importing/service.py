@@ -1,13 +1,18 @@
 """What the front ends of the services share."""
+from contextlib import closing
 from functools import partial
+from itertools import islice
 from typing import Any, Iterable, Iterator, NamedTuple, Optional
 
 from new_enemy_tools import limits
 from new_enemy_tools.importing import located, passing
+from new_enemy_tools.importing.block import Reader, Usual, When
+from new_enemy_tools.importing.checks import Look
 from new_enemy_tools.importing.events import EVERY, STAMP, Entry, Event, Line, Relationship, Stamp, newest_of, sequence_of, stamp_of
 from new_enemy_tools.importing.reading import Bad, get
 from new_enemy_tools.importing.refusals import Refusals
-from new_enemy_tools.importing.spool import Facts, Lines, batch_of
+from new_enemy_tools.importing.shapes import Form, Said
+from new_enemy_tools.importing.spool import Lines, Read
 from new_enemy_tools.keys import near, unread
 from new_enemy_tools.parting.sharing import shared
 from new_enemy_tools.rules import places
@@ -96,6 +101,10 @@ class Log:
     # what stands in each line that says of new rules
     RULES: tuple[bytes, ...] = ()
     CONTENT = frozenset(("version", "token"))
+    # the usual check, content check, and write of one tuple
+    CHECK: Form
+    CONTENT_CHECK: Form
+    WRITE: Form
 
     def __init__(self, rules: ServiceRules, base_at: Any, refusals: Refusals):
         self.rules, self.base_at, self.refusals = rules, base_at, refusals
@@ -135,6 +144,17 @@ class Log:
         for name, taken in rules.takes.items():
             self.rules.takes.setdefault(name, set()).update(taken)
 
+    def look_of(self, said: Said) -> Optional[Look]:
+        """What a check looked at, by the values of a line of a usual shape, as `moment` has it; None where it has none."""
+        raise NotImplementedError
+
+    def when_of(self, said: Said) -> Optional[When]:
+        """The revision of a write of a usual shape, as `writes` has it; None where it has none."""
+        raise NotImplementedError
+
+    def _takes(self, of: str, relation: str, user_type: str, user_relation: Optional[str]) -> bool:
+        return (user_type, user_relation) in self.rules.takes.get((of, relation), ())
+
     def moment(self, value: dict, content: Optional[dict]) -> Looked:
         """What a check looked at, and what it demanded; raises Bad."""
         raise NotImplementedError
@@ -144,24 +164,43 @@ class Log:
         raise NotImplementedError
 
     def gather(self, path: str, lines: Lines, jobs: int) -> Iterator[int]:
-        """Adds the lines of a log; how many there are, now and then. New rules matter to all behind them, and are read in one process."""
-        source = located.Source(path)
-        if not source.is_lines() or any(mark in block.data for block in source.blocks() for mark in self.RULES):
+        """Adds the lines of a log; how many there are, now and then. New rules matter to all behind them, which one process reads."""
+        usual = Usual(self.CHECK, self.CONTENT_CHECK, self.WRITE, self.look_of, self.when_of, self._takes)
+        source, reader = located.Source(path), Reader(path, usual)
+        if not source.is_lines():
             for line in self.events(path, source.values(self.refusals)):
                 lines.add(line)
                 yield lines.facts.count
             return
-        for data, facts, refusals in shared(partial(self._block, path), source.blocks(), jobs):
-            lines.add_batch(data, facts)
-            self.refusals.merge(refusals)
+        count = 0
+        with closing(shared(partial(self._block, reader), source.blocks(), jobs)) as blocks:
+            for count, found in enumerate(blocks):
+                if found is None:
+                    break
+                lines.add_piece(found[0])
+                self.refusals.merge(found[1])
+                yield lines.facts.count
+            else:
+                return
+        for block in islice(source.blocks(), count, None):
+            for piece in reader.pieces(block, partial(self._full, path)):
+                lines.add_piece(piece)
             yield lines.facts.count
 
-    def _block(self, path: str, block: located.Block) -> tuple[bytes, Facts, Refusals]:
+    def _block(self, reader: Reader, block: located.Block) -> Optional[tuple[Read, Refusals]]:
+        """What a process makes of a block; None where it may have new rules."""
+        if any(mark in block.data for mark in self.RULES):
+            return None
         kept, self.refusals = self.refusals, Refusals(self.refusals.skip)
         try:
-            return (*batch_of(self.events(path, located.block_values(block, path, self.refusals))), self.refusals)
+            read, = reader.pieces(block, partial(self._full, reader.path))
+            return read, self.refusals
         finally:
             self.refusals = kept
+
+    def _full(self, path: str, number: int, line: bytes) -> list[Line]:
+        """What a line has, read in full."""
+        return list(self.events(path, located.line_values(number, line, path, self.refusals)))
 
     def events(self, path: str, values: Iterable[tuple[int, Any]]) -> Iterator[Line]:
         for line, given in values:
@@ -233,8 +272,7 @@ class Log:
 
     def put(self, event: Event, given: Relationship, live: bool, reason: Optional[str]) -> bool:
         """Adds a tuple to a write; one that is not mapped, for this reason or another, is left out or refused."""
-        takes = self.rules.takes.get((given.type, given.relation), ())
-        if reason is None and (given.user_type, given.user_relation) not in takes:
+        if reason is None and not self._takes(given.type, given.relation, given.user_type, given.user_relation):
             reason = self.NOT_TAKEN
         if reason:
             self.refusals.unmapped(event.file, event.line, reason, str(given))

@@ -6,6 +6,7 @@ from typing import Iterator
 from new_enemy_tools import texts
 from new_enemy_tools.edges import Name
 from new_enemy_tools.ids import Ids
+from new_enemy_tools.importing.checks import Checks, Look, column
 from new_enemy_tools.importing.declared import Declared
 from new_enemy_tools.rules import Declaration, Relation, form_of
 
@@ -50,17 +51,33 @@ class Shown:
         for at, change in enumerate(changes, self.times[revision] - len(changes) + 1):
             yield self._marked(encode({**change, "at": at, **told}) + "\n")
 
+    def checks(self, checks: Checks) -> list[str]:
+        """The lines of many checks, whose users are numbers."""
+        ids = self.ids
+        begins = ['{"kind":"check","goal":"%s:' % ids.name("namespace", of) for of, _ in checks.pairs]
+        ends = ["#%s@" % ids.name("relation", relation) for _, relation in checks.pairs]
+        users = list(map(str, checks.users))
+        looks = [self._look(look, checks.file) for look in checks.looks]
+        return [f'{begins[pair]}{thing}{ends[pair]}{users[user]}{looks[look]}{line}"}}\n' for pair, thing, user, look, line in zip(
+            column(checks.pair_of), checks.objects.split("\n"), column(checks.user_of), column(checks.look_of), column(checks.lines, "Q"))]
+
+    def _look(self, look: tuple, file: str) -> str:
+        """What stands in a check's line from its user to the number of the line that it comes from."""
+        reply, snapshot, shown, token, version, _ = look
+        return '","snapshot":%d,"reply":%s%s%s,"revision":%s,"from":%s:' % (
+            self.times[snapshot], "true" if reply else "false",
+            "" if token is None else ',"zookie":"%s"' % texts.zookie_text(self.times[token]),
+            "" if version is None else ',"version":%s' % encode_basestring(version), encode_basestring(shown),
+            self.files.get(file) or self._file(file))
+
     def entry(self, row: tuple) -> str:
         """The line of an entry, by the first fields of its row."""
         kind, file, line, goal, reply, snapshot, shown, token, version = row[:9]
-        ids, times = self.ids, self.times
+        ids = self.ids
         text = "%s:%s#%s@%d" % (ids.name("namespace", goal[0]), ids.object(goal[0], goal[1]), ids.name("relation", goal[2]),
                                 ids.number("user", goal[3], goal[4]))
-        made = '{"kind":"%s","goal":%s,"snapshot":%d,"reply":%s%s%s,"revision":%s,"from":%s:%d"}\n' % (
-            kind, encode_basestring(text), times[snapshot], "true" if reply else "false",
-            "" if token is None else ',"zookie":"%s"' % texts.zookie_text(times[token]),
-            "" if version is None else ',"version":%s' % encode_basestring(ids.version(version)), encode_basestring(shown),
-            self.files.get(file) or self._file(file), line)
+        look = Look(reply, snapshot, shown, token, None if version is None else ids.version(version), None)
+        made = '{"kind":"%s","goal":%s%s%d"}\n' % (kind, encode_basestring(text)[:-1], self._look(look, file), line)
         return self._marked(made) if self.mark else made
 
     def _namespace(self, declaration: Declaration) -> dict:

@@ -3,15 +3,18 @@ import re
 from typing import Iterator, Optional
 
 from new_enemy_tools.importing import located, visibility
+from new_enemy_tools.importing.block import When
+from new_enemy_tools.importing.checks import Look
 from new_enemy_tools.importing.events import EVERY, Event, Line, Relationship, Stamp, put_stamp
 from new_enemy_tools.importing.located import line_of
 from new_enemy_tools.importing.reading import Bad, get
 from new_enemy_tools.importing.refusals import Refusals
 from new_enemy_tools.importing.service import Answer, Log, Looked, ServiceRules, one_of, text_or_none
+from new_enemy_tools.importing.shapes import GOAL, ID, LABEL, TEXT, TIME, Field, Said, field, form
 from new_enemy_tools.importing.simple_yaml import is_yaml, read_yaml
 from new_enemy_tools.importing.spicedb_answers import answers_of, relationship_of, revision_at, revision_in
 from new_enemy_tools.importing.spicedb_schema import Parser
-from new_enemy_tools.importing.spool import Lines
+from new_enemy_tools.importing.spool import Lines, plain
 from new_enemy_tools.importing.zedtokens import Older, Revision, read_revision
 
 RELATIONSHIP = re.compile(r"(?P<type>[a-z0-9_/]+):(?P<id>[A-Za-z0-9/_|\-=+]+)#(?P<relation>[a-z0-9_]+)"
@@ -22,6 +25,13 @@ RELATIONSHIP = re.compile(r"(?P<type>[a-z0-9_/]+):(?P<id>[A-Za-z0-9/_|\-=+]+)#(?
 READ = re.compile(RELATIONSHIP.pattern.replace("#(?P<relation>", " +(?P<relation>").replace("@(?P<user_type>", " +(?P<user_type>")
                   .replace("(?P<traits>", " *(?P<traits>"))
 OPERATIONS = {"OPERATION_CREATE": True, "OPERATION_TOUCH": True, "OPERATION_DELETE": False}
+
+
+def _goal(path: str, relation: str, thing: bytes) -> dict[str, Field]:
+    """The fields of a tuple whose parts stand at paths that begin so."""
+    patterns = {"resource.object_type": b"%s+" % TEXT, "resource.object_id": thing, relation: b"%s+" % TEXT,
+                "subject.object.object_type": b"%s+" % TEXT, "subject.object.object_id": b'(?!\\*")%s+' % TEXT}
+    return {path + key: field(b'"(%s)"' % pattern, name) for (key, pattern), name in zip(patterns.items(), GOAL)}
 
 
 def key_of(revision: Revision) -> Optional[int]:
@@ -36,6 +46,16 @@ class SpiceDbLog(Log):
     BASE = "token or revision"
     RULES = (b'"schema"',)
     DECIDES = ("permissionship", "pairs", "resourceObjectId", "subject", "subjectObjectId")
+    ASKED = {**_goal("request.", "permission", ID), "response.checked_at.token": field(b'"(%s+)"' % TEXT, "snapshot"),
+             "response.permissionship": field(b'"PERMISSIONSHIP_(HAS|NO)_PERMISSION"', "reply"), "time": field(TIME, "time")}
+    FIXED = ("request.consistency.minimize_latency", "request.consistency.fully_consistent", "request.subject.optional_relation")
+    CHECK = form({**ASKED, "request.consistency.at_least_as_fresh.token": field(b'"(%s+)"' % TEXT, "token"),
+                  "version": field(LABEL, "version")}, *FIXED)
+    CONTENT_CHECK = form({**ASKED, "content.version": field(LABEL, "version"), "content.token": field(b'"(%s+)"' % TEXT, "token")}, *FIXED)
+    WRITE = form({"%s%s" % (result, path): one for result in ("", "result.") for path, one in {
+        **_goal("updates.0.relationship.", "relation", b"%s+" % TEXT), "changes_through.token": field(b'"(%s+)"' % TEXT, "revision"),
+        "time": field(TIME, "time")}.items()}, *("%supdates.0.%s" % (result, path) for result in ("", "result.") for path in (
+            "operation", "relationship.subject.optional_relation", "relationship.optional_caveat", "relationship.optional_expires_at")))
     OTHERS = {"WriteRelationships": ("request.updates",), "DeleteRelationships": ("response.deletedAt",),
               "ReadRelationships": ("request.relationshipFilter",), "ExpandPermissionTree": ("response.treeRoot",),
               "ReadSchema": ("response.schemaText",), "ReflectSchema": (), "DiffSchema": (), "ImportBulkRelationships": (),
@@ -139,10 +159,32 @@ class SpiceDbLog(Log):
         if updates:
             yield event
 
+    def when_of(self, said: Said) -> Optional[When]:
+        try:
+            revision = read_revision(said["revision"].decode())
+        except Older:
+            return None
+        return When(revision.number, revision.shown) if revision and revision.number is not None else None
+
+    def look_of(self, said: Said) -> Optional[Look]:
+        demanded, version = said.get("token"), said.get("version")
+        try:
+            revision, token = read_revision(said["snapshot"].decode()), demanded and read_revision(demanded.decode())
+            if revision is None or token is None and demanded:
+                return None
+            looked = self._looked(revision, token, version and version.decode())
+        except (Bad, Older):
+            return None
+        return Look(said["reply"] == b"HAS", *looked[:4], plain(looked.asked))
+
     def moment(self, value: dict, content: Optional[dict]) -> Looked:
         revision = revision_at(get(value, "response"))
         token = self._token(get(value, "request"), content)
         version = text_or_none(get(value if content is None else content, "version"), "version")
+        return self._looked(revision, token, version)
+
+    @staticmethod
+    def _looked(revision: Revision, token: Optional[Revision], version: Optional[str]) -> Looked:
         if token and bool(token.snapshot) != bool(revision.snapshot):
             raise Bad("the token is of another datastore than `checkedAt`")
         asked = (revision.snapshot, token and token.snapshot) if revision.snapshot else None

@@ -1,9 +1,10 @@
 """What is gone through several times and does not stay in memory: rows of plain values, in a file of their own."""
 import marshal
 import tempfile
-from typing import BinaryIO, Iterable, Iterator, Optional, Union
+from typing import BinaryIO, Callable, Iterable, Iterator, NamedTuple, Optional, Union
 
-from new_enemy_tools.importing.events import Entry, Event, Line, Relationship
+from new_enemy_tools.importing.checks import NAMES, Checks
+from new_enemy_tools.importing.events import EVERY, Entry, Event, Line, Relationship
 
 BATCH = 1 << 12
 CHECKS = ("check", "content")
@@ -50,7 +51,26 @@ class Spool:
 
     def __iter__(self) -> Iterator[tuple]:
         for batch in self.batches():
-            yield from marshal.loads(batch)
+            found = checks_of(batch)
+            yield from found.rows() if isinstance(found, Checks) else found
+
+
+class WriteRow(NamedTuple):
+    """The row of a write, which has the fields of an Event."""
+
+    kind: str
+    file: str
+    line: int
+    revision: Optional[int]
+    shown: Optional[str]
+    base: bool
+    group: Optional[int]
+    sequence: Optional[tuple[int, int]]
+    time: Optional[int]
+    clock: str
+    add: list[tuple]
+    remove: list[tuple]
+    asked: Optional[tuple]
 
 
 class Facts:
@@ -62,24 +82,30 @@ class Facts:
         self.base_source = ("", 0)
         self.files: dict[str, int] = {}
         self.is_sequenced = True
+        self.is_chained = False
         self.has_newest = self.has_between = self.has_groups = self.has_every = self.has_asked = False
 
-    def note(self, line: Line) -> None:
+    def note(self, line: Union[Line, WriteRow]) -> None:
         self.count += 1
         self.has_asked |= line.asked is not None
         if isinstance(line, Entry):
-            self.has_newest |= line.newest
+            self.has_newest |= line.newest and line.lowest is None
             self.has_between |= line.lowest is not None
         else:
             if line.base:
                 self.last_base, self.base_source = self.count - 1, (line.file, line.line)
             self.has_groups |= line.group is not None
-            self.has_every |= any(given.is_every for given in line.add) or any(given.is_every for given in line.remove)
+            self.has_every |= any(given[5] == EVERY for given in line.add) or any(given[5] == EVERY for given in line.remove)
             if line.base or line.revision is None and line.asked is None:
                 return
         if line.file not in self.files:
             self.files[line.file] = line.line
         self.is_sequenced &= line.sequence is not None
+
+    def note_checks(self, file: str, first: int) -> None:
+        """Checks of a file without a sequence, and the line of the first."""
+        self.files.setdefault(file, first)
+        self.is_sequenced = False
 
     def merge(self, other: "Facts") -> None:
         """Those of lines that stand behind."""
@@ -91,6 +117,13 @@ class Facts:
         self.is_sequenced &= other.is_sequenced
         for name in ("has_newest", "has_between", "has_groups", "has_every", "has_asked"):
             setattr(self, name, getattr(self, name) or getattr(other, name))
+
+
+class Read(NamedTuple):
+    """Lines as another process can take them, and what has to be known of them."""
+
+    data: bytes
+    facts: Facts
 
 
 def plain(value: object) -> object:
@@ -105,13 +138,18 @@ def row_of(line: Line) -> tuple:
             [tuple(given) for given in line.add], [tuple(given) for given in line.remove], plain(line.asked))
 
 
-def batch_of(lines: Iterable[Line]) -> tuple[bytes, Facts]:
-    """Writes and checks as rows for another process."""
-    facts, rows = Facts(), []
-    for line in lines:
-        facts.note(line)
-        rows.append(row_of(line))
-    return marshal.dumps(rows), facts
+def line_of(row: tuple) -> Union[Event, tuple]:
+    """A write as it was before it became a row; a check stays a row."""
+    if row[0] in CHECKS:
+        return row
+    relationship = Relationship._make
+    return Event(*row[:10], list(map(relationship, row[10])), list(map(relationship, row[11])), row[12])
+
+
+def checks_of(data: bytes) -> Union[Checks, list[tuple]]:
+    """What a batch has: checks with the lines among them, or rows."""
+    found = marshal.loads(data)
+    return Checks(*found) if isinstance(found, tuple) else found
 
 
 class Lines:
@@ -131,9 +169,32 @@ class Lines:
         else:
             self.spool.add(row_of(line))
 
-    def add_batch(self, data: bytes, facts: Facts) -> None:
-        self.facts.merge(facts)
-        self.spool.add_batch(data)
+    def add_piece(self, piece: Union[Read, Event]) -> None:
+        """What was read of a block: rules, or lines that stand behind all before."""
+        if isinstance(piece, Event):
+            self.add(piece)
+        else:
+            self.facts.merge(piece.facts)
+            self.spool.add_batch(piece.data)
+
+    def add_checks(self, checks: Checks, made_of: Callable[[tuple], Optional[tuple]]) -> None:
+        """Adds checks and what is made of the rows among them."""
+        facts, others, rows = Facts(), [], 0
+        for place, seen, given in checks.others:
+            row = given if given[0] == NAMES else made_of(given)
+            if row is None:
+                continue
+            others.append((place, seen, row))
+            if row[0] != NAMES:
+                if place:
+                    facts.note_checks(checks.file, checks.first)
+                facts.count = place + rows
+                facts.note(Entry._make(row) if row[0] in CHECKS else WriteRow._make(row))
+                rows += 1
+        if checks.size:
+            facts.note_checks(checks.file, checks.first)
+        facts.count = checks.size + rows
+        self.add_piece(Read(marshal.dumps(tuple(checks._replace(others=others))), facts))
 
     def __iter__(self) -> Iterator[Line]:
         for line in self.rows():
@@ -141,11 +202,50 @@ class Lines:
 
     def rows(self) -> Iterator[Union[Event, tuple]]:
         """As the lines themselves, but checks are plain rows with the fields of an Entry."""
-        relationship = Relationship._make
-        for row in self.spool:
-            if row[0] in CHECKS:
-                yield row
-            elif row[0] == "rules":
-                yield self.rules[row[1]]
-            else:
-                yield Event(*row[:10], list(map(relationship, row[10])), list(map(relationship, row[11])), row[12])
+        return map(self._line, self.spool)
+
+    def stream(self, behind: int = -1) -> Iterator[Union[Checks, Event, tuple]]:
+        """As `rows`, but many checks together where they were read so, and stand behind a place."""
+        place = -1
+        for batch in self.spool.batches():
+            found = checks_of(batch)
+            if isinstance(found, Checks) and place >= behind:
+                yield found
+                continue
+            for place, row in enumerate(found.rows() if isinstance(found, Checks) else found, place + 1):
+                yield self._line(row)
+
+    def events(self) -> Iterator[Union[Event, WriteRow]]:
+        """Those of the lines that are no checks; writes as their rows."""
+        for batch in self.spool.batches():
+            found = checks_of(batch)
+            for row in (row for _, _, row in found.others) if isinstance(found, Checks) else found:
+                if row[0] == "write":
+                    yield WriteRow._make(row)
+                elif row[0] == "rules":
+                    yield self.rules[row[1]]
+
+    def users(self) -> Iterator[tuple[str, str]]:
+        """The users that lines name, by type and id, in the order in which they are named first."""
+        for batch in self.spool.batches():
+            found, given = checks_of(batch), 0
+            for _, seen, row in found.others if isinstance(found, Checks) else ((0, 0, row) for row in found):
+                yield from found.users[given:seen] if seen else ()
+                given = seen
+                if row[0] in CHECKS:
+                    yield row[3][3:5]
+                elif row[0] == "write":
+                    yield from (one[3:5] for one in row[10] + row[11] if one[5] is None)
+            yield from found.users[given:] if isinstance(found, Checks) else ()
+
+    def spans(self) -> Iterator[tuple[int, int, Optional[int]]]:
+        """From where to where the checks looked, and what they demanded; of many together once."""
+        for found in self.stream():
+            if isinstance(found, Checks):
+                yield from ((look[1], look[1], look[3]) for look in found.looks)
+            for row in [row for _, _, row in found.others] if isinstance(found, Checks) else [found]:
+                if isinstance(row, tuple) and row[0] in CHECKS:
+                    yield row[5] if row[9] is None else row[9], row[5], row[7]
+
+    def _line(self, row: tuple) -> Union[Event, tuple]:
+        return self.rules[row[1]] if row[0] == "rules" else line_of(row)

@@ -3,10 +3,10 @@
 It has an object for each type, whose relation stores each user of the type that a tuple or a check names. A check asks for one user,
 who is among them, so what the tuple gives or takes away is exactly what the service means.
 """
-from typing import Iterator, Optional
+from typing import Iterator, Optional, Union
 
-from new_enemy_tools.importing.events import EVERY, Entry, Event, Line, Relationship, RelationRule
-from new_enemy_tools.importing.spool import Lines
+from new_enemy_tools.importing.events import EVERY, Event, Relationship, RelationRule
+from new_enemy_tools.importing.spool import Lines, WriteRow
 from new_enemy_tools.texts import Userset
 
 NAMESPACE = "every"
@@ -19,22 +19,22 @@ class Wildcards:
     """The types whose users some tuple names all at once."""
 
     def __init__(self, lines: Lines):
-        self.first: Optional[Event] = None
+        self.first: Union[Event, WriteRow, None] = None
         self.tuples = 0
         self.users: dict[str, dict[Relationship, None]] = {}
         taken = {name for event in lines.rules for name in event.namespaces}
         self.namespace = NAMESPACE
         while self.namespace in taken:
             self.namespace += "_"
-        for event, given in named(lines) if lines.facts.has_every else ():
-            if given.user_relation == EVERY:
-                self.first = self.first or event
-                self.tuples += 1
-                self.users.setdefault(given.user_type, {})
-        for event, given in named(lines) if self.first else ():
-            if given.user_relation is None and given.user_type in self.users:
-                member = Relationship(self.namespace, given.user_type, RELATION, given.user_type, given.user_id)
-                self.users[given.user_type][member] = None
+        for event in lines.events() if lines.facts.has_every else ():
+            for given in (*event.add, *event.remove):
+                if given[5] == EVERY:
+                    self.first = self.first or event
+                    self.tuples += 1
+                    self.users.setdefault(given[3], {})
+        for user_type, user_id in lines.users() if self.first else ():
+            if user_type in self.users:
+                self.users[user_type][Relationship(self.namespace, user_type, RELATION, user_type, user_id)] = None
 
     def set_of(self, user_type: str) -> Userset:
         return Userset(self.namespace, user_type, RELATION)
@@ -56,10 +56,3 @@ class Wildcards:
         if self.first is not None:
             types = ", ".join("%d of type %s" % (len(members), name) for name, members in self.users.items())
             yield "wildcards %d: a tuple for every user of a type stands for the users that the log names, %s" % (self.tuples, types)
-
-
-def named(lines: Lines) -> Iterator[tuple[Line, Relationship]]:
-    """The relationships that lines name."""
-    for line in lines:
-        for given in (Relationship(*line.goal),) if isinstance(line, Entry) else (*line.add, *line.remove):
-            yield line, given

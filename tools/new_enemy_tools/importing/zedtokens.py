@@ -122,7 +122,11 @@ def snapshot_of(data: bytes) -> Snapshot:
 
 def _revision_text(token: str) -> str:
     """The datastore's revision in a token."""
-    found = fields(base64.b64decode(token, validate=True))
+    data = base64.b64decode(token, validate=True)
+    # As a rule there is nothing but field 3, and in it nothing but field 1.
+    if 3 < len(data) < 128 and data[:4] == bytes((0x1a, len(data) - 2, 0x0a, len(data) - 4)):
+        return data[4:].decode("ascii")
+    found = fields(data)
     inner = _only(found, 3, bytes)
     if inner is not None:
         return _only(fields(inner), 1, bytes).decode("ascii")

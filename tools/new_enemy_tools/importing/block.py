@@ -1,0 +1,248 @@
+"""Reads blocks of a log: lines of a usual shape by that shape, all others in full."""
+import marshal
+import re
+from array import array
+from typing import Callable, Iterable, Iterator, Mapping, NamedTuple, Optional, Union
+
+from new_enemy_tools.importing.checks import NAMES, Checks, Look, Other
+from new_enemy_tools.importing.events import EVERY, Event, Line
+from new_enemy_tools.importing.located import BLANK, Block
+from new_enemy_tools.importing.shapes import Form, Said, Shape, shape_of
+from new_enemy_tools.importing.spool import Facts, Read, row_of
+from new_enemy_tools.importing.times import nanoseconds
+
+# So many shapes are known at most, and so many lines are looked at for one.
+MOST = 24
+TRIES = 200
+DAY = len("2024-05-06")
+
+Full = Callable[[int, bytes], list[Line]]
+
+
+class When(NamedTuple):
+    """The revision of a write, and its time where that is no key of its own."""
+
+    revision: int
+    shown: str
+    time: Optional[int] = None
+
+
+# Other lines of a log are few, and are read in full.
+LEARNT = ("check", "content", "write")
+
+
+class Usual(NamedTuple):
+    """What a log has by the thousand: the forms of its checks, content checks and writes of one tuple, and what the values of a line mean.
+
+    A write is taken where its relation takes its user, by type, relation, and the user's type and relation.
+    """
+
+    check: Form
+    content: Form
+    write: Form
+    look_of: Callable[[Said], Optional[Look]]
+    when_of: Callable[[Said], Optional[When]]
+    takes: Callable[[str, str, str, Optional[str]], bool]
+
+
+class Columns:
+    """The columns of the checks of a block, as they are read."""
+
+    def __init__(self, path: str):
+        self.path, self.facts, self.rows = path, Facts(), 0
+        self.pairs: dict[tuple[bytes, bytes], int] = {}
+        self.users: dict[tuple[bytes, bytes], int] = {}
+        self.looks: list[tuple] = []
+        self.pair_of: list[int] = []
+        self.user_of: list[int] = []
+        self.look_of: list[int] = []
+        self.objects: list[bytes] = []
+        self.lines: list[int] = []
+        self.times: list[bytes] = []
+        self.others: list[Other] = []
+        # the first line that was read by its shape
+        self.first = 0
+
+    def add_names(self, of: bytes, relation: bytes) -> int:
+        """The place of a type and relation that are new."""
+        self.others.append((len(self.lines), len(self.users), (NAMES, of.decode(), relation.decode())))
+        self.pairs[of, relation] = len(self.pairs)
+        return len(self.pairs) - 1
+
+    def add_look(self, look: Optional[Look]) -> int:
+        """The place of a new look, -1 where there is none."""
+        if look is None:
+            return -1
+        self.facts.has_asked |= look.asked is not None
+        self.looks.append(tuple(look))
+        return len(self.looks) - 1
+
+    def add_time(self, time: bytes) -> None:
+        """The time of the check that is next."""
+        self.times += [b""] * (len(self.lines) - len(self.times))
+        self.times.append(time)
+
+    def add(self, line: Line) -> None:
+        """A line that was read in full."""
+        self._note()
+        self.facts.note(line)
+        self._add_row(row_of(line))
+
+    def add_usual(self, row: tuple) -> None:
+        """A write or a content check that was read by its shape."""
+        self.first = self.first or (self.lines[0] if self.lines else row[2])
+        self.facts.has_asked |= row[0] == "content" and row[11] is not None
+        self._add_row(row)
+
+    def _add_row(self, row: tuple) -> None:
+        self.rows += 1
+        self.others.append((len(self.lines), len(self.users), row))
+
+    def _note(self) -> None:
+        """Notes the lines up to here that were read by their shapes."""
+        self.facts.count = len(self.lines) + self.rows
+        first = self.first or (self.lines[0] if self.lines else 0)
+        if first:
+            self.facts.note_checks(self.path, first)
+
+    def checks(self) -> Checks:
+        times = self.times and self.times + [b""] * (len(self.lines) - len(self.times))
+        return Checks(self.path, _texts(self.pairs), _texts(self.users), self.looks, array("I", self.pair_of).tobytes(),
+                      array("I", self.user_of).tobytes(), array("I", self.look_of).tobytes(), b"\n".join(self.objects).decode(),
+                      array("Q", self.lines).tobytes(), b"\n".join(times).decode(), self.others)
+
+    def read(self) -> Read:
+        self._note()
+        return Read(marshal.dumps(tuple(self.checks())), self.facts)
+
+
+def _texts(pairs: Mapping[tuple[bytes, bytes], int]) -> list[tuple[str, str]]:
+    return [(one.decode(), other.decode()) for one, other in pairs]
+
+
+class Reader:
+    """Reads a log's blocks, and learns the shapes of its lines."""
+
+    def __init__(self, path: str, usual: Usual):
+        self.path, self.usual = path, usual
+        self.shapes: list[Shape] = []
+        self.tried = 0
+        self.days: dict[bytes, bool] = {}
+        self.taken: dict[tuple, bool] = {}
+
+    def pieces(self, block: Block, full: Full) -> Iterator[Union[Read, Event]]:
+        """The lines of a block, with rules apart, which have no row."""
+        lines = enumerate(block.data.split(b"\n"), block.first)
+        given: list[Line] = []
+        while True:
+            columns = Columns(self.path)
+            for number, line in self._odd(lines, columns):
+                given = full(number, line)
+                if any(one.kind == "rules" for one in given):
+                    break
+                for one in given:
+                    columns.add(one)
+                if len(given) == 1 and given[0].kind in LEARNT and len(self.shapes) < MOST and self.tried < TRIES:
+                    self._learn(number, line, row_of(given[0]))
+            else:
+                yield columns.read()
+                return
+            yield columns.read()
+            yield from given
+
+    def _odd(self, lines: Iterable[tuple[int, bytes]], columns: Columns) -> Iterator[tuple[int, bytes]]:
+        """Takes the lines of usual shapes, and gives the others."""
+        shapes, pairs, users = self.shapes, columns.pairs, columns.users
+        put_pair, put_user, put_look = columns.pair_of.append, columns.user_of.append, columns.look_of.append
+        put_object, put_line = columns.objects.append, columns.lines.append
+        shapes.sort(key=lambda shape: -shape.hits)
+        for shape in shapes:
+            shape.looks.clear()
+        for number, raw in lines:
+            line = raw.strip(BLANK)
+            if not line:
+                continue
+            for shape in shapes:
+                found = shape.match(line)
+                if found:
+                    break
+            else:
+                yield number, line
+                continue
+            shape.hits += 1
+            if shape.time and not self._is_day(found[shape.time]):
+                yield number, line
+                continue
+            if shape.kind != "check":
+                row = self._write(number, shape, found) if shape.kind == "write" else self._content(number, shape, found)
+                if row is None:
+                    yield number, line
+                else:
+                    columns.add_usual(row)
+                continue
+            said = found.group(*shape.rest)
+            look = shape.looks.get(said)
+            if look is None:
+                look = shape.looks[said] = columns.add_look(self.usual.look_of(shape.said(found)))
+            if look < 0:
+                yield number, line
+                continue
+            if shape.time:
+                columns.add_time(found[shape.time])
+            of, thing, relation, user_type, user_id = found.group(*shape.goal)
+            pair = pairs.get((of, relation))
+            put_pair(columns.add_names(of, relation) if pair is None else pair)
+            put_user(users.setdefault((user_type, user_id), len(users)))
+            put_look(look)
+            put_object(thing)
+            put_line(number)
+
+    def _content(self, number: int, shape: Shape, found: re.Match) -> Optional[tuple]:
+        """The row of a content check; None where it has to be read in full."""
+        look = self.usual.look_of(shape.said(found))
+        if look is None:
+            return None
+        reply, snapshot, shown, token, version, asked = look
+        goal = (*(text.decode() for text in found.group(*shape.goal)), None)
+        return ("content", self.path, number, goal, reply, snapshot, shown, token, version, None, False, asked, None,
+                nanoseconds(found[shape.time].decode()) if shape.time else None, self.path)
+
+    def _write(self, number: int, shape: Shape, found: re.Match) -> Optional[tuple]:
+        """The row of a write; None where it has to be read in full."""
+        of, thing, relation, user_type, user_id = (text.decode() for text in found.group(*shape.goal))
+        when = self.usual.when_of(shape.said(found))
+        key = of, relation, user_type, shape.user_relation
+        taken = self.taken.get(key)
+        if taken is None:
+            taken = self.taken[key] = self.usual.takes(*key)
+        if when is None or not taken:
+            return None
+        time = nanoseconds(found[shape.time].decode()) if shape.time else when.time
+        given = [(of, thing, relation, user_type, user_id, shape.user_relation)]
+        return ("write", self.path, number, when.revision, when.shown, False, None, None, time, self.path,
+                given if shape.adds else [], [] if shape.adds else given, None)
+
+    def _learn(self, number: int, line: bytes, row: tuple) -> None:
+        """Learns the shape of a line, where it gives what the line was read as."""
+        given = row[10] + row[11] if row[0] == "write" else None
+        shape = None
+        if given is None or len(given) == 1 and given[0][5] != EVERY:
+            shape = shape_of(line, getattr(self.usual, row[0]))
+        if shape:
+            shape.kind = row[0]
+            if given:
+                shape.adds, shape.user_relation = bool(row[10]), given[0][5]
+            known, self.shapes = self.shapes, [shape]
+            columns = Columns(self.path)
+            if not list(self._odd([(number, line)], columns)) and list(columns.checks().rows()) == [row]:
+                known.append(shape)
+            shape.looks.clear()
+            self.shapes = known
+        self.tried += 1
+
+    def _is_day(self, time: bytes) -> bool:
+        """Whether a time has a day that there is."""
+        known = self.days.get(time[:DAY])
+        if known is None:
+            known = self.days[time[:DAY]] = nanoseconds(time.decode()) is not None
+        return known

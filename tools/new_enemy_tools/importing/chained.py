@@ -1,0 +1,102 @@
+"""The files of tools/record: each begins with the hash of the one before, and ends with its count of lines and its own hash."""
+import hashlib
+import json
+from typing import BinaryIO, NamedTuple, Optional
+
+from new_enemy_tools.importing.refusals import Refusals
+
+BLOCK = 1 << 20
+LONGEST = 1 << 16
+
+
+class Head(NamedTuple):
+    """The first line of a file: its number, and the hash of the file before it."""
+
+    number: int
+    before: Optional[str]
+
+
+class End(NamedTuple):
+    """How many lines a file has before its last, and their hash; what the last line says of them, where it closes the file."""
+
+    lines: int
+    found: str
+    said: Optional[tuple]
+
+
+def _line(raw: bytes, kind: str) -> Optional[dict]:
+    try:
+        value = json.loads(raw)
+    except ValueError:
+        return None
+    return value if isinstance(value, dict) and value.get("event") == kind else None
+
+
+def head_of(path: str) -> Optional[Head]:
+    """The head of a file; None where the file is none of a chain."""
+    with open(path, "rb") as file:
+        value = _line(file.readline(LONGEST), "log") if file.seekable() else None
+    if value is None or not isinstance(value.get("number"), int) or not isinstance(value.get("before"), (str, type(None))):
+        return None
+    return Head(value["number"], value.get("before"))
+
+
+def _last_start(file: BinaryIO) -> int:
+    """Where the last line begins."""
+    size = file.seek(0, 2)
+    start = max(0, size - LONGEST)
+    file.seek(start)
+    return start + file.read().rstrip(b"\n").rfind(b"\n") + 1
+
+
+def end_of(path: str) -> End:
+    with open(path, "rb") as file:
+        last = _last_start(file)
+        file.seek(last)
+        closed = _line(file.read(), "closed")
+        file.seek(0)
+        made, count, left = hashlib.sha256(), 0, last
+        while left > 0:
+            data = file.read(min(BLOCK, left))
+            if not data:
+                break
+            made.update(data)
+            count += data.count(b"\n")
+            left -= len(data)
+    return End(count, made.hexdigest(), None if closed is None else (closed.get("count"), closed.get("sha256")))
+
+
+def in_chain(paths: list[str], refusals: Refusals) -> Optional[list[str]]:
+    """The files of a chain in their order, all checked; None where they are none of a chain, or not all of them."""
+    found = {path: head_of(path) for path in paths}
+    heads = {path: head for path, head in found.items() if head is not None}
+    if len(heads) < len(found):
+        return None
+    ordered = sorted(heads, key=lambda path: heads[path].number)
+    before: Optional[tuple[str, int, Optional[str]]] = None
+    for path in ordered:
+        _refuse_unlinked(path, heads[path], before, refusals)
+        end = end_of(path)
+        if end.said is not None and end.said != (end.lines, end.found):
+            refusals.refuse(path, end.lines + 1, "the file was changed or cut after it was written: its last line tells of other lines "
+                            "than these; give the file as tools/record wrote it")
+        elif end.said is None and path != ordered[-1]:
+            refusals.refuse(path, 1, "the file is not closed, and others go on from it; give it as tools/record left it")
+        elif end.said is None:
+            refusals.note("open", "%s is not closed: it is still written, or its recorder was killed" % path)
+        before = (path, heads[path].number, end.found if end.said else None)
+    return ordered
+
+
+def _refuse_unlinked(path: str, head: Head, before: Optional[tuple[str, int, Optional[str]]], refusals: Refusals) -> None:
+    if before is None:
+        if head.number != 1:
+            refusals.refuse(path, 1, "files 1 to %d of the log are missing, with its base state; give all files from the first on"
+                            % (head.number - 1))
+    elif head.number == before[1]:
+        refusals.refuse(path, 1, "%s is file %d too; give the files of one log" % (before[0], head.number))
+    elif head.number != before[1] + 1:
+        missing = "file %d" % (before[1] + 1) if head.number == before[1] + 2 else "files %d to %d" % (before[1] + 1, head.number - 1)
+        refusals.refuse(path, 1, "%s of the log, between it and %s, is missing; give all files" % (missing, before[0]))
+    elif before[2] is not None and head.before != before[2]:
+        refusals.refuse(path, 1, "it goes on from another file than %s; give the files of one log, as tools/record wrote them" % before[0])

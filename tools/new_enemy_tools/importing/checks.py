@@ -1,0 +1,80 @@
+"""Many plain checks of a file as columns, with the lines that stand among them.
+
+The table of ids renames nothing that a plain check names, but for its user and its type and relation. What many checks share stands
+once: their types and relations, their users, and what they looked at.
+"""
+from array import array
+from itertools import repeat
+from typing import Iterator, NamedTuple, Optional
+
+from new_enemy_tools.importing.times import nanoseconds
+
+# In place of a line: the checks behind it are the first of a type and relation.
+NAMES = "names"
+Other = tuple[int, int, tuple]
+
+
+class Look(NamedTuple):
+    """What a check looked at and was told, as the fields of an Entry."""
+
+    reply: bool
+    snapshot: Optional[int]
+    shown: str
+    token: Optional[int]
+    version: Optional[str]
+    asked: Optional[tuple]
+
+
+class Checks(NamedTuple):
+    """The columns have an item for each check: its pair, user and look by their places, its object, its line, and its time, if any has one.
+
+    `others` are rows, each with the number of checks before it, and of the users that these have.
+    """
+
+    file: str
+    pairs: list[tuple[str, str]]
+    users: list
+    looks: list[tuple]
+    pair_of: bytes
+    user_of: bytes
+    look_of: bytes
+    objects: str
+    lines: bytes
+    times: str
+    others: list[Other]
+
+    @property
+    def size(self) -> int:
+        return len(self.lines) // array("Q").itemsize
+
+    @property
+    def first(self) -> int:
+        """The line of the first check."""
+        return column(self.lines, "Q")[0]
+
+    def entries(self) -> Iterator[tuple]:
+        """The checks as rows, each with the fields of an Entry."""
+        times = self.times.split("\n") if self.times else repeat("")
+        for pair, thing, user, look, line, time in zip(column(self.pair_of), self.objects.split("\n"), column(self.user_of),
+                                                       column(self.look_of), column(self.lines, "Q"), times):
+            of, relation = self.pairs[pair]
+            reply, snapshot, shown, token, version, asked = self.looks[look]
+            yield ("check", self.file, line, (of, thing, relation, *self.users[user], None), reply, snapshot, shown, token, version,
+                   None, False, asked, None, nanoseconds(time) if time else None, self.file)
+
+    def rows(self) -> Iterator[tuple]:
+        """All lines as rows, in order."""
+        entries, at = self.entries(), 0
+        for place, _, row in self.others:
+            for _ in range(at, place):
+                yield next(entries)
+            at = place
+            if row[0] != NAMES:
+                yield row
+        yield from entries
+
+
+def column(data: bytes, kind: str = "I") -> array:
+    made = array(kind)
+    made.frombytes(data)
+    return made

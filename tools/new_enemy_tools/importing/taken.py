@@ -1,0 +1,275 @@
+"""The first time through the lines of an import: commits are made, users get their numbers, and revisions are gathered.
+
+What a line of the trace needs is kept in a spool. Of many checks that stand together what they name is taken once.
+"""
+import marshal
+from typing import Iterable, Optional, Union
+
+from new_enemy_tools.edges import Name
+from new_enemy_tools.ids import Ids
+from new_enemy_tools.importing.between import Spans, States
+from new_enemy_tools.importing.checks import NAMES, Checks, Other
+from new_enemy_tools.importing.commits import Commit, Writer
+from new_enemy_tools.importing.declared import Declared
+from new_enemy_tools.importing.events import Entry, Event
+from new_enemy_tools.importing.refusals import Refusals
+from new_enemy_tools.importing.spool import Spool, line_of, row_of
+from new_enemy_tools.progress import Progress
+
+Item = Union[Commit, Event]
+
+
+class Taken:
+    """What is known of the lines so far."""
+
+    def __init__(self, declared: Declared, writer: Writer, ids: Ids, refusals: Refusals, progress: Progress,
+                 base_revision: Optional[int], has_between: bool):
+        self.declared, self.writer, self.ids, self.refusals, self.progress = declared, writer, ids, refusals, progress
+        self.base_revision, self.has_between = base_revision, has_between
+        # of each version its content check, in short, with its file and line
+        self.issued: dict[tuple[str, str, str], tuple[tuple, str, int]] = {}
+        # the revisions that are named, each with how many lines of the trace it takes
+        self.wanted: dict[int, int] = {}
+        self.states = States()
+        self.items = Spool()
+        self.has_gap = False
+        # of the lines among many checks those that are kept, each with the number of checks before it
+        self.among: Optional[list[Other]] = None
+        self.at = 0
+        # the commit to which a write behind it may belong, or the row of its only write with its text
+        self.open: Optional[Commit] = None
+        self.single: Optional[tuple[tuple, str]] = None
+        self.last = base_revision
+        # where the last write stood; none where it is the base state
+        self.last_place: Optional[tuple[str, int, str]] = None
+        self.count = 0
+        self.declared_names: set[Name] = set()
+
+    def take_all(self, stream: Iterable[Union[Checks, Event, tuple]], spans: Spans) -> None:
+        for line in stream:
+            if isinstance(line, Checks):
+                self._take_checks(line, spans)
+            else:
+                self._take(line, spans)
+        self._close()
+
+    def _take(self, line: Union[Event, tuple], spans: Spans) -> None:
+        """Writes of one revision that stand together become one commit."""
+        self.count += 1
+        if isinstance(line, tuple):
+            self._close()
+            if self._is_known(line) or self._takes(line):
+                self._keep(line if type(line) is tuple else row_of(line))
+            return
+        self.progress.step("ordered %s events", self.count)
+        if line.base or line.revision is None:
+            self.has_gap |= line.kind == "gap"
+            return
+        self._reopen(line)
+        if self.open and self._goes_on(self.open, line, spans):
+            self.last = line.revision
+            return
+        if self.last is not None and line.revision <= self.last:
+            self._refuse(line, "its revision %s is not later than that of %s" % (
+                line.shown, "%s:%d, %s" % self.last_place if self.last_place else "the base state"))
+            return
+        self.last, self.last_place = line.revision, (line.file, line.line, line.shown)
+        self._close()
+        if line.kind == "write":
+            self.open = Commit(line)
+            self.writer.write(self.open, line)
+        else:
+            self.keep(line)
+
+    def _close(self) -> None:
+        """Keeps the commit that is open."""
+        if self.single:
+            row, text = self.single
+            self.wanted[row[3]] = 1
+            self._keep(("commit", row[3], row[4], row[1], row[2], [([text], []) if row[10] else ([], [text])]))
+            self.single = None
+        elif self.open:
+            self.keep(self.open)
+            self.open = None
+
+    def _take_single(self, row: tuple) -> bool:
+        """Takes a write of one tuple that is a commit by itself as yet; whether it is one."""
+        revision, group, given = row[3], row[6], row[10] + row[11]
+        if row[5] or revision is None or len(given) != 1 or self.last is not None and revision <= self.last:
+            return False
+        if group is not None and group == (self.single[0][6] if self.single else self.open and self.open.event.group):
+            return False
+        text = self.writer.text_of(given[0])
+        if text is None:
+            return False
+        self._close()
+        self.last, self.last_place, self.single = revision, (row[1], row[2], row[4]), (row, text)
+        self.count += 1
+        self.progress.step("ordered %s events", self.count)
+        return True
+
+    def _reopen(self, line: Event) -> None:
+        """Makes the commit of the write that stands by itself, where the next line may belong to it."""
+        if self.single and (self.single[0][3] == line.revision or line.group is not None and self.single[0][6] == line.group):
+            event = line_of(self.single[0])
+            self.single, self.open = None, Commit(event)
+            self.writer.write(self.open, event)
+
+    def _take_checks(self, checks: Checks, spans: Spans) -> None:
+        """Takes what many checks name once for all of them."""
+        if not self._are_plain(checks):
+            for row in checks.rows():
+                self._take(line_of(row), spans)
+            return
+        for _, snapshot, _, token, _, _ in checks.looks:
+            self.wanted.setdefault(snapshot, 1)
+            if token is not None:
+                self.wanted.setdefault(token, 1)
+        self.among, self.at = [], 0
+        numbers = self.ids.known_users(checks.users)
+        new = [place for place, number in enumerate(numbers) if number is None]
+        given = 0
+        for place, seen, row in checks.others:
+            while given < len(new) and new[given] < seen:
+                numbers[new[given]] = self.ids.number("user", *checks.users[new[given]])
+                given += 1
+            if place > self.at:
+                self._pass(place)
+            if row[0] == NAMES:
+                self._is_declared(*row[1:])
+            elif row[0] != "write" or not self._take_single(row):
+                self._take(line_of(row), spans)
+        for place in new[given:]:
+            numbers[place] = self.ids.number("user", *checks.users[place])
+        self._pass(checks.size)
+        self.count += checks.size
+        self.items.add_batch(marshal.dumps(tuple(checks._replace(users=numbers, others=self.among))))
+        self.among = None
+
+    def _are_plain(self, checks: Checks) -> bool:
+        """Whether all checks are of declared relations and none before the base state, and each becomes one line of a trace with rules.
+
+        A check of a version may be left out behind a gap.
+        """
+        has_gap = self.has_gap or any(row[0] == "gap" for _, _, row in checks.others)
+        if has_gap and any(look[4] is not None for look in checks.looks):
+            return False
+        return bool(self.declared.head) and not self.has_between and all(
+            self.declared.rules.is_declared(*pair) for pair in checks.pairs) and (
+            self.base_revision is None or all(look[1] >= self.base_revision for look in checks.looks))
+
+    def _pass(self, place: int) -> None:
+        """Goes behind so many of the checks."""
+        if place > self.at:
+            self._close()
+            self.at = place
+
+    def _keep(self, row: tuple) -> None:
+        if self.among is None:
+            self.items.add(row)
+        else:
+            self.among.append((self.at, 0, row))
+
+    def _goes_on(self, commit: Commit, event: Event, spans: Spans) -> bool:
+        """Takes a write into the commit before it, where it belongs there."""
+        if event.kind != "write":
+            return False
+        if commit.revision == event.revision and self.writer.is_repeated(commit, event):
+            self.refusals.pass_over("write that was logged before")
+            return True
+        if commit.revision != event.revision and (not commit.takes(event) or spans.has(commit.revision)):
+            return False
+        self.writer.write(commit, event)
+        return True
+
+    def _refuse(self, event: Event, text: str) -> None:
+        self.refusals.refuse(event.file, event.line, text)
+
+    def keep(self, item: Item) -> None:
+        """Keeps a commit or a change of rules."""
+        event = item.event if isinstance(item, Commit) else item
+        self.states.revisions += [item.revision] * self.has_between
+        source = (item.revision, event.shown, event.file, event.line)
+        if isinstance(item, Commit):
+            self.wanted[item.revision] = len(item.lines())
+            self._keep(("commit", *source, item.lines()))
+            if self.has_between:
+                self.states.take(item, self.writer)
+        else:
+            self.wanted[item.revision] = len(self.declared.changes.get(item.revision, ()))
+            self._keep(("rules", *source))
+
+    def _is_known(self, row: tuple) -> bool:
+        """Whether a check names nothing that was not seen before, so that there is nothing to do with it."""
+        goal, snapshot, token = row[3], row[5], row[7]
+        return row[8] is None and row[9] is None and row[0] == "check" and snapshot in self.wanted and (
+            token is None or token in self.wanted) and (goal[0], goal[2]) in self.declared_names and self.ids.has(goal) and (
+            self.base_revision is None or snapshot >= self.base_revision)
+
+    def _takes(self, row: tuple) -> bool:
+        """Gives what an entry names its numbers and gathers its revisions; whether it is kept."""
+        kind, _, _, goal, _, snapshot, shown, token, version, lowest = row[:10]
+        if not self._is_declared(goal[0], goal[2]):
+            self.refusals.unmapped_check(Entry._make(row), "check of a relation that the rules do not have", Entry._make(row).told)
+            return False
+        if self.base_revision is not None and (snapshot if lowest is None else lowest) < self.base_revision:
+            self.refusals.unmapped_check(Entry._make(row), "check before the base state", "its snapshot is %s" % shown)
+            return False
+        wanted = self.wanted
+        if snapshot not in wanted:
+            wanted[snapshot] = 1
+        if token is not None and token not in wanted:
+            wanted[token] = 1
+        if lowest is not None and lowest not in wanted:
+            wanted[lowest] = 1
+        self.ids.note(goal)
+        if version is None and kind == "check":
+            return True
+        if version is not None:
+            self.ids.version(version)
+        # What was left out is known at the end alone, and with it which versions are issued.
+        return self.refusals.skip or self.has_good_version(Entry._make(row))
+
+    def _is_declared(self, of: str, relation: str) -> bool:
+        if (of, relation) in self.declared_names:
+            return True
+        if not self.declared.rules.is_declared(of, relation):
+            return False
+        self.declared_names.add((of, relation))
+        self.ids.name("namespace", of)
+        self.ids.name("relation", relation)
+        return True
+
+    def has_good_version(self, entry: Entry) -> bool:
+        key = (*entry.goal[:2], entry.version)
+        short = (tuple(entry.goal), entry.reply, entry.snapshot, entry.lowest, entry.token)
+        before = self.issued.get(key) if entry.kind == "content" and entry.version is not None else None
+        if self.has_gap and entry.kind == "check" and entry.version is not None and key not in self.issued:
+            self.refusals.pass_over("check of a content version that may have been issued in a gap")
+            return False
+        if entry.version == "":
+            self.refusals.refuse(entry.file, entry.line, "the label of a version is empty")
+        elif entry.kind == "content" and entry.reply != (entry.version is not None):
+            self.refusals.unmapped_check(entry, "content check with a version and the reply false, or without one and true", "",
+                                         "a content check has a version exactly where its reply is true")
+            return False
+        elif before is not None and before[0] == short:
+            self.refusals.pass_over("content check that was logged before")
+            return False
+        elif before is not None:
+            self.refusals.unmapped_check(entry, "content check of a version that was issued already", "",
+                                         "version %s of %s:%s was issued at %s:%d already" % (entry.version, *key[:2], *before[1:]))
+            return False
+        elif entry.kind == "content" and entry.version is not None:
+            self.issued[key] = (short, entry.file, entry.line)
+        return True
+
+    def timestamps(self) -> dict[int, int]:
+        """The last timestamp of each revision: dense, and as many for a commit as it has lines."""
+        if self.base_revision is not None:
+            self.wanted.setdefault(self.base_revision, 1)
+        at = 0
+        for revision in sorted(self.wanted):
+            at += max(1, self.wanted[revision])
+            self.wanted[revision] = at
+        return self.wanted

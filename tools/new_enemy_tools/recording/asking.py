@@ -1,0 +1,87 @@
+"""The recorder's own requests to a service, over HTTP."""
+import http.client
+import json
+import socket
+import ssl
+from typing import Any, Iterator, Optional
+from urllib.parse import SplitResult, urlsplit
+
+TIMEOUT = 30.0
+
+
+class FeedFault(Exception):
+    """Why the changes can't be read; `for_good` where trying again does not help."""
+
+    def __init__(self, reason: str, for_good: bool = False):
+        super().__init__(reason)
+        self.for_good = for_good
+
+
+class Asker:
+    """Asks one service; the key goes into the header that services read, and nowhere else."""
+
+    def __init__(self, url: str, key: Optional[str]):
+        self.url: SplitResult = urlsplit(url)
+        self.headers = {"Content-Type": "application/json", **({"Authorization": "Bearer " + key} if key else {})}
+        self.connection: Optional[http.client.HTTPConnection] = None
+
+    def _connected(self, timeout: float) -> http.client.HTTPConnection:
+        host = self.url.hostname or ""
+        if self.url.scheme == "https":
+            return http.client.HTTPSConnection(host, self.url.port, timeout=timeout, context=ssl.create_default_context())
+        return http.client.HTTPConnection(host, self.url.port, timeout=timeout)
+
+    def ask(self, method: str, path: str, body: Any = None) -> Any:
+        """The JSON of an answer; raises FeedFault."""
+        return json.loads(self.raw(method, path, body))
+
+    def raw(self, method: str, path: str, body: Any = None) -> bytes:
+        for is_again in (False, True):
+            is_new = self.connection is None
+            try:
+                self.connection = self.connection or self._connected(TIMEOUT)
+                self.connection.request(method, self.url.path.rstrip("/") + path, None if body is None else json.dumps(body), self.headers)
+                answer = self.connection.getresponse()
+                data = answer.read()
+                break
+            except (OSError, http.client.HTTPException) as fault:
+                self.close()
+                # A connection that was kept may have been closed meanwhile.
+                if is_new or is_again:
+                    raise FeedFault("the service can't be asked: %s" % (str(fault) or type(fault).__name__)) from None
+        _refuse_failed(path, answer.status, data)
+        return data
+
+    def stream(self, path: str, body: Any, timeout: float) -> Iterator[Any]:
+        """The JSON values of an answer that comes line by line; raises FeedFault."""
+        connection = self._connected(timeout)
+        try:
+            connection.request("POST", self.url.path.rstrip("/") + path, json.dumps(body), self.headers)
+            answer = connection.getresponse()
+            if answer.status >= 400:
+                _refuse_failed(path, answer.status, answer.read())
+            while raw := answer.readline():
+                if raw.strip():
+                    yield json.loads(raw)
+        except socket.timeout:
+            # Nothing came for long, which is no fault.
+            return
+        except (OSError, http.client.HTTPException) as fault:
+            raise FeedFault("%s ends: %s" % (path, str(fault) or type(fault).__name__)) from None
+        finally:
+            connection.close()
+
+    def close(self) -> None:
+        if self.connection is not None:
+            self.connection.close()
+            self.connection = None
+
+
+def _refuse_failed(path: str, status: int, data: bytes) -> None:
+    if status >= 400:
+        try:
+            why = json.loads(data).get("message", "")
+        except (ValueError, AttributeError):
+            why = ""
+        hint = "; give a key that may read by --key-file" if status in (401, 403) else ""
+        raise FeedFault("%s is answered by %d %s%s" % (path, status, str(why)[:200], hint))

@@ -1,0 +1,200 @@
+"""Records what OpenFGA or SpiceDB decide, as a proxy in front of it: record (--openfga | --spicedb) URL --listen ADDRESS --out FOLDER.
+
+Requests and answers pass unchanged, whatever becomes of the log. docs/RECORDING.md says what is recorded, and how an application names
+the content that it shows or saves. SIGTERM ends it.
+"""
+import asyncio
+import json
+import os
+import signal
+import socket
+import subprocess
+import sys
+import time
+from argparse import Namespace
+from typing import Any, Optional
+from urllib.parse import SplitResult, urlsplit
+
+from new_enemy_tools.commands.running import Parser
+from new_enemy_tools.recording import openfga, spicedb
+from new_enemy_tools.recording.spicedb_http import HttpSource
+from new_enemy_tools.recording.keeper import Keeper, Service, Settings
+from new_enemy_tools.recording.log_files import AGE, SIZE
+from new_enemy_tools.recording.messages import Bye, Teller
+from new_enemy_tools.recording.relay import Relay
+
+ENTRY = os.path.join(os.path.dirname(os.path.dirname(os.path.dirname(os.path.abspath(__file__)))), "record")
+TICK = 0.05
+# So long open requests have at the end.
+LAST = 3.0
+# A keeper that ends is started again after so long.
+AGAIN = 2.0
+CALLS = {"openfga": openfga.call_of, "spicedb": spicedb.call_of}
+
+
+def words(arguments: list[str]) -> tuple[Parser, Namespace]:
+    parser = Parser(prog="ne record", description=__doc__)
+    which = parser.add_mutually_exclusive_group(required=True)
+    which.add_argument("--openfga", metavar="URL", help="where OpenFGA answers, as http://127.0.0.1:8080")
+    which.add_argument("--spicedb", metavar="URL", help="where SpiceDB's HTTP gateway answers, or with --grpc its gRPC")
+    parser.add_argument("--grpc", action="store_true", help="speak gRPC, which needs grpcio")
+    parser.add_argument("--listen", metavar="ADDRESS", required=True, help="where the application asks in place of the service, as 127.0.0.1:8090")
+    parser.add_argument("--out", metavar="FOLDER", required=True, help="the folder of the log")
+    parser.add_argument("--store", metavar="ID", help="the store of OpenFGA that is recorded, where there are several")
+    parser.add_argument("--key-file", metavar="FILE", help="a file with the key by which the recorder reads the changes")
+    parser.add_argument("--hold", type=float, default=30.0, metavar="SECONDS", help="how long a check waits for the changes that it saw (30)")
+    parser.add_argument("--poll", type=float, default=0.05, metavar="SECONDS", help="the rest of OpenFGA between two reads of its changes (0.05)")
+    parser.add_argument("--stale-by", type=float, default=0.0, metavar="SECONDS", help="how long OpenFGA may answer from its cache (0)")
+    parser.add_argument("--file-bytes", type=int, default=SIZE, metavar="N", help="how long a file of the log is at most (512 MB)")
+    parser.add_argument("--file-seconds", type=float, default=AGE, metavar="N", help="how long a file of the log is written to (an hour)")
+    parser.add_argument("--keep", type=int, help="for the recorder itself")
+    return parser, parser.parse_args(arguments)
+
+
+def address_of(parser: Parser, text: str) -> tuple[str, int]:
+    host, colon, port = text.rpartition(":")
+    if not colon or not port.isdigit() or int(port) > 65535:
+        parser.error("--listen is no ADDRESS:PORT")
+    return host.strip("[]"), int(port)
+
+
+def url_of(parser: Parser, text: str) -> SplitResult:
+    url = urlsplit(text)
+    try:
+        is_good = url.scheme in ("http", "https") and bool(url.hostname) and (url.port is None or url.port > 0)
+    except ValueError:
+        is_good = False
+    if not is_good:
+        parser.error("the URL is none of http or https, as http://127.0.0.1:8080")
+    return url
+
+
+def key_of(parser: Parser, given: Namespace) -> Optional[str]:
+    if given.key_file is None:
+        return None
+    try:
+        with open(given.key_file, encoding="ascii") as file:
+            key = file.read().strip()
+    except (OSError, UnicodeDecodeError) as fault:
+        parser.error("--key-file can't be read: %s" % fault)
+    if not key or not key.isprintable():
+        parser.error("--key-file has no key on one line")
+    return key
+
+
+def relay_of(settings: Settings, url: SplitResult, teller: Teller) -> Any:
+    """What passes the requests on; gRPC needs a library that not all have."""
+    if settings.grpc:
+        from new_enemy_tools.recording.grpc_relay import GrpcRelay
+        return GrpcRelay(url, teller)
+    return Relay(url, teller, CALLS[settings.service])
+
+
+class Proxy:
+    """The proxy's process, with the keeper that it starts, and starts again where it ends."""
+
+    def __init__(self, settings: Settings, url: SplitResult):
+        self.settings = settings
+        self.teller = Teller(None)
+        self.relay = relay_of(settings, url, self.teller)
+        self.keeper: Optional[subprocess.Popen] = None
+        self.start_at = 0.0
+        self.is_over = False
+
+    def start_keeper(self) -> None:
+        mine, its = socket.socketpair()
+        mine.setblocking(False)
+        mine.setsockopt(socket.SOL_SOCKET, socket.SO_SNDBUF, 1 << 20)
+        word = ["--openfga" if self.settings.service == "openfga" else "--spicedb", self.settings.url]
+        self.keeper = subprocess.Popen([sys.executable, ENTRY, *word, "--listen", ":0", "--out", self.settings.folder, "--keep",
+                                        str(its.fileno())], pass_fds=(its.fileno(),), stdin=subprocess.PIPE, start_new_session=True)
+        its.close()
+        assert self.keeper.stdin is not None
+        # What the keeper needs to know, with the key, stands on no command line.
+        self.keeper.stdin.write(json.dumps(self.settings).encode())
+        self.keeper.stdin.close()
+        self.teller.end = mine
+
+    def tick(self) -> None:
+        """Starts the keeper where there is none, and tells it what waits."""
+        try:
+            if self.keeper is not None and self.keeper.poll() is not None and not self.is_over:
+                self.teller.forget()
+                self.keeper, self.start_at = None, time.monotonic() + AGAIN
+            if self.keeper is None and time.monotonic() > self.start_at and not self.is_over:
+                self.start_keeper()
+        except OSError as fault:
+            sys.stderr.write("record: the keeper of the log can't be started: %s\n" % fault.strerror)
+            self.start_at = time.monotonic() + AGAIN
+        self.teller.catch_up()
+
+    async def run(self, host: str, port: int) -> int:
+        loop, over = asyncio.get_running_loop(), asyncio.Event()
+        for number in (signal.SIGTERM, signal.SIGINT):
+            loop.add_signal_handler(number, over.set)
+        await self.relay.serve(host, port)
+        while not over.is_set():
+            self.tick()
+            try:
+                await asyncio.wait_for(over.wait(), TICK)
+            except asyncio.TimeoutError:
+                pass
+        self.relay.stop()
+        until = time.monotonic() + LAST
+        while self.relay.is_busy() and time.monotonic() < until:
+            self.teller.catch_up()
+            await asyncio.sleep(TICK)
+        await self.relay.close()
+        return await self.end()
+
+    async def end(self) -> int:
+        """Tells the keeper that it is over, and waits for it to close the log."""
+        self.is_over = True
+        self.teller.tell(Bye(time.time_ns()))
+        until = time.monotonic() + 4 * LAST
+        while not self.teller.flush() and time.monotonic() < until:
+            await asyncio.sleep(TICK)
+        if self.teller.end is not None:
+            self.teller.end.close()
+        while self.keeper is not None and self.keeper.poll() is None:
+            if time.monotonic() > until:
+                self.keeper.kill()
+            await asyncio.sleep(TICK)
+        return 0 if self.keeper is not None and self.keeper.returncode == 0 else 5
+
+
+def service_of(settings: Settings) -> Service:
+    if settings.service == "openfga":
+        return openfga.OpenFga(settings)
+    if settings.grpc:
+        from new_enemy_tools.recording.spicedb_grpc import GrpcSource
+        return spicedb.SpiceDb(settings, GrpcSource(settings.url, settings.key))
+    return spicedb.SpiceDb(settings, HttpSource(settings.url, settings.key))
+
+
+def keep(descriptor: int) -> int:
+    """The keeper's process, which ends when the proxy does."""
+    for number in (signal.SIGTERM, signal.SIGINT):
+        signal.signal(number, signal.SIG_IGN)
+    settings = Settings(*json.loads(sys.stdin.buffer.read()))
+    return Keeper(settings, service_of(settings), socket.socket(fileno=descriptor)).run()
+
+
+def main(arguments: list[str]) -> int:
+    parser, given = words(arguments)
+    if given.keep is not None:
+        return keep(given.keep)
+    if given.store is not None and not given.openfga:
+        parser.error("--store goes with --openfga")
+    if given.grpc and not given.spicedb:
+        parser.error("--grpc goes with --spicedb")
+    if min(given.hold, given.poll, given.stale_by, given.file_seconds) < 0 or given.file_bytes < 1:
+        parser.error("a number is below 0")
+    url, (host, port) = url_of(parser, given.openfga or given.spicedb), address_of(parser, given.listen)
+    settings = Settings("openfga" if given.openfga else "spicedb", given.openfga or given.spicedb, given.out, given.store,
+                        key_of(parser, given), given.grpc, given.hold, given.poll, given.stale_by, given.file_bytes, given.file_seconds)
+    try:
+        return asyncio.run(Proxy(settings, url).run(host, port))
+    except OSError as fault:
+        sys.stderr.write("record: cannot listen at %s: %s\n" % (given.listen, fault.strerror))
+        return 5

@@ -1,0 +1,139 @@
+"""The proxy over gRPC: passes the messages, metadata and status of each call through unchanged, and keeps those that are recorded."""
+import asyncio
+import errno
+import itertools
+import sys
+import time
+from typing import Any, AsyncIterator, Optional
+from urllib.parse import SplitResult
+
+from new_enemy_tools.recording.grpc_calls import CALLS, GRPC, Call, joined
+from new_enemy_tools.recording.http_reading import BODY
+from new_enemy_tools.recording.messages import CHECKS, Ended, Started, Teller
+
+try:
+    import grpc
+    import grpc.aio
+except ImportError:
+    sys.stderr.write("record: --grpc needs grpcio, in Debian the package python3-grpcio, for this Python (%s)\n" % sys.executable)
+    sys.exit(3)
+
+NUMBERS = itertools.count(1)
+OPTIONS = [("grpc.max_receive_message_length", -1), ("grpc.max_send_message_length", -1)]
+LAST = 3.0
+# What gRPC itself says of a connection, and says anew on the next.
+OWN = ("grpc-", "user-agent", "content-type", "te", "accept-encoding")
+
+
+class Kept:
+    """What is kept of a call that is recorded."""
+
+    def __init__(self, method: str, call: Call, metadata: dict[str, Any]):
+        self.method, self.call, self.metadata = method, call, metadata
+        self.number, self.begun = next(NUMBERS), time.time_ns()
+        self.requests: list[bytes] = []
+        self.responses: list[bytes] = []
+        self.size = 0
+
+    def take(self, side: list[bytes], data: bytes) -> None:
+        self.size += len(data)
+        if self.size <= BODY:
+            side.append(data)
+
+    def started(self) -> Started:
+        return Started(self.number, time.monotonic_ns(), self._text("x-content-save") is not None)
+
+    def _text(self, name: str) -> Optional[str]:
+        value = self.metadata.get(name)
+        return value if isinstance(value, str) else None
+
+    def ended(self, is_good: bool) -> Ended:
+        save, version, token = (self._text("x-content-" + name) for name in ("save", "version", "token"))
+        bodies = (joined(self.requests), joined(self.responses)) if self.size <= BODY else (None, None)
+        return Ended(self.number, self.call.kind, self.method, self.begun, time.time_ns(), time.monotonic_ns(), save, version, token,
+                     200 if is_good else 0, *bodies, GRPC)
+
+
+class Handler(grpc.GenericRpcHandler):
+    def __init__(self, relay: "GrpcRelay"):
+        self.relay = relay
+
+    def service(self, details: Any) -> Any:
+        """On the wire every call is a stream of messages each way."""
+        async def pass_on(requests: AsyncIterator[bytes], context: Any) -> None:
+            await self.relay.pass_on(details.method, requests, context)
+        return grpc.stream_stream_rpc_method_handler(pass_on)
+
+
+class GrpcRelay:
+    def __init__(self, url: SplitResult, teller: Teller):
+        self.url, self.teller = url, teller
+        self.under_way = 0
+        self.server: Any = None
+        self.channel: Any = None
+        self.stopping: Optional[asyncio.Future] = None
+
+    async def serve(self, host: str, port: int) -> None:
+        secure = self.url.scheme == "https"
+        target = "%s:%d" % (self.url.hostname, self.url.port or (443 if secure else 50051))
+        self.channel = grpc.aio.secure_channel(target, grpc.ssl_channel_credentials(), OPTIONS) if secure else \
+            grpc.aio.insecure_channel(target, OPTIONS)
+        self.server = grpc.aio.server(handlers=(Handler(self),), options=[*OPTIONS, ("grpc.so_reuseport", 0)])
+        try:
+            found = self.server.add_insecure_port("%s:%d" % ("[%s]" % host if ":" in host else host, port))
+        except RuntimeError:
+            found = 0
+        if not found:
+            raise OSError(errno.EADDRNOTAVAIL, "the address is in use, or none of this machine")
+        await self.server.start()
+
+    def stop(self) -> None:
+        """Takes no more calls; those under way go on for a little."""
+        self.stopping = asyncio.ensure_future(self.server.stop(LAST))
+
+    async def close(self) -> None:
+        await self.server.stop(0)
+        await self.channel.close()
+
+    def is_busy(self) -> bool:
+        return self.under_way > 0
+
+    async def pass_on(self, method: str, requests: AsyncIterator[bytes], context: Any) -> None:
+        metadata = [(key, value) for key, value in context.invocation_metadata() or () if not key.startswith(OWN)]
+        call = CALLS.get(method)
+        kept = None if call is None else Kept(method, call, dict(metadata))
+        if kept is not None and kept.call.kind in CHECKS:
+            self.teller.tell(kept.started())
+        self.under_way += 1
+        is_good = False
+        try:
+            is_good = await self._passed(method, requests, context, metadata, kept)
+        finally:
+            self.under_way -= 1
+            if kept is not None and (is_good or kept.call.kind in CHECKS):
+                self.teller.tell(kept.ended(is_good))
+
+    async def _passed(self, method: str, requests: AsyncIterator[bytes], context: Any, metadata: list, kept: Optional[Kept]) -> bool:
+        """Whether the call ended well."""
+        async def read_along() -> AsyncIterator[bytes]:
+            async for data in requests:
+                if kept is not None:
+                    kept.take(kept.requests, data)
+                yield data
+        call = self.channel.stream_stream(method)(read_along(), metadata=metadata, timeout=context.time_remaining())
+        try:
+            await context.send_initial_metadata(await call.initial_metadata())
+            async for data in call:
+                await context.write(data)
+                if kept is not None:
+                    kept.take(kept.responses, data)
+        except grpc.aio.AioRpcError:
+            pass
+        finally:
+            if not call.done():
+                call.cancel()
+        code, details, trailing = await call.code(), await call.details(), await call.trailing_metadata()
+        context.set_trailing_metadata(trailing or ())
+        context.set_details(details or "")
+        context.set_code(code)
+        return code == grpc.StatusCode.OK

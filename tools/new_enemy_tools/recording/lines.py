@@ -1,0 +1,65 @@
+"""The lines of a log, as `import_trace events` reads them."""
+import hashlib
+import json
+from datetime import datetime, timezone
+from typing import Any, Iterable, Iterator, Optional
+
+from new_enemy_tools.importing.events import EVERY, Relationship
+from new_enemy_tools.importing.service import ServiceRules
+
+ENCODE = json.JSONEncoder(ensure_ascii=False, separators=(",", ":")).encode
+# So many tuples of the base state stand on a line.
+TUPLES = 1000
+
+
+def time_text(at: int) -> str:
+    """Nanoseconds since 1970 as RFC 3339, to microseconds."""
+    return datetime.fromtimestamp(at // 1000 / 1e6, timezone.utc).strftime("%Y-%m-%dT%H:%M:%S.%fZ")
+
+
+def line(event: str, **values: Any) -> bytes:
+    """A line without the keys that have no value; one whose texts are no Unicode becomes a line that says so."""
+    kept = {key: value for key, value in values.items() if value is not None}
+    try:
+        return ENCODE({"event": event, **kept}).encode() + b"\n"
+    except UnicodeEncodeError:
+        return line("unmapped", reason="text that is no Unicode")
+
+
+def tuple_list(given: Relationship) -> list[str]:
+    """A tuple as a list; one for every user of a type has `*` twice."""
+    if given.user_relation is None:
+        return [*given[:5]]
+    return [*given[:4], "*", EVERY] if given.is_every else [*given[:5], given.user_relation]
+
+
+def rules_line(rules: ServiceRules, revision: Optional[int]) -> bytes:
+    listed = [{"name": name, "relations": [{"name": one.name, "rewrite": one.rewrite} for one in relations]}
+              for name, relations in rules.event.namespaces.items()]
+    return line("rules", revision=revision, namespaces=listed)
+
+
+def hash_of_rules(rules: ServiceRules) -> str:
+    return hashlib.sha256(rules_line(rules, None)).hexdigest()
+
+
+def write_line(revision: int, add: Iterable[Relationship], remove: Iterable[Relationship]) -> bytes:
+    return line("write", revision=revision, add=[tuple_list(one) for one in add] or None,
+                remove=[tuple_list(one) for one in remove] or None)
+
+
+def base_lines(revision: int, tuples: list[Relationship]) -> Iterator[bytes]:
+    """The base state; one line at least, so that a log always has one."""
+    for at in range(0, max(1, len(tuples)), TUPLES):
+        yield line("write", revision=revision, base=True, add=[tuple_list(one) for one in tuples[at:at + TUPLES]])
+
+
+def gap_line(start: Optional[int], end: int, reason: str, lost: int = 0) -> bytes:
+    shown = time_text(end)
+    return line("gap", **{"from": None if start is None else time_text(start)}, to=shown, reason=reason, lost=lost or None, time=shown)
+
+
+def unmapped_line(reason: str, detail: str = "", userset: Optional[Iterable[Optional[str]]] = None,
+                  version: Optional[Iterable[str]] = None) -> bytes:
+    return line("unmapped", reason=reason, detail=detail or None, userset=None if userset is None else list(userset),
+                version=None if version is None else list(version))

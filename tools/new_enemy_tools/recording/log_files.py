@@ -1,0 +1,243 @@
+"""The files of a log: each begins with the hash of the one before, and is closed with its count of lines and its own hash.
+
+A line is written whole or not at all. What a killed recorder left is cut behind its last whole line and closed by the next.
+"""
+import fcntl
+import hashlib
+import json
+import os
+import re
+import time
+from typing import Any, NamedTuple, Optional
+
+from new_enemy_tools.recording.lines import line, time_text
+
+NAME = re.compile(r"[0-9]{6}\.jsonl")
+SIZE = 512 << 20
+AGE = 3600.0
+# A first line that was cut is shorter.
+HEAD = 1 << 10
+
+
+class LogFault(Exception):
+    """The log can't be written or read now; what was to be written is still to be written."""
+
+
+class InUse(Exception):
+    """Another recorder writes to the folder."""
+
+
+class Place(NamedTuple):
+    """Where the changes of the service are: what it gave to go on by, the last revision, and the hash of the rules in force.
+
+    `behind` is how many changes the log has that come again where the service goes on by that.
+    """
+
+    cursor: Optional[str]
+    revision: int
+    rules: Optional[str]
+    behind: int = 0
+
+    @property
+    def keys(self) -> dict[str, Any]:
+        """As it stands in a line."""
+        return {"cursor": self.cursor, "revision": self.revision, "rules_sha256": self.rules, "behind": self.behind or None}
+
+
+class Left(NamedTuple):
+    """What an earlier recorder left: its last place, how many writes it wrote behind that and the last revision, its last time, and
+    the revision of the base state."""
+
+    place: Place
+    writes: int
+    revision: int
+    time: Optional[str]
+    base: int
+
+    @property
+    def behind(self) -> int:
+        """How many revisions the log has behind what the service goes on by."""
+        return self.revision - self.place.revision + self.place.behind
+
+
+class _Found(NamedTuple):
+    number: int
+    before: Optional[str]
+
+
+class LogFiles:
+    def __init__(self, folder: str, service: str, size: int = SIZE, age: float = AGE):
+        self.folder, self.service, self.limit, self.age = folder, service, size, age
+        self.descriptor: Optional[int] = None
+        self.number = 0
+        self.before: Optional[str] = None
+        self.place = Place(None, 0, None)
+        self._lock: Optional[int] = None
+        self._begin_counts()
+
+    def _begin_counts(self) -> None:
+        self.size = self.count = 0
+        self.hash = hashlib.sha256()
+        self.opened = time.monotonic()
+
+    # The beginning
+
+    def lock(self) -> None:
+        """Keeps the folder for this recorder; raises InUse, or LogFault where there is no such folder."""
+        try:
+            os.makedirs(self.folder, exist_ok=True)
+            self._lock = self._lock or os.open(os.path.join(self.folder, "lock"), os.O_CREAT | os.O_RDWR, 0o600)
+            fcntl.flock(self._lock, fcntl.LOCK_EX | fcntl.LOCK_NB)
+        except BlockingIOError:
+            raise InUse from None
+        except OSError as fault:
+            raise LogFault(fault.strerror) from None
+
+    def recover(self) -> Optional[Left]:
+        """Closes what an earlier recorder left, and says where it was; raises LogFault."""
+        try:
+            names = sorted(name for name in os.listdir(self.folder) if NAME.fullmatch(name))
+            while names:
+                path = os.path.join(self.folder, names[-1])
+                found = self._take_over(path)
+                if found is not None:
+                    return found._replace(base=_base_of(os.path.join(self.folder, names[0])))
+                # What was begun and has no base state yet is of no use.
+                os.remove(path)
+                names.pop()
+        except OSError as fault:
+            raise LogFault(fault.strerror) from None
+        return None
+
+    def _take_over(self, path: str) -> Optional[Left]:
+        """Reads a file and closes it; None where it has no beginning, with the base state where it is the first."""
+        head, size, closed, hashed = None, 0, None, hashlib.sha256()
+        place, writes, revision, last, count = Place(None, 0, None), 0, 0, None, 0
+        with open(path, "rb") as file:
+            for raw in file:
+                value = _value_of(raw)
+                if value is None or closed:
+                    break
+                if head is None:
+                    if value.get("event") != "log":
+                        raise LogFault("%s is no file of a log; give another folder" % path)
+                    if value.get("service") != self.service:
+                        raise LogFault("it has a log of %s; give another folder" % value.get("service"))
+                    head = _Found(value["number"], value.get("before"))
+                kind = value.get("event")
+                if kind in ("log", "place"):
+                    place, writes = Place(value.get("cursor"), value.get("revision", 0), value.get("rules_sha256"), value.get("behind", 0)), 0
+                    revision = place.revision
+                elif kind in ("write", "rules") and not value.get("base") and value.get("revision") is not None:
+                    writes, revision = writes + (kind == "write"), value["revision"]
+                elif kind == "closed":
+                    closed = value
+                    continue
+                last = value.get("time") or last
+                hashed.update(raw)
+                size, count = size + len(raw), count + 1
+        if head is None and os.path.getsize(path) > HEAD:
+            raise LogFault("%s is no file of a log; give another folder" % path)
+        if head is None or place.rules is None:
+            return None
+        if closed is None:
+            self._close_left(path, size, count, hashed.hexdigest())
+        self.number, self.before, self.place = head.number, hashed.hexdigest(), place
+        return Left(place, writes, revision, last, 0)
+
+    @staticmethod
+    def _close_left(path: str, size: int, count: int, found: str) -> None:
+        descriptor = os.open(path, os.O_RDWR)
+        try:
+            os.ftruncate(descriptor, size)
+            os.lseek(descriptor, size, os.SEEK_SET)
+            _write_all(descriptor, line("closed", count=count, sha256=found))
+            os.fsync(descriptor)
+        finally:
+            os.close(descriptor)
+
+    # Lines
+
+    def add(self, data: bytes) -> None:
+        """Adds whole lines; raises LogFault where none of them was added."""
+        if self.descriptor is not None and self.size and (self.size + len(data) > self.limit or time.monotonic() - self.opened > self.age):
+            self.close()
+        if self.descriptor is None:
+            self._open()
+        self._put(data)
+
+    def _open(self) -> None:
+        path = os.path.join(self.folder, "%06d.jsonl" % (self.number + 1))
+        try:
+            self.descriptor = os.open(path, os.O_CREAT | os.O_TRUNC | os.O_WRONLY, 0o600)
+        except OSError as fault:
+            raise LogFault(fault.strerror) from None
+        self._begin_counts()
+        head = line("log", number=self.number + 1, before=self.before, service=self.service, time=time_text(time.time_ns()),
+                    **self.place.keys)
+        try:
+            self._put(head)
+        except LogFault:
+            os.close(self.descriptor)
+            self.descriptor = None
+            raise
+        self.number += 1
+
+    def _put(self, data: bytes) -> None:
+        assert self.descriptor is not None
+        try:
+            # A write that failed may have left a part of a line.
+            if os.lseek(self.descriptor, 0, os.SEEK_END) != self.size:
+                os.ftruncate(self.descriptor, self.size)
+                os.lseek(self.descriptor, self.size, os.SEEK_SET)
+            _write_all(self.descriptor, data)
+        except OSError as fault:
+            raise LogFault(fault.strerror) from None
+        self.size += len(data)
+        self.count += data.count(b"\n")
+        self.hash.update(data)
+
+    def close(self) -> None:
+        """Ends the file with its count and hash; raises LogFault."""
+        if self.descriptor is None:
+            return
+        self._put(line("place", **self.place.keys))
+        found, count = self.hash.hexdigest(), self.count
+        self._put(line("closed", count=count, sha256=found))
+        try:
+            os.fsync(self.descriptor)
+            os.close(self.descriptor)
+        except OSError:
+            pass
+        self.descriptor, self.before = None, found
+
+
+def _value_of(raw: bytes) -> Optional[dict[str, Any]]:
+    """The object of a whole line; None where it was cut or is none."""
+    if not raw.endswith(b"}\n"):
+        return None
+    # Of the lines that are most of a log, nothing is needed but their time.
+    if raw.startswith((b'{"event":"check"', b'{"event":"content"')):
+        found = re.search(rb'"time":"([^"]*)"', raw)
+        return {"event": "check", "time": found and found[1].decode()}
+    try:
+        value = json.loads(raw)
+    except ValueError:
+        return None
+    return value if isinstance(value, dict) else None
+
+
+def _base_of(path: str) -> int:
+    """The revision of the base state, which stands first in the first file."""
+    with open(path, "rb") as file:
+        for raw in file:
+            value = _value_of(raw) or {}
+            if value.get("base"):
+                return value["revision"]
+    return 0
+
+
+def _write_all(descriptor: int, data: bytes) -> None:
+    view = memoryview(data)
+    while view:
+        view = view[os.write(descriptor, view):]

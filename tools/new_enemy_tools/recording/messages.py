@@ -1,0 +1,149 @@
+"""What the proxy tells the keeper of the log, over a socket: the proxy never waits, and what has no room is counted as lost."""
+import marshal
+import socket
+import struct
+import time
+from collections import deque
+from typing import Iterator, NamedTuple, Optional
+
+SIZE = struct.Struct("<I")
+# Calls that decide, and are told when they begin; all others are told when they have ended.
+CHECKS = frozenset(("check", "batch", "list", "stream"))
+# So many bytes may wait for the keeper.
+ROOM = 64 << 20
+
+
+class Started(NamedTuple):
+    """A check begins, by the clock of all processes; `save` where it is one for content that is to be saved."""
+
+    number: int
+    clock: int
+    save: bool
+
+
+class Ended(NamedTuple):
+    """A call has its answer; without bodies where they were not kept. `at` is the time of that, `begun` that of the request, and
+    `clock` that of the answer by the clock of all processes."""
+
+    number: int
+    call: str
+    path: str
+    begun: int
+    at: int
+    clock: int
+    save: Optional[str]
+    version: Optional[str]
+    token: Optional[str]
+    status: int
+    request: Optional[bytes]
+    response: Optional[bytes]
+    encoding: Optional[str]
+
+
+class Lost(NamedTuple):
+    """From when to when something was not told, how much of it and why."""
+
+    start: int
+    end: int
+    amount: int
+    reason: str
+
+
+class Beat(NamedTuple):
+    """All that happened before has been told."""
+
+    clock: int
+
+
+class Bye(NamedTuple):
+    """The proxy ends as it should."""
+
+    at: int
+
+
+KINDS = (Started, Ended, Lost, Beat, Bye)
+
+
+def packed(message: tuple) -> bytes:
+    data = marshal.dumps((KINDS.index(type(message)), *message))
+    return SIZE.pack(len(data)) + data
+
+
+class Teller:
+    """The proxy's side. It writes what the socket takes at once, and keeps the rest for `flush`."""
+
+    def __init__(self, end: Optional[socket.socket]):
+        self.end = end
+        self.waiting: deque[bytes] = deque()
+        self.size = 0
+        self.lost: Optional[Lost] = None
+
+    def tell(self, message: tuple) -> None:
+        if self._has_room():
+            if self.lost is not None:
+                self._add(packed(self.lost))
+                self.lost = None
+            self._add(packed(message))
+        else:
+            self.lose("the keeper of the log does not keep up" if self.end is not None else "the keeper of the log was gone")
+        self.flush()
+
+    def catch_up(self) -> None:
+        """Tells what was lost and what waits, where there is room again, and that nothing else happened."""
+        if self._has_room():
+            if self.lost is not None:
+                self._add(packed(self.lost))
+                self.lost = None
+            self._add(packed(Beat(time.monotonic_ns())))
+        self.flush()
+
+    def lose(self, reason: str) -> None:
+        """Counts something that is not told."""
+        now = time.time_ns()
+        before = self.lost
+        self.lost = Lost(now if before is None else before.start, now, 1 if before is None else before.amount + 1, reason)
+
+    def _has_room(self) -> bool:
+        return self.end is not None and self.size < ROOM
+
+    def _add(self, data: bytes) -> None:
+        self.waiting.append(data)
+        self.size += len(data)
+
+    def flush(self) -> bool:
+        """Writes what the socket takes; whether nothing waits."""
+        while self.waiting and self.end is not None:
+            try:
+                sent = self.end.send(self.waiting[0])
+            except BlockingIOError:
+                return False
+            except OSError:
+                self.forget()
+                return True
+            self.size -= sent
+            if sent < len(self.waiting[0]):
+                self.waiting[0] = self.waiting[0][sent:]
+                return False
+            self.waiting.popleft()
+        return True
+
+    def forget(self) -> None:
+        """The keeper is gone, and with it what waited."""
+        if self.end is not None:
+            self.end.close()
+        count = len(self.waiting)
+        self.end, self.size = None, 0
+        self.waiting.clear()
+        for _ in range(max(1, count)):
+            self.lose("the keeper of the log was gone")
+
+
+def messages_from(end: socket.socket) -> Iterator[tuple]:
+    """What the other side tells, until it is gone."""
+    file = end.makefile("rb", 1 << 16)
+    while len(head := file.read(SIZE.size)) == SIZE.size:
+        data = file.read(SIZE.unpack(head)[0])
+        if len(data) < SIZE.unpack(head)[0]:
+            return
+        kind, *values = marshal.loads(data)
+        yield KINDS[kind](*values)

@@ -1,0 +1,97 @@
+"""The order of a log: commits as the service gives them, and each entry behind what it saw and before what it could not see.
+
+A commit waits while a content check is under way that began before the commit was known: it may have been evaluated before. What the
+proxy and the service tell comes on two ways, so times tell what was first: those of the one clock that all processes of a machine have.
+"""
+import heapq
+from bisect import bisect_right
+from collections import deque
+from typing import NamedTuple, Optional, Union
+
+# Of so many revisions it is remembered when they were known.
+MOMENTS = 100_000
+
+
+class Commit(NamedTuple):
+    """A revision of the service with its lines, and when it was received; `cursor` is what the service goes on by behind it, and
+    `rules` the hash of new rules."""
+
+    revision: int
+    data: bytes
+    received: int
+    cursor: Optional[str] = None
+    rules: Optional[str] = None
+
+
+class Ready(NamedTuple):
+    """An entry with all that it needs, to be written right behind the commits up to its place."""
+
+    place: int
+    number: int
+    since: int
+    data: bytes
+
+
+class Known:
+    """The newest revision that was known at each time."""
+
+    def __init__(self, revision: int = 0):
+        self.times, self.best = [0], [revision]
+
+    def add(self, at: int, revision: int) -> None:
+        place = bisect_right(self.times, at)
+        if self.best[place - 1] >= revision:
+            return
+        self.times.insert(place, at)
+        self.best.insert(place, revision)
+        for later in range(place + 1, len(self.best)):
+            if self.best[later] >= revision:
+                break
+            self.best[later] = revision
+        if len(self.times) > MOMENTS:
+            self.times, self.best = [0, *self.times[-MOMENTS // 2:]], [self.best[-MOMENTS // 2 - 1], *self.best[-MOMENTS // 2:]]
+
+    def at(self, time: int) -> int:
+        return self.best[bisect_right(self.times, time) - 1]
+
+
+class Sequencer:
+    def __init__(self) -> None:
+        # all that the proxy told up to this time has come
+        self.told_until = 0
+        self.commits: deque[Commit] = deque()
+        self.ready: list[Ready] = []
+        # content checks under way, each with the newest revision that was known when it began
+        self.saves: dict[int, int] = {}
+        self.reached = 0
+        self._number = 0
+
+    def put_commit(self, commit: Commit) -> None:
+        self.commits.append(commit)
+        self.reached = max(self.reached, commit.revision)
+
+    def put_entry(self, place: int, since: int, data: bytes) -> None:
+        self._number += 1
+        heapq.heappush(self.ready, Ready(place, self._number, since, data))
+
+    def drained(self) -> list[Union[Commit, bytes]]:
+        """What can be written now, in order: commits, and the lines of entries."""
+        found: list[Union[Commit, bytes]] = []
+        oldest = min(self.saves.values(), default=None)
+        while True:
+            limit = self.commits[0].revision - 1 if self.commits else self.reached
+            while self.ready and self.ready[0].place <= limit:
+                found.append(heapq.heappop(self.ready).data)
+            first = self.commits[0] if self.commits else None
+            if first is None or first.received > self.told_until or oldest is not None and oldest < first.revision:
+                return found
+            found.append(self.commits.popleft())
+
+    def late(self, before: int) -> list[Ready]:
+        """Takes out the entries that have waited since before a time."""
+        if not any(one.since < before for one in self.ready):
+            return []
+        found = [one for one in self.ready if one.since < before]
+        self.ready = [one for one in self.ready if one.since >= before]
+        heapq.heapify(self.ready)
+        return found

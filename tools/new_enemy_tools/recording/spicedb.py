@@ -1,0 +1,408 @@
+"""SpiceDB: its calls, and its changes by Watch.
+
+A revision is the one in the service's tokens, or on PostgreSQL the number of a commit. A reply says by `checkedAt` which it was computed on.
+"""
+import json
+import time
+from bisect import bisect_right, insort
+from collections import deque
+from functools import partial
+from typing import Any, Callable, Iterable, Iterator, NamedTuple, Optional, Protocol
+
+from new_enemy_tools.importing.events import Relationship
+from new_enemy_tools.importing.reading import Bad, get
+from new_enemy_tools.importing.refusals import Refusals
+from new_enemy_tools.importing.service import Answer, ServiceRules
+from new_enemy_tools.importing.spicedb import OPERATIONS
+from new_enemy_tools.importing.spicedb_answers import answers_of, relationship_of, revision_at
+from new_enemy_tools.importing.spicedb_schema import Parser
+from new_enemy_tools.importing.zedtokens import Older, Revision, Snapshot, read_revision
+from new_enemy_tools.recording.asking import FeedFault
+from new_enemy_tools.recording.grpc_calls import GRPC, decoded
+from new_enemy_tools.recording.keeper import Asked, Begun, Keeper, Settings, body_of
+from new_enemy_tools.recording.lines import base_lines, write_line
+from new_enemy_tools.recording.log_files import Left, Place
+from new_enemy_tools.recording.messages import Ended
+from new_enemy_tools.recording.ruled import Takes, Unread, refuse_unread, ruled
+from new_enemy_tools.recording.sequencer import Commit, Known
+from new_enemy_tools.recording.transactions import Transactions
+
+CALLS = {"/v1/permissions/check": "check", "/v1/permissions/checkbulk": "batch",
+         "/v1/experimental/permissions/bulkcheckpermission": "batch", "/v1/permissions/resources": "stream",
+         "/v1/permissions/subjects": "stream", "/v1/relationships/write": "write", "/v1/relationships/delete": "write"}
+# Of so many commits the revisions are remembered.
+COMMITS = 100_000
+# A stream that ended is opened again after so long.
+AGAIN = 0.05
+# Of so many transactions it is remembered that they came.
+RECENT = 10_000
+
+
+def call_of(method: str, path: str) -> Optional[str]:
+    return CALLS.get(path[path.find("/v1/"):]) if method == "POST" else None
+
+
+class Source(Protocol):
+    """The recorder's own requests, over HTTP or gRPC; all raise FeedFault."""
+
+    def schema(self) -> tuple[str, str]:
+        """The text, and the token of the moment at which it was read."""
+
+    def relationships(self, of: str, token: str) -> Iterable[dict]:
+        """All of a type, at the moment of a token."""
+
+    def watch(self, token: str) -> Iterable[dict]:
+        """The responses of Watch behind a token, until the stream ends."""
+
+
+class Update(NamedTuple):
+    given: Relationship
+    live: bool
+    reason: Optional[str]
+
+
+class Watched(NamedTuple):
+    """A response of Watch, with the rules where it says that they changed; `is_known` where an earlier log has it."""
+
+    revision: Revision
+    token: str
+    updates: list[Update]
+    rules: Optional[tuple[Optional[ServiceRules], Refusals]]
+    received: int
+    is_known: bool
+
+
+class Unsure(NamedTuple):
+    """From one revision to before another the rules are not known."""
+
+    start: int
+    end: int
+
+
+class Base(NamedTuple):
+    """What the feed begins with; no relationships where it goes on from an earlier log."""
+
+    left: Optional[Left]
+    revision: Revision
+    token: str
+    relationships: list[tuple[Relationship, Optional[str]]]
+    rules: Optional[ServiceRules]
+    refusals: Refusals
+
+
+def revision_of(token: object) -> Revision:
+    """The revision of a token; raises Bad."""
+    try:
+        revision = read_revision(token)
+    except Older as fault:
+        raise Bad("a token %s" % fault) from None
+    if revision is None:
+        raise Bad("a token without a revision")
+    return revision
+
+
+def read_rules(text: str) -> tuple[Optional[ServiceRules], Refusals]:
+    refusals = Refusals(True)
+    return Parser(text, "the schema", refusals).schema(), refusals
+
+
+def _demand(request: Any) -> Any:
+    """The token that a request demands to be seen."""
+    consistency = get(request, "consistency")
+    return get(get(consistency, "atLeastAsFresh") or get(consistency, "atExactSnapshot"), "token")
+
+
+def _request_of(message: Ended) -> Any:
+    return json.loads(message.request or b"")
+
+
+def _traits(given: object) -> Optional[str]:
+    return "caveat" if get(given, "optionalCaveat") else "expiration" if get(given, "optionalExpiresAt") else None
+
+
+class Feed:
+    """Reads the changes, in a thread of its own."""
+
+    def __init__(self, source: Source):
+        self.source = source
+        self.token: Optional[str] = None
+        # the last number, or the last transactions, that came; and how many to come an earlier log has
+        self.number = 0
+        self.recent: deque[Optional[int]] = deque((), RECENT)
+        self.known = 0
+        # responses behind rules that were read later than they changed, and until when they wait
+        self.held: list[Watched] = []
+        self.until = 0
+
+    def run(self, left: Optional[Left], put: Callable[[Any], None]) -> None:
+        try:
+            if self.token is None:
+                put(self._base(left))
+            while True:
+                for watched, read_at in self._watched():
+                    for one in self._sure(watched, read_at):
+                        put(one)
+                time.sleep(AGAIN)
+        except (Bad, Unread) as fault:
+            raise FeedFault(str(fault)) from None
+
+    def _base(self, left: Optional[Left]) -> Base:
+        text, token = self.source.schema()
+        rules, refusals = read_rules(text)
+        refuse_unread(rules, refusals)
+        assert rules is not None
+        if left is not None:
+            token = left.place.cursor or token
+        revision = revision_of(token)
+        if left is not None:
+            self.token, self.known = token, left.behind if revision.snapshot else 0
+            self.number = left.revision
+            return Base(left, revision, token, [], rules, refusals)
+        listed = [(relationship_of(given), _traits(given)) for of in rules.event.namespaces if rules.event.namespaces[of]
+                  for given in self.source.relationships(of, token)]
+        self.token, self.number = token, revision.number or 0
+        return Base(None, revision, token, listed, rules, refusals)
+
+    def _watched(self) -> Iterator[tuple[Watched, int]]:
+        """The responses, each with the revision at which its rules were read."""
+        assert self.token is not None
+        for response in self.source.watch(self.token):
+            received = time.monotonic_ns()
+            token = get(get(response, "changesThrough"), "token")
+            revision = revision_of(token)
+            if self._is_old(revision, response):
+                continue
+            updates = []
+            for update in get(response, "updates") or ():
+                given = get(update, "relationship")
+                updates.append(Update(relationship_of(given), OPERATIONS[get(update, "operation")], _traits(given)))
+            rules, read_at = None, revision.number or 0
+            if get(response, "schemaUpdated"):
+                text, schema_token = self.source.schema()
+                rules, read_at = read_rules(text), max(read_at, revision_of(schema_token).number or 0)
+            is_known = self.known > 0 and bool(updates or rules)
+            self.known -= is_known
+            self.token, self.number = token, revision.number or 0
+            self.recent.append(revision.snapshot and revision.snapshot.own)
+            yield Watched(revision, token, updates, rules, received, is_known), read_at
+
+    def _is_old(self, revision: Revision, response: Any) -> bool:
+        """Whether a response came before, as it may where a stream is opened again."""
+        if revision.snapshot is None:
+            return (revision.number or 0) <= self.number
+        has_change = bool(get(response, "updates") or get(response, "schemaUpdated"))
+        if has_change and revision.snapshot.own is None:
+            raise Bad("the snapshot of a change does not name the transaction that wrote")
+        return has_change and revision.snapshot.own in self.recent
+
+    def _sure(self, watched: Watched, read_at: int) -> list[Any]:
+        """What can be told: rules that were read later than they changed wait until it is known that they did not change again."""
+        found: list[Any] = []
+        number = watched.revision.number or 0
+        if self.held and watched.rules is not None and number <= self.until:
+            found = [Unsure(self.held[0].revision.number or 0, number), *(one._replace(rules=None) for one in self.held)]
+            self.held = []
+        if watched.rules is not None:
+            self.until = read_at
+        self.held.append(watched)
+        if number >= self.until:
+            found += self.held
+            self.held = []
+        return found
+
+
+class Waiting(NamedTuple):
+    """A call on PostgreSQL, which waits for the commits that it saw, or should have seen."""
+
+    message: Ended
+    request: Any
+    answers: list[Answer]
+    known: int
+    snapshot: Snapshot
+    demanded: Optional[Snapshot]
+
+
+class SpiceDb:
+    def __init__(self, settings: Settings, source: Source):
+        self.settings = settings
+        self.reader = Feed(source)
+        self.history, self.base = Known(), 0
+        self.takes = Takes()
+        self.commits: list[int] = []
+        self.unsure: list[Unsure] = []
+        self.placed_at = 0
+        # on PostgreSQL
+        self.transactions: Optional[Transactions] = None
+        self.pending: list[Waiting] = []
+
+    def feed(self, left: Optional[Left], put: Callable[[Any], None]) -> None:
+        self.reader.run(left, put)
+
+    # What the feed tells
+
+    def take(self, message: Any, keeper: Keeper) -> None:
+        if isinstance(message, Base):
+            self._take_base(message, keeper)
+        elif isinstance(message, Unsure):
+            self.unsure.append(message)
+            keeper.lose("the schema changed twice before its text was read", 0, 0)
+        elif isinstance(message, Watched):
+            self._take_watched(message, keeper)
+
+    def _take_base(self, base: Base, keeper: Keeper) -> None:
+        left = base.left
+        revision = left.revision if left else base.revision.number or 0
+        if base.revision.snapshot is not None:
+            self.transactions = Transactions(base.revision.snapshot, left.revision - left.behind if left else 0)
+        rules = ruled(base.rules, base.refusals, revision + 1, left is None)
+        self.takes.add(rules.rules)
+        lines: list[bytes] = []
+        if left is None:
+            kept, unmapped = self.takes.sorted_out(base.relationships)
+            lines = [rules.data, unmapped, *base_lines(revision, kept)]
+        elif left.place.rules != rules.hash and self.transactions is None:
+            # Nothing was recorded meanwhile, so it does not matter where in between they changed.
+            revision += 1
+            lines = [rules.data]
+        self.base = revision if left is None else left.base
+        self.history = Known(revision)
+        keeper.sequencer.reached = revision
+        keeper.begin_log(Begun(lines, not base.relationships, self._first_place(base, revision, rules.hash)))
+
+    def _first_place(self, base: Base, revision: int, rules: str) -> Place:
+        """Where the changes are when the log begins; on PostgreSQL the log may have some that come again."""
+        behind = base.left.behind if base.left and self.transactions is not None else 0
+        return Place(base.token, revision, rules, behind)
+
+    def _revision(self, message: Watched) -> int:
+        """The number of a response of Watch; on PostgreSQL, how many commits there are by then."""
+        snapshot = message.revision.snapshot
+        if self.transactions is None or snapshot is None:
+            return message.revision.number or 0
+        self.transactions.watch(snapshot)
+        return self.transactions.add(snapshot.own or 0) if message.updates or message.rules else self.transactions.count
+
+    def _take_watched(self, message: Watched, keeper: Keeper) -> None:
+        revision = self._revision(message)
+        if not message.is_known:
+            self._put_watched(message, revision, keeper)
+        waiting, self.pending = self.pending, []
+        for one in waiting:
+            keeper.tried(one.message, partial(self._wait, one, keeper))
+
+    def _put_watched(self, message: Watched, revision: int, keeper: Keeper) -> None:
+        self.history.add(message.received, revision)
+        if message.rules is not None:
+            try:
+                found = ruled(*message.rules, revision, False)
+                self.takes.add(found.rules)
+                self.unsure = [one._replace(end=min(one.end, revision)) for one in self.unsure]
+                keeper.put_commit(Commit(revision, found.data, message.received, message.token, found.hash))
+            except Unread as fault:
+                keeper.say(str(fault))
+                self.unsure.append(Unsure(revision, 1 << 200))
+                keeper.lose("a schema that can't be read", 0, 0)
+        elif message.updates:
+            insort(self.commits, revision)
+            del self.commits[:max(0, len(self.commits) - COMMITS)]
+            keeper.put_commit(self._commit(message, revision))
+        else:
+            self._checkpoint(message, revision, keeper)
+
+    def _commit(self, message: Watched, revision: int) -> Commit:
+        sides = []
+        for live in (True, False):
+            kept, unmapped = self.takes.sorted_out((one.given, one.reason) for one in message.updates if one.live == live)
+            sides.append((kept, unmapped))
+        (add, first), (remove, second) = sides
+        return Commit(revision, first + second + write_line(revision, add, remove), message.received, message.token)
+
+    def _checkpoint(self, message: Watched, revision: int, keeper: Keeper) -> None:
+        """All changes up to here are known; now and then that is written, so that a later recorder goes on from there."""
+        keeper.sequencer.reached = max(keeper.sequencer.reached, revision)
+        if keeper.ticks - self.placed_at > 300:
+            self.placed_at = keeper.ticks
+            keeper.put_commit(Commit(revision, b"", message.received, message.token))
+
+    # Calls
+
+    def known(self, clock: int) -> int:
+        return self.history.at(clock)
+
+    def waiting(self) -> bool:
+        return bool(self.pending)
+
+    def late(self, before: int) -> list[Ended]:
+        found = [one.message for one in self.pending if one.message.at < before]
+        self.pending = [one for one in self.pending if one.message.at >= before]
+        return found
+
+    def end(self, message: Ended, asked: Asked, keeper: Keeper) -> None:
+        request, response = decoded(message) if message.encoding == GRPC else (_request_of(message), body_of(message))
+        if message.call == "write":
+            revision = revision_of(get(get(response, "writtenAt") or get(response, "deletedAt"), "token"))
+            if revision.number is not None:
+                insort(self.commits, revision.number)
+                self.history.add(message.clock, revision.number)
+            return
+        if message.call == "stream":
+            response = [one for one in response if get(one, "error") is None]
+        self.decided(message, request, response, asked.known, keeper)
+
+    def decided(self, message: Ended, request: Any, response: Any, known: int, keeper: Keeper) -> None:
+        """Puts the decisions of a call behind all that it saw, and behind all that was surely visible when it began."""
+        answers = list(answers_of(request, response, Refusals())) if response else []
+        if not answers:
+            keeper.forget(message.number)
+            return
+        revision = revision_at(response)
+        if (revision.number is None) != (self.transactions is not None):
+            raise Bad("a token is of another datastore than those of the changes")
+        if revision.snapshot is not None:
+            token = _demand(request) if message.save is None else message.token
+            demanded = None if token is None else revision_of(token).snapshot
+            self._wait(Waiting(message, request, answers, known, revision.snapshot, demanded), keeper)
+            return
+        self.history.add(message.clock, revision.number or 0)
+        self._place(message, request, answers, known, revision.number or 0, keeper)
+
+    def _wait(self, one: Waiting, keeper: Keeper) -> None:
+        """Places a call on PostgreSQL, or lets it wait."""
+        assert self.transactions is not None
+        if self.transactions.reaches(one.snapshot) and (one.demanded is None or self.transactions.reaches(one.demanded)):
+            self._place(*one[:4], self.transactions.number(one.snapshot), keeper)
+        else:
+            self.pending.append(one)
+
+    def _place(self, message: Ended, request: Any, answers: list[Answer], known: int, snapshot: int, keeper: Keeper) -> None:
+        unsure = any(one.start <= snapshot < one.end for one in self.unsure)
+        if unsure or snapshot < self.base:
+            keeper.forget(message.number)
+            keeper.lose("the rules at a snapshot are not known" if unsure else "a snapshot is from before the log", message.begun, len(answers))
+            return
+        token = self._token(message, request, snapshot, known)
+        keeper.put_entries(message, answers, max(known, snapshot), snapshot=snapshot, token=token)
+
+    def _token(self, message: Ended, request: Any, snapshot: int, known: int) -> Optional[int]:
+        """What is stored with content, or what the request demanded."""
+        if message.save is not None:
+            return snapshot if message.token is None else self._demanded(message.token)
+        demanded = _demand(request)
+        if demanded is not None:
+            return self._demanded(demanded)
+        if not get(get(request, "consistency"), "fullyConsistent"):
+            return None
+        # The newest commit that was visible when the check began.
+        if self.transactions is not None:
+            return max(snapshot, known)
+        place = bisect_right(self.commits, known)
+        return max(snapshot, self.commits[place - 1]) if place else snapshot
+
+    def _demanded(self, token: object) -> int:
+        """The revision that a token demands to be seen."""
+        revision = revision_of(token)
+        if (revision.snapshot is None) != (self.transactions is None):
+            raise Bad("a token is of another datastore than those of the changes")
+        if self.transactions is not None and revision.snapshot is not None:
+            return self.transactions.demanded(revision.snapshot)
+        return revision.number or 0

@@ -1,0 +1,54 @@
+"""SpiceDB's schema, relationships and changes over gRPC."""
+from typing import Any, Iterator, Optional
+from urllib.parse import urlsplit
+
+import grpc
+
+from new_enemy_tools.importing.reading import get
+from new_enemy_tools.recording.asking import FeedFault
+from new_enemy_tools.recording.grpc_calls import PERMISSIONS
+from new_enemy_tools.recording.grpc_relay import OPTIONS
+from new_enemy_tools.recording.protobuf import KIND, Malformed, read, written
+
+TIMEOUT = 30.0
+
+
+class GrpcSource:
+    def __init__(self, url: str, key: Optional[str]):
+        parts = urlsplit(url)
+        secure = parts.scheme == "https"
+        target = "%s:%d" % (parts.hostname, parts.port or (443 if secure else 50051))
+        self.channel = grpc.secure_channel(target, grpc.ssl_channel_credentials(), OPTIONS) if secure else \
+            grpc.insecure_channel(target, OPTIONS)
+        self.metadata = [("authorization", "Bearer " + key)] if key else []
+
+    def _asked(self, path: str, name: str, body: dict, timeout: Optional[float]) -> Iterator[dict]:
+        """The answers of a call, as JSON; raises FeedFault."""
+        call = self.channel.unary_stream(path)
+        try:
+            for data in call(written(name + "Request", body), metadata=self.metadata, timeout=timeout):
+                yield read(name + "Response", data)
+        except grpc.RpcError as fault:
+            code: Any = fault.code() if isinstance(fault, grpc.Call) else None
+            why = "" if code is None else " (%s)" % code.name
+            hint = "; give a key that may read by --key-file" if code in (
+                grpc.StatusCode.UNAUTHENTICATED, grpc.StatusCode.PERMISSION_DENIED) else ""
+            raise FeedFault("%s is not answered%s%s" % (name, why, hint)) from None
+        except Malformed:
+            raise FeedFault("an answer of %s can't be read" % name) from None
+
+    def schema(self) -> tuple[str, str]:
+        for answer in self._asked("/authzed.api.v1.SchemaService/ReadSchema", "ReadSchema", {}, TIMEOUT):
+            text, token = get(answer, "schemaText"), get(get(answer, "readAt"), "token")
+            if text and token:
+                return text, token
+        raise FeedFault("ReadSchema answers without a text and the token of its moment; a later SpiceDB has them")
+
+    def relationships(self, of: str, token: str) -> Iterator[dict]:
+        body = {"consistency": {"atExactSnapshot": {"token": token}}, "relationshipFilter": {"resourceType": of}}
+        for answer in self._asked(PERMISSIONS + "ReadRelationships", "ReadRelationships", body, None):
+            yield get(answer, "relationship")
+
+    def watch(self, token: str) -> Iterator[dict]:
+        body = {"optionalStartCursor": {"token": token}, "optionalUpdateKinds": list(KIND[1:])}
+        return self._asked("/authzed.api.v1.WatchService/Watch", "Watch", body, None)

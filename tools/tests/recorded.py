@@ -1,0 +1,151 @@
+"""What the tests of the recorder share: stand-ins and recorders as processes, clients that ask, and what an audit finds of the log."""
+import http.client
+import json
+import os
+import signal
+import socket
+import subprocess
+import sys
+import threading
+import time
+from collections import Counter
+from random import Random
+
+from tests.support import TOOLS, Case
+
+READY = 20
+
+
+def free_port():
+    with socket.socket() as one:
+        one.bind(("127.0.0.1", 0))
+        return one.getsockname()[1]
+
+
+class Client:
+    """A real client with one connection, which it opens again where it was closed."""
+
+    def __init__(self, port, key=None):
+        self.port, self.connection = port, None
+        self.headers = {"Content-Type": "application/json", **({"Authorization": "Bearer " + key} if key else {})}
+
+    def ask(self, path, body, **headers):
+        """The status and the JSON of an answer; 0 where there is none."""
+        try:
+            self.connection = self.connection or http.client.HTTPConnection("127.0.0.1", self.port, timeout=20)
+            named = {name.replace("_", "-"): value for name, value in headers.items()}
+            self.connection.request("POST", path, json.dumps(body), {**self.headers, **named})
+            answer = self.connection.getresponse()
+            return answer.status, json.loads(answer.read() or b"null")
+        except (OSError, http.client.HTTPException, ValueError):
+            self.close()
+            return 0, None
+
+    def close(self):
+        if self.connection is not None:
+            self.connection.close()
+            self.connection = None
+
+
+class Recorded(Case):
+    """A test with processes, which all end with it."""
+
+    SERVICE = STAND_IN = ""
+    PYTHON = sys.executable
+
+    def setUp(self):
+        super().setUp()
+        self.processes = []
+        self.addCleanup(self.end_all)
+
+    def end_all(self):
+        for one in self.processes:
+            if one.poll() is None:
+                one.kill()
+            one.wait()
+            for file in (one.stdout, one.stderr):
+                if file is not None:
+                    file.close()
+
+    def start(self, *words, **more):
+        more.setdefault("stdout", subprocess.DEVNULL)
+        one = subprocess.Popen([self.PYTHON, *words], cwd=self.room, text=True, **more)
+        self.processes.append(one)
+        return one
+
+    def start_service(self, *words, port=0):
+        one = self.start(os.path.join(TOOLS, "tests", self.STAND_IN), str(port), *words, stdout=subprocess.PIPE)
+        self.service_port = int(one.stdout.readline().split()[1])
+        return one
+
+    def start_recorder(self, *words, folder="log", is_ready=True):
+        """A recorder, which can be asked; its standard error goes to a file."""
+        self.port = free_port()
+        said = open(self.path("said"), "w+", encoding="utf-8")
+        self.addCleanup(said.close)
+        one = self.start(os.path.join(TOOLS, "record"), "--" + self.SERVICE, "http://127.0.0.1:%d" % self.service_port, "--listen",
+                         "127.0.0.1:%d" % self.port, "--out", folder, *words, stderr=said)
+        self.wait_for(lambda: not is_ready or "recording " in self.get("said"), lambda: self.get("said"))
+        self.wait_for(self.is_listening)
+        return one
+
+    def is_listening(self):
+        with socket.socket() as one:
+            return one.connect_ex(("127.0.0.1", self.port)) == 0
+
+    def wait_for(self, holds, told=lambda: ""):
+        until = time.monotonic() + READY
+        while not holds():
+            self.assertLess(time.monotonic(), until, told())
+            time.sleep(0.02)
+
+    def end(self, one, status=0):
+        one.send_signal(signal.SIGTERM)
+        self.assertEqual(one.wait(30), status, self.get("said"))
+
+    def files(self, folder="log"):
+        return [os.path.join(folder, name) for name in sorted(os.listdir(self.path(folder))) if name.endswith(".jsonl")]
+
+    def events(self, folder="log"):
+        return [row for name in self.files(folder) for row in self.rows(name)]
+
+    def of_kind(self, kind, folder="log"):
+        return [row for row in self.events(folder) if row["event"] == kind]
+
+    def import_log(self, *words, folder="log"):
+        return self.imported("events", *self.files(folder), *words)
+
+    def found(self):
+        """Of an audit of the trace, the findings of each recorded line."""
+        self.said_of_audit = self.audited().splitlines()
+        rows = self.rows("trace.jsonl")
+        found = {}
+        for one in self.said_of_audit[:-3]:
+            line, finding = one.removeprefix("line ").split(": ", 1)
+            found.setdefault(rows[int(line) - 1]["from"], set()).add(finding.split(",")[0])
+        return found
+
+    def row_at(self, place):
+        """The recorded line that a trace names."""
+        file, line = place.rsplit(":", 1)
+        return json.loads(self.get(file).split("\n")[int(line) - 1])
+
+    def run_clients(self, count, requests, work, key=None):
+        """So many clients, each of which does so many things, one after the other."""
+        def run(number):
+            client, random = Client(self.port, key), Random("client %d" % number)
+            try:
+                for turn in range(requests):
+                    work(client, random, number, turn)
+            finally:
+                client.close()
+        threads = [threading.Thread(target=run, args=(number,)) for number in range(count)]
+        for one in threads:
+            one.start()
+        for one in threads:
+            one.join()
+
+
+def counted(values):
+    """How often each of some lists of JSON stands among them."""
+    return Counter(json.dumps(one) for one in values)

@@ -1,0 +1,121 @@
+"""How much later answers come through tools/record: recording_latency.py [SECONDS [RATE]]
+
+A service that answers every check at once, and a client that asks so many checks a second over 16 connections, each at its time
+whether or not others have their answer. It asks the service and the recorder by turns, a second each, and prints both.
+"""
+import asyncio
+import json
+import os
+import subprocess
+import sys
+import tempfile
+import time
+
+sys.path.insert(0, __file__.rsplit("/", 2)[0] if "/" in __file__ else "..")
+
+TOOLS = os.path.dirname(os.path.dirname(os.path.abspath(__file__)))
+STORE = "01HVMMBCMGZNT3SED4Z17ECXCA"
+MODEL = {"id": "M", "schema_version": "1.1", "type_definitions": [
+    {"type": "user"}, {"type": "document", "relations": {"viewer": {"this": {}}},
+                       "metadata": {"relations": {"viewer": {"directly_related_user_types": [{"type": "user"}]}}}}]}
+CONNECTIONS = 16
+ANSWERS = {b"/check": {"allowed": False, "resolution": ""}, b"/changes": {"changes": [], "continuation_token": ""},
+           b"/authorization-models": {"authorization_models": [MODEL], "continuation_token": ""},
+           b"/stores?": {"stores": [{"id": STORE}], "continuation_token": ""}}
+
+
+class Service(asyncio.Protocol):
+    """Answers each request by its path; a request comes in one piece on loopback."""
+
+    def connection_made(self, transport):
+        self.transport = transport
+
+    def data_received(self, data):
+        path = data.split(b" ", 2)[1]
+        data = json.dumps(next(value for mark, value in ANSWERS.items() if mark in path)).encode()
+        self.transport.write(b"HTTP/1.1 200 OK\r\nContent-Type: application/json\r\nContent-Length: %d\r\n\r\n%s" % (len(data), data))
+
+
+async def serve():
+    server = await asyncio.get_running_loop().create_server(Service, "127.0.0.1", 0)
+    sys.stdout.write("%d\n" % server.sockets[0].getsockname()[1])
+    sys.stdout.flush()
+    await server.serve_forever()
+
+
+class Connection(asyncio.Protocol):
+    """One request at a time; the time of each goes to a list."""
+
+    def __init__(self, free, times):
+        self.free, self.times, self.data = free, times, b""
+
+    def connection_made(self, transport):
+        self.transport = transport
+        self.free.append(self)
+
+    def ask(self, number, at):
+        self.at, self.data = at, b""
+        body = json.dumps({"tuple_key": {"user": "user:u%d" % number, "relation": "viewer", "object": "document:d%d" % (number % 100)},
+                           "consistency": "HIGHER_CONSISTENCY"}).encode()
+        self.transport.write(b"POST /stores/%s/check HTTP/1.1\r\nHost: x\r\nContent-Type: application/json\r\nX-Content-Version: v1\r\n"
+                             b"Content-Length: %d\r\n\r\n%s" % (STORE.encode(), len(body), body))
+
+    def data_received(self, data):
+        self.data += data
+        if self.data.endswith(b"}"):
+            self.times.append(time.perf_counter() - self.at)
+            self.free.append(self)
+
+
+async def load(port, times, seconds, rate, first):
+    """Asks at the given rate; requests for which no connection is free wait, and their time counts from when they were due."""
+    free = []
+    for _ in range(CONNECTIONS):
+        await asyncio.get_running_loop().create_connection(lambda: Connection(free, times), "127.0.0.1", port)
+    kept, start = list(free), time.perf_counter()
+    for number in range(int(seconds * rate)):
+        due = start + number / rate
+        while time.perf_counter() < due or not free:
+            await asyncio.sleep(max(0, min(0.0005, due - time.perf_counter())))
+        free.pop(0).ask(first + number, due)
+    while len(free) < CONNECTIONS:
+        await asyncio.sleep(0.001)
+    for one in kept:
+        one.transport.close()
+
+
+def shown(times):
+    listed = sorted(times)
+    return "p50 %.2f ms, p99 %.2f ms" % tuple(1000 * listed[int(len(listed) * part)] for part in (0.5, 0.99))
+
+
+def main(words):
+    if words == ["serve"]:
+        asyncio.run(serve())
+        return
+    seconds, rate = map(int, [*words, *("20", "1000")[len(words):]])
+    with tempfile.TemporaryDirectory() as room:
+        service = subprocess.Popen([sys.executable, __file__, "serve"], stdout=subprocess.PIPE, text=True)
+        port = int(service.stdout.readline())
+        recorder = subprocess.Popen([sys.executable, os.path.join(TOOLS, "record"), "--openfga", "http://127.0.0.1:%d" % port, "--listen",
+                                     "127.0.0.1:%d" % (port + 1), "--out", os.path.join(room, "log")], stderr=subprocess.PIPE, text=True)
+        try:
+            recorder.stderr.readline()
+            times = {port: [], port + 1: []}
+            for turn in range(seconds):
+                for one in times:
+                    asyncio.run(load(one, times[one], 1, rate, turn * rate))
+            recorder.terminate()
+            recorder.wait()
+            with open(os.path.join(room, "log", "000001.jsonl"), encoding="utf-8") as file:
+                recorded = sum('"event":"check"' in line for line in file)
+        finally:
+            service.kill()
+            recorder.kill()
+    print("the service alone: %s" % shown(times[port]))
+    print("through the recorder: %s" % shown(times[port + 1]))
+    print("asked %d, recorded %d" % (len(times[port + 1]), recorded))
+
+
+if __name__ == "__main__":
+    main(sys.argv[1:])

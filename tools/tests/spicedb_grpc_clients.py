@@ -1,0 +1,95 @@
+"""Clients of SpiceDB over gRPC, by grpcio: spicedb_grpc_clients.py PORT CLIENTS REQUESTS; or PORT, to try what passes unchanged."""
+import sys
+import threading
+from random import Random
+
+import grpc
+
+sys.path.insert(0, __file__.rsplit("/", 2)[0])
+
+from tests.spicedb_protobuf import decoder, encoder
+from tests.stand_in_spicedb import relationship_of
+
+PERMISSIONS = "/authzed.api.v1.PermissionsService/"
+DOCUMENTS = ["d%d" % number for number in range(6)]
+USERS = ["u%d" % number for number in range(5)]
+FULL = {"fullyConsistent": True}
+
+
+class Client:
+    def __init__(self, port):
+        self.channel = grpc.insecure_channel("127.0.0.1:%s" % port, [("grpc.use_local_subchannel_pool", 1)])
+
+    def ask(self, name, body, *metadata):
+        call = self.channel.unary_unary(PERMISSIONS + name, encoder(name + "Request"), decoder(name + "Response"))
+        return call.with_call(body, metadata=metadata, timeout=20)
+
+    def listed(self, name, body):
+        return list(self.channel.unary_stream(PERMISSIONS + name, encoder(name + "Request"), decoder(name + "Response"))(body, timeout=20))
+
+    def write(self, operation, *parts):
+        return self.ask("WriteRelationships", {"updates": [{"operation": "OPERATION_" + operation, "relationship": relationship_of(one)}
+                                                          for one in parts]})
+
+    def check(self, user, permission, thing, consistency, *metadata):
+        return self.ask("CheckPermission", {"consistency": consistency, **asked(user, permission, thing)}, *metadata)[0]
+
+
+def asked(user, permission, thing):
+    return {"resource": {"objectType": "document", "objectId": thing}, "permission": permission,
+            "subject": {"object": {"objectType": "user", "objectId": user}}}
+
+
+def run(port, number, requests, versions):
+    client, random = Client(port), Random("client %d" % number)
+    for turn in range(requests):
+        form, user, thing = random.random(), random.choice(USERS), random.choice(DOCUMENTS)
+        if form < 0.2:
+            client.write(random.choice(["TOUCH", "DELETE"]), ("document:" + thing, random.choice(["viewer", "viewer", "banned"]), "user:" + user, ""))
+        elif form < 0.3:
+            version = "v%d.%d" % (number, turn)
+            answer = client.check(USERS[0], "edit", thing, FULL, ("x-content-save", version))
+            if answer["permissionship"] == "PERMISSIONSHIP_HAS_PERMISSION":
+                versions[thing] = version, answer["checkedAt"]
+        elif form < 0.6 and thing in versions:
+            version, token = versions[thing]
+            client.check(user, "view", thing, {"atLeastAsFresh": token}, ("x-content-version", version))
+        elif form < 0.65:
+            client.ask("CheckBulkPermissions", {"consistency": FULL, "items": [asked(one, "view", thing) for one in USERS]})
+        elif form < 0.68:
+            client.listed("LookupResources", {"consistency": FULL, "resourceObjectType": "document", "permission": "view",
+                                              "subject": {"object": {"objectType": "user", "objectId": user}}})
+        else:
+            client.check(user, "view", thing, FULL)
+
+
+def unchanged(port):
+    """Metadata, statuses and their details, as a client sees them."""
+    client = Client(port)
+    answer, call = client.ask("CheckPermission", {"consistency": FULL, **asked("u0", "view", "d0")})
+    found = [answer["permissionship"], dict(call.initial_metadata()).get("x-first")]
+    for metadata, name in (((("x-refuse", "1"),), "CheckPermission"), ((), "ExpandPermissionTree")):
+        try:
+            client.channel.unary_unary(PERMISSIONS + name)(b"", metadata=metadata, timeout=5)
+        except grpc.RpcError as fault:
+            found += [fault.code().name, fault.details(), dict(fault.trailing_metadata()).get("x-why")]
+    print(found)
+
+
+def main(words):
+    if len(words) == 1:
+        unchanged(words[0])
+        return
+    port, clients, requests = words
+    first = Client(port)
+    first.write("TOUCH", *[("document:" + one, "owner", "user:" + USERS[0], "") for one in DOCUMENTS])
+    versions = {}
+    threads = [threading.Thread(target=run, args=(port, number, int(requests), versions)) for number in range(int(clients))]
+    for one in threads:
+        one.start()
+    for one in threads:
+        one.join()
+
+
+if __name__ == "__main__":
+    main(sys.argv[1:])

@@ -1,0 +1,131 @@
+"""A small stand-in of OpenFGA as a process, after its public API documents: stand_in_openfga.py PORT MODEL [SHARE PLANTED] [--key KEY].
+
+Of the share of checks that ask of a document called `fixed`, which no later write touches, the reply is a wrong one; of those that
+ask of a document called `early`, the state before its last change is looked at, whatever the request demands.
+"""
+import json
+import re
+import sys
+import threading
+import urllib.parse
+from datetime import datetime, timezone
+from random import Random
+
+sys.path.insert(0, __file__.rsplit("/", 2)[0])
+
+from tests.openfga_service import Service
+from tests.stand_in import Faults, jitter, serve
+
+STORE = "01HVMMBCMGZNT3SED4Z17ECXCA"
+PATH = re.compile(r"/stores/([^/?]+)/([a-z-]+)")
+
+
+class OpenFga:
+    def __init__(self, model, faults, key):
+        self.faults, self.key = faults, key
+        self.models = [{"id": "01HMODEL0000000000000000%02d" % 1, **model}]
+        self.feed = []
+        self.states = [frozenset()]
+        self.lock = threading.Lock()
+        self.random = Random(11)
+
+    def call(self, handler, method, path, body):
+        found = PATH.match(path)
+        if path.split("?")[0] == "/stores":
+            handler.answer({"stores": [{"id": STORE, "name": "shop"}], "continuation_token": ""})
+        elif not found or found[1] != STORE:
+            handler.answer({"code": "store_id_not_found", "message": "no such store"}, 404)
+        else:
+            query = dict(urllib.parse.parse_qsl(path.partition("?")[2]))
+            getattr(self, found[2].replace("-", "_"))(handler, method, body, query)
+
+    def authorization_models(self, handler, method, body, query):
+        if method == "POST":
+            with self.lock:
+                self.models.append({**body, "id": "01HMODEL0000000000000000%02d" % (len(self.models) + 1)})
+            handler.answer({"authorization_model_id": self.models[-1]["id"]}, 201)
+        else:
+            handler.answer({"authorization_models": self.models[::-1][:int(query.get("page_size", 50))], "continuation_token": ""})
+
+    def write(self, handler, method, body, query):
+        with self.lock:
+            at = datetime.now(timezone.utc).strftime("%Y-%m-%dT%H:%M:%S.%fZ")
+            state = set(self.states[-1])
+            listed = [("WRITE", key) for key in body.get("writes", {}).get("tuple_keys", ())]
+            listed += [("DELETE", key) for key in body.get("deletes", {}).get("tuple_keys", ())]
+            keys = [(kind, (key["user"], key["relation"], key["object"])) for kind, key in listed]
+            if any((kind == "WRITE") == (key in state) for kind, key in keys):
+                handler.answer({"code": "write_failed_due_to_invalid_input", "message": "is there, or is not"}, 400)
+                return
+            for (kind, key), (_, given) in zip(keys, listed):
+                (state.add if kind == "WRITE" else state.discard)(key)
+                self.feed.append({"tuple_key": given, "operation": "TUPLE_OPERATION_" + kind, "timestamp": at})
+                # A write is whole: nobody sees a state within it.
+                self.states.append(None)
+            self.states[-1] = frozenset(state)
+        handler.answer({})
+
+    def changes(self, handler, method, body, query):
+        with self.lock:
+            first = int(query.get("continuation_token") or 0)
+            page = self.feed[first:first + int(query.get("page_size", 50))]
+            token = str(first + len(page)) if page else query.get("continuation_token", "")
+        handler.answer({"changes": page, "continuation_token": token})
+
+    def check(self, handler, method, body, query):
+        key = body["tuple_key"]
+        jitter(self.random)
+        allowed = self.decided(key["user"], key["relation"], key["object"])
+        jitter(self.random)
+        handler.answer({"allowed": allowed, "resolution": ""})
+
+    def batch_check(self, handler, method, body, query):
+        jitter(self.random)
+        state = self.states[-1]
+        result = {one["correlation_id"]: {"allowed": self.holds(state, **one["tuple_key"])} for one in body["checks"]}
+        handler.answer({"result": result})
+
+    def list_objects(self, handler, method, body, query):
+        state = self.states[-1]
+        things = sorted({key[2] for key in state if key[2].startswith(body["type"] + ":")})
+        handler.answer({"objects": [one for one in things if self.holds(state, body["user"], body["relation"], one)]})
+
+    def holds(self, state, user, relation, object):
+        service = Service(self.models[-1])
+        service.tuples = state
+        return service.check(user, relation, object)
+
+    def decided(self, user, relation, thing):
+        allowed = self.holds(self.states[-1], user, relation, thing)
+        name = thing.split(":")[1]
+        if name.startswith("fixed") and self.faults.strikes():
+            self.faults.told("wrong", [user, relation, thing])
+            return not allowed
+        if name.startswith("early") and self.faults.strikes():
+            stale = self.holds(self.before_last_change(thing), user, relation, thing)
+            if stale != allowed:
+                self.faults.told("stale", [user, relation, thing])
+            return stale
+        return allowed
+
+    def before_last_change(self, thing):
+        with self.lock:
+            last = max(place for place, change in enumerate(self.feed) if change["tuple_key"]["object"] == thing)
+            while self.states[last] is None:
+                last -= 1
+            return self.states[last]
+
+
+def main(words):
+    key = None
+    if "--key" in words:
+        place = words.index("--key")
+        key = words[place + 1]
+        del words[place:place + 2]
+    with open(words[1], encoding="utf-8") as file:
+        model = json.load(file)
+    serve(OpenFga(model, Faults(float((words + ["0"] * 4)[2]), (words + [None] * 4)[3]), key), int(words[0]))
+
+
+if __name__ == "__main__":
+    main(sys.argv[1:])

@@ -1,0 +1,105 @@
+"""tools/record in front of a stand-in of SpiceDB over gRPC; by a Python that has grpcio, where there is one."""
+import json
+import os
+import subprocess
+import sys
+from random import Random
+
+from new_enemy_tools.recording.grpc_calls import CALLS, decoded, joined
+from new_enemy_tools.recording.messages import Ended
+from new_enemy_tools.recording.protobuf import SHAPES, Malformed, read, written
+from tests.recorded import Recorded, counted
+from tests.support import TOOLS, Case
+from tests.test_recording_spicedb import CLIENTS, FINDINGS, REQUESTS
+
+
+def python_with_grpc():
+    for one in (sys.executable, "/usr/bin/python3"):
+        if os.path.exists(one) and subprocess.run([one, "-c", "import grpc, google.protobuf"], capture_output=True).returncode == 0:
+            return one
+    return None
+
+
+class Grpc(Recorded):
+    SERVICE, STAND_IN = "spicedb", "stand_in_spicedb_grpc.py"
+
+    def setUp(self):
+        super().setUp()
+        self.PYTHON = python_with_grpc()
+        if self.PYTHON is None:
+            self.skipTest("no Python here has grpcio and protobuf (python3-grpcio, python3-protobuf)")
+
+    def clients(self, *words):
+        run = subprocess.run([self.PYTHON, os.path.join(TOOLS, "tests", "spicedb_grpc_clients.py"), str(self.port), *map(str, words)],
+                             capture_output=True, text=True, timeout=100)
+        self.assertEqual((run.returncode, run.stderr), (0, ""))
+        return run.stdout
+
+    def run_load(self, *words):
+        self.start_service(*words)
+        recorder = self.start_recorder("--grpc")
+        self.clients(CLIENTS, REQUESTS)
+        self.end(recorder)
+        return self.import_log()
+
+    def test_nothing_planted(self):
+        said = self.run_load()
+        self.assertNotIn("gap", said)
+        self.assertEqual(self.found(), {}, self.said_of_audit)
+        self.assertGreater(len(self.of_kind("check")) + len(self.of_kind("content")), CLIENTS * REQUESTS * 0.7)
+        self.assertGreater(len(self.of_kind("content")), 60)
+        self.assertGreater(sum("version" in row for row in self.of_kind("check")), 150)
+
+    def test_planted_faults(self):
+        self.run_load("0.1", "planted")
+        planted = [json.loads(line) for line in self.get("planted").splitlines()]
+        found = []
+        for place, kinds in self.found().items():
+            row = self.row_at(place)
+            found += [[kind, [row["goal"][1], row["goal"][2], row["goal"][4]]] for kind in kinds]
+        expected = [[FINDINGS.get(kind, "F3 not latest" if goal[1] == "edit" else "F1 stale"), goal] for kind, goal in planted]
+        self.assertEqual(counted(found), counted(expected))
+        self.assertEqual({kind for kind, _ in found}, {"F10 wrong reply", "F1 stale", "F3 not latest"})
+
+    def test_what_passes_unchanged(self):
+        self.start_service()
+        recorder = self.start_recorder("--grpc")
+        through = self.clients()
+        self.port = self.service_port
+        self.assertEqual(through, self.clients())
+        self.assertIn("'FAILED_PRECONDITION', 'refused as asked', 'asked for'", through)
+        self.end(recorder)
+
+
+class Without(Case):
+    def test_the_package_is_named(self):
+        """A Python without grpcio says which package is missing."""
+        self.put("grpc.py", "raise ImportError\n")
+        words = ["--spicedb", "http://127.0.0.1:1", "--grpc", "--listen", "127.0.0.1:0", "--out", "log"]
+        run = subprocess.run([sys.executable, os.path.join(TOOLS, "record"), *words], cwd=self.room, capture_output=True, text=True,
+                             timeout=20, env={**os.environ, "PYTHONPATH": self.room})
+        self.assertEqual(run.returncode, 3)
+        self.assertEqual(run.stderr, "record: --grpc needs grpcio, in Debian the package python3-grpcio, for this Python (%s)\n" % sys.executable)
+
+
+class Protobuf(Case):
+    def test_what_is_written_is_read(self):
+        body = {"optionalStartCursor": {"token": "x" * 300}, "optionalUpdateKinds": ["WATCH_KIND_INCLUDE_CHECKPOINTS"]}
+        self.assertEqual(read("WatchRequest", written("WatchRequest", body)), body)
+
+    def test_bytes_that_are_no_message(self):
+        for seed in range(3000):
+            random = Random(seed)
+            data = random.randbytes(random.randint(1, 30)) if sys.version_info >= (3, 9) else b""
+            try:
+                self.assertIsInstance(read(random.choice(list(SHAPES)), data), dict)
+            except Malformed:
+                pass
+
+    def test_messages_of_a_call(self):
+        path = next(path for path, call in CALLS.items() if call.kind == "stream")
+        request = written("LookupResourcesRequest", {"permission": "view", "resourceObjectType": "document"})
+        answers = [written("LookupResourcesResponse", {"resourceObjectId": one}) for one in ("a", "b")]
+        message = Ended(1, "stream", path, 0, 0, 0, None, None, None, 200, joined([request]), joined(answers), "grpc")
+        asked, found = decoded(message)
+        self.assertEqual((asked["permission"], [one["resourceObjectId"] for one in found]), ("view", ["a", "b"]))

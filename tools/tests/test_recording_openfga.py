@@ -1,0 +1,143 @@
+"""tools/record in front of a stand-in of OpenFGA: what it records is imported and audited."""
+import json
+import os
+
+from tests.recorded import Client, Recorded, counted
+from tests.stand_in_openfga import STORE
+from tests.support import EXAMPLES
+
+MODEL = os.path.join(EXAMPLES, "openfga", "model.json")
+NEWEST = "HIGHER_CONSISTENCY"
+CLIENTS, REQUESTS = 8, 125
+DOCUMENTS = ["document:d%d" % number for number in range(6)]
+FIXED = ["document:fixed%d" % number for number in range(3)]
+EARLY = ["document:early%d" % number for number in range(3)]
+USERS = ["user:u%d" % number for number in range(5)]
+
+
+def key(user, relation, thing):
+    return {"user": user, "relation": relation, "object": thing}
+
+
+class OpenFga(Recorded):
+    SERVICE, STAND_IN = "openfga", "stand_in_openfga.py"
+
+    def call(self, client, call, body, **headers):
+        return client.ask("/stores/%s/%s" % (STORE, call), body, **headers)
+
+    def write(self, client, *keys, kind="writes"):
+        return self.call(client, "write", {kind: {"tuple_keys": list(keys)}})
+
+    def check(self, client, user, relation, thing, consistency=NEWEST, **headers):
+        body = {"tuple_key": key(user, relation, thing), "consistency": consistency}
+        return self.call(client, "check", body, **headers)
+
+    def prepare(self):
+        """What no client writes to later: documents that stay, and documents whose viewers were taken away."""
+        client = Client(self.service_port)
+        self.write(client, *[key(USERS[0], "owner", one) for one in FIXED + DOCUMENTS])
+        for one in EARLY:
+            self.write(client, *[key(user, "viewer", one) for user in USERS])
+            self.write(client, *[key(user, "viewer", one) for user in USERS], kind="deletes")
+        client.close()
+
+
+class Load(OpenFga):
+    """A thousand mixed requests by eight clients."""
+
+    def setUp(self):
+        super().setUp()
+        self.labels = {}
+        self.saved = []
+
+    def work(self, client, random, number, turn):
+        form = random.random()
+        user, thing = random.choice(USERS), random.choice(DOCUMENTS)
+        if form < 0.15:
+            self.write(client, key(user, "viewer", thing), kind=random.choice(["writes", "deletes"]))
+        elif form < 0.25:
+            version = "v%d.%d" % (number, turn)
+            if self.check(client, USERS[0], "editor", thing, X_Content_Save=version)[1]["allowed"]:
+                self.labels.setdefault(thing, []).append(version)
+        elif form < 0.50 and self.labels.get(thing):
+            self.check(client, user, "viewer", thing, X_Content_Version=self.labels[thing][-1])
+        elif form < 0.55:
+            checks = [{"tuple_key": key(one, "viewer", thing), "correlation_id": one[5:]} for one in USERS]
+            self.call(client, "batch-check", {"checks": checks, "consistency": NEWEST})
+        elif form < 0.58:
+            self.call(client, "list-objects", {"type": "document", "relation": "viewer", "user": user, "consistency": NEWEST})
+        else:
+            self.check(client, user, "viewer", random.choice(FIXED + EARLY + DOCUMENTS))
+
+    def run_load(self, share, *words):
+        self.start_service(MODEL, str(share), "planted")
+        self.prepare()
+        recorder = self.start_recorder(*words)
+        self.run_clients(CLIENTS, REQUESTS, self.work)
+        self.end(recorder)
+        return self.import_log()
+
+    def test_nothing_planted(self):
+        said = self.run_load(0)
+        self.assertEqual(self.found(), {}, self.said_of_audit)
+        self.assertNotIn("lost", said)
+        self.assertIn("the log begins", said)
+        entries = len(self.of_kind("check")) + len(self.of_kind("content"))
+        self.assertGreater(entries, CLIENTS * REQUESTS * 0.7)
+        self.assertGreater(len(self.of_kind("content")), 60)
+        self.assertGreater(sum("version" in row for row in self.of_kind("check")), 100)
+
+    def test_planted_faults(self):
+        self.run_load(0.3)
+        planted = [json.loads(line) for line in self.get("planted").splitlines()]
+        self.assertEqual({kind for kind, _ in planted}, {"wrong", "stale"})
+        found = self.found()
+        goals = [self.row_at(place)["goal"] for place in found]
+        self.assertEqual(set.union(*found.values()), {"F10 wrong reply"})
+        self.assertEqual(counted([["user:" + goal[4], goal[2], "document:" + goal[1]] for goal in goals]), counted([goal for _, goal in planted]))
+        self.assertGreater(len(planted), 30)
+
+
+class Versions(OpenFga):
+    def test_a_version_that_is_shown_without_its_token(self):
+        """A new enemy: nothing made the service look at the change before the content."""
+        self.start_service(MODEL)
+        recorder = self.start_recorder()
+        client = Client(self.port)
+        self.write(client, key(USERS[0], "owner", DOCUMENTS[0]), key(USERS[1], "viewer", DOCUMENTS[0]))
+        self.write(client, key(USERS[1], "viewer", DOCUMENTS[0]), kind="deletes")
+        self.check(client, USERS[0], "editor", DOCUMENTS[0], X_Content_Save="first")
+        self.check(client, USERS[1], "viewer", DOCUMENTS[0], X_Content_Version="first")
+        self.check(client, USERS[1], "viewer", DOCUMENTS[0], "MINIMIZE_LATENCY", X_Content_Version="first")
+        self.check(client, USERS[1], "viewer", DOCUMENTS[0], X_Content_Version="none")
+        client.close()
+        self.end(recorder)
+        self.assertNotIn("gap", self.import_log())
+        found = {self.row_at(place)["version"]: kinds for place, kinds in self.found().items()}
+        self.assertEqual(found, {"first": {"F2 old token"}, "none": {"F6 unknown version"}})
+
+
+class Cached(OpenFga):
+    """A service that may answer from a cache: the reply of the state before is no wrong one, where the recorder knows for how long."""
+
+    def found_with(self, *words, consistency="MINIMIZE_LATENCY"):
+        self.start_service(MODEL, "1", "planted")
+        recorder = self.start_recorder(*words)
+        client = Client(self.port)
+        self.write(client, key(USERS[0], "viewer", EARLY[0]))
+        self.write(client, key(USERS[0], "viewer", EARLY[0]), kind="deletes")
+        self.wait_for(lambda: len(self.of_kind("write")) == 3)
+        self.assertTrue(self.check(client, USERS[0], "viewer", EARLY[0], consistency)[1]["allowed"])
+        client.close()
+        self.end(recorder)
+        self.import_log()
+        return set().union(*self.found().values())
+
+    def test_without_a_word(self):
+        self.assertEqual(self.found_with(), {"F10 wrong reply"})
+
+    def test_as_long_as_it_may(self):
+        self.assertEqual(self.found_with("--stale-by", "60"), set())
+
+    def test_where_the_newest_state_was_asked_for(self):
+        self.assertEqual(self.found_with("--stale-by", "60", consistency=NEWEST), {"F10 wrong reply"})

@@ -1,0 +1,243 @@
+"""The parts of tools/record alone: what reads along with HTTP, the order of a log, its files, and what goes to the keeper."""
+import errno
+import os
+import socket
+import threading
+import time
+from random import Random
+from unittest import mock
+
+from new_enemy_tools.importing.chained import end_of, head_of
+from new_enemy_tools.recording.http_reading import BODY, Messages, Strange
+from new_enemy_tools.recording.log_files import InUse, LogFault, LogFiles, Place
+from new_enemy_tools.recording.lines import gap_line, line, write_line
+from new_enemy_tools.recording.messages import Beat, Bye, Ended, Lost, Started, Teller, messages_from
+from new_enemy_tools.recording.openfga import call_of as openfga_call
+from new_enemy_tools.recording.sequencer import Commit, Known, Sequencer
+from new_enemy_tools.recording.spicedb import call_of as spicedb_call
+from tests.support import Case
+
+ANSWER = b"HTTP/1.1 200 OK\r\nContent-Type: application/json\r\n"
+
+
+def read_along(data, sizes):
+    """The first words and bodies of messages that come in pieces."""
+    heads, bodies = [], []
+
+    def begun(head):
+        heads.append(" ".join(head.words))
+        return head.length() or 0
+    messages = Messages(begun, bodies.append)
+    at = 0
+    while at < len(data):
+        size = sizes()
+        messages.feed(data[at:at + size])
+        at += size
+    return heads, bodies
+
+
+class Reading(Case):
+    def test_however_it_is_cut(self):
+        data = (b"POST /check HTTP/1.1\r\nHost: x\r\nContent-Length: 5\r\n\r\nhello" + b"GET /x HTTP/1.1\r\n\r\n"
+                + b"POST /y HTTP/1.1\r\nTransfer-Encoding: chunked\r\n\r\n3\r\nabc\r\nA;x=y\r\n0123456789\r\n0\r\nTrailer: t\r\n\r\n"
+                + b"POST /z HTTP/1.1\r\ncontent-length: 0\r\n\r\n")
+        whole = read_along(data, lambda: len(data))
+        self.assertEqual(whole[1], [b"hello", b"", b"abc0123456789", b""])
+        for seed in range(200):
+            random = Random(seed)
+            self.assertEqual(read_along(data, lambda: random.randint(1, 9)), whole)
+
+    def test_what_is_no_http(self):
+        for data in (b"\x16\x03\x01" + b"x" * (65 << 10), b"one\r\n\r\n", b"GET / HTTP/1.1\r\nno colon\r\n\r\n",
+                     b"POST / HTTP/1.1\r\nContent-Length: x\r\n\r\n", b"POST / HTTP/1.1\r\nTransfer-Encoding: chunked\r\n\r\nzz\r\n"):
+            with self.assertRaises(Strange):
+                read_along(data, lambda: len(data))
+
+    def test_a_body_that_is_too_long_is_not_kept(self):
+        data = b"POST / HTTP/1.1\r\nContent-Length: %d\r\n\r\n" % (BODY + 1) + b"x" * (BODY + 1) + b"GET / HTTP/1.1\r\n\r\n"
+        self.assertEqual(read_along(data, lambda: 1 << 20)[1], [None, b""])
+
+    def test_which_calls(self):
+        self.assertEqual([openfga_call("POST", "/stores/A/" + call) for call in ("check", "batch-check", "write", "expand", "check/x")],
+                         ["check", "batch", "write", None, None])
+        self.assertIsNone(openfga_call("GET", "/stores/A/check"))
+        self.assertEqual(openfga_call("POST", "/prefix/stores/A/streamed-list-objects"), "stream")
+        self.assertEqual([spicedb_call("POST", path) for path in ("/v1/permissions/check", "/a/v1/permissions/resources", "/v1/watch")],
+                         ["check", "stream", None])
+
+
+class Order(Case):
+    def drained(self, sequencer):
+        return [one.revision if isinstance(one, Commit) else one for one in sequencer.drained()]
+
+    def test_an_entry_stands_behind_what_it_saw(self):
+        made = Sequencer()
+        made.told_until = 10
+        made.put_entry(5, 0, b"five")
+        self.assertEqual(self.drained(made), [])
+        made.put_commit(Commit(5, b"", 1))
+        made.put_commit(Commit(7, b"", 2))
+        made.put_entry(6, 0, b"six")
+        self.assertEqual(self.drained(made), [5, b"five", b"six", 7])
+
+    def test_a_commit_waits_for_content_checks_that_began_before(self):
+        made = Sequencer()
+        made.told_until = 10
+        made.saves[1] = 4
+        made.put_commit(Commit(5, b"", 1))
+        made.put_entry(5, 0, b"check")
+        self.assertEqual(self.drained(made), [])
+        del made.saves[1]
+        made.put_entry(4, 0, b"content")
+        self.assertEqual(self.drained(made), [b"content", 5, b"check"])
+
+    def test_a_commit_waits_until_all_before_it_was_told(self):
+        made = Sequencer()
+        made.put_commit(Commit(5, b"", 8))
+        made.told_until = 7
+        self.assertEqual(self.drained(made), [])
+        made.told_until = 8
+        self.assertEqual(self.drained(made), [5])
+
+    def test_what_waits_too_long(self):
+        made = Sequencer()
+        made.put_entry(9, 1, b"old")
+        made.put_entry(8, 3, b"young")
+        self.assertEqual([one.data for one in made.late(2)], [b"old"])
+        self.assertEqual([one.data for one in made.ready], [b"young"])
+
+    def test_what_was_known_when(self):
+        for seed in range(100):
+            random, known, told = Random(seed), Known(1), [(0, 1)]
+            for _ in range(40):
+                at, revision = random.randint(1, 50), random.randint(0, 30)
+                known.add(at, revision)
+                told.append((at, revision))
+                time = random.randint(0, 60)
+                self.assertEqual(known.at(time), max(revision for at, revision in told if at <= time))
+
+
+class Files(Case):
+    def log(self, **words):
+        made = LogFiles(self.path("log"), "openfga", **words)
+        made.lock()
+        return made, made.recover()
+
+    def begin(self, log):
+        log.add(line("rules", namespaces=[]) + line("write", revision=0, base=True) + line("place", revision=0, rules_sha256="r"))
+        log.place = Place(None, 0, "r")
+
+    def paths(self):
+        return [os.path.join(self.path("log"), name) for name in sorted(os.listdir(self.path("log"))) if name.endswith(".jsonl")]
+
+    def test_files_chain(self):
+        log, left = self.log(size=300)
+        self.assertIsNone(left)
+        self.begin(log)
+        for number in range(1, 20):
+            log.add(write_line(number, [], []))
+            log.place = log.place._replace(revision=number)
+        log.close()
+        paths = self.paths()
+        self.assertGreater(len(paths), 3)
+        ends = [end_of(path) for path in paths]
+        self.assertEqual([end.said for end in ends], [end[:2] for end in ends])
+        self.assertEqual([head_of(path) for path in paths], [(number, None if number == 1 else ends[number - 2].found)
+                                                            for number in range(1, len(paths) + 1)])
+
+    def test_what_a_killed_recorder_left_is_closed(self):
+        log, _ = self.log()
+        self.begin(log)
+        log.add(write_line(1, [], []) + line("place", cursor="c", revision=1, rules_sha256="r") + write_line(2, [], []))
+        whole = os.path.getsize(self.paths()[0])
+        for cut, writes, revision in ((0, 1, 2), (1, 0, 1), (20, 0, 1)):
+            with self.subTest(cut=cut):
+                with open(self.paths()[0], "r+b") as file:
+                    file.truncate(whole - cut)
+                os.close(log._lock)
+                log, left = self.log()
+                self.assertEqual((left.writes, left.revision, left.place.cursor), (writes, revision, "c"))
+                self.assertEqual(end_of(self.paths()[0]).said, end_of(self.paths()[0])[:2])
+
+    def test_a_file_without_its_beginning_is_begun_anew(self):
+        log, _ = self.log()
+        log.add(line("rules", namespaces=[]))
+        os.close(log._lock)
+        log, left = self.log()
+        self.assertIsNone(left)
+        self.assertEqual(self.paths(), [])
+
+    def test_one_recorder_at_a_time(self):
+        self.log()
+        with self.assertRaises(InUse):
+            self.log()
+
+    def test_a_full_disk(self):
+        """A line is written whole or not at all, and the log goes on where there is room again."""
+        log, _ = self.log()
+        self.begin(log)
+        kept, room = os.write, [30]
+
+        def write(descriptor, data):
+            if room[0] <= 0:
+                raise OSError(errno.ENOSPC, "No space left on device")
+            written = kept(descriptor, data[:room[0]])
+            room[0] -= written
+            return written
+        with mock.patch("os.write", write):
+            with self.assertRaises(LogFault):
+                log.add(write_line(1, [], []))
+            with self.assertRaises(LogFault):
+                log.add(write_line(1, [], []))
+        log.add(write_line(1, [], []))
+        log.close()
+        with open(self.paths()[0], "rb") as file:
+            self.assertEqual(file.read().count(write_line(1, [], [])), 1)
+        self.assertEqual(end_of(self.paths()[0]).said, end_of(self.paths()[0])[:2])
+
+    def test_a_gap_line(self):
+        self.assertEqual(gap_line(None, 1_500_000_000, "why", 2), b'{"event":"gap","to":"1970-01-01T00:00:01.500000Z","reason":"why",'
+                         b'"lost":2,"time":"1970-01-01T00:00:01.500000Z"}\n')
+
+
+class Telling(Case):
+    def setUp(self):
+        super().setUp()
+        mine, its = socket.socketpair()
+        mine.setblocking(False)
+        self.teller, self.its, self.got = Teller(mine), its, []
+        self.addCleanup(its.close)
+        self.addCleanup(mine.close)
+
+    def read(self):
+        """Reads all that is told, in a thread, while the teller writes what waits."""
+        reader = threading.Thread(target=lambda: self.got.extend(messages_from(self.its)))
+        reader.start()
+        while not self.teller.flush():
+            time.sleep(0.001)
+        self.teller.catch_up()
+        while not self.teller.flush():
+            time.sleep(0.001)
+        self.teller.end.close()
+        reader.join()
+
+    def test_all_that_has_room_comes(self):
+        told = [Started(1, 2, True), Ended(1, "check", "/p", 3, 4, 5, "v", None, None, 200, b"x" * 2_000_000, None, None), Bye(6)]
+        for one in told:
+            self.teller.tell(one)
+        self.read()
+        self.assertEqual(self.got[:-1], told)
+
+    def test_what_has_no_room_is_counted(self):
+        with mock.patch("new_enemy_tools.recording.messages.ROOM", 1_000_000):
+            for _ in range(30):
+                self.teller.tell(Ended(1, "check", "/p", 3, 4, 5, None, None, None, 200, b"x" * 100_000, None, None))
+            self.assertGreater(self.teller.lost.amount, 10)
+            self.read()
+        self.assertEqual(sum(isinstance(one, Ended) for one in self.got) + sum(one.amount for one in self.got if isinstance(one, Lost)), 30)
+        self.assertIsInstance(self.got[-1], Beat)
+
+    def test_without_a_keeper(self):
+        teller = Teller(None)
+        teller.tell(Bye(1))
+        self.assertEqual((teller.lost.amount, teller.lost.reason), (1, "the keeper of the log was gone"))
