@@ -42,4 +42,4 @@ sample_sync : IsSync sample.the_row
 sample_sync = search (sendable, crosses, maps.crosses, tuple_sync) depth 40
 
 pub trace_sync : IsSync trace.the_row
-trace_sync = search (sendable, crosses, maps.crosses, rules_sync, chains_sync, sample_sync, tuple_sync) depth 40 fits 100000
+trace_sync = search (sendable, crosses, maps.crosses, rules_sync, chains_sync, sample_sync, places_sync) depth 40 fits 100000

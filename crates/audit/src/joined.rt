@@ -18,7 +18,7 @@ ghost use Rattle.audit.specs.declared.plain.AuditFault.TheVariants as faults;
 ghost use Rattle.audit.specs.declared.plain.Verdict.TheVariants.{Clean};
 
 use crate::plain::{AuditFault, Verdict};
-use crate::reading::{of_evidence, of_trace};
+use crate::reading::{let_go, of_evidence, of_trace};
 use crate::telling::tell_findings;
 use evidence_check::{Judged, judge_evidence_behind};
 use findings::findings_judged;
@@ -126,11 +126,16 @@ pub fn audit_joined<R: Source, W: Sink>(
     right_and_fresh_without_findings(&trace);
     let judgements = match judgements_behind(alloc, rest, input, &trace) {
         Ok(judgements) => judgements,
-        Err(fault) => return Err(fault),
+        Err(fault) => {
+            let_go(trace);
+            return Err(fault);
+        }
     };
-    let findings = match findings_judged(alloc, &trace, &judgements) {
-        Ok(findings) => findings,
-        Err(_) => return Err(AuditFault::OutOfMemory),
-    };
-    tell_findings(alloc, &findings, trace.len(), out)
+    let found = findings_judged(alloc, &trace, &judgements);
+    let entries = trace.len();
+    let_go(trace);
+    match found {
+        Ok(findings) => tell_findings(alloc, &findings, entries, out),
+        Err(_) => Err(AuditFault::OutOfMemory),
+    }
 }

@@ -10,7 +10,7 @@ ghost use Rattle.audit.specs.History.{IsOfHistory};
 ghost use Rattle.audit.specs.Made.{IsMade, record_line, line_without, AreRecords, MakesRecords, BreaksMaking};
 
 use crate::plain::AuditFault;
-use crate::reading::trace_from;
+use crate::reading::{let_go, trace_from};
 use crate::telling::tell;
 use evidence_check::Steps;
 use evidence_maker::{Found, MakeFault, make_after};
@@ -120,7 +120,9 @@ pub fn make_records_listing<A: Source, W: Sink>(
         Ok(trace) => trace,
         Err(fault) => return Err(fault),
     };
-    tell_records(alloc, &trace, out)
+    let answer = tell_records(alloc, &trace, out);
+    let_go(trace);
+    answer
 }
 
 /// Writes evidence for a trace: a record for each entry in order, a line each. An entry that the maker gave up has none, and how many these are

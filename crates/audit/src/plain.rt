@@ -12,7 +12,7 @@ ghost use Rattle.findings.specs.Headline.{IsRightAndFresh};
 ghost use Rattle.findings.specs.WrongReplies.{HasOnlyWrongRepliesNamed};
 
 use crate::finder::{Finder, OneThread};
-use crate::reading::trace_from;
+use crate::reading::{let_go, trace_from};
 use crate::telling::tell_findings;
 use evidence_check::{Evidence, EvidenceFault};
 use findings::findings_of;
@@ -106,11 +106,13 @@ pub(crate) fn audit_with<A: Source, B: Source, W: Sink, F: Finder<B>>(
         Err(fault) => return Err(fault),
     };
     right_and_fresh_without_findings(&trace);
-    let findings = match finder.findings(alloc, &trace, evidence) {
-        Ok(findings) => findings,
-        Err(fault) => return Err(fault),
-    };
-    tell_findings(alloc, &findings, trace.len(), out)
+    let found = finder.findings(alloc, &trace, evidence);
+    let entries = trace.len();
+    let_go(trace);
+    match found {
+        Ok(findings) => tell_findings(alloc, &findings, entries, out),
+        Err(fault) => Err(fault),
+    }
 }
 
 /// Audits a trace by its evidence, and writes the report: a line for each finding, by trace line, then how many

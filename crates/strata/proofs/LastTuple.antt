@@ -53,7 +53,7 @@ number_parts es q p m h = by (place_of q (namespace_names es)) (relations_of q e
     by (Some n) None is found g = cc
     by (Some n) (Some os) is found g = by_relation n os is found (place_of p (relation_names os)) refl g
 
-placed : (p : List ℕ) (names : List (List ℕ)) (n : ℕ) → place_of p names ≡ Some n → item_at n names ≡ Some p
+pub placed : (p : List ℕ) (names : List (List ℕ)) (n : ℕ) → place_of p names ≡ Some n → item_at n names ≡ Some p
 placed p names n h = by (position (bytes_eq p) names) refl h
   where
     by : (o : Option ℕ) → position (bytes_eq p) names ≡ o → option_map (λ i. i + 1) o ≡ Some n → item_at n names ≡ Some p

@@ -17,9 +17,9 @@ use Rattle.namespaces.proofs.Growth.{passed}
 use Rattle.refusals.specs.Refusals.{◌>>=◌}
 use Rattle.json_lines.specs.Fields.{text_at}
 use Rattle.strata.specs.Edges.{first_broken, edges_of_tuples}
-use Rattle.trace_lines.specs.Covers.{IsCover, IsCoverBefore}
-use Rattle.trace_lines.specs.Declaring.{AreUnbroken, IsDeclaredLast}
-use Rattle.trace_lines.specs.declared.cover.Cover.{Cover}
+use Rattle.trace_lines.specs.Declaring.{AreUnbroken, IsDeclaredLast, IsDeclaredOver}
+use Rattle.trace_lines.specs.Indexed.{IsIndex, IsIndexBefore}
+use Rattle.trace_lines.specs.declared.edge_index.EdgeIndex.{EdgeIndex}
 
 step : {A B : Type 0} (r : Result A RulesFault) (f : A → Result B RulesFault) (y : B) → (r >>= f) ≡ Ok y → (x : A) × (r ≡ Ok x) × (f x ≡ Ok y)
 step (Ok x) f y h = (x, refl, h)
@@ -52,21 +52,22 @@ continued_same (Some old) n got h = by (keeps_names old n.relations) (keeps_stra
     by true false g = cc
     by true true g = cc
 
-pub after_add : (ds es : List Declaration) (d : Data) → rules_add ds d ≡ Ok es → AreUnbroken ds → IsDeclaredLast es d
-after_add ds es d h unbroken =
+-- what a value declares that adds a namespace
+pub addition_made : (ds es : List Declaration) (d : Data) → rules_add ds d ≡ Ok es → (last : Declaration) × (es ≡ ds ++ last ∷ []) × (text_at (codes "name") d ≡ Some last.name)
+addition_made ds es d h =
     let one = step (added ds d) (λ n. Ok (ds ++ addition n ∷ [])) es h in
     let two = step (namespace d) (checked_addition ds) one.0 one.1 in
     let same : two.0 ≡ one.0 = (passed (is_declared two.0.name ds) (is_full ds) two.0 one.0 two.2).same in
-    record {
-      before = ds;
-      last = addition one.0;
-      are = let e : Ok (ds ++ addition one.0 ∷ []) ≡ Ok es = one.2 in let f : ds ++ addition one.0 ∷ [] ≡ es = cc in sym f;
-      named = named_by d two.0 two.1 ∙ ap (λ (m : Namespace). Some m.name) same;
-      unbroken = unbroken;
-    }
+    let are : ds ++ addition one.0 ∷ [] ≡ es = (let e : Ok (ds ++ addition one.0 ∷ []) ≡ Ok es = one.2 in cc) in
+    (addition one.0, sym are, named_by d two.0 two.1 ∙ ap (λ (m : Namespace). Some m.name) same)
+
+pub after_add : (ds es : List Declaration) (d : Data) → rules_add ds d ≡ Ok es → AreUnbroken ds → IsDeclaredLast es d
+after_add ds es d h unbroken =
+    let is = addition_made ds es d h in
+    record { before = ds; last = is.0; are = is.1; named = is.2; unbroken = unbroken }
 
 -- what a change declares last
-change_made : (ds es : List Declaration) (at : ℕ) (d : Data) → rules_change ds at d ≡ Ok es
+pub change_made : (ds es : List Declaration) (at : ℕ) (d : Data) → rules_change ds at d ≡ Ok es
     → (last : Declaration) × (es ≡ ds ++ last ∷ []) × (text_at (codes "name") d ≡ Some last.name)
 change_made ds es at d h =
     let one = step (changed ds d) (λ n. Ok (ds ++ change at n ∷ [])) es h in
@@ -82,21 +83,31 @@ after_change ds es at d h unbroken =
     let is = change_made ds es at d h in
     record { before = ds; last = is.0; are = is.1; named = is.2; unbroken = unbroken }
 
--- and over the tuples before it, and their cover
-pub over_change : (ds es : List Declaration) (at : ℕ) (d : Data) (ts : List TupleValue) (cover : Cover) (q : List ℕ) (has_more : Bool) → rules_change ds at d ≡ Ok es → IsWellFormed es
+-- and over the tuples before it
+pub over_change : (ds es : List Declaration) (at : ℕ) (d : Data) (ts : List TupleValue) (q : List ℕ) (has_more : Bool) → rules_change ds at d ≡ Ok es → IsWellFormed es
     → q ≡ unwrap_or (text_at (codes "name") d) [] → (has_more ≡ false → relation_count q es ≡ relation_count q ds)
-    → first_broken ds (edges_of_tuples ds ts) ≡ Ok (tt {0}) → IsCover ds cover ts → IsCoverBefore es q has_more cover ts
-over_change ds es at d ts cover q has_more h w name count none had =
+    → first_broken ds (edges_of_tuples ds ts) ≡ Ok (tt {0}) → IsDeclaredOver es q has_more ts
+over_change ds es at d ts q has_more h w name count none =
     let is = change_made ds es at d h in
     record {
-      over = record {
-        well_formed = w;
-        before = ds;
-        again = record { last = is.0; are = is.1; named = sym (name ∙ ap (λ (o : Option (List ℕ)). unwrap_or o []) is.2); count = count };
-        unbroken = none;
-      };
-      covered = had;
+      well_formed = w;
+      before = ds;
+      again = record { last = is.0; are = is.1; named = sym (name ∙ ap (λ (o : Option (List ℕ)). unwrap_or o []) is.2); count = count };
+      unbroken = none;
     }
+
+-- and the index before a value declared a namespace
+pub index_before : (ds es : List Declaration) (q : List ℕ) (count : ℕ) (index : EdgeIndex) (ts : List TupleValue) (d : Data) → (last : Declaration) × (es ≡ ds ++ last ∷ []) × (text_at (codes "name") d ≡ Some last.name)
+    → IsWellFormed es → q ≡ unwrap_or (text_at (codes "name") d) [] → count ≡ relation_count q ds → IsIndex ds index ts → IsIndexBefore es q count index ts
+index_before ds es q count index ts d is w name known was = record {
+  well_formed = w;
+  before = ds;
+  last = is.0;
+  are = is.1;
+  named = sym (name ∙ ap (λ (o : Option (List ℕ)). unwrap_or o []) is.2);
+  known = known;
+  was = was;
+}
 
 -- counts that do not differ
 pub same_count : (m n now was : ℕ) → m ≡ now → n ≡ was → not (m == n) ≡ false → now ≡ was

@@ -1,6 +1,7 @@
 -- The trace in front of the marker of joined input.
-use Rattle.std.proofs.Common.{◌≡◌, ◌≢◌, ◌||◌, ℕ, List, Option, Some, None, Result, Ok, Err, refl, ap, true}
-use Rattle.std.specs.Prelude.{IfErr, IfSome}
+use Rattle.std.proofs.Common.{◌≡◌, ◌≢◌, ◌||◌, ℕ, List, Option, Some, None, Result, Ok, Err, refl, ap, ◌∙◌, true}
+use Rattle.std.specs.Prelude.{IfErr, IfSome, IsErrAnd}
+use Rattle.json_lines.specs.declared.lines.InputFault.{InputFault}
 use Rattle.json_lines.specs.Joined.{IsFront, RestValue}
 use Rattle.json_lines.specs.Reading.{cause_of, read_all, Reads, IsOfLine, IsOfSomeLine}
 use Rattle.json_lines.specs.declared.reading.LineFault.{LineFault}
@@ -36,3 +37,8 @@ front_made given now (Some r) start began t made same h =
 pub made_by_lines : (t : TraceValue) (made : Result (Unit {0}) (LineFault Cause)) → IfErr made (λ e. IsOfLine e.stop × IsOfSomeLine taken e) → IfErr (made_of t made) (λ e. e.cause ≢ causes.Read)
 made_by_lines t (Ok u) h = tt
 made_by_lines t (Err fault) h = of_line_alone taken of_input fault readers_own h.0 h.1
+
+-- a fault that is passed on is the one that is answered
+pub passed_on : {X Y : Type 0} (r : Result X InputFault) (f g : InputFault) → IsErrAnd r (λ e. e ≡ f) → ◌≡◌ {A = Result Y InputFault} (Err f) (Err g) → r ≡ Err g
+passed_on (Ok x) f g none same = absurd none
+passed_on (Err e) f g is same = let one : f ≡ g = cc in ap (λ (x : InputFault). Err x) (is ∙ one)

@@ -1,13 +1,16 @@
 pub mod Answers
-pub mod Covering
+pub mod Chains
 pub mod Declared
+pub mod Fitting
 pub mod FrontLemmas
+pub mod Indexing
 pub mod IssuedVersions
 pub mod IssuerWalk
 pub mod Keeping
 pub mod LineCauses
 pub mod OfBytes
 pub mod Orderly
+pub mod Reading
 pub mod Recording
 pub mod RisingLines
 pub mod Sampling

@@ -30,13 +30,10 @@ use Rattle.trace_lines.specs.Causes.{Gives, namespace_cause}
 use Rattle.trace_lines.specs.Values.{TraceValue}
 use Rattle.trace_lines.specs.Traces.{strata_cause, rules_checked, tuples_checked, late_or, with_namespace, changes_of, append_cause, commit_checked, with_touches, with_commit, empty_commit, change_line}
 use Rattle.trace_lines.specs.Declaring.{checked, changed_rules, rules_changed, refused_late}
-use Rattle.trace_lines.specs.Covers.{IsCover}
 use Rattle.trace_lines.specs.Tuples.{Represents, IsOrderly}
 use Rattle.trace_lines.specs.declared.cause.Cause.{Cause}
-use Rattle.trace_lines.specs.declared.cover.Cover.{Cover}
 use Rattle.trace_lines.specs.declared.cause.Cause.TheVariants as causes
 use Rattle.trace_lines.proofs.Answers.{made}
-use Rattle.trace_lines.proofs.Covering.{cover_without, cover_of_none}
 use Rattle.trace_lines.proofs.Sampling.{none_broken, tuples_joined, represents_then, unbroken_without_rules}
 
 pub orderly_empty : IsOrderly [] [] []
@@ -220,11 +217,14 @@ not_late true ds es d h =
     let late : Err causes.Late ≡ Ok es = one.2 in
     cc
 
--- what a line of a namespace leaves covered: nothing was added so far
-pub cover_declared : (r : Result (Unit {0}) Cause) (begun : Bool) (ds es : List Declaration) (commits : List Commit) (sample : List TupleValue) (cover : Cover) (d : Data)
-    → IsOrderly ds commits sample → (begun ≡ false → length commits ≡ 0) → Gives (λ u. es) r (with_namespace begun ds d) → OnErr r (es ≡ []) → IsCover ds cover sample → IsCover es cover sample
-cover_declared (Err e) begun ds es commits sample cover d is first gives none had = rw none (cover_without ds cover sample had)
-cover_declared (Ok u) begun ds es commits sample cover d is first gives none had = cover_of_none ds es cover sample (is.empty (first (not_late begun ds es d gives))) had
+-- what is declared by a line that is not refused
+pub namespace_made : (begun : Bool) (ds es : List Declaration) (d : Data) → with_namespace begun ds d ≡ Ok es → rules_add ds d ≡ Ok es
+namespace_made begun ds es d h =
+    let one = step_ok (namespace_cause (rules_add ds d)) (late_or begun) es h in
+    let late = not_late begun ds es d h in
+    let two = step_ok (rules_checked one.0) (λ u. Ok one.0) es (subst (λ (b : Bool). late_or b one.0 ≡ Ok es) late one.2) in
+    let same : one.0 ≡ es = let e : Ok one.0 ≡ Ok es = two.2 in cc in
+    rules_ok (rules_add ds d) es (one.1 ∙ ap (λ (xs : List Declaration). Ok xs) same)
 
 -- what a line of a namespace leaves
 pub orderly_declared : (r : Result (Unit {0}) Cause) (begun : Bool) (ds es : List Declaration) (commits : List Commit) (sample : List TupleValue) (d : Data)

@@ -1,9 +1,10 @@
 pub mod Causes
-pub mod Covers
 pub mod Declaring
+pub mod Indexed
 pub mod Issued
 pub mod Kept
 pub mod LineFields
+pub mod Reads
 pub mod Recorded
 pub mod Results
 pub mod Texts

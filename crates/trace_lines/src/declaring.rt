@@ -6,12 +6,12 @@ ghost use Rattle.json_lines.specs.Fields.{text_at};
 ghost use Rattle.namespaces.specs.Changing.{IsLater};
 ghost use Rattle.strata.specs.Edges.{first_broken, edges_of_tuples};
 ghost use Rattle.trace_lines.specs.Causes.{Gives, Fails, namespace_cause};
-ghost use Rattle.trace_lines.specs.Covers.{IsCover};
+ghost use Rattle.trace_lines.specs.Indexed.{IsIndex};
 ghost use Rattle.trace_lines.specs.Declaring.{AreUnbroken, IsDeclaredLast, checked, changed_rules, refused_late};
 ghost use Rattle.trace_lines.specs.Traces.{with_namespace, rules_checked};
 
 use crate::cause::Cause;
-use crate::cover::Cover;
+use crate::edge_index::EdgeIndex;
 use crate::sample::Sample;
 use namespaces::{Rules, RulesFault};
 use serde_json::Value;
@@ -52,20 +52,45 @@ fn add(rules: &mut Rules, begun: bool, value: &Value) -> Result<(), Cause>
     check(rules, value)
 }
 
+fn add_indexed(
+    rules: &mut Rules,
+    index: &mut EdgeIndex,
+    sample: &Sample,
+    begun: bool,
+    value: &Value,
+) -> Result<(), Cause>
+    requires unbroken { AreUnbroken rules.old }
+    requires index { IsIndex rules.old index.old sample.now }
+    ensures answer { Gives (λ _. rules.new) result (with_namespace begun rules.old (view value.now)) }
+    ensures index { OnOk result (IsIndex rules.new index.new sample.now) }
+    ensures later { (at : ℕ) → IsLater at rules.old → IsLater at rules.new }
+{
+    let namespace = text_at(value, "name").unwrap_or("");
+    let known = rules.relation_count(namespace);
+    add(rules, begun, value)?;
+    index.begin(rules, sample, namespace, known)?;
+    Ok(())
+}
+
 /// Declares a namespace that is in force from the start on.
 pub(crate) fn declare(
     alloc: Global,
     rules: &mut Rules,
+    index: &mut EdgeIndex,
+    sample: &Sample,
     begun: bool,
     value: &Value,
 ) -> Result<(), Cause>
-    requires { AreUnbroken rules.old }
+    requires unbroken { AreUnbroken rules.old }
+    requires index { IsIndex rules.old index.old sample.now }
     ensures answer { Gives (λ _. rules.new) result (with_namespace begun rules.old (view value.now)) }
+    ensures index { IsIndex rules.new index.new sample.now }
     ensures dropped { OnErr result (rules.new ≡ []) }
     ensures later { OnOk result ((at : ℕ) → IsLater at rules.old → IsLater at rules.new) }
 {
-    let answer = add(rules, begun, value);
+    let answer = add_indexed(rules, index, sample, begun, value);
     if answer.is_err() {
+        index.give_up();
         *rules = Rules::new(alloc);
     }
     answer
@@ -73,7 +98,7 @@ pub(crate) fn declare(
 
 fn make_change(
     rules: &mut Rules,
-    cover: &mut Cover,
+    index: &mut EdgeIndex,
     sample: &Sample,
     at: u64,
     value: &Value,
@@ -81,9 +106,9 @@ fn make_change(
     requires later { IsLater at rules.old }
     requires unbroken { AreUnbroken rules.old }
     requires tuples { first_broken rules.old (edges_of_tuples rules.old sample.now) ≡ Ok (tt {0}) }
-    requires cover { IsCover rules.old cover.old sample.now }
+    requires index { IsIndex rules.old index.old sample.now }
     ensures answer { Gives (λ _. rules.new) result (changed_rules at rules.old sample.now (view value.now)) }
-    ensures cover { OnOk result (IsCover rules.new cover.new sample.now) }
+    ensures index { OnOk result (IsIndex rules.new index.new sample.now) }
     ensures later { (next : ℕ) → at < next → IsLater next rules.new }
 {
     let namespace = text_at(value, "name").unwrap_or("");
@@ -95,14 +120,14 @@ fn make_change(
     }
     check(rules, value)?;
     let has_more = rules.relation_count(namespace) != known;
-    cover.follow(rules, sample, namespace, has_more)
+    index.follow(rules, sample, namespace, known, has_more)
 }
 
 /// Declares a namespace, or gives one a new list of relations, in force from a timestamp on.
 pub(crate) fn change(
     alloc: Global,
     rules: &mut Rules,
-    cover: &mut Cover,
+    index: &mut EdgeIndex,
     sample: &Sample,
     at: u64,
     value: &Value,
@@ -110,15 +135,15 @@ pub(crate) fn change(
     requires later { IsLater at rules.old }
     requires unbroken { AreUnbroken rules.old }
     requires tuples { first_broken rules.old (edges_of_tuples rules.old sample.now) ≡ Ok (tt {0}) }
-    requires cover { IsCover rules.old cover.old sample.now }
+    requires index { IsIndex rules.old index.old sample.now }
     ensures answer { Gives (λ _. rules.new) result (changed_rules at rules.old sample.now (view value.now)) }
-    ensures cover { IsCover rules.new cover.new sample.now }
+    ensures index { IsIndex rules.new index.new sample.now }
     ensures dropped { OnErr result (rules.new ≡ []) }
     ensures later { OnOk result ((next : ℕ) → at < next → IsLater next rules.new) }
 {
-    let answer = make_change(rules, cover, sample, at, value);
+    let answer = make_change(rules, index, sample, at, value);
     if answer.is_err() {
-        cover.give_up();
+        index.give_up();
         *rules = Rules::new(alloc);
     }
     answer

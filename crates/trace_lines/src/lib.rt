@@ -17,12 +17,14 @@
 
 mod cause;
 mod checks;
-mod cover;
 mod declaring;
+mod edge_index;
 mod entry;
 mod front;
+mod kinds;
 pub mod laws;
 mod read;
+mod reads;
 mod recorded;
 mod sample;
 mod texts;

@@ -6,16 +6,19 @@ ghost use Rattle.tuple_text.specs.TupleRefs.{tuple_value, tuple_values};
 ghost use Rattle.strata.specs.Edges.{first_broken, edges_of_tuples};
 ghost use Rattle.trace_lines.specs.Causes.{Gives};
 ghost use Rattle.trace_lines.specs.Declaring.{IsDeclaredOver};
+ghost use Rattle.trace_lines.specs.Indexed.{IsIndex};
 ghost use Rattle.trace_lines.specs.Traces.{tuples_checked};
 ghost use Rattle.trace_lines.specs.Tuples.{is_of_kind, is_user_of_kind, Represents, IsSomeOfKind};
 
 use crate::cause::Cause;
+use crate::edge_index::EdgeIndex;
 use namespaces::{RelNo, Rules};
 use std::alloc::Global;
 use std::collections::BTreeMap;
 use std::marker::Model;
 use strata::{Edge, check_tuple, check_tuple_by, reads_tuplesets};
 use tuple_text::{SetRef, Tuple, TupleRef, UserRef};
+use version_chains::{MarkedSet, fact_mark};
 
 /// Of all tuples that were ever added the first of each kind, in order, where a kind is the relations of a tuple's userset and of its user.
 /// Their edges are those of all. Now and then a kind has more than one.
@@ -54,18 +57,21 @@ fn is_of_kind(one: &Tuple, other: TupleRef<'_>) -> bool
         && is_user_of_kind(one.user(), other.user())
 }
 
-/// A number that tuples of one kind share.
+fn packed(number: RelNo) -> u64 {
+    u64::from(number.namespace) << 16 | u64::from(number.relation)
+}
+
+/// A number that tuples of one kind share. Where the user's relation is not declared it is a mark of its names.
 fn kind_number(rules: &Rules, set: SetRef<'_>, user: SetRef<'_>) -> u64 {
     let undeclared = RelNo {
-        namespace: rules.namespace_number(user.namespace).unwrap_or(0),
+        namespace: 0,
         relation: 0,
     };
-    let set = rules.number(set).unwrap_or(undeclared);
-    let user = rules.number(user).unwrap_or(undeclared);
-    u64::from(set.namespace) << 48
-        | u64::from(set.relation) << 32
-        | u64::from(user.namespace) << 16
-        | u64::from(user.relation)
+    let set = packed(rules.number(set).unwrap_or(undeclared));
+    match rules.number(user) {
+        Some(user) => set << 32 | packed(user),
+        None => fact_mark(MarkedSet::of(SetRef { id: "", ..user }), set),
+    }
 }
 
 impl Sample {
@@ -110,12 +116,20 @@ impl Sample {
         }
     }
 
-    /// Takes one more tuple, or refuses the first of its edges that is broken.
-    fn admit(&mut self, rules: &Rules, tuple: TupleRef<'_>) -> Result<(), Cause>
-        requires { first_broken rules.now (edges_of_tuples rules.now self.old) ≡ Ok (tt {0}) }
+    /// Takes one more tuple, or refuses the first of its edges that is broken. The rules are walked over for that only where
+    /// the index does not know.
+    fn admit(
+        &mut self,
+        rules: &Rules,
+        index: &mut EdgeIndex,
+        tuple: TupleRef<'_>,
+    ) -> Result<(), Cause>
+        requires unbroken { first_broken rules.now (edges_of_tuples rules.now self.old) ≡ Ok (tt {0}) }
+        requires index { IsIndex rules.now index.old self.old }
         ensures answer { Gives (λ u. u) result (tuples_checked rules.now (tuple_value tuple.entry ∷ [])) }
         ensures taken { OnOk result (Represents self.new (self.old ++ tuple_value tuple.entry ∷ [])) }
         ensures kept { take (length self.old) self.new ≡ self.old }
+        ensures index { OnOk result (IsIndex rules.now index.new self.new) }
     {
         let UserRef::Set(user) = tuple.user() else {
             return Ok(());
@@ -125,8 +139,11 @@ impl Sample {
             return Ok(());
         }
         let tuple = tuple.to_tuple(*self.tuples.allocator())?;
-        if let Err(edge) = check_tuple(rules, &tuple) {
-            return Err(Cause::Strata(edge));
+        if !index.admit(rules, &self.tuples, &tuple)? {
+            index.give_up();
+            if let Err(edge) = check_tuple(rules, &tuple) {
+                return Err(Cause::Strata(edge));
+            }
         }
         self.places.insert(kind, self.tuples.len())?;
         self.tuples.push(tuple)?;
@@ -134,14 +151,21 @@ impl Sample {
     }
 
     /// Takes more tuples, or refuses the first of their edges that is broken. The tuples that were there stay in front.
-    pub(crate) fn admit_all(&mut self, rules: &Rules, tuples: &[TupleRef<'_>]) -> Result<(), Cause>
-        requires { first_broken rules.now (edges_of_tuples rules.now self.old) ≡ Ok (tt {0}) }
+    pub(crate) fn admit_all(
+        &mut self,
+        rules: &Rules,
+        index: &mut EdgeIndex,
+        tuples: &[TupleRef<'_>],
+    ) -> Result<(), Cause>
+        requires unbroken { first_broken rules.now (edges_of_tuples rules.now self.old) ≡ Ok (tt {0}) }
+        requires index { IsIndex rules.now index.old self.old }
         ensures answer { Gives (λ u. u) result (tuples_checked rules.now (tuple_values tuples.now)) }
         ensures taken { OnOk result (Represents self.new (self.old ++ tuple_values tuples.now)) }
         ensures kept { take (length self.old) self.new ≡ self.old }
+        ensures index { OnOk result (IsIndex rules.now index.new self.new) }
     {
         for tuple in tuples {
-            self.admit(rules, *tuple)?;
+            self.admit(rules, index, *tuple)?;
         }
         Ok(())
     }
@@ -155,12 +179,7 @@ impl Sample {
     }
 }
 
-pub(crate) fn check_all(
-    rules: &Rules,
-    namespace: &str,
-    has_more: bool,
-    tuples: &[Tuple],
-) -> Result<(), Edge>
+fn check_all(rules: &Rules, namespace: &str, has_more: bool, tuples: &[Tuple]) -> Result<(), Edge>
     requires { IsDeclaredOver rules.now namespace.now has_more tuples.now }
     ensures { result ≡ first_broken rules.now (edges_of_tuples rules.now tuples.now) }
 {

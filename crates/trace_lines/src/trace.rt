@@ -8,7 +8,7 @@ ghost use Rattle.json_lines.specs.Data.{value_data, line_data};
 ghost use Rattle.tuple_text.specs.Refs.{set_value};
 ghost use Rattle.tuple_text.specs.TupleRefs.{tuple_values};
 ghost use Rattle.trace_lines.specs.Causes.{Gives};
-ghost use Rattle.trace_lines.specs.Covers.{IsCover};
+ghost use Rattle.trace_lines.specs.Indexed.{IsIndex};
 ghost use Rattle.trace_lines.specs.LineFields.{commit_fields};
 ghost use Rattle.trace_lines.specs.Values.{empty_trace, entry_value, entry_lines, next_line};
 ghost use Rattle.trace_lines.specs.Traces.{is_declared, are_declared, is_begun, namespace_line, change_line, declaration_line, commit_checked, commit_of, with_commit, commit_line, entry_of, recorded, with_entry, entry_line, value_line};
@@ -28,8 +28,8 @@ ghost use Rattle.std.specs.List.Sorted.{IsStrictlyIncreasing};
 
 use crate::cause::Cause;
 use crate::checks::entry_of;
-use crate::cover::Cover;
 use crate::declaring::{change, declare, late_change};
+use crate::edge_index::EdgeIndex;
 use crate::entry::{Entry, EntryKind};
 use crate::recorded::Recorded;
 use crate::sample::Sample;
@@ -52,8 +52,8 @@ pub struct Trace {
     chains: Chains,
     // of the tuples ever added
     sample: Sample,
-    // of the sample
-    cover: Cover,
+    // of the rules and the sample
+    index: EdgeIndex,
     commit_lines: Vec<u64>,
     recorded: Vec<Recorded>,
     versions: Versions,
@@ -68,7 +68,7 @@ impl Model for Trace {
 
     ghost coded = { trace_code };
 
-    ghost use Rattle.trace_lines.specs.Covers.{IsCover};
+    ghost use Rattle.trace_lines.specs.Indexed.{IsIndex};
     ghost use Rattle.trace_lines.specs.Kept.{IsKept};
     ghost use Rattle.trace_lines.specs.Recorded.{shown, contents};
     ghost use Rattle.trace_lines.specs.Tuples.{IsOrderly};
@@ -76,30 +76,29 @@ impl Model for Trace {
     ghost view = { λ t. record { declarations = t.rules; commits = t.chains.commits; commit_lines = t.commit_lines.items; entries = shown t.recorded.items } };
 
     ghost invariant = { λ t. (t.chains.limit ≡ 2 ^ 32 - 1) × IsKept t.chains.commits t.commit_lines.items (shown t.recorded.items) (contents t.recorded.items) t.versions
-        × IsOrderly t.rules t.chains.commits t.sample × IsCover t.rules t.cover t.sample };
+        × IsOrderly t.rules t.chains.commits t.sample × IsIndex t.rules t.index t.sample };
 }
 
-/// Commits changes to the chains, and takes what they add into the sample and its cover. The tuples that were there stay in front.
+/// Commits changes to the chains, and takes what they add into the sample and the index. The tuples that were there stay in front.
 fn commit(
     rules: &Rules,
     sample: &mut Sample,
-    cover: &mut Cover,
+    index: &mut EdgeIndex,
     chains: &mut Chains,
     at: u64,
     adds: &[TupleRef<'_>],
     removes: &[TupleRef<'_>],
 ) -> Result<(), Cause>
-    requires { first_broken rules.now (edges_of_tuples rules.now sample.old) ≡ Ok (tt {0}) }
+    requires unbroken { first_broken rules.now (edges_of_tuples rules.now sample.old) ≡ Ok (tt {0}) }
+    requires index { IsIndex rules.now index.old sample.old }
     ensures answer { Gives (λ u. u) result (commit_checked rules.now chains.old at (tuple_values adds.now) (tuple_values removes.now)) }
     ensures appended { OnOk result (chains.new ≡ appended chains.old at (tuple_values adds.now) (tuple_values removes.now)) }
     ensures unchanged { OnErr result (chains.new ≡ chains.old) }
     ensures taken { OnOk result (Represents sample.new (sample.old ++ tuple_values adds.now)) }
     ensures kept { take (length sample.old) sample.new ≡ sample.old }
-    ensures cover { OnOk result (IsCover rules.now cover.old sample.old → IsCover rules.now cover.new sample.new) }
+    ensures index { OnOk result (IsIndex rules.now index.new sample.new) }
 {
-    let known = sample.len();
-    sample.admit_all(rules, adds)?;
-    cover.add_behind(rules, known, sample)?;
+    sample.admit_all(rules, index, adds)?;
     match chains.append_borrowed(at, adds, removes) {
         Ok(()) => Ok(()),
         Err(AppendFault::OutOfMemory) => Err(Cause::OutOfMemory),
@@ -116,7 +115,7 @@ impl Trace {
             rules: Rules::new(alloc),
             chains: Chains::new(alloc, u32::MAX),
             sample: Sample::new(alloc),
-            cover: Cover::new(alloc),
+            index: EdgeIndex::new(alloc),
             commit_lines: Vec::new(alloc),
             recorded: Vec::new(alloc),
             versions: Versions::new(alloc),
@@ -220,7 +219,14 @@ impl Trace {
         ensures { Gives (λ _. self.new) result (namespace_line self.old (view value.now)) }
     {
         let begun = self.is_begun();
-        declare(self.alloc, &mut self.rules, begun, value)
+        declare(
+            self.alloc,
+            &mut self.rules,
+            &mut self.index,
+            &self.sample,
+            begun,
+            value,
+        )
     }
 
     /// Whether a commit or an entry stands on an earlier line.
@@ -254,7 +260,7 @@ impl Trace {
         change(
             self.alloc,
             &mut self.rules,
-            &mut self.cover,
+            &mut self.index,
             &self.sample,
             at,
             value,
@@ -318,7 +324,7 @@ impl Trace {
         match commit(
             &self.rules,
             &mut self.sample,
-            &mut self.cover,
+            &mut self.index,
             &mut self.chains,
             at,
             adds,
@@ -327,7 +333,7 @@ impl Trace {
             Ok(()) => {}
             Err(cause) => {
                 self.sample.truncate(known);
-                self.cover.give_up();
+                self.index.give_up();
                 return Err(cause);
             }
         }

@@ -38,35 +38,41 @@ returns-in-Err-clause-devices g c =
 pub returns-in-Err-clause-faults : goal.returns-in-Err-clause-faults
 returns-in-Err-clause-faults g c = of_behind c.in-Err.fault c.in-Err.ensures.faults
 
-pub returns-clause-audits : goal.returns-clause-audits
-returns-clause-audits g c =
+pub returns-in-Ok-found-clause-audits : goal.returns-in-Ok-found-clause-audits
+returns-in-Ok-found-clause-audits g c =
     let read = evidence_read g.R.Source.given g.R.Source.ends c.trace_of_front.new.input c.judgements_behind.new.input c.in_ok-trace.rest c.in_ok-trace.trace c.in-Ok.judgements c.in-Ok.ensures.given in
     let says = parts_said g.R.Source.given g.R.Source.ends c.args.input.now c.trace_of_front.new.input c.judgements_behind.new.input c.in_ok-trace.rest c.in_ok-trace.trace read.0 c.in_ok-trace.ensures.given c.in_ok-trace.ensures.ended read.2 in
     let out = writes g.W.Sink.taken g.W.Sink.flushes g.W.Sink.failures g.W.Sink.idle g.W.Write.contents c.args.out.now c.tell_findings.new.out in
-    let told = as_report c.in_ok-trace.trace read.0 c.deref-2.result.now c.len.result out c.tell_findings.result (c.deref-2.ensures.value ∙ c.in-Ok-findings_judged.ensures read.0 (subst (λ (js : List Judged). AreJudged c.in_ok-trace.trace read.0 js) (sym c.deref.ensures.value) read.1)) c.len.ensures.count c.tell_findings.ensures in
+    let told = as_report c.in_ok-trace.trace read.0 c.deref-in-Ok-found.result.now c.len-entries.result out c.tell_findings.result (c.deref-in-Ok-found.ensures.value ∙ c.in-Ok-found.ensures read.0 (subst (λ (js : List Judged). AreJudged c.in_ok-trace.trace read.0 js) (sym c.deref.ensures.value) read.1)) c.len-entries.ensures.count c.tell_findings.ensures in
     joined_audited g.R.Source.given g.R.Source.ends c.args.input.now c.judgements_behind.new.input c.in_ok-trace.trace read.0 says out c.tell_findings.result told
 
-pub returns-clause-headline : goal.returns-clause-headline
-returns-clause-headline g c = λ e.
+pub returns-in-Ok-found-clause-headline : goal.returns-in-Ok-found-clause-headline
+returns-in-Ok-found-clause-headline g c = λ e.
     let read = evidence_read g.R.Source.given g.R.Source.ends c.trace_of_front.new.input c.judgements_behind.new.input c.in_ok-trace.rest c.in_ok-trace.trace c.in-Ok.judgements c.in-Ok.ensures.given in
     let says = parts_said g.R.Source.given g.R.Source.ends c.args.input.now c.trace_of_front.new.input c.judgements_behind.new.input c.in_ok-trace.rest c.in_ok-trace.trace read.0 c.in_ok-trace.ensures.given c.in_ok-trace.ensures.ended read.2 in
     let out = writes g.W.Sink.taken g.W.Sink.flushes g.W.Sink.failures g.W.Sink.idle g.W.Write.contents c.args.out.now c.tell_findings.new.out in
-    let told = as_report c.in_ok-trace.trace read.0 c.deref-2.result.now c.len.result out c.tell_findings.result (c.deref-2.ensures.value ∙ c.in-Ok-findings_judged.ensures read.0 (subst (λ (js : List Judged). AreJudged c.in_ok-trace.trace read.0 js) (sym c.deref.ensures.value) read.1)) c.len.ensures.count c.tell_findings.ensures in
+    let told = as_report c.in_ok-trace.trace read.0 c.deref-in-Ok-found.result.now c.len-entries.result out c.tell_findings.result (c.deref-in-Ok-found.ensures.value ∙ c.in-Ok-found.ensures read.0 (subst (λ (js : List Judged). AreJudged c.in_ok-trace.trace read.0 js) (sym c.deref.ensures.value) read.1)) c.len-entries.ensures.count c.tell_findings.ensures in
     joined_right g.R.Source.given g.R.Source.ends c.args.input.now c.judgements_behind.new.input c.in_ok-trace.trace read.0 says (c.right_and_fresh_without_findings.ensures read.0 (told_clean c.in_ok-trace.trace read.0 out c.tell_findings.result told e))
 
-pub returns-clause-wrong_replies : goal.returns-clause-wrong_replies
-returns-clause-wrong_replies g c =
+pub returns-in-Ok-found-clause-wrong_replies : goal.returns-in-Ok-found-clause-wrong_replies
+returns-in-Ok-found-clause-wrong_replies g c =
     let read = evidence_read g.R.Source.given g.R.Source.ends c.trace_of_front.new.input c.judgements_behind.new.input c.in_ok-trace.rest c.in_ok-trace.trace c.in-Ok.judgements c.in-Ok.ensures.given in
     let says = parts_said g.R.Source.given g.R.Source.ends c.args.input.now c.trace_of_front.new.input c.judgements_behind.new.input c.in_ok-trace.rest c.in_ok-trace.trace read.0 c.in_ok-trace.ensures.given c.in_ok-trace.ensures.ended read.2 in
     joined_named g.R.Source.given g.R.Source.ends c.args.input.now c.judgements_behind.new.input c.in_ok-trace.trace read.0 says c.tell_findings.result
 
-pub returns-clause-write : goal.returns-clause-write
-returns-clause-write g c = λ n e.
+pub returns-in-Ok-found-clause-write : goal.returns-in-Ok-found-clause-write
+returns-in-Ok-found-clause-write g c = λ n e.
     let read = evidence_read g.R.Source.given g.R.Source.ends c.trace_of_front.new.input c.judgements_behind.new.input c.in_ok-trace.rest c.in_ok-trace.trace c.in-Ok.judgements c.in-Ok.ensures.given in
     let says = parts_said g.R.Source.given g.R.Source.ends c.args.input.now c.trace_of_front.new.input c.judgements_behind.new.input c.in_ok-trace.rest c.in_ok-trace.trace read.0 c.in_ok-trace.ensures.given c.in_ok-trace.ensures.ended read.2 in
     let out = writes g.W.Sink.taken g.W.Sink.flushes g.W.Sink.failures g.W.Sink.idle g.W.Write.contents c.args.out.now c.tell_findings.new.out in
-    let told = as_report c.in_ok-trace.trace read.0 c.deref-2.result.now c.len.result out c.tell_findings.result (c.deref-2.ensures.value ∙ c.in-Ok-findings_judged.ensures read.0 (subst (λ (js : List Judged). AreJudged c.in_ok-trace.trace read.0 js) (sym c.deref.ensures.value) read.1)) c.len.ensures.count c.tell_findings.ensures in
+    let told = as_report c.in_ok-trace.trace read.0 c.deref-in-Ok-found.result.now c.len-entries.result out c.tell_findings.result (c.deref-in-Ok-found.ensures.value ∙ c.in-Ok-found.ensures read.0 (subst (λ (js : List Judged). AreJudged c.in_ok-trace.trace read.0 js) (sym c.deref.ensures.value) read.1)) c.len-entries.ensures.count c.tell_findings.ensures in
     joined_broken g.R.Source.given g.R.Source.ends c.args.input.now c.judgements_behind.new.input c.in_ok-trace.trace read.0 says out c.tell_findings.result told n e
+
+pub returns-in-Ok-found-clause-most : goal.returns-in-Ok-found-clause-most
+returns-in-Ok-found-clause-most g c = most_behind g.R.Source.given g.R.Source.ends c.args.input.now c.trace_of_front.new.input c.judgements_behind.new.input c.in_ok-trace.rest (λ a. trace_of true a ≡ Ok c.in_ok-trace.trace) c.in_ok-trace.ensures.given 65536 c.judgements_behind.ensures.most
+
+pub returns-in-Ok-found-clause-known : goal.returns-in-Ok-found-clause-known
+returns-in-Ok-found-clause-known g c = next-trans g.R.Source.given g.R.Source.ends g.R.Read.remaining c.args.input.now c.trace_of_front.new.input c.judgements_behind.new.input c.trace_of_front.ensures.known c.judgements_behind.ensures.known
 
 pub returns-clause-most : goal.returns-clause-most
 returns-clause-most g c = most_behind g.R.Source.given g.R.Source.ends c.args.input.now c.trace_of_front.new.input c.judgements_behind.new.input c.in_ok-trace.rest (λ a. trace_of true a ≡ Ok c.in_ok-trace.trace) c.in_ok-trace.ensures.given 65536 c.judgements_behind.ensures.most
@@ -74,38 +80,32 @@ returns-clause-most g c = most_behind g.R.Source.given g.R.Source.ends c.args.in
 pub returns-clause-known : goal.returns-clause-known
 returns-clause-known g c = next-trans g.R.Source.given g.R.Source.ends g.R.Read.remaining c.args.input.now c.trace_of_front.new.input c.judgements_behind.new.input c.trace_of_front.ensures.known c.judgements_behind.ensures.known
 
-pub returns-in-Err-findings_judged-clause-most : goal.returns-in-Err-findings_judged-clause-most
-returns-in-Err-findings_judged-clause-most g c = most_behind g.R.Source.given g.R.Source.ends c.args.input.now c.trace_of_front.new.input c.judgements_behind.new.input c.in_ok-trace.rest (λ a. trace_of true a ≡ Ok c.in_ok-trace.trace) c.in_ok-trace.ensures.given 65536 c.judgements_behind.ensures.most
+pub returns-in-Ok-found-clause-faults : goal.returns-in-Ok-found-clause-faults
+returns-in-Ok-found-clause-faults g c = IfErr-weaker c.tell_findings.result _ IsOfJoined (of_writing IsOfJoined tt (λ n. tt)) c.tell_findings.ensures.kinds
 
-pub returns-in-Err-findings_judged-clause-known : goal.returns-in-Err-findings_judged-clause-known
-returns-in-Err-findings_judged-clause-known g c = next-trans g.R.Source.given g.R.Source.ends g.R.Read.remaining c.args.input.now c.trace_of_front.new.input c.judgements_behind.new.input c.trace_of_front.ensures.known c.judgements_behind.ensures.known
+pub returns-in-Ok-found-clause-trace : goal.returns-in-Ok-found-clause-trace
+returns-in-Ok-found-clause-trace g c = λ f e. absurd (never_refused c.tell_findings.result (faults.Trace f) c.tell_findings.ensures.kinds e tt)
 
-pub returns-clause-faults : goal.returns-clause-faults
-returns-clause-faults g c = IfErr-weaker c.tell_findings.result _ IsOfJoined (of_writing IsOfJoined tt (λ n. tt)) c.tell_findings.ensures.kinds
+pub returns-in-Ok-found-clause-evidence : goal.returns-in-Ok-found-clause-evidence
+returns-in-Ok-found-clause-evidence g c = λ f e. absurd (never_refused c.tell_findings.result (faults.Evidence f) c.tell_findings.ensures.kinds e tt)
 
-pub returns-clause-trace : goal.returns-clause-trace
-returns-clause-trace g c = λ f e. absurd (never_refused c.tell_findings.result (faults.Trace f) c.tell_findings.ensures.kinds e tt)
+pub returns-in-Ok-found-clause-joined : goal.returns-in-Ok-found-clause-joined
+returns-in-Ok-found-clause-joined g c = λ e. absurd (never_refused c.tell_findings.result faults.Joined c.tell_findings.ensures.kinds e tt)
 
-pub returns-clause-evidence : goal.returns-clause-evidence
-returns-clause-evidence g c = λ f e. absurd (never_refused c.tell_findings.result (faults.Evidence f) c.tell_findings.ensures.kinds e tt)
+pub returns-in-Ok-found-clause-devices : goal.returns-in-Ok-found-clause-devices
+returns-in-Ok-found-clause-devices g c = devices_of_report c.tell_findings.result _ _ c.tell_findings.ensures.kinds c.tell_findings.ensures.failed
 
-pub returns-clause-joined : goal.returns-clause-joined
-returns-clause-joined g c = λ e. absurd (never_refused c.tell_findings.result faults.Joined c.tell_findings.ensures.kinds e tt)
+pub returns-in-Ok-found-clause-flushed : goal.returns-in-Ok-found-clause-flushed
+returns-in-Ok-found-clause-flushed g c = c.tell_findings.ensures.flushed
 
-pub returns-clause-devices : goal.returns-clause-devices
-returns-clause-devices g c = devices_of_report c.tell_findings.result _ _ c.tell_findings.ensures.kinds c.tell_findings.ensures.failed
+pub returns-in-Ok-found-clause-unwritten : goal.returns-in-Ok-found-clause-unwritten
+returns-in-Ok-found-clause-unwritten g c = c.tell_findings.ensures.unwritten
 
-pub returns-clause-flushed : goal.returns-clause-flushed
-returns-clause-flushed g c = c.tell_findings.ensures.flushed
+pub returns-in-Ok-found-clause-held : goal.returns-in-Ok-found-clause-held
+returns-in-Ok-found-clause-held g c = c.tell_findings.ensures.held
 
-pub returns-clause-unwritten : goal.returns-clause-unwritten
-returns-clause-unwritten g c = c.tell_findings.ensures.unwritten
+pub returns-in-Ok-found-clause-out_kept : goal.returns-in-Ok-found-clause-out_kept
+returns-in-Ok-found-clause-out_kept g c = c.tell_findings.ensures.kept
 
-pub returns-clause-held : goal.returns-clause-held
-returns-clause-held g c = c.tell_findings.ensures.held
-
-pub returns-clause-out_kept : goal.returns-clause-out_kept
-returns-clause-out_kept g c = c.tell_findings.ensures.kept
-
-pub returns-clause-out_unfailed : goal.returns-clause-out_unfailed
-returns-clause-out_unfailed g c = c.tell_findings.ensures.unfailed
+pub returns-in-Ok-found-clause-out_unfailed : goal.returns-in-Ok-found-clause-out_unfailed
+returns-in-Ok-found-clause-out_unfailed g c = c.tell_findings.ensures.unfailed

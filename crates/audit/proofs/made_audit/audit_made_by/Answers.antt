@@ -15,18 +15,18 @@ returns-in-Err-clause-made g c =
     (trace_not_read AuditsMade BreaksMade (reads g.A.Source.given g.A.Source.ends g.A.Source.failures g.A.Read.remaining c.args.trace.now c.trace_from.new.reader) (writer g.W.Sink.taken g.W.Sink.flushes g.W.Sink.failures g.W.Sink.idle g.W.Write.contents c.args.out.now) c.in-Err.fault
     (subst (λ (r : Result TraceValue AuditFault). TraceRead (reads g.A.Source.given g.A.Source.ends g.A.Source.failures g.A.Read.remaining c.args.trace.now c.trace_from.new.reader) r) c.in-Err.is c.trace_from.ensures))
 
-pub returns-in-Err-findings_made-clause-made : goal.returns-in-Err-findings_made-clause-made
-returns-in-Err-findings_made-clause-made g c =
+pub returns-in-Err-found-clause-made : goal.returns-in-Err-found-clause-made
+returns-in-Err-found-clause-made g c =
     made_fault (reads g.A.Source.given g.A.Source.ends g.A.Source.failures g.A.Read.remaining c.args.trace.now c.trace_from.new.reader) (writer g.W.Sink.taken g.W.Sink.flushes g.W.Sink.failures g.W.Sink.idle g.W.Write.contents c.args.out.now) faults.OutOfMemory
     (tells_of AuditsMade BreaksMade (λ text v. ⊥) (reads g.A.Source.given g.A.Source.ends g.A.Source.failures g.A.Read.remaining c.args.trace.now c.trace_from.new.reader) (record { before = (writer g.W.Sink.taken g.W.Sink.flushes g.W.Sink.failures g.W.Sink.idle g.W.Write.contents c.args.out.now); after = (writer g.W.Sink.taken g.W.Sink.flushes g.W.Sink.failures g.W.Sink.idle g.W.Write.contents c.args.out.now) }) c.in-Ok.trace (Err faults.OutOfMemory)
     (subst (λ (r : Result TraceValue AuditFault). TraceRead (reads g.A.Source.given g.A.Source.ends g.A.Source.failures g.A.Read.remaining c.args.trace.now c.trace_from.new.reader) r) c.in-Ok.is c.trace_from.ensures) (told_no_memory (λ text v. ⊥) (writer g.W.Sink.taken g.W.Sink.flushes g.W.Sink.failures g.W.Sink.idle g.W.Write.contents c.args.out.now)) (λ a text old new v is says went. absurd says) (λ a text old new v n is says fails. absurd says))
 
-pub returns-clause-made : goal.returns-clause-made
-returns-clause-made g c =
-    let made = c.in-Ok-findings_made.ensures in
+pub returns-in-Ok-found-clause-made : goal.returns-in-Ok-found-clause-made
+returns-in-Ok-found-clause-made g c =
+    let made = c.in-Ok-found.ensures in
     audited_made (reads g.A.Source.given g.A.Source.ends g.A.Source.failures g.A.Read.remaining c.args.trace.now c.trace_from.new.reader) (writes g.W.Sink.taken g.W.Sink.flushes g.W.Sink.failures g.W.Sink.idle g.W.Write.contents c.args.out.now c.tell_findings.new.out) c.in-Ok.trace
     (subst (λ (r : Result TraceValue AuditFault). TraceRead (reads g.A.Source.given g.A.Source.ends g.A.Source.failures g.A.Read.remaining c.args.trace.now c.trace_from.new.reader) r) c.in-Ok.is c.trace_from.ensures) made.0 c.tell_findings.result made.1 c.right_and_fresh_without_findings.ensures
-    (as_report c.in-Ok.trace made.0 c.deref.result.now c.len.result (writes g.W.Sink.taken g.W.Sink.flushes g.W.Sink.failures g.W.Sink.idle g.W.Write.contents c.args.out.now c.tell_findings.new.out) c.tell_findings.result (c.deref.ensures.value ∙ made.2) c.len.ensures.count c.tell_findings.ensures)
+    (as_report c.in-Ok.trace made.0 c.deref.result.now c.len-entries.result (writes g.W.Sink.taken g.W.Sink.flushes g.W.Sink.failures g.W.Sink.idle g.W.Write.contents c.args.out.now c.tell_findings.new.out) c.tell_findings.result (c.deref.ensures.value ∙ made.2) c.len-entries.ensures.count c.tell_findings.ensures)
 
-pub returns-clause-kinds : goal.returns-clause-kinds
-returns-clause-kinds g c = history_kinds _ (writes g.W.Sink.taken g.W.Sink.flushes g.W.Sink.failures g.W.Sink.idle g.W.Write.contents c.args.out.now c.tell_findings.new.out) c.tell_findings.result c.tell_findings.ensures
+pub returns-in-Ok-found-clause-kinds : goal.returns-in-Ok-found-clause-kinds
+returns-in-Ok-found-clause-kinds g c = history_kinds _ (writes g.W.Sink.taken g.W.Sink.flushes g.W.Sink.failures g.W.Sink.idle g.W.Write.contents c.args.out.now c.tell_findings.new.out) c.tell_findings.result c.tell_findings.ensures

@@ -6,7 +6,7 @@ use Rattle.trace_lines.proofs.sample.Sample.admit.Goals as goal
 
 pub returns-then-has-clause-answer : goal.returns-then-has-clause-answer
 returns-then-has-clause-answer c =
-    ap strata_cause (kind_unbroken c.args.rules.now c.args.self.now (tuple_value c.args.tuple) (c.has.ensures c.if-has.true) c.requires)
+    ap strata_cause (kind_unbroken c.args.rules.now c.args.self.now (tuple_value c.args.tuple) (c.has.ensures c.if-has.true) c.requires.unbroken)
 
 pub returns-then-has-clause-taken : goal.returns-then-has-clause-taken
 returns-then-has-clause-taken c =

@@ -23,5 +23,6 @@ loop-tuple-preserved c =
       left = c.loop-tuple.invariant.left ∙ left_step c.args.rules.now ts i (tuple_value t) within is ∙ rw c.in_ok-admit.ensures.answer (search rules);
       unbroken = unbroken_step c.args.rules.now c.loop-tuple.self c.admit.new.self (tuple_value t) c.loop-tuple.invariant.unbroken c.in_ok-admit.ensures.answer c.in_ok-admit.ensures.taken;
       taken = taken_step c.args.rules.now ts i (tuple_value t) within is c.args.self.now c.loop-tuple.self c.admit.new.self c.loop-tuple.invariant.taken c.in_ok-admit.ensures.taken;
+      index = c.in_ok-admit.ensures.index;
       kept = kept_step c.args.self.now c.loop-tuple.self c.admit.new.self c.loop-tuple.invariant.kept c.in_ok-admit.ensures.kept;
     }

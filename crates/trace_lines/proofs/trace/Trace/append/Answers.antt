@@ -8,7 +8,7 @@ use Rattle.trace_lines.proofs.Orderly.{commit_ok, orderly_commit, sample_unbroke
 use Rattle.trace_lines.proofs.trace.Trace.append.Goals as goal
 
 pub commit-requires : goal.commit-requires
-commit-requires c = sample_unbroken c.self.inside.rules c.self.inside.chains.commits c.self.inside.sample c.self.invariant.2
+commit-requires c = record { unbroken = sample_unbroken c.self.inside.rules c.self.inside.chains.commits c.self.inside.sample c.self.invariant.2; index = c.self.invariant.3 }
 
 pub invariant_of-self-2 : goal.invariant_of-self-2
 invariant_of-self-2 c =
@@ -22,5 +22,5 @@ invariant_of-self-2 c =
       c.self.invariant.0,
       kept_commit _ _ _ _ _ c.self.invariant.1 commit c.args.line (omega (arith, room)) (omega (arith, room)),
       orderly_commit c.self.inside.rules c.self.inside.chains.commits c.self.inside.sample c.commit.new.sample c.self.invariant.2 commit fine.0 accepted c.in-Ok.ensures.taken,
-      c.in-Ok.ensures.cover c.self.invariant.3,
+      c.in-Ok.ensures.index,
     )

@@ -11,7 +11,7 @@ change-requires c = record {
   later = subst (λ (t : TraceValue). IsLater c.args.at t.declarations) (sym c.self.view_is) c.requires.later;
   unbroken = c.self.invariant.2.unbroken.of_rules;
   tuples = sample_unbroken c.self.inside.rules c.self.inside.chains.commits c.self.inside.sample c.self.invariant.2;
-  cover = c.self.invariant.3;
+  index = c.self.invariant.3;
 }
 
 pub invariant_of-self : goal.invariant_of-self
@@ -22,5 +22,5 @@ invariant_of-self c = (
       (subst (λ (t : TraceValue). IsLater c.args.at t.declarations) (sym c.self.view_is) c.requires.later)
       (subst (λ (t : TraceValue). last_at t.commits ≡ Some c.args.at) (sym c.self.view_is) c.requires.last)
       c.change.ensures.answer c.change.ensures.dropped c.change.ensures.later,
-  c.change.ensures.cover,
+  c.change.ensures.index,
 )

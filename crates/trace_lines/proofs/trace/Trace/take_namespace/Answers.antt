@@ -2,7 +2,7 @@ use Rattle.std.proofs.Common.{◌≡◌, false, sym, subst, ◌∙◌}
 use Rattle.serde_json.specs.View.{view}
 use Rattle.trace_lines.specs.Values.{TraceValue}
 use Rattle.trace_lines.specs.Traces.{is_begun}
-use Rattle.trace_lines.proofs.Orderly.{nothing_before, orderly_declared, cover_declared}
+use Rattle.trace_lines.proofs.Orderly.{nothing_before, orderly_declared}
 use Rattle.trace_lines.proofs.trace.Trace.take_namespace.Goals as goal
 
 pub invariant_of-self : goal.invariant_of-self
@@ -13,6 +13,5 @@ invariant_of-self c =
       c.self.invariant.1,
       orderly_declared c.declare.result c.is_begun-begun.result c.self.inside.rules c.declare.new.rules c.self.inside.chains.commits c.self.inside.sample (view c.args.value.now)
           c.self.invariant.2 first c.declare.ensures.answer c.declare.ensures.dropped c.declare.ensures.later,
-      cover_declared c.declare.result c.is_begun-begun.result c.self.inside.rules c.declare.new.rules c.self.inside.chains.commits c.self.inside.sample c.self.inside.cover (view c.args.value.now)
-          c.self.invariant.2 first c.declare.ensures.answer c.declare.ensures.dropped c.self.invariant.3,
+      c.declare.ensures.index,
     )
