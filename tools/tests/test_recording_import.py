@@ -48,7 +48,12 @@ class Lines(CoreCase):
         self.assertIn("gap to 2024-01-01T00:00:01Z: why\n", self.said)
         self.assertEqual(self.said.count(SAID), 1)
         self.assertIn("passed over 1: check of a content version that may have been issued in a gap\n", self.said)
-        self.assertEqual(self.audited(), "line 3: F6 unknown version\nentries 1\nfindings 1\nverdict dirty\n")
+        report = self.audited()
+        self.assertEqual(report, "line 3: F6 unknown version\nentries 1\nfindings 1\nverdict dirty\n")
+        self.put("report.txt", report)
+        self.assertEqual(self.run_tool("report", "trace.jsonl", "report.txt")[2],
+                         "the log of this trace has gaps (2): what was asked in them is not in this report\n")
+        self.assertEqual(self.run_tool("lint", "trace.jsonl")[1].count("gaps"), 0)
 
     def test_a_gap_without_its_times(self):
         self.assertEqual(self.refusals(RULES, {**GAP, "to": "soon"}),

@@ -21,6 +21,7 @@ from new_enemy_tools.faults import ToolFault
 from new_enemy_tools.files import read_bytes, read_ids, read_trace_of, split_joined, write_whole
 from new_enemy_tools.findings import read_report
 from new_enemy_tools.forms import FORMS
+from new_enemy_tools.ids import gaps_in
 from new_enemy_tools.ignoring import read_rows
 from new_enemy_tools.names import Names
 from new_enemy_tools.progress import Progress
@@ -86,7 +87,9 @@ class Teller:
         report = read_report(self.report.decode("utf-8", "replace"))
         told = told_of(trace, report, self.progress.steps("looked at %s findings"))
         telling = telling_of(told, trace, Names(ids), given.trace, report, out)
-        return Told(telling, warnings_of(telling, out), [] if given.form == "html" else list(ALL_FORMS[given.form](telling)))
+        gaps = gaps_in(self.data)
+        warnings = ["the log of this trace has gaps (%d): what was asked in them is not in this report" % gaps] if gaps else []
+        return Told(telling, warnings + warnings_of(telling, out), [] if given.form == "html" else list(ALL_FORMS[given.form](telling)))
 
 
 def told_quickly(given: argparse.Namespace, progress: Progress) -> Told:

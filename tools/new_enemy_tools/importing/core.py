@@ -58,7 +58,7 @@ class Core:
                          for relation in self.declared.rules.relations(name)], self.edges, self.refusals)
         if self.refusals.refused:
             return None
-        shown = Shown(self.declared, self.ids, strata, self.taken.timestamps())
+        shown = Shown(self.declared, self.ids, strata, self.taken.timestamps(), self.refusals.gaps())
         return Written(self._chunks(shown, jobs), self.counts, lambda: chain(wildcards.told(), self.taken.states.told()))
 
     # Order and commits

@@ -65,6 +65,10 @@ class Refusals:
         """Says something of how the input is read, the first of each kind."""
         self.notes.setdefault(kind, text)
 
+    def gaps(self) -> int:
+        """How many gaps a recorder's log had."""
+        return sum(kind.startswith("gap ") for kind in self.notes)
+
     def doubt(self, of: str, id_text: Optional[str], relation: str) -> None:
         """A userset (without an id: a relation) whose tuples or rule are left out."""
         if self.skip:

@@ -16,12 +16,12 @@ encode = json.JSONEncoder(ensure_ascii=False, separators=(",", ":")).encode
 class Shown:
     """Lines by the timestamps of revisions; the names of rules are put into the table before all lines."""
 
-    def __init__(self, declared: Declared, ids: Ids, strata: dict[Name, int], times: dict[int, int]):
+    def __init__(self, declared: Declared, ids: Ids, strata: dict[Name, int], times: dict[int, int], gaps: int):
         self.ids, self.strata, self.times = ids, strata, times
         first = {one.name: one for one in declared.rules.declarations if one.at is None}
         self._head = [self._namespace(first[name]) for name in declared.head]
         self.changes = {revision: list(map(self._namespace, changes)) for revision, changes in declared.changes.items()}
-        self.mark = encode({"ids": ids.mark()})[1:-1]
+        self.mark = encode({"ids": ids.mark(), **({"gaps": gaps} if gaps else {})})[1:-1]
         self.files: dict[str, str] = {}
 
     def head(self) -> Iterator[str]:
@@ -29,7 +29,7 @@ class Shown:
             yield self._marked(encode(namespace) + "\n")
 
     def _marked(self, line: str) -> str:
-        """The first line says which table is the trace's."""
+        """The first line says which table is the trace's, and how many gaps its log had."""
         if self.mark:
             line, self.mark = "%s,%s}\n" % (line.rstrip("\n")[:-1], self.mark), ""
         return line
