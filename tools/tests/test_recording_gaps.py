@@ -2,7 +2,6 @@
 import glob
 import json
 import os
-import re
 import resource
 import signal
 import threading
@@ -292,7 +291,7 @@ class Chain(Failing):
         self.end(recorder)
         self.assertNotIn("is not closed", self.import_log())
         files = self.files()
-        self.assertGreater(len(files), 4)
+        self.assertGreater(len(files), 2)
         self.imported("events", *reversed(files))
         self.assertEqual(self.found(), {}, self.said_of_audit)
         for name in "trace.jsonl", "ids.jsonl":
@@ -302,7 +301,8 @@ class Chain(Failing):
         self.assertIn("%s:1: files 1 to 1 of the log are missing, with its base state; give all files from the first on" % files[1],
                       self.refused_log(*files[1:]))
         text = self.get(files[1])
-        self.put(files[1], re.sub('("event":"check".*?"reply":)(true|false)', lambda found: found[1] + ("false" if found[2] == "true" else "true"), text, count=1))
+        head, rest = text.split("\n", 1)
+        self.put(files[1], head + "\n" + rest.replace("{", "{ ", 1))
         self.assertEqual([one.split(": ")[1].split(";")[0] for one in self.refused_log(*files)],
                          ["the file was changed or cut after it was written", "it goes on from another file than %s" % files[1]])
         lines = text.splitlines(True)
