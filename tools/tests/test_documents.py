@@ -70,16 +70,19 @@ class Transcripts(Case):
     def test_scale(self):
         self.show("docs", "SCALE.md")
 
+    def test_daily(self):
+        self.show("docs", "DAILY.md")
+
     def test_every_example_and_document(self):
         documents = [["README.md"], *(["docs", name] for name in sorted(os.listdir(os.path.join(TOP, "docs"))))]
         commands = {names[-1]: [command for command, _ in transcripts(read(*names))] for names in documents}
-        self.assertEqual([name for name in commands if commands[name]], ["README.md", "FORMATS.md", "IMPORTING.md", "RECORDING.md", "REPORTS.md", "SCALE.md"])
+        self.assertEqual([name for name in commands if commands[name]], ["README.md", "DAILY.md", "FORMATS.md", "IMPORTING.md", "RECORDING.md", "REPORTS.md", "SCALE.md"])
         shown = " ".join(command for each in commands.values() for command in each)
         for example in os.listdir(os.path.join(TOP, "examples")):
             self.assertIn("examples/" + example, shown)
 
 
-DOCUMENTS = [["README.md"], ["ARCHITECTURE.md"], *(["docs", name] for name in sorted(os.listdir(os.path.join(TOP, "docs"))))]
+DOCUMENTS = [*([name] for name in ("README.md", "ARCHITECTURE.md", "CHANGELOG.md", "CONTRIBUTING.md", "SECURITY.md")), *(["docs", name] for name in sorted(os.listdir(os.path.join(TOP, "docs"))))]
 
 
 def rows_of(text):
@@ -101,12 +104,16 @@ def names_in(paths, form):
     return {os.path.basename(path).split(".")[0] for path in paths} | {name for path in paths for name in re.findall(form, read(path))}
 
 
+# What is there once it was written, by tools/dev/release.
+WRITTEN = ["dist/GATE"]
+
+
 class Names(Case):
     def test_paths(self):
         for names in DOCUMENTS:
             for word in words_of(read(*names)):
                 path = word.split()[0].removeprefix("./")
-                if path.split("/")[0] in os.listdir(TOP) and "/out/" not in path:
+                if path.split("/")[0] in os.listdir(TOP) and "/out/" not in path and path not in WRITTEN:
                     with self.subTest(document=names[-1], path=path):
                         self.assertTrue(os.path.exists(os.path.join(TOP, path)))
 
@@ -120,9 +127,14 @@ class Names(Case):
 
     def test_definitions(self):
         text = read("docs", "MEANING.md")
+        crate = ""
         for part in re.findall(r"^\d+\. .*", text, re.MULTILINE) + [part for row in rows_of(text) for part in row[-1].split("; ")]:
-            crate, *definitions = words_of(part) or [""]
-            named = names_in(sources(crate, "specs"), r"\w+")
+            if part.startswith("law"):
+                # Laws are functions of the crate that the part before names.
+                definitions, named = words_of(part), names_in(sources(crate, "src"), r"fn (\w+)")
+            else:
+                crate, *definitions = words_of(part) or [""]
+                named = names_in(sources(crate, "specs"), r"\w+")
             for word in definitions:
                 with self.subTest(crate=crate, word=word):
                     self.assertTrue(set(word.split(".")) <= named)

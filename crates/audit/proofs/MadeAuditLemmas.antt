@@ -1,20 +1,27 @@
 -- What is found on evidence that is made for a trace.
-use Rattle.std.proofs.Common.{◌≡◌, inl, inr, ℕ, zero, suc, ◌+◌, List, [], ◌∷◌, ◌++◌, length, true, Option, None, Some, Result, Ok, Err, refl, sym, ap, subst, ◌∙◌, arith, length-append, append_assoc}
+use Rattle.std.proofs.Common.{◌≡◌, inl, inr, ℕ, zero, suc, ◌+◌, List, [], ◌∷◌, ◌++◌, length, get_or, true, false, Option, None, Some, Result, Ok, Err, refl, sym, ap, subst, ◌∙◌, arith, length-append, append_assoc}
 use Rattle.std.specs.Prelude.{IfSome, OnOk, slice_get}
 use Rattle.std.specs.List.{AllZip, range_with_len}
+use Rattle.std.proofs.lemmas.Option.{slice_get-get_or}
 use Rattle.trace_lines.specs.Traces.{trace_of}
 use Rattle.trace_lines.specs.Values.{TraceValue, EntryValue}
+use Rattle.trace_lines.proofs.OfBytes.{strata_of_bytes}
 use Rattle.evidence_check.specs.Evidences.{steps_of}
 use Rattle.evidence_check.specs.Judged.{judged}
+use Rattle.evidence_check.specs.Laws.{HasValidStrataAt}
 use Rattle.evidence_check.specs.Steps.{StepValue}
 use Rattle.evidence_check.specs.declared.judged.Judged.{Judged}
+use Rattle.evidence_check.specs.declared.judged.Judged.TheVariants as by
+use Rattle.evidence_check.proofs.JudgedLemmas.{judged_right}
 use Rattle.findings.specs.Findings.{found_by, found_where, found_on, on_line, findings_from, findings_of}
 use Rattle.findings.specs.declared.finding.Finding.{Finding}
+use Rattle.findings.specs.declared.finding.What.TheVariants.{NoEvidence, WrongReply}
 use Rattle.findings.specs.Headline.{IsRightAndFresh, IsTraceRightAndFresh}
 use Rattle.findings.proofs.EachFinding.{HoldsOfTokens, each_finding}
+use Rattle.findings.proofs.ToldFindings.{by_evidence, told}
 use Rattle.audit.specs.Audit.{FailsWriting}
 use Rattle.audit.specs.Made.{IsMade, AreMade}
-use Rattle.audit.specs.MadeAudit.{AuditsMade, BreaksMade, WhateverIsMade, IsOfMaker, AreOfMaker, IsFoundMade, AuditedMade}
+use Rattle.audit.specs.MadeAudit.{AuditsMade, BreaksMade, WhateverIsMade, IsOfMaker, AreOfMaker, IsSettled, MissesNoWrongReply, IsFoundMade, AuditedMade}
 use Rattle.audit.specs.Shared.{found_lines}
 use Rattle.audit.specs.declared.shared.Found.{Found}
 use Rattle.audit.specs.declared.plain.AuditFault.{AuditFault}
@@ -50,6 +57,26 @@ pub of_maker : (t : TraceValue) (given : List (Option (List StepValue))) → Are
 of_maker t given made = each_finding (IsOfMaker t) t given 0 t.entries (on_tokens t) (λ i e at.
     subst (λ (k : ℕ). IfSome (found_by (judged t e (steps_of given k))) (IsOfMaker t e.line)) (let z : i ≡ 0 + i = omega arith in z)
     (by_made t i e (steps_of given i) at (made_at t t.entries given i e made at)))
+
+settled_by : (t : TraceValue) → ((at : ℕ) → HasValidStrataAt t at) → (given : List (Option (List StepValue))) (i : ℕ) (e : EntryValue)
+    → slice_get t.entries i ≡ Some e → (o : Option (List StepValue)) → steps_of given i ≡ o → IsMade t e o → IsSettled t (findings_of t given) e
+settled_by t valid given i e at None is made =
+    inr (inr (made, told t given i e NoEvidence at (by_evidence t given i e by.Missing NoEvidence (ap (judged t e) is) refl)))
+settled_by t valid given i e at (Some steps) is made =
+    elim made.decided [
+      | inl supported ↦ inl (judged_right t e (valid e.snapshot) true (Some steps) supported)
+      | inr contradicted ↦ inr (inl (
+        judged_right t e (valid e.snapshot) false (Some steps) contradicted,
+        told t given i e WrongReply at (by_evidence t given i e by.Contradicted WrongReply (ap (judged t e) is ∙ contradicted) refl),
+      ))
+    ]
+
+-- each entry is settled
+pub misses_none : (a : List ℕ) (t : TraceValue) (given : List (Option (List StepValue))) → trace_of true a ≡ Ok t → AreMade t t.entries given
+    → MissesNoWrongReply t (findings_of t given)
+misses_none a t given says made i d lt =
+    let at = slice_get-get_or t.entries i d lt in
+    settled_by t (strata_of_bytes a t says) given i (get_or t.entries i d) at (steps_of given i) refl (made_at t t.entries given i (get_or t.entries i d) made at)
 
 -- ---- what each worker finds by what it made
 
@@ -112,9 +139,10 @@ module _ (trace : Reading) (out : Writing) (t : TraceValue) (read : TraceRead tr
             of_all-map trace (λ a. trace_of true a ≡ Ok t) IsTraceRightAndFresh (λ a is. (t, is, law given (told_clean t given out r told clean))) read.given;
         wrong_replies = whatever_made trace t read.given r HasOnlyWrongRepliesNamed (λ a given is made. named_by_bytes a t given is);
         given_up = whatever_made trace t read.given r AreOfMaker (λ a given is made. of_maker t given made);
+        complete = whatever_made trace t read.given r MissesNoWrongReply (λ a given is made. misses_none a t given is made);
       }
 
 -- what could not be audited, and nothing was written
 pub made_fault : (trace : Reading) (w : Writer) (e : AuditFault) → TellsOfTrace AuditsMade BreaksMade trace (record { before = w; after = w }) (Err e)
     → AuditedMade trace (record { before = w; after = w }) (Err e)
-made_fault trace w e tells = record { tells = tells; headline = λ is. absurd (cc (is)); wrong_replies = tt; given_up = tt }
+made_fault trace w e tells = record { tells = tells; headline = λ is. absurd (cc (is)); wrong_replies = tt; given_up = tt; complete = tt }

@@ -1,14 +1,15 @@
 -- What an audit says on evidence that is made for its trace.
-use Rattle.std.specs.Prelude.{◌≡◌, ℕ, true, List, ◌++◌, Option, Some, Result, Ok, OnOk, slice_get, All, ⊤}
+use Rattle.std.specs.Prelude.{◌≡◌, ◌⊎◌, ℕ, true, List, ◌++◌, Option, Some, Result, Ok, OnOk, slice_get, All, Contains, ⊤}
 use Rattle.trace_lines.specs.Values.{TraceValue, EntryValue}
 use Rattle.trace_lines.specs.Traces.{trace_of}
 use Rattle.evidence_check.specs.Judged.{judged}
+use Rattle.evidence_check.specs.Members.{IsRight, IsWrong}
 use Rattle.evidence_check.specs.Steps.{StepValue}
 use Rattle.evidence_check.specs.declared.judged.Judged.{Judged}
 use Rattle.findings.specs.Findings.{found_where, findings_of}
 use Rattle.findings.specs.declared.finding.Finding.{Finding}
 use Rattle.findings.specs.declared.finding.What.{What}
-use Rattle.findings.specs.declared.finding.What.TheVariants.{NoEvidence, BadEvidence, Silent}
+use Rattle.findings.specs.declared.finding.What.TheVariants.{NoEvidence, BadEvidence, Silent, WrongReply}
 use Rattle.audit.specs.Answers.{TellsOfTrace}
 use Rattle.audit.specs.Devices.{Reading, Writing, OfAll}
 use Rattle.findings.specs.Headline.{IsTraceRightAndFresh}
@@ -64,6 +65,17 @@ IsOfMaker t line _ = ⊤
 abbrev pub AreOfMaker : TraceValue → List Finding → Type 0
 AreOfMaker t findings = All (λ f. IsOfMaker t f.line f.what) findings
 
+-- The reply of the entry is right, or it is told as wrong, and it is; or the maker gave the entry up, and that is told.
+abbrev pub IsSettled : TraceValue → List Finding → EntryValue → Type 0
+IsSettled t findings e =
+    IsRight t e
+    ⊎ ((IsWrong t e × Contains findings (record { line = e.line; what = WrongReply }))
+    ⊎ (IsOutOfReach t e × Contains findings (record { line = e.line; what = NoEvidence })))
+
+-- so it is with each entry: no wrong reply is missed among those that the maker settles
+abbrev pub MissesNoWrongReply : TraceValue → List Finding → Type 0
+MissesNoWrongReply t findings = All (IsSettled t findings) t.entries
+
 -- An audit of a trace by evidence that is made for it.
 pub record AuditedMade (trace : Reading) (out : Writing) (result : Result Verdict AuditFault) : Type 0 where
   -- the report on all that the reader gave, and on evidence that was made for it, went out whole, and the verdict is its
@@ -77,3 +89,6 @@ pub record AuditedMade (trace : Reading) (out : Writing) (result : Result Verdic
   pub wrong_replies : OnOk result (OfAll trace (WhateverIsMade HasOnlyWrongRepliesNamed))
   -- whatever the verdict: F7 is found only where the maker gave up, and F8 and F9 nowhere
   pub given_up : OnOk result (OfAll trace (WhateverIsMade AreOfMaker))
+  -- whatever the verdict: a reply that is not what the rules mean has an F10, but for an entry that the maker gave up, which
+  -- has an F7
+  pub complete : OnOk result (OfAll trace (WhateverIsMade MissesNoWrongReply))

@@ -52,7 +52,7 @@ fn evidence<'a>(alloc: Global) -> Arg<'a>
     optional(
         alloc,
         "EVIDENCE",
-        "The evidence for its replies, JSON lines",
+        "The evidence for its replies, JSON lines; --make in its place makes it",
     )
 }
 
@@ -92,7 +92,7 @@ fn audit<'a>(alloc: Global, evidence: Arg<'a>, make: Arg<'a>) -> Result<Command<
     Command::new(alloc, "audit")
         .about("Audits a trace by evidence for its replies, read or made, and writes a report")
         .after_help(
-            "Example: new_enemy audit trace.jsonl evidence.jsonl --workers 4\n\nA file that comes by a pipe is named /dev/stdin. Exit status: 0 clean, 1 dirty.",
+            "Examples: new_enemy audit trace.jsonl evidence.jsonl --workers 4\n          new_enemy audit trace.jsonl --make\n\nA file that comes by a pipe is named /dev/stdin.\nExit status: 0 clean, 1 dirty, 2 the trace or the evidence is refused, 3 the words are, 4 out of memory,\n5 a file can't be opened or a device failed. With 2 to 5 there is no verdict.",
         )
         .arg(trace)?
         .arg(evidence)?
@@ -114,7 +114,7 @@ fn make<'a>(alloc: Global) -> Result<Command<'a>, AllocError>
     Command::new(alloc, "make")
         .about("Writes evidence for a trace: a record for each entry that can be settled")
         .after_help(
-            "Example: new_enemy make trace.jsonl > evidence.jsonl\n\nHow many entries have no record is told on standard error.",
+            "Example: new_enemy make trace.jsonl > evidence.jsonl\n\nHow many entries have no record is told on standard error. A file that comes by a pipe is named /dev/stdin.\nExit status: 0 written, 2 the trace is refused, 3 the words are, 4 out of memory,\n5 a file can't be opened or a device failed.",
         )
         .arg(trace)?
         .arg(list)
@@ -131,7 +131,9 @@ fn history<'a>(alloc: Global) -> Result<Command<'a>, AllocError>
     );
     Command::new(alloc, "history")
         .about("Writes when a relation tuple was added and removed, newest first")
-        .after_help("Example: new_enemy history trace.jsonl doc:readme#viewer@10")
+        .after_help(
+            "Example: new_enemy history trace.jsonl doc:readme#viewer@10\n\nOf a tuple that no commit touches nothing is written, also where its relation is not declared.\nA file that comes by a pipe is named /dev/stdin.\nExit status: 0 written, 2 the trace or the tuple is refused, 3 the words are, 4 out of memory,\n5 a file can't be opened or a device failed.",
+        )
         .arg(trace)?
         .arg(tuple)
 }
@@ -141,12 +143,12 @@ fn with_commands<'a>(alloc: Global, audit: Command<'a>) -> Result<Command<'a>, A
 {
     Command::new(alloc, "new_enemy")
         .bin_name("new_enemy")?
-        .version("0.1.0 (rattle-kit-13b)")
+        .version("0.2.0 (rattle-kit-13f)")
         .about(
             "Audits recorded authorization decisions for ignored access changes and wrong replies",
         )
         .after_help(
-            "Without a command it audits what standard input gives until its end: the trace, a line ---, and the evidence.",
+            "Without a command it audits what standard input gives until its end: the trace, a line that is exactly ---, and the evidence.\nExit status: 0 clean, 1 dirty, 2 the input is refused, 4 out of memory, 5 a device failed.",
         )
         .no_binary_name(true)
         .subcommand(audit)?

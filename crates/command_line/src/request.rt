@@ -170,7 +170,17 @@ fn request_of<'a>(matches: &ArgMatches<'a>) -> Option<Request<'a>>
     }
 }
 
-fn told(alloc: Global, error: &Error) -> Result<String, AllocError> {
+/// The text of an error, and for an audit without evidence that `--make` is there.
+fn told(alloc: Global, words: &[String], error: &Error) -> Result<String, AllocError> {
+    let audits = match words.first() {
+        Some(word) => word.as_str() == "audit",
+        None => false,
+    };
+    if audits && error.kind() == ErrorKind::MissingRequiredArgument {
+        return format!(in alloc;
+            "{error}Without a file of evidence: new_enemy audit <TRACE> --make\n"
+        );
+    }
     format!(in alloc; "{error}")
 }
 
@@ -181,8 +191,8 @@ fn refused<'a>(alloc: Global, words: &'a [String]) -> Result<Answer<'a>, AllocEr
     match strict(alloc)?.try_get_matches_from(words) {
         Ok(_matches) => Ok(Answer::Refuses(format!(in alloc; "usage")?)),
         Err(error) if error.kind() == ErrorKind::OutOfMemory => Err(AllocError),
-        Err(error) if error.use_stderr() => Ok(Answer::Refuses(told(alloc, &error)?)),
-        Err(error) => Ok(Answer::Shows(told(alloc, &error)?)),
+        Err(error) if error.use_stderr() => Ok(Answer::Refuses(told(alloc, words, &error)?)),
+        Err(error) => Ok(Answer::Shows(told(alloc, words, &error)?)),
     }
 }
 

@@ -9,7 +9,6 @@ use Rattle.namespaces.specs.Alike.{IsAlike, AreAlike}
 use Rattle.namespaces.specs.Expression.{Expression}
 use Rattle.namespaces.specs.Lookup.{Rule, Lookup, rule_at, rule_of}
 use Rattle.version_chains.specs.Commits.{store_at}
-use Rattle.strata.specs.Meaning.{Member}
 use Rattle.strata.proofs.Rounds.{stable_law, closed_law}
 use Rattle.trace_lines.specs.Values.{TraceValue, EntryValue}
 use Rattle.judgement.specs.Judgement.{KnownValue, Refuted}
@@ -17,8 +16,8 @@ use Rattle.judgement.proofs.AlikeLemmas.{alike_refuted}
 use Rattle.evidence_check.specs.Accepted.{nothing_known, IsDisproved, IsAccepted, AreAccepted, after_step, after_steps, IsTrueOf}
 use Rattle.evidence_check.specs.Decided.{decided, dec_accepted}
 use Rattle.evidence_check.specs.Judged.{is_accepted, first_bad, is_among, by_reply, by_goal, by_steps, judged}
-use Rattle.evidence_check.specs.Members.{IsMemberAt}
 use Rattle.evidence_check.specs.Laws.{HasValidStrataAt}
+use Rattle.evidence_check.specs.Members.{IsRight, IsWrong}
 use Rattle.evidence_check.specs.Steps.{StepValue}
 use Rattle.evidence_check.specs.declared.judged.Judged.{Judged}
 use Rattle.evidence_check.specs.declared.judged.Judged.TheVariants.{Silent}
@@ -85,25 +84,31 @@ disproved_by_rule rules store known f x alike =
 
 -- ---- what is known of the goal
 
--- M where the reply agrees with what is known, and else that M does not hold
-abbrev pub IfAgreed : Bool → Type 0 → Type 0
-IfAgreed true M = M
-IfAgreed false M = ¬ M
+-- a reply that agrees with what is known is right, and one that does not is wrong
+abbrev pub IsAsJudged : Bool → TraceValue → EntryValue → Type 0
+IsAsJudged true t e = IsRight t e
+IsAsJudged false t e = IsWrong t e
 
-module _ (rules : Lookup) (store : List TupleValue) (known : KnownValue) (true_of : IsTrueOf rules store known) (goal : FactValue) where
+module _ (t : TraceValue) (e : EntryValue) (known : KnownValue) (true_of : IsTrueOf (rule_at t.declarations e.snapshot) (store_at t.commits e.snapshot) known) where
   -- what is known of the goal settles whether the reply is right
-  settled_by : (agrees y n reply : Bool) → is_among known.yes goal ≡ y → is_among known.no goal ≡ n → cond y (by_reply reply) (cond n (by_reply (not reply)) Silent) ≡ by_reply agrees
-      → (IsTrue reply ↔ IfAgreed agrees (Member rules store goal))
-  settled_by true true n true y_is n_is e = (λ t. true_of.yes goal ((among_iff known.yes goal).0 y_is), λ m. refl)
-  settled_by true true n false y_is n_is e = absurd cc
-  settled_by false true n true y_is n_is e = absurd cc
-  settled_by false true n false y_is n_is e = (λ t. absurd (not_true t), λ m. absurd (m (true_of.yes goal ((among_iff known.yes goal).0 y_is))))
-  settled_by true false true true y_is n_is e = absurd cc
-  settled_by true false true false y_is n_is e = (λ t. absurd (not_true t), λ m. absurd (true_of.no goal ((among_iff known.no goal).0 n_is) m))
-  settled_by false false true true y_is n_is e = (λ t. true_of.no goal ((among_iff known.no goal).0 n_is), λ m. refl)
-  settled_by false false true false y_is n_is e = absurd cc
-  settled_by true false false reply y_is n_is e = absurd cc
-  settled_by false false false reply y_is n_is e = absurd cc
+  settled_by : (agrees y n reply : Bool) → is_among known.yes e.goal ≡ y → is_among known.no e.goal ≡ n → e.reply ≡ reply
+      → cond y (by_reply reply) (cond n (by_reply (not reply)) Silent) ≡ by_reply agrees → IsAsJudged agrees t e
+  settled_by true true n true y_is n_is is h = (λ t. true_of.yes e.goal ((among_iff known.yes e.goal).0 y_is), λ m. is)
+  settled_by true true n false y_is n_is is h = absurd cc
+  settled_by false true n true y_is n_is is h = absurd cc
+  settled_by false true n false y_is n_is is h = record {
+    allowed = λ t. absurd (not_true (sym is ∙ t));
+    denied = λ f. true_of.yes e.goal ((among_iff known.yes e.goal).0 y_is);
+  }
+  settled_by true false true true y_is n_is is h = absurd cc
+  settled_by true false true false y_is n_is is h = (λ t. absurd (not_true (sym is ∙ t)), λ m. absurd (true_of.no e.goal ((among_iff known.no e.goal).0 n_is) m))
+  settled_by false false true true y_is n_is is h = record {
+    allowed = λ t. true_of.no e.goal ((among_iff known.no e.goal).0 n_is);
+    denied = λ f. absurd (not_true (sym f ∙ is));
+  }
+  settled_by false false true false y_is n_is is h = absurd cc
+  settled_by true false false reply y_is n_is is h = absurd cc
+  settled_by false false false reply y_is n_is is h = absurd cc
 
 module _ (t : TraceValue) (e : EntryValue) (valid : HasValidStrataAt t e.snapshot) where
   known_true : (ss : List StepValue) → first_bad (rule_at t.declarations e.snapshot) (store_at t.commits e.snapshot) nothing_known 1 ss ≡ None
@@ -114,18 +119,18 @@ module _ (t : TraceValue) (e : EntryValue) (valid : HasValidStrataAt t e.snapsho
       (none_bad (rule_at t.declarations e.snapshot) (store_at t.commits e.snapshot) nothing_known 1 ss good)
 
   -- A supported reply is what the rules mean, and a contradicted one is not.
-  pub judged_right : (agrees : Bool) (steps : Option (List StepValue)) → judged t e steps ≡ by_reply agrees → (IsTrue e.reply ↔ IfAgreed agrees (IsMemberAt t e.snapshot e.goal))
+  pub judged_right : (agrees : Bool) (steps : Option (List StepValue)) → judged t e steps ≡ by_reply agrees → IsAsJudged agrees t e
   judged_right true None h = absurd cc
   judged_right false None h = absurd cc
   judged_right agrees (Some ss) h = by_first agrees (first_bad (rule_at t.declarations e.snapshot) (store_at t.commits e.snapshot) nothing_known 1 ss) refl h
     where
       by_first : (agrees : Bool) (o : Option ℕ) → first_bad (rule_at t.declarations e.snapshot) (store_at t.commits e.snapshot) nothing_known 1 ss ≡ o
-          → by_steps o (after_steps nothing_known ss) e ≡ by_reply agrees → (IsTrue e.reply ↔ IfAgreed agrees (IsMemberAt t e.snapshot e.goal))
+          → by_steps o (after_steps nothing_known ss) e ≡ by_reply agrees → IsAsJudged agrees t e
       by_first true (Some k) o_is s = absurd cc
       by_first false (Some k) o_is s = absurd cc
       by_first agrees None o_is s =
-          settled_by (rule_at t.declarations e.snapshot) (store_at t.commits e.snapshot) (after_steps nothing_known ss) (known_true ss o_is) e.goal
-          agrees (is_among (after_steps nothing_known ss).yes e.goal) (is_among (after_steps nothing_known ss).no e.goal) e.reply refl refl s
+          settled_by t e (after_steps nothing_known ss) (known_true ss o_is)
+          agrees (is_among (after_steps nothing_known ss).yes e.goal) (is_among (after_steps nothing_known ss).no e.goal) e.reply refl refl refl s
 
 -- a test that holds where the fact is in the list
 pub among_by : (facts : List FactValue) (f : FactValue) (r : Bool) → (IsTrue r ↔ Contains facts f) → r ≡ is_among facts f
@@ -148,7 +153,7 @@ by_none known goal reply e h =
 
 pub if_judged : {E : Type 0} → (agrees : Bool) (t : TraceValue) → ((at : ℕ) → HasValidStrataAt t at) → (i : ℕ) (x : EntryValue) (steps : Option (List StepValue)) (r : Result Judged E)
     → slice_get t.entries i ≡ Some x → IfOk r (λ j. j ≡ judged t x steps)
-    → IfOk r (λ j. j ≡ by_reply agrees → (e : EntryValue) → slice_get t.entries i ≡ Some e → (IsTrue e.reply ↔ IfAgreed agrees (IsMemberAt t e.snapshot e.goal)))
+    → IfOk r (λ j. j ≡ by_reply agrees → (e : EntryValue) → slice_get t.entries i ≡ Some e → IsAsJudged agrees t e)
 if_judged agrees t valid i x steps (Ok j) at h = λ s e here.
     let same : x ≡ e = (let p : Some x ≡ Some e = sym at ∙ here in cc) in
     judged_right t e (valid e.snapshot) agrees steps (subst (λ (y : EntryValue). judged t y steps ≡ by_reply agrees) same (sym h ∙ s))

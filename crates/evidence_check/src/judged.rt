@@ -13,7 +13,7 @@ ghost use Rattle.trace_lines.specs.Values.{EntryValue, entry_value};
 ghost use Rattle.evidence_check.specs.Accepted.{IsProved, IsDisproved, with_no, after_step, after_steps, nothing_known};
 ghost use Rattle.evidence_check.specs.Evidences.{evidence_value, steps_of};
 ghost use Rattle.evidence_check.specs.Judged.{is_accepted, first_bad, by_reply, by_goal, judged};
-ghost use Rattle.evidence_check.specs.Members.{IsMemberAt};
+ghost use Rattle.evidence_check.specs.Members.{IsRight, IsWrong};
 ghost use Rattle.evidence_check.specs.Steps.{yes_step, no_step, step_values, borrowed_step, borrowed_steps};
 ghost use Rattle.evidence_check.specs.declared.judged.Judged.TheVariants.{Supported, Contradicted};
 
@@ -299,11 +299,11 @@ pub fn judge_entry(trace: &Trace, evidence: &Evidence, i: usize) -> Result<Judge
     ensures judged { IfOk result (λ j. (e : EntryValue) → slice_get trace.now.entries i ≡ Some e →
         j ≡ judged trace.now e (steps_of (evidence_value evidence.now) i)) }
 
-    // Whoever made the evidence: a supported reply is what the rules mean at the snapshot, and a contradicted one is not.
-    ensures supported { IfOk result (λ j. j ≡ Supported → (e : EntryValue) → slice_get trace.now.entries i ≡ Some e →
-        (IsTrue e.reply ↔ IsMemberAt trace.now e.snapshot e.goal)) }
-    ensures contradicted { IfOk result (λ j. j ≡ Contradicted → (e : EntryValue) → slice_get trace.now.entries i ≡ Some e →
-        (IsTrue e.reply ↔ ¬ IsMemberAt trace.now e.snapshot e.goal)) }
+    // Whoever made the evidence: a supported reply is what the rules mean at the snapshot, and a contradicted one is the opposite.
+    ensures supported { IfOk result (λ j. j ≡ Supported
+        → (e : EntryValue) → slice_get trace.now.entries i ≡ Some e → IsRight trace.now e) }
+    ensures contradicted { IfOk result (λ j. j ≡ Contradicted
+        → (e : EntryValue) → slice_get trace.now.entries i ≡ Some e → IsWrong trace.now e) }
 {
     valid_strata(trace);
     judge(trace, trace.entry(i), evidence.steps(i))

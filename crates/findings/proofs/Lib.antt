@@ -1,6 +1,11 @@
 pub mod Headline
 pub mod OneMore
 pub mod PartLemmas
+pub mod PartLines
 pub mod PartReads
+pub mod EvidenceParts
+pub mod FindingsByLine
 pub mod WrongReplies
 pub mod EachFinding
+pub mod NewEnemyLemmas
+pub mod ToldFindings

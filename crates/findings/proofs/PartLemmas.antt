@@ -25,7 +25,7 @@ abbrev pub first_that : {X : Type 0} → (X → Bool) → List X → Option X
 first_that test [] = None
 first_that test (x ∷ xs) = cond (test x) (Some x) (first_that test xs)
 
-at_place : {X : Type 0} (test : X → Bool) (before xs after : List X) → option_and_then (slice_get (before ++ (xs ++ after))) (position_from test (length before) xs) ≡ first_that test xs
+pub at_place : {X : Type 0} (test : X → Bool) (before xs after : List X) → option_and_then (slice_get (before ++ (xs ++ after))) (position_from test (length before) xs) ≡ first_that test xs
 at_place test before [] after = refl
 at_place {X} test before (x ∷ xs) after = by_test (at_place test (before ++ x ∷ []) xs after) (test x)
   where
@@ -195,7 +195,7 @@ module _ (objects : List ℕ → List ℕ → Bool) (t : TraceValue) (evidence :
   pub next_kept : (before : List EntryValue) (e : EntryValue) (b : Bool) → is_of objects e ≡ b → filter (is_of objects) (before ++ e ∷ []) ≡ filter (is_of objects) before ++ cond b (e ∷ []) []
   next_kept before e b h = filter-append (is_of objects) before (e ∷ []) ∙ ap (λ c. filter (is_of objects) before ++ cond c (e ∷ []) []) h
 
-  part_from : (before after : List EntryValue) → t.entries ≡ before ++ after → FindsAlike (length (filter (is_of objects) before)) (length before) after
+  pub part_from : (before after : List EntryValue) → t.entries ≡ before ++ after → FindsAlike (length (filter (is_of objects) before)) (length before) after
   part_from before [] is = refl
   part_from before (e ∷ es) is = by_test (part_from (before ++ e ∷ []) es (is ∙ sym (one_more before e es))) (is_of objects e) refl
     where

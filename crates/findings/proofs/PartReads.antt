@@ -1,10 +1,9 @@
 -- A trace whose bytes have blank lines for the entries of other objects reads as the part with the entries of these.
-use Rattle.std.proofs.Common.{◌≡◌, ℕ, ◌+◌, ◌-◌, ◌^◌, ◌≤◌, ◌==◌, ◌&&◌, ◌||◌, not, min, Bool, true, false, cond, ltb, eqb, List, [], ◌∷◌, ◌++◌, length, map, Option, Some, None, Result, Ok, Err, arith, refl, sym, ap, subst, ◌∙◌, append-nil}
-use Rattle.std.specs.Prelude.{codes, bytes_eq, filter, is_none, is_some, option_map, option_and_then}
+use Rattle.std.proofs.Common.{◌≡◌, ℕ, ◌^◌, ◌≤◌, ◌==◌, ◌&&◌, ◌||◌, not, Bool, true, false, cond, List, [], ◌∷◌, ◌++◌, length, map, Option, Some, None, Result, Ok, Err, arith, refl, sym, ap, subst, ◌∙◌, append-nil}
+use Rattle.std.specs.Prelude.{⊤, codes, bytes_eq, filter, is_none, is_some, option_map, option_and_then}
 use Rattle.std.specs.List.{position_from}
 use Rattle.std.specs.Str.{is_utf8}
-use Rattle.std.proofs.lemmas.Bool.{ltb-false, le-ltb, eqb-false, ne_eqb, or_parts, or_from, or_right}
-use Rattle.std.proofs.lemmas.List.{length-map}
+use Rattle.std.proofs.lemmas.Bool.{ne_eqb, or_right}
 use Rattle.std.proofs.lemmas.Slice.Eq.{bytes_eq-Decides}
 use Rattle.serde_json.specs.Data.{Data}
 use Rattle.serde_json.specs.Find.{get, as_str}
@@ -18,9 +17,7 @@ use Rattle.refusals.specs.Refusals.{◌>>=◌}
 use Rattle.refusals.proofs.Steps.{OkHas, passes, either_passes, value_has}
 use Rattle.json_lines.specs.Fields.{number_at, optional_number_at, flag_at, text_at, optional_text_at}
 use Rattle.json_lines.specs.Json.{is_blank, of_json, json_line, taken_line}
-use Rattle.json_lines.specs.Reading.{at_line, passes_limit, read_from, read_all, parts}
-use Rattle.json_lines.specs.declared.lines.InputFault.TheVariants.{TooLong}
-use Rattle.json_lines.specs.declared.reading.Stop.TheVariants.{Input}
+use Rattle.json_lines.specs.Reading.{read_from, read_all, parts}
 use Rattle.json_lines.specs.declared.reading.LineFault.{LineFault}
 use Rattle.tuple_text.specs.Sets.{SetValue}
 use Rattle.trace_lines.specs.Causes.{needed, namespace_cause}
@@ -34,6 +31,7 @@ use Rattle.trace_lines.specs.declared.cause.Cause.{Cause}
 use Rattle.trace_lines.specs.declared.cause.Cause.TheVariants as causes
 use Rattle.findings.specs.Parts.{is_of, part_of}
 use Rattle.findings.specs.PartBytes.{is_entry_kind, goal_at, is_elsewhere, is_of_others, line_of_part, IsPartOfBytes}
+use Rattle.findings.proofs.PartLines.{lines_carried}
 use Rattle.findings.proofs.PartLemmas.{found_alike, first_kept, issued_object, next_kept}
 
 some_alike : {X Y : Type 0} (o : Option X) (p : Option Y) → is_none o ≡ is_none p → is_some o ≡ is_some p
@@ -69,22 +67,6 @@ has_goal kind n before d =
     (λ zookie. passes _ (needed (version_at kind reply d)) _
     (λ version. told _ (goal_of text) _
     (λ goal made. passes _ (token_of zookie) _ (λ token. rw is made)))))))
-
--- a line within its limits is so where it is shorter, and more may come
-within : (room more_room : ℕ) (line other : List ℕ) (more : Bool) → room ≤ more_room → length other ≤ length line → passes_limit room line more ≡ false → passes_limit more_room other more ≡ false
-within room more_room line other more le shorter h =
-    let both = or_parts (ltb (min room (2 ^ 20)) (length line)) (more && eqb (length line) room) h in
-    let short = ltb-false (min room (2 ^ 20)) (length line) both.0 in
-    or_from (ltb (min more_room (2 ^ 20)) (length other)) (more && eqb (length other) more_room)
-    (le-ltb _ _ (omega (arith, short, le, shorter)))
-    (by_more more both.1)
-  where
-    by_more : (b : Bool) → (b && eqb (length line) room) ≡ false → (b && eqb (length other) more_room) ≡ false
-    by_more false e = refl
-    by_more true e =
-        let ne = eqb-false (length line) room e in
-        let short = ltb-false (min room (2 ^ 20)) (length line) (or_parts (ltb (min room (2 ^ 20)) (length line)) (more && eqb (length line) room) h).0 in
-        ne_eqb (length other) more_room (λ same. ne (omega (arith, short, le, shorter, same)))
 
 module _ (objects : List ℕ → List ℕ → Bool) where
   -- where the whole accepts a line, so does the part, and has the part of what the whole has then
@@ -291,37 +273,20 @@ module _ (objects : List ℕ → List ℕ → Bool) where
 
   -- ---- all lines
 
-  abbrev read_lines : ℕ → ℕ → TraceValue → List (List ℕ) → Result TraceValue (LineFault Cause)
-  read_lines n room t lines = read_from (taken_line causes.NotJson value_line) true n room t lines
-
-  steps : (n : ℕ) (m m2 : Result TraceValue Cause) (k k2 : TraceValue → Result TraceValue (LineFault Cause)) → Carries m m2
-      → ((s : TraceValue) → OkHas (λ u. k2 (part_of objects s) ≡ Ok (part_of objects u)) (k s)) → OkHas (λ u. (at_line n m2 >>= k2) ≡ Ok (part_of objects u)) (at_line n m >>= k)
-  steps n (Ok s) m2 k k2 h next = subst (λ r. OkHas (λ u. (at_line n r >>= k2) ≡ Ok (part_of objects u)) (k s)) (sym h) (next s)
-  steps n (Err c) m2 k k2 h next = tt
-
-  lines_carried : (n room more_room : ℕ) (t : TraceValue) (lines : List (List ℕ)) → room ≤ more_room
-      → OkHas (λ u. read_lines n more_room (part_of objects t) (map (line_of_part objects) lines) ≡ Ok (part_of objects u)) (read_lines n room t lines)
-  lines_carried n room more_room t [] le = refl
-  lines_carried n room more_room t (line ∷ lines) le =
-      by_limit
-      (steps n (taken_line causes.NotJson value_line n t line) (taken_line causes.NotJson value_line n (part_of objects t) (line_of_part objects line)) _ _ (line_carried n t line)
-      (λ s. lines_carried (n + 1) (room - (length line + 1)) (more_room - (length (line_of_part objects line) + 1)) s lines (omega (arith, le, shorter line))))
-      (passes_limit room line (not (length lines == 0))) refl
+  each_line : (n : ℕ) (t : TraceValue) (line : List ℕ) → ⊤
+      → OkHas (λ u. ⊤ × (taken_line causes.NotJson value_line n (part_of objects t) (line_of_part objects line) ≡ Ok (part_of objects u))) (taken_line causes.NotJson value_line n t line)
+  each_line n t line keeps = with_nothing (taken_line causes.NotJson value_line n t line) (line_carried n t line)
     where
-      rest : Result TraceValue (LineFault Cause)
-      rest = at_line n (taken_line causes.NotJson value_line n t line) >>= λ s. read_lines (n + 1) (room - (length line + 1)) s lines
+      with_nothing : (whole : Result TraceValue Cause) → Carries whole (taken_line causes.NotJson value_line n (part_of objects t) (line_of_part objects line))
+          → OkHas (λ u. ⊤ × (taken_line causes.NotJson value_line n (part_of objects t) (line_of_part objects line) ≡ Ok (part_of objects u))) whole
+      with_nothing (Ok u) h = (tt, h)
+      with_nothing (Err e) h = tt
 
-      part_rest : Result TraceValue (LineFault Cause)
-      part_rest = at_line n (taken_line causes.NotJson value_line n (part_of objects t) (line_of_part objects line)) >>= λ s. read_lines (n + 1) (more_room - (length (line_of_part objects line) + 1)) s (map (line_of_part objects) lines)
-
-      by_limit : OkHas (λ u. part_rest ≡ Ok (part_of objects u)) rest → (b : Bool) → passes_limit room line (not (length lines == 0)) ≡ b
-          → OkHas (λ u. read_lines n more_room (part_of objects t) (map (line_of_part objects) (line ∷ lines)) ≡ Ok (part_of objects u))
-          (cond b (Err (record { line = n; stop = Input TooLong })) rest)
-      by_limit further true h = tt
-      by_limit further false h =
-          let same : passes_limit more_room (line_of_part objects line) (not (length (map (line_of_part objects) lines) == 0)) ≡ false =
-          rw (length-map lines (line_of_part objects)) (within room more_room line (line_of_part objects line) (not (length lines == 0)) le (shorter line) h) in
-          rw same further
+  all_carried : (lines : List (List ℕ)) → OkHas (λ u. read_from (taken_line causes.NotJson value_line) true 1 (2 ^ 30) empty_trace (map (line_of_part objects) lines) ≡ Ok (part_of objects u))
+      (read_from (taken_line causes.NotJson value_line) true 1 (2 ^ 30) empty_trace lines)
+  all_carried lines =
+      lines_carried (taken_line causes.NotJson value_line) (taken_line causes.NotJson value_line) (part_of objects) (λ t. ⊤) (line_of_part objects) shorter each_line
+      1 (2 ^ 30) (2 ^ 30) empty_trace lines tt (omega arith)
 
 has_faulted : (P : TraceValue → Type 0) (r : Result TraceValue (LineFault Cause)) → OkHas P r → OkHas P (faulted r)
 has_faulted P (Ok t) h = h
@@ -330,6 +295,6 @@ has_faulted P (Err e) h = tt
 pub bytes_of_part_law : (objects : List ℕ → List ℕ → Bool) (bytes part : List ℕ) (t : TraceValue) → trace_of true bytes ≡ Ok t → IsPartOfBytes objects part bytes → trace_of true part ≡ Ok (part_of objects t)
 unfolding read_all
 bytes_of_part_law objects bytes part t h same =
-    let all = value_has (λ u. read_lines objects 1 (2 ^ 30) empty_trace (map (line_of_part objects) (parts bytes)) ≡ Ok (part_of objects u)) (trace_of true bytes) t h
-    (has_faulted _ (read_all (taken_line causes.NotJson value_line) true empty_trace bytes) (lines_carried objects 1 (2 ^ 30) (2 ^ 30) empty_trace (parts bytes) (omega arith))) in
-    ap (λ ls. faulted (read_lines objects 1 (2 ^ 30) empty_trace ls)) same ∙ ap faulted all
+    let all = value_has (λ u. read_from (taken_line causes.NotJson value_line) true 1 (2 ^ 30) empty_trace (map (line_of_part objects) (parts bytes)) ≡ Ok (part_of objects u)) (trace_of true bytes) t h
+    (has_faulted _ (read_all (taken_line causes.NotJson value_line) true empty_trace bytes) (all_carried objects (parts bytes))) in
+    ap (λ ls. faulted (read_from (taken_line causes.NotJson value_line) true 1 (2 ^ 30) empty_trace ls)) same ∙ ap faulted all

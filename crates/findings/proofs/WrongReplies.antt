@@ -12,6 +12,7 @@ use Rattle.trace_lines.specs.Traces.{trace_of}
 use Rattle.trace_lines.specs.Values.{TraceValue, EntryValue, entry_lines}
 use Rattle.trace_lines.proofs.OfBytes.{strata_of_bytes, lines_of_bytes}
 use Rattle.evidence_check.specs.Laws.{HasValidStrataAt}
+use Rattle.evidence_check.specs.Members.{IsWrong}
 use Rattle.evidence_check.specs.Steps.{StepValue}
 use Rattle.evidence_check.specs.Evidences.{steps_of}
 use Rattle.evidence_check.specs.Judged.{judged}
@@ -21,7 +22,7 @@ use Rattle.evidence_check.proofs.JudgedLemmas.{judged_right}
 use Rattle.token_order.specs.Found.{order_of}
 use Rattle.token_order.specs.declared.findings.OrderFindings.{OrderFindings}
 use Rattle.findings.specs.Findings.{found_by, if_told, found_on_tokens, found_on, on_line, findings_from, findings_of}
-use Rattle.findings.specs.WrongReplies.{IsWrong, HasOnlyWrongRepliesNamed}
+use Rattle.findings.specs.WrongReplies.{HasOnlyWrongRepliesNamed}
 use Rattle.findings.specs.declared.finding.Finding.{Finding}
 use Rattle.findings.specs.declared.finding.What.{What}
 use Rattle.findings.specs.declared.finding.What.TheVariants.{Stale, OldToken, NotLatest, OpenSnapshot, WrongToken, UnknownVersion, WrongReply}
@@ -103,7 +104,7 @@ within [] i e at = absurd cc
 within (x ∷ es) zero e at = omega arith
 within (x ∷ es) (suc i) e at = let h = within es i e at in omega (arith, h)
 
-one_entry : (es : List EntryValue) → IsStrictlyIncreasing (entry_lines es) → (i k : ℕ) (e d : EntryValue) → slice_get es i ≡ Some e → k < length es → e.line ≡ (get_or es k d).line → e ≡ get_or es k d
+pub one_entry : (es : List EntryValue) → IsStrictlyIncreasing (entry_lines es) → (i k : ℕ) (e d : EntryValue) → slice_get es i ≡ Some e → k < length es → e.line ≡ (get_or es k d).line → e ≡ get_or es k d
 one_entry es up i k e d at lt same =
     let inside = within es i e at in
     let here : slice_get es i ≡ Some (get_or es i d) = slice_get-get_or es i d inside in

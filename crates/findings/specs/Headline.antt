@@ -1,15 +1,15 @@
 -- What a clean verdict says.
-use Rattle.std.specs.Prelude.{◌≡◌, ℕ, List, true, Ok, IsTrue, All, ◌↔◌}
+use Rattle.std.specs.Prelude.{◌≡◌, ℕ, List, true, Ok, All}
 use Rattle.trace_lines.specs.Traces.{trace_of}
 use Rattle.trace_lines.specs.Values.{TraceValue}
-use Rattle.evidence_check.specs.Members.{IsMemberAt}
+use Rattle.evidence_check.specs.Members.{IsRight}
 use Rattle.token_order.specs.Order.{IsInOrder}
 
 -- Each reply is what the rules mean over the tuples committed up to its snapshot. Every content check is latest, every entry closed, and
 -- every check at least as new as its zookie, as the content check of the version that it names, and as all commits before that. Each
 -- token that was issued for content carries the snapshot of its check.
 pub record IsRightAndFresh (t : TraceValue) : Type 0 where
-  pub right : All (λ e. IsTrue e.reply ↔ IsMemberAt t e.snapshot e.goal) t.entries
+  pub right : All (IsRight t) t.entries
   pub fresh : IsInOrder t
 
 -- the bytes say a trace of which that holds

@@ -1,17 +1,13 @@
 -- What a finding F10 says, whatever the verdict.
-use Rattle.std.specs.Prelude.{◌≡◌, ℕ, List, Option, true, Ok, IsTrue, All, Contains, ◌↔◌}
+use Rattle.std.specs.Prelude.{◌≡◌, ℕ, List, Option, true, Ok, All, Contains}
 use Rattle.trace_lines.specs.Traces.{trace_of}
-use Rattle.trace_lines.specs.Values.{TraceValue, EntryValue}
-use Rattle.evidence_check.specs.Members.{IsMemberAt}
+use Rattle.trace_lines.specs.Values.{TraceValue}
 use Rattle.evidence_check.specs.Reading.{evidence_of}
+use Rattle.evidence_check.specs.Members.{IsWrong}
 use Rattle.evidence_check.specs.Steps.{StepValue}
 use Rattle.findings.specs.Findings.{findings_of}
 use Rattle.findings.specs.declared.finding.Finding.{Finding}
 use Rattle.findings.specs.declared.finding.What.TheVariants.{WrongReply}
-
--- the reply is the opposite of what the rules mean over the tuples committed up to its snapshot
-abbrev pub IsWrong : TraceValue → EntryValue → Type 0
-IsWrong t e = IsTrue e.reply ↔ ¬ IsMemberAt t e.snapshot e.goal
 
 -- each entry of which the findings say so has a wrong reply
 abbrev pub HasOnlyWrongRepliesNamed : TraceValue → List Finding → Type 0

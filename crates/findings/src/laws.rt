@@ -1,18 +1,21 @@
 //! What the findings on a trace say of its replies. Each function computes nothing: what it ensures is the law.
 
-ghost use Rattle.std.specs.Prelude.{◌≡◌, ℕ, Bool, true, List, [], Option, Ok};
+ghost use Rattle.std.specs.Prelude.{◌≡◌, ℕ, Bool, true, List, [], Option, Ok, filter};
 ghost use Rattle.trace_lines.specs.Traces.{trace_of};
 ghost use Rattle.trace_lines.specs.Values.{TraceValue};
+ghost use Rattle.evidence_check.specs.Reading.{evidence_of};
 ghost use Rattle.evidence_check.specs.Steps.{StepValue};
 ghost use Rattle.findings.specs.Findings.{findings_of};
 ghost use Rattle.findings.specs.Headline.{IsRightAndFresh};
+ghost use Rattle.findings.specs.NewEnemy.{HasNoNewEnemy};
 ghost use Rattle.findings.specs.PartBytes.{IsPartOfBytes};
+ghost use Rattle.findings.specs.PartEvidence.{IsPartOfEvidence, is_on_part};
 ghost use Rattle.findings.specs.Parts.{part_of, evidence_of_part, findings_on_part, IsCleanInParts};
 ghost use Rattle.findings.specs.WrongReplies.{HasOnlyWrongRepliesNamed};
 
 use token_order::laws::fresh_without_findings;
 use trace_lines::Trace;
-use trace_lines::laws::{entries_rise, valid_strata};
+use trace_lines::laws::{entries_rise, valid_strata, versions_issued_once};
 
 /// Where nothing is found, whoever made the evidence, each reply is what the rules mean over the tuples committed up to its snapshot, and
 /// no check is older than its zookie or than its version's content check.
@@ -21,6 +24,15 @@ pub fn right_and_fresh_without_findings(trace: &Trace)
 {
     valid_strata(trace);
     fresh_without_findings(trace);
+}
+
+/// No new enemy: a check of a content version has seen all access changes that were committed before that version's content check
+/// (Zanzibar, sections 2.2 and 2.4). Where such a commit removed a tuple and none up to the check's snapshot adds it again, the tuple
+/// is not among those by which the check was answered; where it added one that none removes, it is.
+pub fn no_new_enemy(trace: &Trace)
+    ensures { IsRightAndFresh trace.now → HasNoNewEnemy trace.now }
+{
+    versions_issued_once(trace);
 }
 
 /// Whatever is found: a reply that a finding F10 calls wrong is wrong.
@@ -52,3 +64,22 @@ pub fn bytes_of_part()
     ensures { (objects : List ℕ → List ℕ → Bool) (bytes part : List ℕ) (t : TraceValue) → trace_of true bytes ≡ Ok t
         → IsPartOfBytes objects part bytes → trace_of true part ≡ Ok (part_of objects t) }
 {}
+
+/// Its evidence, as bytes: where some bytes say evidence for a trace, those that have the same lines, but blank ones for the records of
+/// other objects' entries, say the evidence for the part.
+pub fn bytes_of_evidence(trace: &Trace)
+    ensures { (objects : List ℕ → List ℕ → Bool) (bytes part : List ℕ) (given : List (Option (List StepValue)))
+        → evidence_of trace.now.entries true bytes ≡ Ok given → IsPartOfEvidence objects trace.now.entries part bytes
+        → evidence_of (part_of objects trace.now).entries true part ≡ Ok (evidence_of_part objects trace.now given) }
+{
+    entries_rise(trace);
+}
+
+/// The findings of a part are the whole's on its lines, in their order. So the report of the whole is the merge of the parts' by line.
+pub fn findings_by_line(trace: &Trace)
+    ensures { (objects : List ℕ → List ℕ → Bool) (evidence : List (Option (List StepValue)))
+        → findings_of (part_of objects trace.now) (evidence_of_part objects trace.now evidence)
+        ≡ filter (is_on_part objects trace.now.entries) (findings_of trace.now evidence) }
+{
+    entries_rise(trace);
+}

@@ -172,7 +172,8 @@ fn history_in_path<W: Sink, E: Sink, P: Files>(
 }
 
 /// Runs the program on the words after its name, and answers its exit status and what it read: 0 for clean, for evidence that is made, for a
-/// history that is told and for help, 1 for dirty, 2 for refused input, 3 for usage, 4 for want of memory, 5 for a device that failed and a file that could not be opened.
+/// history that is told and for help that went out, 1 for dirty, 2 for refused input, 3 for usage, 4 for want of memory, 5 for a device that failed
+/// and a file that could not be opened.
 ///
 /// Without words it audits joined input. A report, evidence, a history or the text of help goes to `out`; a fault is told to `err` in one line, and a
 /// failure of `err` changes nothing else.
@@ -198,7 +199,7 @@ pub fn run_words<R: Source, W: Sink, E: Sink, P: Files + Threads + Wait + Sync>(
     ensures dirty { result.0 ≡ 1 → OfRun result.1
         (OfWhole R.given R.ends input.old input.new (OfParts (λ a b. Audits a b (W.taken out.old) (W.taken out.new) Dirty)))
         (λ t e. IsDirtyAudit t e (W.taken out.old) (W.taken out.new)) (λ t. IsDirtyAuditMade t (W.taken out.old) (W.taken out.new)) (λ t. ⊥) (λ t. ⊥) ⊥ }
-    ensures flushed { result.0 ≤ 1 → result.1 ≢ ran.Nothing → W.flushes out.new ≡ W.flushes out.old + 1 }
+    ensures flushed { result.0 ≤ 1 → W.flushes out.new ≡ W.flushes out.old + 1 }
     // Of every input that begins with the bytes that came.
     ensures refused { result.0 ≡ 2 → OfRun result.1 (OfInput R.given R.ends input.old input.new IsRefused)
         (λ t e. IsNoAudit t e) (λ t. IsNoTrace t) (λ t. IsNoTrace t) (λ t. IsNoTrace t) ⊤ }
@@ -206,7 +207,7 @@ pub fn run_words<R: Source, W: Sink, E: Sink, P: Files + Threads + Wait + Sync>(
     ensures device { result.0 ≡ 5 → result.1 ≢ ran.Nothing → (HasRisen (R.failures input.old) (R.failures input.new) ⊎ (0 < file_failures result.1))
         ⊎ (HasRisen (W.failures out.old) (W.failures out.new) ⊎ HasRisen (W.idle out.old) (W.idle out.new)) }
     // Any other status comes only where no device failed.
-    ensures kept { result.0 ≢ 5 → (R.failures input.new ≡ R.failures input.old) × (file_failures result.1 ≡ 0) × (result.1 ≢ ran.Nothing → W.failures out.new ≡ W.failures out.old) }
+    ensures kept { result.0 ≢ 5 → (R.failures input.new ≡ R.failures input.old) × (file_failures result.1 ≡ 0) × (W.failures out.new ≡ W.failures out.old) }
     // A command reads its files alone.
     ensures unread { result.1 ≢ ran.Joined → input.new ≡ input.old }
     ensures unwritten { 2 ≤ result.0 → result.0 ≤ 4 → W.taken out.new ≡ W.taken out.old }
@@ -243,10 +244,18 @@ pub fn run_words<R: Source, W: Sink, E: Sink, P: Files + Threads + Wait + Sync>(
         Ok(Answer::Asks(Request::History { trace, tuple })) => {
             history_in_path(rt, alloc, trace, tuple, out, err)
         }
-        Ok(Answer::Shows(text)) => {
-            let _ = send(out, text.as_bytes());
-            (0, Ran::Nothing)
-        }
+        Ok(Answer::Shows(text)) => match send(out, text.as_bytes()) {
+            Ok(()) => (0, Ran::Nothing),
+            Err(unsent) => {
+                tell(
+                    err,
+                    &AuditFault::Write {
+                        written: unsent.written,
+                    },
+                );
+                (5, Ran::Nothing)
+            }
+        },
         Ok(Answer::Refuses(text)) => {
             let _ = send(err, text.as_bytes());
             (3, Ran::Nothing)
@@ -281,7 +290,7 @@ pub fn run_on<R: Read, W: Write, E: Write, P: Files + Threads + Wait + Sync>(
         (λ t e. IsNoAudit t e) (λ t. IsNoTrace t) (λ t. IsNoTrace t) (λ t. IsNoTrace t) ⊤ }
     ensures used { result.0 ≡ 3 → OfRun result.1 ⊥ (λ t e. (moved_by t ≡ []) × (moved_by e ≡ [])) (λ t. moved_by t ≡ []) (λ t. ⊥) (λ t. ⊥) ⊤ }
     ensures device { result.0 ≡ 5 → result.1 ≢ ran.Nothing → 0 < (failures_of result.2.0 + file_failures result.1) + (failures_of result.2.1 + stops_of result.2.1) }
-    ensures kept { result.0 ≢ 5 → (failures_of result.2.0 ≡ 0) × (file_failures result.1 ≡ 0) × (result.1 ≢ ran.Nothing → failures_of result.2.1 ≡ 0) }
+    ensures kept { result.0 ≢ 5 → (failures_of result.2.0 ≡ 0) × (file_failures result.1 ≡ 0) × (failures_of result.2.1 ≡ 0) }
     ensures unread { result.1 ≢ ran.Joined → (moved_by result.2.0 ≡ []) × (failures_of result.2.0 ≡ 0) }
     ensures unwritten { 2 ≤ result.0 → result.0 ≤ 4 → moved_by result.2.1 ≡ [] }
     ensures most { (length (moved_by result.2.0) ≤ MAX_INPUT + CHUNK) × OfFiles result.1 (λ file. length (moved_by file) ≤ MAX_INPUT + CHUNK) }

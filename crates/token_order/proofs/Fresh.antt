@@ -98,8 +98,9 @@ between (Some z) c s h below = elim (cases_Bool (ltb z.at c.snapshot)) [
   | inr f ↦ let a = ltb-false _ _ f in let b = ltb-false _ _ below in omega (arith, a, b)
 ]
 
-module _ (t : TraceValue) (rising : IsStrictlyIncreasing (entry_lines t.entries)) (none : HasNoOrderFindings t) where
-  line_before : (i j : ℕ) (e c : EntryValue) → slice_get t.entries i ≡ Some e → slice_get t.entries j ≡ Some c → j < i → c.line < e.line
+-- an entry before another stands on an earlier line
+module _ (t : TraceValue) (rising : IsStrictlyIncreasing (entry_lines t.entries)) where
+  pub line_before : (i j : ℕ) (e c : EntryValue) → slice_get t.entries i ≡ Some e → slice_get t.entries j ≡ Some c → j < i → c.line < e.line
   line_before i j e c at there lt =
       let within = slice_get_within t.entries i e at in
       let long = length-map t.entries (λ (x : EntryValue). x.line) in
@@ -110,6 +111,7 @@ module _ (t : TraceValue) (rising : IsStrictlyIncreasing (entry_lines t.entries)
       let b' : (get_or t.entries j c).line ≡ c.line = ap (λ (x : EntryValue). x.line) (get_or_from_slice_get t.entries j c c there) in
       omega (arith, up, a, b, a', b')
 
+module _ (t : TraceValue) (rising : IsStrictlyIncreasing (entry_lines t.entries)) (none : HasNoOrderFindings t) where
   module _ (i : ℕ) (e : EntryValue) (at : slice_get t.entries i ≡ Some e) (check : e.kind ≡ Check) where
     not_stale : is_above e.zookie e.snapshot ≡ false
     not_stale = sym (rw (check_kind e.kind check) refl) ∙ ap (λ (f : OrderFindings). f.stale) (none i e at)
@@ -130,7 +132,7 @@ module _ (t : TraceValue) (rising : IsStrictlyIncreasing (entry_lines t.entries)
         record {
           content = c;
           recorded = (j, within, get_or_from_slice_get t.entries j c c m.there);
-          earlier = line_before i j e c at m.there m.earlier;
+          earlier = line_before t rising i j e c at m.there m.earlier;
           issued = m.issued;
           reaches_content = covers;
           covered = λ k d lt before. let h = latest k d lt before in omega (arith, h, covers);

@@ -1,3 +1,4 @@
 pub mod Compared
 pub mod Fresh
 pub mod Neighbours
+pub mod Denials

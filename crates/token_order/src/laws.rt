@@ -1,7 +1,10 @@
-//! What a trace without findings is.
+//! What findings on tokens say of a trace, and what a trace without them is. Each function computes nothing: what it ensures is the law.
 
+ghost use Rattle.std.specs.Prelude.{◌≡◌, ℕ, Some, slice_get};
+ghost use Rattle.trace_lines.specs.Values.{EntryValue};
+ghost use Rattle.token_order.specs.Denied.{AreDenied};
 ghost use Rattle.token_order.specs.Order.{IsInOrder};
-ghost use Rattle.token_order.specs.Found.{HasNoOrderFindings};
+ghost use Rattle.token_order.specs.Found.{order_of, HasNoOrderFindings};
 
 use trace_lines::Trace;
 use trace_lines::laws::entries_rise;
@@ -12,6 +15,15 @@ use trace_lines::laws::entries_rise;
 /// snapshot (Zanzibar, section 2.4).
 pub fn fresh_without_findings(trace: &Trace)
     ensures { HasNoOrderFindings trace.now → IsInOrder trace.now }
+{
+    entries_rise(trace);
+}
+
+/// Each finding on tokens denies what it is named for: F1 that the snapshot reaches the zookie, F2 that the check's zookie demands the
+/// snapshot of its version, F3 that the content check is latest, F4 that the entry is closed, F5 that the token issued carries the
+/// snapshot, F6 that the version was issued.
+pub fn findings_deny(trace: &Trace)
+    ensures { (i : ℕ) (e : EntryValue) → slice_get trace.now.entries i ≡ Some e → AreDenied trace.now e (order_of trace.now i e) }
 {
     entries_rise(trace);
 }

@@ -13,7 +13,7 @@ use Rattle.version_chains.proofs.PlacedLemmas.{slice_get-cases}
 use Rattle.trace_lines.specs.Issued.{Issue, issue_in_front, issued_from, issued_by, AreIssued}
 use Rattle.trace_lines.specs.VersionMarks.{version_mark}
 use Rattle.trace_lines.specs.Values.{EntryValue}
-use Rattle.trace_lines.specs.Versions.{Version, version_eq, is_version, version_issued, version_named, entry_version, issues, issuer, content_among, content_of}
+use Rattle.trace_lines.specs.Versions.{Version, version_eq, is_version, version_issued, version_named, entry_version, issues, issuer, content_among, content_of, AreIssuedOnce}
 use Rattle.trace_lines.specs.declared.entry.EntryKind.{EntryKind}
 use Rattle.trace_lines.specs.declared.entry.EntryKind.TheVariants.{Check, Content}
 use Rattle.trace_lines.specs.declared.versions.Versions.{Versions}
@@ -124,6 +124,37 @@ module _ (es : List EntryValue) (e : EntryValue) (old : Versions) (are : AreIssu
           | inr last ↦ subst (λ (y : Issue). issuer (es ++ e ∷ []) y.version ≡ Some y.number) last.1 first
         ];
       }
+
+-- ---- who issues a version
+
+issued_here : (v : Version) (o : Option Version) → is_version v o ≡ true → o ≡ Some v
+issued_here v None h = cc
+issued_here v (Some w) h = ap Some (sym (version_eq-same v w h))
+
+issued_at : (n : ℕ) (es : List EntryValue) (j : ℕ) (e : EntryValue) (v : Version) → slice_get es j ≡ Some e → issues v e ≡ true
+    → (k : ℕ) × (slice_get (issued_from n es) k ≡ Some (record { number = n + j; version = v }))
+issued_at n [] j e v at h = cc
+issued_at n (x ∷ xs) zero e v at h =
+    let here : version_issued x.kind (entry_version x) ≡ Some v =
+    issued_here v (version_issued x.kind (entry_version x)) (ap (issues v) (same_Some x e at) ∙ h) in
+    let number : n ≡ n + 0 = omega arith in
+    (0, rw here (ap (λ (m : ℕ). Some (record { number = m; version = v })) number))
+issued_at n (x ∷ xs) (suc j) e v at h =
+    let later = issued_at (n + 1) xs j e v at h in
+    let number : n + 1 + j ≡ n + suc j = omega arith in
+    by later.0 (later.1 ∙ ap (λ (m : ℕ). Some (record { number = m; version = v })) number) (version_issued x.kind (entry_version x))
+  where
+    by : (k : ℕ) → slice_get (issued_from (n + 1) xs) k ≡ Some (record { number = n + suc j; version = v }) → (o : Option Version)
+        → (k : ℕ) × (slice_get (issue_in_front n o (issued_from (n + 1) xs)) k ≡ Some (record { number = n + suc j; version = v }))
+    by k there None = (k, there)
+    by k there (Some w) = (suc k, there)
+
+pub issued_once : (old : Versions) (es : List EntryValue) → AreIssued old es → AreIssuedOnce es
+issued_once old es are v i j d e at there first second =
+    let a = issued_at 0 es i d v at first in
+    let b = issued_at 0 es j e v there second in
+    let same = same_Some (0 + i) (0 + j) (sym (are.once a.0 _ a.1) ∙ are.once b.0 _ b.1) in
+    omega (arith, same)
 
 -- ---- what a check means
 

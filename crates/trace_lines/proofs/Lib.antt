@@ -10,6 +10,7 @@ pub mod Keeping
 pub mod LineCauses
 pub mod OfBytes
 pub mod Orderly
+pub mod Placing
 pub mod Reading
 pub mod Recording
 pub mod RisingLines

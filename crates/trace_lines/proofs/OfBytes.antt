@@ -1,5 +1,5 @@
 -- What holds of the trace that bytes say, by induction over their lines.
-use Rattle.std.proofs.Common.{◌≡◌, ℕ, ◌+◌, ◌-◌, ◌^◌, ◌<◌, ◌≤◌, ◌&&◌, ◌==◌, not, Bool, true, List, [], ◌∷◌, ◌++◌, length, Option, Some, None, Result, Ok, Err, refl, ap, ◌∙◌, append-nil, length-append, arith}
+use Rattle.std.proofs.Common.{◌≡◌, ℕ, ◌+◌, ◌-◌, ◌^◌, ◌<◌, ◌≤◌, ◌&&◌, ◌==◌, not, Bool, true, List, [], ◌∷◌, ◌++◌, length, Option, Some, None, Result, Ok, Err, refl, ap, ◌∙◌, append-nil, arith}
 use Rattle.std.specs.Prelude.{codes, bytes_eq, option_and_then}
 use Rattle.std.specs.List.Sorted.{IsStrictlyIncreasing}
 use Rattle.std.specs.Str.{is_utf8}
@@ -16,6 +16,7 @@ use Rattle.namespaces.specs.Lookup.{rule_at}
 use Rattle.namespaces.proofs.Growth.{later_added, later_changed}
 use Rattle.version_chains.specs.Commits.{Commit, added, store_at}
 use Rattle.version_chains.specs.Appends.{append_fault}
+use Rattle.version_chains.proofs.ApartLemmas.{touch-once}
 use Rattle.strata.specs.Edges.{first_broken, edges_of_tuples}
 use Rattle.strata.specs.Strata.{HasValidStrata}
 use Rattle.refusals.specs.Refusals.{◌>>=◌}
@@ -25,6 +26,7 @@ use Rattle.json_lines.specs.Json.{is_blank, of_json, json_line, taken_line}
 use Rattle.json_lines.specs.Reading.{at_line, passes_limit, read_from, read_all, parts}
 use Rattle.json_lines.specs.declared.reading.LineFault.{LineFault}
 use Rattle.trace_lines.specs.Causes.{namespace_cause}
+use Rattle.trace_lines.specs.Placed.{HasPlacedCommits}
 use Rattle.trace_lines.specs.Values.{EntryValue, TraceValue, empty_trace, entry_lines, next_line}
 use Rattle.trace_lines.specs.Versions.{is_repeated}
 use Rattle.trace_lines.specs.Traces.{is_begun, rules_checked, tuples_checked, late_or, with_namespace, namespace_line, changes_of, append_cause, commit_checked, with_touches, with_commit, commit_of, empty_commit, change_line, declared_from, declaration_line, are_declared, entry_of, is_declared, recorded, with_entry, entry_line, of_kind, value_line, faulted, trace_of}
@@ -35,6 +37,7 @@ use Rattle.trace_lines.specs.declared.entry.EntryKind.TheVariants.{Check, Conten
 use Rattle.trace_lines.specs.declared.cause.Cause.{Cause}
 use Rattle.trace_lines.specs.declared.cause.Cause.TheVariants as causes
 use Rattle.trace_lines.proofs.Orderly.{orderly_empty, orderly_commit, orderly_declared, orderly_change, nothing_before, valid_strata, commit_ok, accepted, added_pushed, last_pushed}
+use Rattle.trace_lines.proofs.Placing.{ArePlaced, placed_empty, placed_push}
 use Rattle.trace_lines.proofs.RisingLines.{rising_push, fits_value, entry_stands}
 
 -- ---- steps
@@ -54,21 +57,18 @@ both_hold P Q (Err e) p q = tt
 
 -- ---- what is kept from one line to the next
 
--- no edge is broken, each commit has its line, and the entries stand on lines that rise
+-- no edge is broken, the commits are placed, and the entries stand on lines that rise
 record IsSound (t : TraceValue) : Type 0 where
   orderly : IsOrderly t.declarations t.commits (added t.commits)
-  counted : length t.commit_lines ≡ length t.commits
+  placed : ArePlaced t.commit_lines t.commits
   rising : IsStrictlyIncreasing (entry_lines t.entries)
 
 sound_empty : IsSound empty_trace
-sound_empty = record { orderly = orderly_empty; counted = refl; rising = λ k lt. absurd (omega (arith, lt)) }
+sound_empty = record { orderly = orderly_empty; placed = placed_empty; rising = λ k lt. absurd (omega (arith, lt)) }
 
 -- a commit more, and what all have added
 added_alike : (commits : List Commit) (c : Commit) → Represents (added (commits ++ c ∷ [])) (added commits ++ c.adds)
 added_alike commits c ds = ap (λ ts. first_broken ds (edges_of_tuples ds ts)) (added_pushed commits c)
-
-one_longer : (lines : List ℕ) (n : ℕ) (commits : List Commit) (c : Commit) → length lines ≡ length commits → length (lines ++ n ∷ []) ≡ length (commits ++ c ∷ [])
-one_longer lines n commits c same = let a = length-append lines (n ∷ []) in let b = length-append commits (c ∷ []) in omega (arith, a, b, same)
 
 -- ---- lines of namespaces
 
@@ -92,9 +92,9 @@ sound_namespace t d is =
     passes_told IsSound (with_namespace (is_begun t) t.declarations d) _
     (λ es made. record {
       orderly = orderly_declared (Ok (tt {0})) (is_begun t) t.declarations es t.commits (added t.commits) d is.orderly
-          (nothing_before t.commit_lines (not (length t.entries == 0)) t.commits is.counted) made tt
+          (nothing_before t.commit_lines (not (length t.entries == 0)) t.commits is.placed.counted) made tt
           (value_has (KeepsLater t.declarations) (with_namespace (is_begun t) t.declarations d) es made (later_namespace (is_begun t) t.declarations d));
-      counted = is.counted;
+      placed = is.placed;
       rising = is.rising;
     })
 
@@ -107,7 +107,7 @@ before_next : (at : ℕ) (ds : List Declaration) (d : Data) → IsLater at ds �
 before_next at ds d later =
     passes (IsBefore at) (changed ds d) _ (λ n next lt. later_changed (Ok (tt {0})) at next ds (ds ++ change at n ∷ []) n refl tt later lt)
 
-module _ (at n : ℕ) (t : TraceValue) (d : Data) (is : IsSound t) (room : append_cause (append_fault (changes_of t) at [] []) ≡ Ok (tt {0})) where
+module _ (at n : ℕ) (t : TraceValue) (d : Data) (le : next_line t ≤ n) (is : IsSound t) (room : append_cause (append_fault (changes_of t) at [] []) ≡ Ok (tt {0})) where
   fault : append_fault (changes_of t) at [] [] ≡ None
   fault = (commit_ok t.declarations (changes_of t) (empty_commit at) room).1
 
@@ -130,39 +130,40 @@ module _ (at n : ℕ) (t : TraceValue) (d : Data) (is : IsSound t) (room : appen
             (last_pushed t.commits (empty_commit at)) given
             (value_has (IsBefore at) (namespace_cause (rules_change t.declarations at d)) es made
             (of_rules (IsBefore at) (rules_change t.declarations at d) (before_next at t.declarations d later_before)));
-        counted = one_longer t.commit_lines n t.commits (empty_commit at) is.counted;
+        placed = placed_push t.commit_lines n t.commits (empty_commit at) is.placed (omega (arith, le)) fault;
         rising = is.rising;
       }
 
-sound_change : (at n : ℕ) (t : TraceValue) (d : Data) → IsSound t → OkHas IsSound (change_line at n t d)
+sound_change : (at n : ℕ) (t : TraceValue) (d : Data) → next_line t ≤ n → IsSound t → OkHas IsSound (change_line at n t d)
 unfolding change_line
-sound_change at n t d is =
+sound_change at n t d le is =
     passes_told IsSound (namespace_cause (rules_change t.declarations at d)) _
     (λ es made. passes_told IsSound (rules_checked es) _
     (λ u rules. passes_told IsSound (append_cause (append_fault (changes_of t) at [] [])) _
-    (λ v room. passes_told IsSound (tuples_checked es (added t.commits)) _ (λ w tuples. sound_changed at n t d is room es made rules tuples))))
+    (λ v room. passes_told IsSound (tuples_checked es (added t.commits)) _ (λ w tuples. sound_changed at n t d le is room es made rules tuples))))
 
-sound_declared : (o : Option (Option ℕ)) (n : ℕ) (t : TraceValue) (d : Data) → IsSound t → OkHas IsSound (declared_from o n t d)
-sound_declared None n t d is = tt
-sound_declared (Some None) n t d is = sound_namespace t d is
-sound_declared (Some (Some at)) n t d is = sound_change at n t d is
+sound_declared : (o : Option (Option ℕ)) (n : ℕ) (t : TraceValue) (d : Data) → next_line t ≤ n → IsSound t
+    → OkHas IsSound (declared_from o n t d)
+sound_declared None n t d le is = tt
+sound_declared (Some None) n t d le is = sound_namespace t d is
+sound_declared (Some (Some at)) n t d le is = sound_change at n t d le is
 
-sound_declaration : (n : ℕ) (t : TraceValue) (d : Data) → IsSound t → OkHas IsSound (declaration_line n t d)
+sound_declaration : (n : ℕ) (t : TraceValue) (d : Data) → next_line t ≤ n → IsSound t → OkHas IsSound (declaration_line n t d)
 unfolding declaration_line
-sound_declaration n t d is = sound_declared (optional_number_at (codes "at") d) n t d is
+sound_declaration n t d le is = sound_declared (optional_number_at (codes "at") d) n t d le is
 
 -- ---- lines of commits
 
-sound_commit : (n : ℕ) (t : TraceValue) (c : Commit) → IsSound t → OkHas IsSound (with_commit n t c)
+sound_commit : (n : ℕ) (t : TraceValue) (c : Commit) → next_line t ≤ n → IsSound t → OkHas IsSound (with_commit n t c)
 unfolding with_commit
-sound_commit n t c is =
+sound_commit n t c le is =
     either_passes IsSound (are_declared t.declarations c.adds && are_declared t.declarations c.removes) _ (Err causes.Unknown)
     (passes_told IsSound (commit_checked t.declarations (changes_of t) c.at c.adds c.removes) _
     (λ u h.
     let fine = commit_ok t.declarations (changes_of t) c h in
     record {
       orderly = orderly_commit t.declarations t.commits (added t.commits) (added (t.commits ++ c ∷ [])) is.orderly c fine.0 fine.1 (added_alike t.commits c);
-      counted = one_longer t.commit_lines n t.commits c is.counted;
+      placed = placed_push t.commit_lines n t.commits c is.placed (omega (arith, le)) fine.1;
       rising = is.rising;
     }))
     tt
@@ -176,7 +177,7 @@ sound_entry n t e le at is =
     (either_passes IsSound (is_repeated t.entries e) (Err causes.RepeatedVersion) _ tt
     (record {
       orderly = is.orderly;
-      counted = is.counted;
+      placed = is.placed;
       rising = rw (map-append (λ (x : EntryValue). x.line) t.entries (e ∷ [])) (rising_push (entry_lines t.entries) e.line is.rising (omega (arith, at, le)));
     }))
     tt
@@ -191,8 +192,8 @@ sound_entry_line kind n t d le is =
 sound_kind : (n : ℕ) (t : TraceValue) (d : Data) (kind : Option (List ℕ)) → next_line t ≤ n → IsSound t → OkHas IsSound (of_kind n t d kind)
 sound_kind n t d None le is = tt
 sound_kind n t d (Some kind) le is =
-    either_passes IsSound (bytes_eq kind (codes "namespace")) _ _ (sound_declaration n t d is)
-    (either_passes IsSound (bytes_eq kind (codes "commit")) _ _ (passes IsSound (commit_of d) (with_commit n t) (λ c. sound_commit n t c is))
+    either_passes IsSound (bytes_eq kind (codes "namespace")) _ _ (sound_declaration n t d le is)
+    (either_passes IsSound (bytes_eq kind (codes "commit")) _ _ (passes IsSound (commit_of d) (with_commit n t) (λ c. sound_commit n t c le is))
     (either_passes IsSound (bytes_eq kind (codes "content")) _ _ (sound_entry_line Content n t d le is)
     (either_passes IsSound (bytes_eq kind (codes "check")) _ _ (sound_entry_line Check n t d le is) tt)))
 
@@ -244,3 +245,13 @@ strata_of_bytes bytes t h = valid_strata t.declarations t.commits (added t.commi
 
 pub lines_of_bytes : (bytes : List ℕ) (t : TraceValue) → trace_of true bytes ≡ Ok t → IsStrictlyIncreasing (entry_lines t.entries)
 lines_of_bytes bytes t h = (sound_bytes bytes t h).rising
+
+pub commits_placed : (bytes : List ℕ) (t : TraceValue) → trace_of true bytes ≡ Ok t → HasPlacedCommits t
+commits_placed bytes t h =
+    let placed = (sound_bytes bytes t h).placed in
+    record {
+      counted = placed.counted;
+      lines = placed.lines_rise;
+      timestamps = placed.times_rise;
+      once = touch-once t.commits placed.apart;
+    }

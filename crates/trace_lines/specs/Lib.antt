@@ -4,6 +4,7 @@ pub mod Indexed
 pub mod Issued
 pub mod Kept
 pub mod LineFields
+pub mod Placed
 pub mod Reads
 pub mod Recorded
 pub mod Results

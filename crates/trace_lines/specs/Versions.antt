@@ -1,5 +1,5 @@
 -- Versions of content: which content check issued each, and which one a check means.
-use Rattle.std.specs.Prelude.{ℕ, Bool, false, List, take, slice_get, is_some, nat_eq, Option, None, Some, option_map, option_and_then}
+use Rattle.std.specs.Prelude.{◌≡◌, ℕ, Bool, false, true, List, take, slice_get, is_some, nat_eq, Option, None, Some, option_map, option_and_then}
 use Rattle.std.specs.List.{position_from}
 use Rattle.std.specs.Ordering.{on, eq_of_both}
 use Rattle.std.specs.Cmp.Lexicographic.{pointwise}
@@ -60,3 +60,9 @@ content_among es e = option_and_then (issuer es) (version_named e.kind (entry_ve
 -- the entry before number i that issued the version which entry i names
 abbrev pub content_of : List EntryValue → ℕ → Option ℕ
 content_of es i = option_and_then (content_among (take i es)) (slice_get es i)
+
+-- each version is issued by one entry
+abbrev pub AreIssuedOnce : List EntryValue → Type 0
+AreIssuedOnce es =
+    (v : Version) (i j : ℕ) (d e : EntryValue) → slice_get es i ≡ Some d → slice_get es j ≡ Some e
+    → issues v d ≡ true → issues v e ≡ true → i ≡ j

@@ -5,8 +5,10 @@ ghost use Rattle.std.specs.List.Sorted.{IsStrictlyIncreasing};
 ghost use Rattle.namespaces.specs.Lookup.{rule_at};
 ghost use Rattle.version_chains.specs.Commits.{store_at};
 ghost use Rattle.strata.specs.Strata.{HasValidStrata};
+ghost use Rattle.trace_lines.specs.Placed.{HasPlacedCommits};
 ghost use Rattle.trace_lines.specs.Traces.{trace_of};
 ghost use Rattle.trace_lines.specs.Values.{TraceValue, entry_lines};
+ghost use Rattle.trace_lines.specs.Versions.{AreIssuedOnce};
 
 use crate::trace::Trace;
 
@@ -24,6 +26,13 @@ pub fn entries_rise(trace: &Trace)
     let _ = trace.len();
 }
 
+/// A version of an object is issued by one content check.
+pub fn versions_issued_once(trace: &Trace)
+    ensures { AreIssuedOnce trace.now.entries }
+{
+    let _ = trace.versions();
+}
+
 /// In the trace that some bytes say, strata are valid at each timestamp, over what is stored then.
 pub fn valid_strata_of_bytes()
     ensures { (bytes : List ℕ) (t : TraceValue) → trace_of true bytes ≡ Ok t →
@@ -33,4 +42,9 @@ pub fn valid_strata_of_bytes()
 /// In the trace that some bytes say, the entries stand on lines that rise.
 pub fn entries_of_bytes_rise()
     ensures { (bytes : List ℕ) (t : TraceValue) → trace_of true bytes ≡ Ok t → IsStrictlyIncreasing (entry_lines t.entries) }
+{}
+
+/// In the trace that some bytes say, each commit has its line, lines and timestamps rise, and no commit touches a tuple twice.
+pub fn commits_of_bytes()
+    ensures { (bytes : List ℕ) (t : TraceValue) → trace_of true bytes ≡ Ok t → HasPlacedCommits t }
 {}

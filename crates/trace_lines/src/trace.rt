@@ -12,7 +12,7 @@ ghost use Rattle.trace_lines.specs.Indexed.{IsIndex};
 ghost use Rattle.trace_lines.specs.LineFields.{commit_fields};
 ghost use Rattle.trace_lines.specs.Values.{empty_trace, entry_value, entry_lines, next_line};
 ghost use Rattle.trace_lines.specs.Traces.{is_declared, are_declared, is_begun, namespace_line, change_line, declaration_line, commit_checked, commit_of, with_commit, commit_line, entry_of, recorded, with_entry, entry_line, value_line};
-ghost use Rattle.trace_lines.specs.Versions.{entry_version, version_issued, issuer, content_among, content_of};
+ghost use Rattle.trace_lines.specs.Versions.{entry_version, version_issued, issuer, content_among, content_of, AreIssuedOnce};
 ghost use Rattle.trace_lines.specs.declared.entry.EntryKind.TheVariants.{Content};
 ghost use Rattle.version_chains.specs.Appends.{appended, late_fault, last_at};
 ghost use Rattle.version_chains.specs.Commits.{store_at};
@@ -168,6 +168,13 @@ impl Trace {
         ensures earlier { IfSome result (λ c. c < i) }
     {
         self.recorded[i].content()
+    }
+
+    /// The versions that content checks issued, each once.
+    pub(crate) fn versions(&self) -> &Versions
+        ensures { AreIssuedOnce self.now.entries }
+    {
+        &self.versions
     }
 
     /// The line of commit `k`.

@@ -1,0 +1,2 @@
+pub mod LeastFault
+pub mod Leftmost
