@@ -3,7 +3,8 @@
 
     python3 bench/report.py [--runs N] [--each N] PROGRAM MEGABYTES [KIND ..] > table
 
-Seconds are processor time, the least of N runs, or of three, of the audit and of the report in turn.
+It times, in turn, the audit by evidence, the report of what it found, the audit that makes its evidence, and the report of that. Seconds
+are processor time, and behind it that of a clock: of N runs, or of three, the one with the least.
 """
 import argparse
 import json
@@ -12,6 +13,7 @@ import resource
 import subprocess
 import sys
 import tempfile
+import time
 
 import trace
 
@@ -35,29 +37,37 @@ def moved(lines, each):
 
 
 def run(words, out):
-    """The processor time of one run, which writes to a file."""
-    before = resource.getrusage(resource.RUSAGE_CHILDREN)
+    """The processor time of one run, which writes to a file, and that of a clock."""
+    before, begun = resource.getrusage(resource.RUSAGE_CHILDREN), time.monotonic()
     with open(out, "wb") as file:
         status = subprocess.run(words, stdout=file, check=False).returncode
-    used = resource.getrusage(resource.RUSAGE_CHILDREN)
+    used, clock = resource.getrusage(resource.RUSAGE_CHILDREN), time.monotonic() - begun
     if status not in (0, 1):
         sys.exit(f"{' '.join(words)}: status {status}")
-    return used.ru_utime + used.ru_stime - before.ru_utime - before.ru_stime
+    return used.ru_utime + used.ru_stime - before.ru_utime - before.ru_stime, clock
+
+
+def findings_in(path):
+    with open(path, encoding="utf-8") as file:
+        return file.read().rpartition("findings ")[2].split()[0]
 
 
 def costs(given, kind, folder):
     """A row of the table."""
     made = trace.KINDS[kind](int(given.megabytes * 10**6))
-    paths = {name: os.path.join(folder, name) for name in ("trace", "evidence", "report", "told")}
+    paths = {name: os.path.join(folder, name) for name in ("trace", "evidence", "report", "made", "told")}
     for name, lines in (("trace", moved(made.lines, given.each)), ("evidence", made.records)):
         with open(paths[name], "w", encoding="utf-8") as file:
             file.writelines(line + "\n" for line in lines)
-    runs = [(run([given.program, "audit", paths["trace"], paths["evidence"]], paths["report"]),
-             run([sys.executable, NE, "report", "--out", paths["told"], paths["trace"], paths["report"]], os.devnull)) for _ in range(given.runs)]
-    with open(paths["report"], encoding="utf-8") as file:
-        findings = file.read().rpartition("findings ")[2].split()[0]
-    audit, report = (min(seconds) for seconds in zip(*runs))
-    return f"| `{kind}` | {os.path.getsize(paths['trace']) / 10**6:.0f} | {findings} | {audit:.2f} | {report:.2f} | {report / audit:.1f} |"
+    told = [sys.executable, NE, "report", "--out", paths["told"], paths["trace"]]
+    runs = [(run([given.program, "audit", paths["trace"], paths["evidence"]], paths["report"]), run([*told, paths["report"]], os.devnull),
+             run([given.program, "audit", paths["trace"], "--make"], paths["made"]), run([*told, paths["made"]], os.devnull))
+            for _ in range(given.runs)]
+    least = [min(seconds) for seconds in zip(*runs)]
+    audit, report, made, of_made = (f"{used:.2f}; {clock:.2f}" for used, clock in least)
+    times = [least[place + 1][0] / least[place][0] for place in (0, 2)]
+    return (f"| `{kind}` | {findings_in(paths['report'])} | {audit} | {report} | {times[0]:.1f} "
+            f"| {findings_in(paths['made'])} | {made} | {of_made} | {times[1]:.1f} |")
 
 
 def main():
@@ -68,8 +78,8 @@ def main():
     parser.add_argument("megabytes", metavar="MEGABYTES", type=float)
     parser.add_argument("kinds", metavar="KIND", nargs="*")
     given = parser.parse_args()
-    print("| Kind | Trace, MB | Findings | Audit | Report | Times |")
-    print("|---|---|---|---|---|---|")
+    print("| Kind | Findings | `audit T E` | Report | Times | Findings | `audit T --make` | Report | Times |")
+    print("|---|---|---|---|---|---|---|---|---|")
     for kind in given.kinds or trace.KINDS:
         with tempfile.TemporaryDirectory() as folder:
             print(costs(given, kind, folder), flush=True)

@@ -5,28 +5,25 @@ asked for; one that has another form raises OtherForm, and then the trace has to
 """
 import re
 from bisect import bisect_right
-from itertools import accumulate
-from operator import lt
+from collections import Counter
+from itertools import accumulate, compress, repeat
+from operator import eq, itemgetter, lt
 from typing import Optional
 
 from new_enemy_tools.ids import mark_in
-from new_enemy_tools.kept import Commit
-from new_enemy_tools.quick import NUMBER, QuickCommit, quick_commit, quick_entry
-from new_enemy_tools.rules import Place, Rules
+from new_enemy_tools.kept import Commit, LateEntries
+from new_enemy_tools.quick import NUMBER, OtherForm, QuickCommit, quick_commit, quick_entry
+from new_enemy_tools.sight import Look, Sight
 from new_enemy_tools.store import Store, Touched
 from new_enemy_tools.texts import Tuple, Userset
-from new_enemy_tools.trace import OtherForm, Refusal, Trace, is_utf8
+from new_enemy_tools.trace import Refusal, Trace, is_utf8
 
 NAMESPACE = b'{"kind":"namespace",'
 COMMIT = b'{"kind":"commit","at":'
-CHECK = b'{"kind":"check","goal":"'
-CONTENT = b'{"kind":"content","goal":"'
+CHECK = b'{"kind":"check","goal":'
+CONTENT = b'{"kind":"content","goal":'
 AT = re.compile(rb"\n%s(%s)[,}]" % (re.escape(COMMIT), NUMBER))
 TOUCHED = re.compile(rb'"([^"@]+)@')
-MEMBER = re.compile(rb"@[a-z]")
-MEMBERS = re.compile(rb'"([^"@]+)@([a-z][^"]*)"')
-# A goal that leads to more usersets than this is looked at by another way.
-FEW = 1_000
 # So many usersets are searched for among all commits before these are listed by the usersets that they touch.
 SEARCHES = 40
 
@@ -84,82 +81,24 @@ class LateStore(Store):
         return commit
 
 
-class Cones:
-    """The usersets whose tuples are ever read for a goal, as texts, and the commits that touch these with usersets as users."""
-
-    def __init__(self, rules: Rules, commits: list[bytes]):
-        self._rules, self._commits = rules, commits
-        # of each userset those that ever stood in it, and of each commit the usersets in which it has others; None where nobody asked yet
-        self._members: Optional[dict[bytes, list[bytes]]] = None
-        self._touched: dict[int, list[bytes]] = {}
-        self._leaves: dict[tuple[bytes, bytes], list[Place]] = {}
-
-    def may_touch(self, places: range, of: Userset) -> bool:
-        if self._members is None:
-            self._members = self._all_members()
-        if not self._members:
-            return False
-        touched = [one for place in places for one in self._touched.get(place, ())]
-        if not touched:
-            return False
-        read = self._read(str(of).encode(), self._members)
-        return read is None or not read.isdisjoint(touched)
-
-    def _all_members(self) -> dict[bytes, list[bytes]]:
-        members: dict[bytes, list[bytes]] = {}
-        for place, raw in enumerate(self._commits) if MEMBER.search(b"".join(self._commits)) else ():
-            if MEMBER.search(raw):
-                found = MEMBERS.findall(raw)
-                self._touched[place] = [of for of, _ in found]
-                for of, user in found:
-                    members.setdefault(of, []).append(user)
-        return members
-
-    def _read(self, of: bytes, members: dict[bytes, list[bytes]]) -> Optional[set[bytes]]:
-        """What is read; None where a goal leads to more than few usersets."""
-        nodes, todo, read = {of}, [of], set()
-        while todo:
-            if len(nodes) > FEW:
-                return None
-            node = todo.pop()
-            thing, _, relation = node.rpartition(b"#")
-            for leaf in self._leaves_of(thing.partition(b":")[0], relation):
-                if leaf.form == "computed":
-                    found = [b"%s#%s" % (thing, leaf.names[0].encode())]
-                elif leaf.form == "this":
-                    read.add(node)
-                    found = members.get(node, [])
-                else:
-                    tupleset = b"%s#%s" % (thing, leaf.names[0].encode())
-                    read.add(tupleset)
-                    found = [b"%s#%s" % (user.rpartition(b"#")[0], leaf.names[1].encode()) for user in members.get(tupleset, [])]
-                for one in found:
-                    if one not in nodes:
-                        nodes.add(one)
-                        todo.append(one)
-        return read
-
-    def _leaves_of(self, namespace: bytes, relation: bytes) -> list[Place]:
-        """The leaves of a relation's rule, which does not change."""
-        known = self._leaves.get((namespace, relation))
-        if known is None:
-            known = self._leaves[namespace, relation] = self._rules.places_during(namespace.decode(), relation.decode(), 0, 0)
-        return known
-
-
 class AuditedTrace(Trace):
-    """As Trace, of lines that begin as importers write them: first those of namespaces, and then the others by their numbers."""
+    """As Trace, of lines that begin as importers write them: first those of namespaces."""
 
-    def __init__(self, head: list[bytes], commits: dict[int, bytes], ats: list[int], entries: dict[int, bytes]):
+    def __init__(self, lines: list[bytes], starts: list[bytes], head: int, entries: int):
         super().__init__()
-        for line, raw in enumerate(head, 1):
+        for line, raw in enumerate(lines[:head], 1):
             self.take(line, raw)
-        self._raws = list(commits.values())
-        self.commits.keep_all(list(commits), ats, self._raws)
-        self.entries.keep_all(entries)
+        are_commits = list(map(eq, starts, repeat(COMMIT)))
+        numbers = list(compress(range(1, len(lines) + 1), are_commits))
+        self._raws = list(compress(lines, are_commits))
+        ats = list(map(int, AT.findall(b"\n" + b"\n".join(self._raws))))
+        if len(ats) != len(numbers) or not all(map(lt, ats, ats[1:])):
+            raise OtherForm
+        self.commits.keep_all(numbers, ats, self._raws)
+        self.entries = LateEntries(self._entry_again, lines, (CHECK, CONTENT), entries)
         self.store = LateStore(ats, self._raws)
-        self._issues = ((line, raw) for line, raw in list(entries.items()) if raw.startswith(CONTENT))
-        self._cones = Cones(self.rules, self._raws)
+        self._issues = ((line, raw) for line, raw in enumerate(lines, 1) if raw.startswith(CONTENT))
+        self._sight: Optional[Sight] = None
 
     def line_that_issues(self, of: Userset, version: str) -> Optional[int]:
         for line, raw in self._issues:
@@ -169,11 +108,10 @@ class AuditedTrace(Trace):
             self.issue(line, entry)
         return super().line_that_issues(of, version)
 
-    def may_touch(self, places: range, goal: Tuple) -> bool:
-        assert isinstance(goal.user, int)
-        if b'@%d"' % goal.user in b"".join(self._raws[places.start:places.stop]):
-            return True
-        return self._cones.may_touch(places, goal.set)
+    def look(self, goal: Tuple, low: int, high: int) -> Optional[Look]:
+        if self._sight is None:
+            self._sight = Sight(self.rules, self._raws, self.commits.ats)
+        return self._sight.look(goal, low, high)
 
     def _commit_again(self, line: int, raw: bytes) -> Commit:
         if quick_commit(raw) is None:
@@ -182,22 +120,19 @@ class AuditedTrace(Trace):
 
 
 def read_audited(data: bytes) -> Trace:
-    """The trace of bytes; raises OtherForm where a line does not begin so."""
+    """The trace of bytes; raises OtherForm where a line does not begin so. Blank lines are those of other parts of a cut."""
     if b"\\" in data or not is_utf8(data):
         raise OtherForm
     lines = data.split(b"\n")
-    if not lines[-1]:
-        lines.pop()
+    starts = list(map(itemgetter(slice(len(COMMIT))), lines))
+    begun = Counter(starts)
+    blank, entries, commits = begun.pop(b"", 0), begun.pop(CHECK[:len(COMMIT)], 0) + begun.pop(CONTENT[:len(COMMIT)], 0), begun.pop(COMMIT, 0)
     head = next((place for place, line in enumerate(lines) if not line.startswith(NAMESPACE)), len(lines))
-    commits = {number: line for number, line in enumerate(lines, 1) if line.startswith(COMMIT)}
-    entries = {number: line for number, line in enumerate(lines, 1) if line.startswith((CHECK, CONTENT))}
-    ats = list(map(int, AT.findall(b"\n" + data)))
     # Without an escape no text has a quotation mark, so what is counted are keys.
-    if not head + len(commits) + len(entries) == len(lines) == data.count(b'"kind"') or not len(commits) == len(ats) == data.count(b'"at"') \
-            or not all(map(lt, ats, ats[1:])):
+    if head != sum(begun.values()) or len(lines) - blank != data.count(b'"kind"') or commits != data.count(b'"at"'):
         raise OtherForm
     try:
-        trace = AuditedTrace(lines[:head], commits, ats, entries)
+        trace = AuditedTrace(lines, starts, head, entries)
     except Refusal:
         raise OtherForm from None
     trace.table = mark_in(data)

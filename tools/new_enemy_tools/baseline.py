@@ -1,10 +1,11 @@
 """What an earlier report told already: the keys of its findings, from JSON lines or SARIF."""
-import hashlib
 import json
 from collections import Counter
-from typing import Iterator, Optional
+from functools import lru_cache
+from typing import Callable, Iterator, Optional
 
 from new_enemy_tools.effects import Told
+from new_enemy_tools.kept import Entry
 from new_enemy_tools.faults import ToolFault
 from new_enemy_tools.names import Names
 
@@ -18,11 +19,26 @@ class BaselineFault(ToolFault):
 def key_of(told: Told, names: Names) -> str:
     """What a finding is known by in another report: what was asked, when and with what reply, and its effect. Lines and timestamps of a
     trace change from import to import, so the service's own revision stands in their place where the import kept it."""
-    entry = told.entry
-    version = None if entry.version is None else names.version(entry.version)
-    parts = [told.finding.finding, told.effect.word, entry.kind, names.tuple(entry.goal),
-             entry.revision if entry.revision is not None else entry.snapshot, entry.reply, version]
-    return hashlib.sha256(json.dumps(parts).encode()).hexdigest()[:16]
+    return key_with(told.finding.finding, told.effect.word, asked_of(told.entry, names))
+
+
+def asked_of(entry: Entry, names: Names) -> str:
+    """What a key has of an entry."""
+    version = "null" if entry.version is None else json.dumps(names.version(entry.version))
+    revision = str(entry.snapshot) if entry.revision is None else json.dumps(entry.revision)
+    return '["%s", %s, %s, %s, %s]' % (entry.kind, json.dumps(names.tuple(entry.goal)), revision, "true" if entry.reply else "false", version)
+
+
+def key_with(finding: str, effect: str, asked: str) -> str:
+    """The hash of a list in JSON: the finding, its effect, and what was asked."""
+    return _sha256()(('["%s", "%s", %s' % (finding, effect, asked[1:])).encode())[:16]
+
+
+@lru_cache(1)
+def _sha256() -> Callable[[bytes], str]:
+    # It takes long to load, and a report without findings does not need it.
+    from hashlib import sha256
+    return lambda data: sha256(data).hexdigest()
 
 
 def _fault(path: str, line: int) -> BaselineFault:

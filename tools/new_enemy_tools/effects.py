@@ -7,6 +7,7 @@ The effect of a finding on tokens is one of
 A wrong reply is `wrong`; what lacks good evidence, or whose goal leads to too much to be looked at, is `undecided`. The answers are the
 tools' own; the program's audit does not lean on them.
 """
+from collections import Counter
 from typing import Iterable, NamedTuple, Optional
 
 from new_enemy_tools.findings import Finding
@@ -14,11 +15,13 @@ from new_enemy_tools.kept import Entry
 from new_enemy_tools.meaning import Outgrown, Settled
 from new_enemy_tools.order import Window, ignored
 from new_enemy_tools.reach import Reach
+from new_enemy_tools.sight import UNTOUCHED, Look
 from new_enemy_tools.texts import Tuple
 from new_enemy_tools.trace import Trace
 
 # The worst first.
 EFFECTS = ("wrong", "changed", "undecided", "possible", "none")
+RANKS = {word: rank for rank, word in enumerate(EFFECTS)}
 SEVERITIES = {"wrong": "error", "changed": "error", "undecided": "warning", "possible": "warning", "none": "note"}
 UNDECIDED = ("F7", "F8", "F9")
 
@@ -31,11 +34,15 @@ class Effect(NamedTuple):
 
     @property
     def rank(self) -> int:
-        return EFFECTS.index(self.word)
+        return RANKS[self.word]
 
     @property
     def severity(self) -> str:
         return SEVERITIES[self.word]
+
+
+# what is known of findings on evidence without a look at the commits
+WITHOUT_WINDOW = {"F10": Effect("wrong", None), **dict.fromkeys(UNDECIDED, Effect("undecided", None))}
 
 
 class Effects:
@@ -46,7 +53,7 @@ class Effects:
     def __init__(self, trace: Trace):
         self.trace = trace
         self._answers: dict[tuple[Tuple, int], bool] = {}
-        self._touched: dict[tuple[Tuple, Window], bool] = {}
+        self._looks: dict[tuple[Tuple, Window], Look] = {}
 
     def holds(self, goal: Tuple, at: int) -> bool:
         """Whether a goal holds at a snapshot."""
@@ -57,29 +64,28 @@ class Effects:
 
     def of(self, entry: Entry, finding: str) -> Effect:
         """The effect of a finding, F1 to F10, of an entry that has it."""
-        if finding == "F10":
-            return Effect("wrong", None)
-        if finding in UNDECIDED:
-            return Effect("undecided", None)
+        if finding in WITHOUT_WINDOW:
+            return WITHOUT_WINDOW[finding]
         window = ignored(self.trace, entry, finding)
         try:
             return Effect(self._word(entry, window), window.high)
         except Outgrown:
             return Effect("undecided", window.high)
 
-    def _is_touched(self, goal: Tuple, window: Window) -> bool:
-        """Whether commits of a window touch what a goal leads to. Of few commits it is quickly seen that none does."""
-        known = self._touched.get((goal, window))
-        if known is None:
-            places = self.trace.commits.during(*window)
-            is_quick = len(places) <= self.FEW and not self.trace.may_touch(places, goal)
-            known = self._touched[goal, window] = not is_quick and bool(Reach(self.trace, goal, window).touching())
-        return known
+    def _look(self, goal: Tuple, window: Window) -> Look:
+        """What the commits of a window do to a goal. Of few commits it is quickly seen that they do nothing."""
+        places = self.trace.commits.during(*window)
+        if len(places) <= self.FEW and not self.trace.may_touch(places, goal) or not Reach(self.trace, goal, window).touching():
+            return UNTOUCHED
+        return Look(True, self.holds(goal, window.high))
 
     def _word(self, entry: Entry, window: Window) -> str:
-        if not self._is_touched(entry.goal, window):
+        look = self._looks.get((entry.goal, window))
+        if look is None:
+            look = self._looks[entry.goal, window] = self.trace.look(entry.goal, *window) or self._look(entry.goal, window)
+        if not look.is_touched:
             return "none"
-        return "possible" if self.holds(entry.goal, window.high) == entry.reply else "changed"
+        return "possible" if look.holds == entry.reply else "changed"
 
 
 class Told(NamedTuple):
@@ -117,13 +123,12 @@ def sums_of(told: Iterable[Told]) -> Sums:
     worst: dict[int, Told] = {}
     for one in told:
         known = worst.get(one.finding.line)
-        if known is None or one.effect.rank < known.effect.rank:
+        if known is None or RANKS[one.effect.word] < RANKS[known.effect.word]:
             worst[one.finding.line] = one
-    kinds = ["wrong" if one.effect.word == "wrong" else one.outcome or one.effect.word for one in worst.values()]
-    wrong, let_in, kept_out, undecided = [kinds.count(kind) for kind in ("wrong", "let in", "kept out", "undecided")]
-    return Sums(wrong, let_in, kept_out, undecided, len(kinds) - wrong - let_in - kept_out - undecided)
+    kinds = Counter("let in" if one.effect.word == "changed" and one.entry.reply else one.effect.word for one in worst.values())
+    return Sums(kinds["wrong"], kinds["let in"], kinds["changed"], kinds["undecided"], kinds["possible"] + kinds["none"])
 
 
 def by_effect(told: Iterable[Told]) -> list[Told]:
     """The worst first, otherwise in the order of the report."""
-    return sorted(told, key=lambda one: one.effect.rank)
+    return sorted(told, key=lambda one: RANKS[one.effect.word])

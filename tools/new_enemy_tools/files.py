@@ -5,6 +5,7 @@ from typing import Iterable, Optional
 
 from new_enemy_tools.faults import DeviceFault
 from new_enemy_tools.ids import Ids, mark_in
+from new_enemy_tools.pieces import refuse_pieces
 from new_enemy_tools.progress import Progress
 from new_enemy_tools.trace import Trace, read_trace
 
@@ -18,6 +19,13 @@ def read_bytes(path: str) -> bytes:
             return file.read()
     except OSError as fault:
         raise DeviceFault("cannot open %s: %s" % (path, fault.strerror)) from None
+
+
+def read_joined(path: str) -> bytes:
+    """A trace or joined input in one file; raises InPieces."""
+    data = read_bytes(path)
+    refuse_pieces(path, data)
+    return data
 
 
 def write_whole(path: str, lines: Iterable[str]) -> None:
@@ -51,7 +59,7 @@ def read_trace_of(data: bytes, progress: Progress) -> Trace:
 
 def traced(path: str, progress: Progress) -> Trace:
     """The trace of a file, which may be joined input; raises Fault where it is refused."""
-    return read_trace_of(split_joined(read_bytes(path))[0], progress)
+    return read_trace_of(split_joined(read_joined(path))[0], progress)
 
 
 def read_ids(path: Optional[str], trace: Trace) -> Optional[Ids]:

@@ -1,11 +1,10 @@
 """The forms that a report is given in for machines, and as text."""
 import json
 import re
-from html import escape
 from typing import Callable, Iterator, NamedTuple, Optional
 
 from new_enemy_tools import texts
-from new_enemy_tools.baseline import key_of
+from new_enemy_tools.baseline import asked_of, key_of, key_with
 from new_enemy_tools.effects import Told
 from new_enemy_tools.kept import Entry
 from new_enemy_tools.shown import plain
@@ -37,7 +36,7 @@ def row_of(telling: Telling, told: Told) -> Row:
     """A finding as an object; a key is there where it has a value."""
     finding, entry, effect = told.finding, told.entry, told.effect
     log = logged(entry.source)
-    row = {"line": finding.line, "finding": finding.finding, "text": finding.text, "effect": effect.word,
+    row: Row = {"line": finding.line, "finding": finding.finding, "text": finding.text, "effect": effect.word,
            "severity": effect.severity, "outcome": told.outcome, "seen": effect.seen, "kind": entry.kind,
            "goal": str(entry.goal), "named": telling.names.tuple(entry.goal) if telling.names.ids else None,
            "snapshot": entry.snapshot, "reply": entry.reply, "zookie": entry.zookie,
@@ -45,6 +44,10 @@ def row_of(telling: Telling, told: Told) -> Row:
            "version": entry.version, "related": finding.related,
            "related_at": None if finding.related is None else telling.trace.at_of(finding.related), "step": finding.step,
            "from": entry.source, "file": log and log.file, "file_line": log and log.line, "revision": entry.revision}
+    return _present(row)
+
+
+def _present(row: Row) -> Row:
     return {key: value for key, value in row.items() if value is not None}
 
 
@@ -64,9 +67,62 @@ _json = json.JSONEncoder(ensure_ascii=False, separators=(",", ":")).encode
 
 
 def json_lines(telling: Telling) -> Iterator[str]:
+    """Each row is that of `keyed_row_of`, put together from what findings and entries have in common."""
     yield _json(sums_row(telling))
+    rows = RowTexts(telling)
     for told in telling.told:
-        yield _json(keyed_row_of(telling, told))
+        yield rows.of(told)
+
+
+class EntryTexts(NamedTuple):
+    """What the rows of one entry have in common, and what its keys have."""
+
+    first: str
+    last: str
+    asked: str
+
+
+class RowTexts:
+    """The rows of findings as JSON. What is kept grows with the entries that have findings."""
+
+    def __init__(self, telling: Telling):
+        self.telling = telling
+        self._entries: dict[int, EntryTexts] = {}
+        self._heads: dict[tuple[str, str, Optional[str]], str] = {}
+
+    def of(self, told: Told) -> str:
+        finding, effect, entry = told.finding, told.effect, told.entry
+        texts = self._entries.get(entry.line)
+        if texts is None:
+            texts = self._entries[entry.line] = self._texts(entry)
+        said = (finding.finding, effect.word, told.outcome)
+        head = self._heads.get(said) or self._heads.setdefault(said, self._head(told))
+        seen = "" if effect.seen is None else '"seen":%d,' % effect.seen
+        more = "" if finding.step is None else ',"step":%d' % finding.step
+        if finding.related is not None:
+            more = ',"related":%d,"related_at":%d%s' % (finding.related, self.telling.trace.at_of(finding.related) or 0, more)
+        return '{"line":%d,%s,%s%s%s%s,"key":"%s"}' % (entry.line, head, seen, texts.first, more, texts.last,
+                                                     key_with(finding.finding, effect.word, texts.asked))
+
+    @staticmethod
+    def _head(told: Told) -> str:
+        return _json(_present({"finding": told.finding.finding, "text": told.finding.text, "effect": told.effect.word,
+                               "severity": told.effect.severity, "outcome": told.outcome}))[1:-1]
+
+    def _texts(self, entry: Entry) -> EntryTexts:
+        names = self.telling.names
+        first = '"kind":"%s","goal":%s,%s"snapshot":%d,"reply":%s' % (
+            entry.kind, _json(str(entry.goal)), '"named":%s,' % _json(names.tuple(entry.goal)) if names.ids else "", entry.snapshot,
+            "true" if entry.reply else "false")
+        if entry.zookie is not None:
+            first += ',"zookie":"%s","zookie_at":%d' % (entry.zookie, texts.parse_zookie(entry.zookie)[0])
+        if entry.version is not None:
+            first += ',"version":' + _json(entry.version)
+        if entry.source is None and entry.revision is None:
+            return EntryTexts(first, "", asked_of(entry, names))
+        log = logged(entry.source)
+        last = _json(_present({"from": entry.source, "file": log and log.file, "file_line": log and log.line, "revision": entry.revision}))
+        return EntryTexts(first, "," + last[1:-1], asked_of(entry, names))
 
 
 def sentence(row: Row) -> str:
@@ -113,6 +169,12 @@ def _case(telling: Telling, entry: Entry) -> str:
     return "<testcase classname=%s name=%s file=%s line=%s" % (
         _attribute(_xml(telling.path)), _attribute(_xml("line %d: %s" % (entry.line, telling.names.tuple(entry.goal)))), _attribute(_xml(place.file)),
         _attribute(str(place.line)))
+
+
+def escape(text: str, quote: bool = True) -> str:
+    # It takes long to load, and most forms do not need it.
+    from html import escape as escaped
+    return escaped(text, quote)
 
 
 def _attribute(text: str) -> str:

@@ -7,7 +7,6 @@ its table had, and their checksum.
 import json
 import os
 import re
-from hashlib import blake2b
 from typing import Optional
 
 from new_enemy_tools import limits, texts
@@ -101,6 +100,8 @@ class Ids:
         return {"rows": len(self.rows), "checksum": self._checksum(len(self.rows))}
 
     def _checksum(self, count: int) -> str:
+        # It takes long to load, and not every table is compared.
+        from hashlib import blake2b
         digest = blake2b(digest_size=16)
         for row in self.rows[:count]:
             digest.update(json.dumps(row).encode() + b"\n")

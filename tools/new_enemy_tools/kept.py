@@ -96,10 +96,6 @@ class Entries(Mapping[int, Entry]):
         """Keeps an entry, or its line as bytes."""
         self._kept[line] = entry
 
-    def keep_all(self, entries: dict[int, bytes]) -> None:
-        """Keeps the lines of all entries."""
-        self._kept.update(entries)
-
     def __len__(self) -> int:
         return len(self._kept)
 
@@ -114,3 +110,29 @@ class Entries(Mapping[int, Entry]):
         if isinstance(kept, bytes):
             kept = self._kept[line] = self._read(line, kept)
         return kept
+
+
+class LateEntries(Entries):
+    """Those among the lines of a trace that begin so; where they stand is looked at when they are asked for."""
+
+    def __init__(self, read: Callable[[int, bytes], Entry], lines: list[bytes], starts: tuple[bytes, ...], count: int):
+        super().__init__(read)
+        self._lines, self._starts, self._count = lines, starts, count
+
+    def __len__(self) -> int:
+        return self._count
+
+    def __iter__(self) -> Iterator[int]:
+        return (number for number, line in enumerate(self._lines, 1) if line.startswith(self._starts))
+
+    def __contains__(self, line: object) -> bool:
+        return line in self._kept or isinstance(line, int) and 0 < line <= len(self._lines) and self._lines[line - 1].startswith(self._starts)
+
+    def __getitem__(self, line: int) -> Entry:
+        kept = self._kept.get(line)
+        if isinstance(kept, Entry):
+            return kept
+        if line not in self:
+            raise KeyError(line)
+        read = self._kept[line] = self._read(line, self._lines[line - 1])
+        return read

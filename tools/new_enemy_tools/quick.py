@@ -32,6 +32,10 @@ BESIDE = 4
 Pair = tuple[bytes, bytes]
 
 
+class OtherForm(Exception):
+    """A line that was not read yet has another form than importers write."""
+
+
 class QuickCommit(NamedTuple):
     """The touched tuples as their usersets and users."""
 
@@ -57,28 +61,13 @@ def quick_entry(raw: bytes) -> Optional[tuple[bytes, ...]]:
     return found.groups()
 
 
-class QuickEntry(NamedTuple):
-    kind: str
-    namespace: str
-    id: str
-    relation: str
-    user: int
-    snapshot: int
-    reply: bool
-    zookie: Optional[str]
-    version: Optional[str]
-    revision: Optional[str]
-    source: Optional[str]
-
-
-def quick_fields(raw: bytes) -> Optional[QuickEntry]:
-    """All that an entry says."""
+def quick_fields(raw: bytes) -> Optional[tuple[bytes, ...]]:
+    """Of an entry the kind, the goal's namespace, id, relation and user, the snapshot and the reply; the token, the version, the revision
+    and the source, or None."""
     found = FIELDS.match(raw)
     if not found or found[1] == b"content" and (found[9] is not None) != (found[7] == b"true"):
         return None
-    kind, namespace, id_text, relation, user, snapshot, reply, *others = found.groups()
-    return QuickEntry(kind.decode(), namespace.decode(), id_text.decode(), relation.decode(), int(user), int(snapshot), reply == b"true",
-                      *[None if other is None else other.decode() for other in others])
+    return found.groups()
 
 
 def quick_commit(raw: bytes) -> Optional[QuickCommit]:

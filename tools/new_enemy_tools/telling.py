@@ -5,12 +5,15 @@ from typing import Callable, NamedTuple, Optional
 
 from new_enemy_tools.baseline import key_of
 from new_enemy_tools.effects import Effects, Sums, Told, by_effect, sums_of
-from new_enemy_tools.findings import Finding, Report, ReportFault
+from new_enemy_tools.findings import ON_TOKENS, Finding, Report, ReportFault
 from new_enemy_tools.ignoring import Row
 from new_enemy_tools.kept import Entry
 from new_enemy_tools.names import Names
 from new_enemy_tools.order import order_findings
 from new_enemy_tools.trace import Trace
+
+# Of so many findings the count is told.
+STEP = 64
 
 
 class Telling(NamedTuple):
@@ -25,10 +28,7 @@ class Telling(NamedTuple):
     names: Names
     path: str
     report: Report
-
-    @property
-    def sums(self) -> Sums:
-        return sums_of(self.told)
+    sums: Sums
 
     @property
     def said(self) -> str:
@@ -40,12 +40,15 @@ class Telling(NamedTuple):
 
 def _entry_of(number: int, finding: Finding, trace: Trace) -> Entry:
     """The entry of a finding; raises ReportFault where the trace has none on that line."""
+    entry = trace.entries.get(finding.line)
+    if finding.related is None and entry is not None:
+        return entry
     for line in (finding.line, finding.related):
         if line is not None and trace.at_of(line) is None:
             raise ReportFault("report line %d: the trace has no entry or commit on line %d" % (number, line))
-    if finding.line not in trace.entries:
+    if entry is None:
         raise ReportFault("report line %d: line %d of the trace is no entry" % (number, finding.line))
-    return trace.entries[finding.line]
+    return entry
 
 
 def told_of(trace: Trace, report: Report, step: Callable[[int], None] = lambda count: None) -> list[Told]:
@@ -55,13 +58,20 @@ def told_of(trace: Trace, report: Report, step: Callable[[int], None] = lambda c
     effects, told = Effects(trace), []
     for number, finding in enumerate(report.findings, 1):
         entry = _entry_of(number, finding, trace)
-        said = "%s %s" % (finding.finding, finding.text)
-        if finding.is_on_tokens and (said, finding.related) not in order_findings(trace, entry):
-            raise ReportFault("report line %d: by this trace, line %d has no `%s%s`" % (
-                number, entry.line, said, ", see line %d" % finding.related if finding.related else ""))
+        if finding.finding in ON_TOKENS:
+            _refuse_other(number, finding, entry, trace)
         told.append(Told(finding, entry, effects.of(entry, finding.finding)))
-        step(number)
+        if number % STEP == 1:
+            step(number)
     return by_effect(told)
+
+
+def _refuse_other(number: int, finding: Finding, entry: Entry, trace: Trace) -> None:
+    """Raises ReportFault where the trace does not give a finding on tokens."""
+    said = "%s %s" % (finding.finding, finding.text)
+    if (said, finding.related) not in order_findings(trace, entry):
+        raise ReportFault("report line %d: by this trace, line %d has no `%s%s`" % (
+            number, entry.line, said, ", see line %d" % finding.related if finding.related else ""))
 
 
 class LeftOut(NamedTuple):
@@ -81,20 +91,24 @@ def parts_of(told: Told, names: Names) -> dict[str, str]:
 def telling_of(told: list[Told], trace: Trace, names: Names, path: str, report: Report,
                out: Optional[LeftOut] = None) -> Telling:
     """Each finding is told, ignored, or known from the baseline; a key that stands there once is known once."""
-    telling = Telling([], [], [], trace, names, path, report)
     rows = [] if out is None else [row for row in out.rows if row.until >= out.today]
     left = Counter() if out is None else Counter(out.baseline)
+    if not rows and not left:
+        return Telling(told, [], [], trace, names, path, report, sums_of(told))
+    said: list[Told] = []
+    ignored: list[tuple[Told, Row]] = []
+    known: list[Told] = []
     for one in told:
-        parts = parts_of(one, names) if rows or left else {}
+        parts = parts_of(one, names)
         row = next((row for row in rows if row.hides(parts)), None)
         if row is not None:
-            telling.ignored.append((one, row))
+            ignored.append((one, row))
         elif left and left[parts["key"]] > 0:
             left[parts["key"]] -= 1
-            telling.known.append(one)
+            known.append(one)
         else:
-            telling.told.append(one)
-    return telling
+            said.append(one)
+    return Telling(said, ignored, known, trace, names, path, report, sums_of(said))
 
 
 def warnings_of(telling: Telling, out: LeftOut) -> list[str]:

@@ -7,8 +7,9 @@ from new_enemy_tools import limits, strictjson, texts
 from new_enemy_tools.edges import Edge, TupleEdges, first_broken, rule_edges
 from new_enemy_tools.faults import ToolFault
 from new_enemy_tools.kept import Commit, Commits, Entries, Entry
-from new_enemy_tools.quick import QuickCommit, quick_commit, quick_entry, quick_fields
+from new_enemy_tools.quick import OtherForm, QuickCommit, quick_commit, quick_entry, quick_fields
 from new_enemy_tools.rules import Rules, RulesFault
+from new_enemy_tools.sight import Look
 from new_enemy_tools.store import Store
 from new_enemy_tools.strictjson import Object
 from new_enemy_tools.texts import Tuple, Userset
@@ -31,10 +32,6 @@ class Fault(ToolFault):
         super().__init__("%s line %d: %s" % (part, line, cause))
         self.line = line
         self.details = details
-
-
-class OtherForm(Exception):
-    """A line that was not read yet has another form than importers write."""
 
 
 class NoEntry(ToolFault):
@@ -97,6 +94,10 @@ class Trace:
         rules, do not."""
         assert isinstance(goal.user, int)
         return any(_may_touch(self.commits.kept(place), goal.user) for place in places)
+
+    def look(self, goal: Tuple, low: int, high: int) -> Optional[Look]:
+        """What commits above one timestamp, up to another do to a goal, where that is quickly seen."""
+        return None
 
     def line_that_issues(self, of: Userset, version: str) -> Optional[int]:
         """The line that issues a version for an object."""
@@ -307,9 +308,10 @@ class Trace:
         read = quick_fields(raw)
         if read is None:
             raise OtherForm
-        goal = Tuple(Userset(read.namespace, read.id, read.relation), read.user)
-        return Entry(read.kind, line, goal, read.snapshot, read.reply, read.zookie, read.version,
-                     self._issued_before(line, read.kind, goal.set, read.version), read.source, read.revision)
+        kind, namespace, id_text, relation, user, snapshot, reply, zookie, version, revision, source = read
+        of, label = Userset(namespace.decode(), id_text.decode(), relation.decode()), _decoded(version)
+        return Entry(kind.decode(), line, Tuple(of, int(user)), int(snapshot), reply == b"true", _decoded(zookie), label,
+                     None if label is None else self._issued_before(line, kind.decode(), of, label), _decoded(source), _decoded(revision))
 
     @staticmethod
     def _refuse_shape(kind: str, value: Object) -> None:
@@ -348,6 +350,10 @@ def _names_of(of: Userset) -> Names:
 
 def _label(of: Userset, version: str) -> Label:
     return ("%s:%s" % (of.namespace, of.id)).encode(), version.encode()
+
+
+def _decoded(text: Optional[bytes]) -> Optional[str]:
+    return None if text is None else text.decode()
 
 
 def _may_touch(kept: Union[Commit, bytes], user: int) -> bool:

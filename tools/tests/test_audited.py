@@ -10,8 +10,9 @@ from new_enemy_tools.commands import report as command
 from new_enemy_tools.effects import Told
 from new_enemy_tools.findings import read_report
 from new_enemy_tools.order import order_lines
+from new_enemy_tools.quick import OtherForm
 from new_enemy_tools.telling import told_of
-from new_enemy_tools.trace import OtherForm, Trace, read_trace
+from new_enemy_tools.trace import Trace, read_trace
 from tests.random_traces import NAMESPACES, RandomInput
 from tests.support import Case
 
@@ -63,8 +64,9 @@ class Audited(Case):
             told = self.told(read_audited(data), report)
             self.assertEqual(told, self.told(read_trace(data), report))
             seen.update(one.effect.word for one in told)
-            with mock.patch("new_enemy_tools.audited.FEW", 1), mock.patch("new_enemy_tools.effects.Effects.FEW", 2):
-                self.assertEqual(told, self.told(read_audited(data), report))
+            for patched in ({"FEW": 1}, {"SHORT": 0}, {"SEARCHES": 0, "NEAR": 100}, {"SEARCHES": 1, "NEAR": 0}):
+                with mock.patch.multiple("new_enemy_tools.sight", **patched), mock.patch("new_enemy_tools.effects.Effects.FEW", 2):
+                    self.assertEqual(told, self.told(read_audited(data), report), patched)
         self.assertEqual(set(seen), {"none", "possible", "changed"})
 
     def test_all_that_a_trace_says(self) -> None:
@@ -82,7 +84,9 @@ class Audited(Case):
         check = b'{"kind":"check","goal":"doc:a#viewer@1","snapshot":1,"reply":true}\n'
         commit = b'{"kind":"commit","at":1,"add":["doc:a#viewer@1"]}\n'
         self.assertEqual(len(read_audited(head + commit + check).entries), 1)
-        for data in (head + check.replace(b":", b": "), head + b"\n" + check, head + commit + head, head + check[:-2] + b',"kind":"content"}',
+        blank = read_audited(head + b"\n" + commit + b"\n\n" + check)
+        self.assertEqual((list(blank.entries), blank.commits.lines), ([len(NAMESPACES) + 5], [len(NAMESPACES) + 2]))
+        for data in (head + check.replace(b":", b": "), head + b" \n" + check, head + commit + head, head + check[:-2] + b',"kind":"content"}',
                      head + check.replace(b"a#", b"\\u0061#"), head + commit + commit, head + b"\xff" + check, head + check[:-2] + b',"at":1}',
                      head + commit.replace(b'"at":1', b'"at":01'), head.replace(b'"namespace",', b'"namespace","at":1,'), b"{}\n",
                      head.replace(b'"doc"', b'"Doc"')):

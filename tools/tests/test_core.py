@@ -249,10 +249,6 @@ class Refusals(CoreCase):
         changes[1]["namespaces"].append(changes[0]["namespaces"][1])
         with mock.patch.object(limits, "CHANGES", 1):
             self.assertEqual(self.refusals(RULES, *changes), ["log:3: more than 1 changes of rules"])
-        with mock.patch.object(limits, "INPUT_BYTES", 100):
-            self.lines(RULES)
-        self.assertEqual(self.said.splitlines()[-1], "the trace has 308 bytes, and one program takes 100: audit it in parts, by "
-                         "tools/ne parts cut 5 trace.jsonl FOLDER")
 
     def test_more_strata_than_a_trace_has(self):
         relations = [{"name": "r0"}] + [{"name": "r%d" % n, "rewrite": {"exclusion": {

@@ -15,7 +15,7 @@ CRATES = ("new_enemy", "zookie", "tests_of_texts")
 KIT = """#!/bin/sh
 case $1 in
     version) echo "rattle-kit-test" ;;
-    run) mkdir -p out && cp "$PROGRAM" out/new_enemy && chmod +x out/new_enemy && sh -c "$MEANWHILE" && out/new_enemy ;;
+    run) sh -c "$PROVER" prover --crate-name zookie; mkdir -p out && cp "$PROGRAM" out/new_enemy && chmod +x out/new_enemy && sh -c "$MEANWHILE" && out/new_enemy ;;
 esac
 """
 
@@ -57,17 +57,18 @@ class Checkout(unittest.TestCase):
     def path(self, *names):
         return os.path.join(self.top, *names)
 
-    def how(self, kit, meanwhile=":"):
+    def how(self, kit, meanwhile=":", **more):
         path = os.pathsep.join([os.path.dirname(os.path.join(self.room, "kit", "rt"))] * kit + ["/usr/bin", "/bin"])
-        return {"env": {"PATH": path, "PROGRAM": os.environ["NEW_ENEMY"], "MEANWHILE": meanwhile}, "capture_output": True, "text": True}
+        return {"env": {"PATH": path, "PROGRAM": os.environ["NEW_ENEMY"], "MEANWHILE": meanwhile, "PROVER": ":", **more}, "capture_output": True,
+                "text": True}
 
     def shell(self, line, kit=False):
         return subprocess.run(["bash", "-c", line], cwd=self.top, check=True, **self.how(kit))
 
-    def run_command(self, *words, command=None, kit=False, meanwhile=":"):
+    def run_command(self, *words, command=None, kit=False, meanwhile=":", **more):
         with open(os.path.join(EXAMPLES, "one_proved_check"), "rb") as given:
             return subprocess.run([command or self.path("new_enemy"), *words], cwd=self.room, stdin=given, timeout=60,
-                                  **self.how(kit, meanwhile))
+                                  **self.how(kit, meanwhile, **more))
 
     def assert_runs(self, command=None):
         run = self.run_command(command=command)
@@ -99,6 +100,14 @@ class WhatRuns(Checkout):
     def test_words_go_to_the_program(self):
         self.assertIn("Usage", self.run_command("--help").stdout)
         self.assertEqual(self.run_command("--prove", "more").returncode, 3)
+
+    def test_quiet_does_not_go_to_the_program(self):
+        """But behind -- all words do."""
+        self.assertIn("Usage", self.run_command("--quiet", "--help").stdout)
+        run = self.run_command("--quiet")
+        self.assertEqual((run.returncode, run.stdout, run.stderr), (0, CLEAN, ""))
+        self.assertIn("cannot open --quiet\n", self.run_command("make", "--", "--quiet").stderr)
+        self.assertIn("cannot open a b\n", self.run_command("make", "--quiet", "a b").stderr)
 
     def test_what_the_program_does_not_stand_on_may_change(self):
         change(self.path("crates", "tests_of_texts", "src", "lib.rt"), b"//!", b"//! ")
@@ -171,6 +180,19 @@ class Proving(Checkout):
         self.assertEqual(self.run_command("--prove", kit=True, meanwhile="echo >> ../zookie/src/token.rt").returncode, 5)
         self.assertEqual(self.run_command().returncode, 5)
 
+    def test_what_is_told_each_minute(self):
+        """The prover works until that was told; and what tells is gone when the command is."""
+        told = os.path.join(self.room, "told")
+        wait = "until grep -q 'at work: zookie' '%s'; do sleep 0.05; done" % told
+        with open(told, "wb") as err:
+            run = subprocess.run([self.path("new_enemy"), "--prove"], stdin=subprocess.DEVNULL, stdout=subprocess.DEVNULL, stderr=err, timeout=60,
+                                 env=self.how(True, PROVER=wait, NEW_ENEMY_MINUTE="0.1")["env"])
+        self.assertEqual(run.returncode, 0)
+        with open(told, encoding="utf-8") as file:
+            self.assertRegex(file.read(), r"(?m)^new_enemy: proving for \d+ min; at work: zookie$")
+        # A minute is not waited for, also by who reads to the end of what is told.
+        self.assertEqual(self.run_command("--prove", kit=True).returncode, 0)
+
     def test_release(self):
         release = self.path("tools", "dev", "release")
         self.assertEqual(self.run_command(command=release, kit=True).returncode, 1)
@@ -187,3 +209,25 @@ class Proving(Checkout):
         shutil.rmtree(self.path("crates", "new_enemy", "out"))
         self.assert_runs()
         self.assertEqual(self.run_command("--provenance").returncode, 0)
+
+    def test_the_last_line_of_the_gate(self):
+        def git(*words):
+            return subprocess.run(["git", "-c", "user.name=a", "-c", "user.email=a@localhost", *words], cwd=self.top, check=True, **self.how(False)).stdout
+
+        def told(commit, sources, last):
+            write(self.path("crates", "new_enemy", "out", "GATE"), "commit %s\nsources %s\nended now\nlast %s\n" % (commit, sources, last))
+            return self.run_command("--gate", command=self.path("tools", "dev", "release"))
+
+        git("init", "-q")
+        git("add", "-A")
+        git("commit", "-q", "-m", "a commit")
+        commit, sources = git("rev-parse", "HEAD").strip(), self.shell('. dist/provenance && sources_sum .').stdout.strip()
+        for words, why in (((commit, "0", "9 passed, 0 failed"), "no run of ./check on these sources has ended here"),
+                           ((commit + " with 1 changed files", sources, "9 passed, 0 failed"), "it was of commit %s with 1 changed files" % commit),
+                           ((commit, sources, "8 passed, 1 failed"), "it ended with 8 passed, 1 failed")):
+            run = told(*words)
+            self.assertEqual((run.returncode, run.stderr), (1, "release: the gate's last line is not kept: %s\n" % why))
+            self.assertFalse(os.path.exists(self.path("dist", "GATE")))
+        self.assertEqual(told(commit, sources, "9 passed, 0 failed").returncode, 0)
+        with open(self.path("dist", "GATE"), encoding="utf-8") as file:
+            self.assertIn("last 9 passed, 0 failed\n", file.read())

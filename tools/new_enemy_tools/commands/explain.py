@@ -12,23 +12,28 @@ from typing import Optional
 from new_enemy_tools.commands.running import Parser, say
 from new_enemy_tools.evidence import check_evidence, records_of
 from new_enemy_tools.explanations import Explainer
-from new_enemy_tools.files import read_bytes, read_ids, read_trace_of, split_joined
+from new_enemy_tools.files import read_bytes, read_ids, read_joined, read_trace_of, split_joined
 from new_enemy_tools.judging import judge
 from new_enemy_tools.names import Names
 from new_enemy_tools.progress import Progress
 from new_enemy_tools.shown import plain
+from new_enemy_tools.strange import hints
 from new_enemy_tools.trace import Fault
 
 
 def refusal(part: bytes, evidence: Optional[bytes]) -> int:
     """Tells the first fault of a trace, and then of its evidence."""
+    read = part
     try:
         with Progress() as progress:
             trace = read_trace_of(part, progress)
             if evidence is not None:
+                read = evidence
                 check_evidence(evidence, trace, progress.steps("read %s records"))
     except Fault as fault:
         say(fault, sys.stdout)
+        for hint in hints(read):
+            sys.stdout.write("  %s\n" % hint)
         return fault.status
     sys.stdout.write("nothing is refused\n")
     return 0
@@ -53,7 +58,7 @@ def main(words: list[str]) -> int:
     parser.add_argument("trace", metavar="TRACE", help="the trace, or joined input")
     parser.add_argument("lines", metavar="LINE", nargs="*", type=int, help="the line of an entry")
     given = parser.parse_args(words)
-    part, evidence = split_joined(read_bytes(given.trace))
+    part, evidence = split_joined(read_joined(given.trace))
     if given.evidence is not None:
         evidence = read_bytes(given.evidence)
     if not given.lines:

@@ -5,7 +5,8 @@
     ne import events (--from-empty | base writes in the log) LOG ..
 
 It writes the trace and adds to the table of ids; where anything is refused it writes neither, lists all refusals on
-standard error, and ends with status 2.
+standard error, and ends with status 2. A trace with more bytes than one program takes is written in pieces, which
+`ne parts cut` takes as the one trace that they are (docs/SCALE.md).
 """
 import gc
 import os
@@ -18,14 +19,17 @@ from new_enemy_tools.commands.running import Parser
 from new_enemy_tools.faults import DeviceFault
 from new_enemy_tools.ids import Ids
 from new_enemy_tools.importing import openfga, spicedb, spicedb_schema
-from new_enemy_tools.importing.chained import in_chain
-from new_enemy_tools.importing.core import Core, Given
+from new_enemy_tools.importing.chained import in_chain, last_of
+from new_enemy_tools.importing.core import Core, Given, GoesOn
+from new_enemy_tools.importing.going_on import read_left, write_left
 from new_enemy_tools.importing.neutral import gather_events
 from new_enemy_tools.importing.refusals import Refusals
 from new_enemy_tools.importing.service import ServiceRules
 from new_enemy_tools.importing.spool import Lines
 from new_enemy_tools.parting.faults import PartsFault
+from new_enemy_tools.pieces import LEAST_BYTES, PiecesWriter
 from new_enemy_tools.progress import Progress
+from new_enemy_tools.windowing.state import read_state
 
 
 def given_of(words: list[str]) -> tuple[Parser, Namespace]:
@@ -47,13 +51,25 @@ def given_of(words: list[str]) -> tuple[Parser, Namespace]:
         service.add_argument("--trace", default="trace.jsonl", metavar="FILE", help="the trace to write (trace.jsonl)")
         service.add_argument("--ids", default="ids.jsonl", metavar="FILE", help="the table of ids to add to (ids.jsonl)")
         service.add_argument("--jobs", type=int, default=os.cpu_count(), metavar="N", help="how many processes read the logs (one a core)")
+        service.add_argument("--piece-bytes", type=int, default=limits.INPUT_BYTES, metavar="N", help="the most bytes of a file; a longer "
+                             "trace is written in pieces (%d, which one program takes)" % limits.INPUT_BYTES)
         service.add_argument("--name", metavar="NAME", help="a name of the service, where several of its kind have logs")
+        service.add_argument("--go-on", metavar="FILE", help="go on from what the import of the day before left here, or begin; and leave it for the next")
+        service.add_argument("--state", metavar="FILE", help="the state of `ne window` behind the days before, for checks between two states")
         service.add_argument("logs", nargs="+", metavar="LOG", help="a file of writes and checks, JSON lines")
     given = parser.parse_args(words)
     if given.jobs < 1:
         parser.error("--jobs is below 1")
+    if not LEAST_BYTES <= given.piece_bytes <= limits.INPUT_BYTES:
+        parser.error("--piece-bytes is from %d to %d" % (LEAST_BYTES, limits.INPUT_BYTES))
     if given.skew is not None and given.skew < 0:
         parser.error("--skew is below 0")
+    if given.state is not None and given.go_on is None:
+        parser.error("--state goes with --go-on")
+    if given.go_on is not None and given.service == "openfga":
+        parser.error("--go-on takes no logs of OpenFGA, whose revisions are places in one feed: import all of them at once")
+    if given.go_on is not None and given.skip_unmapped:
+        parser.error("--go-on takes no --skip-unmapped: what hangs on what was left out would not be known the next day")
     if given.service != "events" and bool(given.base) != (given.base_at is not None):
         parser.error("--base and --base-at go together")
     if given.service != "events" and given.from_empty == bool(given.base):
@@ -80,16 +96,18 @@ def rules_of(given: Namespace, refusals: Refusals) -> Optional[ServiceRules]:
     return spicedb_schema.read_schema(given.rules, refusals)
 
 
-def gathered(given: Namespace, base: Any, refusals: Refusals, progress: Progress) -> Given:
-    """All lines of the service's files, base state first."""
-    lines = Lines()
+def gathered(given: Namespace, base: Any, refusals: Refusals, progress: Progress, goes_on: Optional[GoesOn]) -> Given:
+    """All lines of the service's files, base state first; that stands in the first day alone."""
+    lines, is_later = Lines(), goes_on is not None and goes_on.before is not None
     if given.service == "events":
-        chained = in_chain(given.logs, refusals)
+        chained = in_chain(given.logs, refusals, None if goes_on is None else goes_on.chain)
+        if goes_on is not None:
+            take_chain(goes_on, chained, refusals)
         for path in chained or given.logs:
             progress.follow("read %s events", gather_events(path, lines, given.jobs, refusals))
         facts = lines.facts
         facts.is_chained = chained is not None
-        if facts.count and given.from_empty == (facts.last_base >= 0):
+        if facts.count and not is_later and given.from_empty == (facts.last_base >= 0):
             first = next(iter(lines))
             refusals.refuse(first.file, first.line, "give either base writes (\"base\":true) or --from-empty")
         return Given(lines, None)
@@ -98,7 +116,7 @@ def gathered(given: Namespace, base: Any, refusals: Refusals, progress: Progress
         return Given(lines, None)
     log = LOGS[given.service](rules, base, refusals)
     lines.add(rules.event)
-    for path in given.base:
+    for path in [] if is_later else given.base:
         for line in log.base(path):
             lines.add(line)
     for path in given.logs:
@@ -106,20 +124,29 @@ def gathered(given: Namespace, base: Any, refusals: Refusals, progress: Progress
     return Given(log.placed(lines, given.skew), log.base_number())
 
 
-def write(path: str, chunks: Iterable[bytes], ids: Ids, refusals: Refusals) -> int:
-    """The trace and the new rows of the table, or neither where something is refused meanwhile. How many bytes the trace has."""
-    beside, size = path + ".part", 0
+def take_chain(goes_on: GoesOn, chained: Optional[list[str]], refusals: Refusals) -> None:
+    """The next day's files have to go on from the last of these."""
+    if chained is None:
+        if goes_on.chain is not None:
+            refusals.refuse(goes_on.file, 1, "the day before had files of tools/record, and this is none that goes on from them")
+        return
+    goes_on.chain = last_of(chained[-1])
+    if goes_on.chain is None:
+        refusals.refuse(chained[-1], 1, "the file is not closed: give it when it is, and then the next day's files can go on from it")
+
+
+def write(given: Namespace, chunks: Iterable[bytes], ids: Ids, refusals: Refusals) -> PiecesWriter:
+    """The trace, in pieces where it is too long for a file, and the new rows of the table; or neither where something is refused meanwhile."""
+    writer = PiecesWriter(given.trace, given.piece_bytes)
     try:
-        with open(beside, "wb") as file:
-            for chunk in chunks:
-                size += file.write(chunk)
+        for chunk in chunks:
+            writer.write(chunk)
+        writer.end()
         if not refusals.refused:
-            ids.append()
-            os.replace(beside, path)
+            writer.keep(ids.append)
     finally:
-        if os.path.exists(beside):
-            os.remove(beside)
-    return size
+        writer.remove()
+    return writer
 
 
 def say(text: str) -> None:
@@ -157,19 +184,32 @@ def main(words: list[str]) -> int:
         gc.enable()
 
 
+def goes_on_of(given: Namespace, service: str) -> Optional[GoesOn]:
+    if given.go_on is None:
+        return None
+    before = read_left(given.go_on, service) if os.path.exists(given.go_on) else None
+    return GoesOn(service, given.logs[0], before, read_state(given.state) if given.state is not None and before is not None else None)
+
+
 def imported(given: Namespace, base: Any) -> int:
     refusals = Refusals(given.skip_unmapped)
     with Progress() as progress:
+        service = given.service if given.name is None else "%s %s" % (given.service, given.name)
+        goes_on = goes_on_of(given, service)
         ids = Ids(given.ids)
-        ids.take_for(given.service if given.name is None else "%s %s" % (given.service, given.name))
-        made = Core(ids, given.skew, refusals, progress).trace(gathered(given, base, refusals, progress), given.jobs)
-        size = write(given.trace, made.chunks, ids, refusals) if made else 0
+        ids.take_for(service)
+        core = Core(ids, given.skew, refusals, progress, goes_on)
+        made = core.trace(gathered(given, base, refusals, progress, goes_on), given.jobs)
+        written = write(given, made.chunks, ids, refusals) if made else None
+        if goes_on is not None and goes_on.left is not None and not refusals.refused:
+            write_left(given.go_on, goes_on.left)
     told_left_out(refusals)
-    if made is None or refusals.refused:
+    if made is None or written is None or refusals.refused:
         return told_refused(refusals)
     for line in made.told():
         say(line)
-    if size > limits.INPUT_BYTES:
-        say("the trace has %d bytes, and one program takes %d: audit it in parts, by tools/ne parts cut %d %s FOLDER"
-            % (size, limits.INPUT_BYTES, size // limits.INPUT_BYTES + 2, given.trace))
+    if len(written.pieces) > 1:
+        say("the trace has %d bytes, and stands in %d pieces, %s to %s: audit it in parts, by tools/ne parts cut %d %s FOLDER"
+            % (written.size, len(written.pieces), written.pieces[0].path, written.pieces[-1].path,
+               written.size // given.piece_bytes + 2, given.trace))
     return 0

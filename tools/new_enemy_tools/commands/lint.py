@@ -7,7 +7,7 @@ that nothing reads, and a trace without checks or commits. The status is 0 where
 import sys
 
 from new_enemy_tools.commands.running import Parser
-from new_enemy_tools.files import read_bytes, split_joined
+from new_enemy_tools.files import read_joined, split_joined
 from new_enemy_tools.linting import odd_in
 from new_enemy_tools.progress import Progress
 
@@ -17,7 +17,7 @@ def main(words: list[str]) -> int:
     parser.add_argument("trace", metavar="TRACE", help="the trace, or joined input")
     given = parser.parse_args(words)
     with Progress() as progress:
-        found = odd_in(split_joined(read_bytes(given.trace))[0], progress.steps("read %s lines"))
+        found = odd_in(split_joined(read_joined(given.trace))[0], progress.steps("read %s lines"))
     for odd in found:
         sys.stdout.write(str(odd) + "\n")
     if not found:

@@ -11,30 +11,29 @@ import gc
 import sys
 from collections import Counter
 from datetime import date
-from typing import Iterable, NamedTuple, Optional
+from typing import Callable, Iterable, Iterator, NamedTuple, Optional
 
 from new_enemy_tools.audited import read_audited
 from new_enemy_tools.baseline import read_baseline
 from new_enemy_tools.commands.running import Parser
 from new_enemy_tools.effects import EFFECTS
 from new_enemy_tools.faults import ToolFault
-from new_enemy_tools.files import read_bytes, read_ids, read_trace_of, split_joined, write_whole
+from new_enemy_tools.files import read_bytes, read_ids, read_joined, read_trace_of, split_joined, write_whole
 from new_enemy_tools.findings import read_report
 from new_enemy_tools.forms import FORMS
 from new_enemy_tools.ids import gaps_in
 from new_enemy_tools.ignoring import read_rows
 from new_enemy_tools.names import Names
 from new_enemy_tools.progress import Progress
-from new_enemy_tools.sarif import sarif
+from new_enemy_tools.quick import OtherForm
 from new_enemy_tools.telling import LeftOut, Telling, telling_of, told_of, warnings_of
-from new_enemy_tools.trace import OtherForm, Trace
+from new_enemy_tools.trace import Trace
 
-ALL_FORMS = {**FORMS, "sarif": sarif}
 
 
 def parser_of_words() -> Parser:
     parser = Parser(prog="ne report", description=__doc__)
-    parser.add_argument("--form", choices=sorted([*ALL_FORMS, "html"]), default="jsonl", help="the form of the answer (jsonl)")
+    parser.add_argument("--form", choices=sorted([*FORMS, "sarif", "html"]), default="jsonl", help="the form of the answer (jsonl)")
     parser.add_argument("--out", metavar="FILE", help="where to write, in place of standard output")
     parser.add_argument("--ids", metavar="FILE", help="the table of ids, for names in place of numbers")
     parser.add_argument("--baseline", metavar="FILE", help="an earlier report, as JSON lines or SARIF; only what is new is told")
@@ -42,8 +41,25 @@ def parser_of_words() -> Parser:
     parser.add_argument("--fail-on", choices=EFFECTS, metavar="EFFECT", help="status 1 where a finding that is told has this "
                         "effect or a worse one: %s" % ", ".join(EFFECTS))
     parser.add_argument("trace", metavar="TRACE", help="the trace, or joined input")
-    parser.add_argument("report", metavar="REPORT", help="what the audit wrote")
+    parser.add_argument("report", metavar="REPORT", help="what the audit wrote, or the report of a part")
     return parser
+
+
+def form_of(name: str) -> Callable[[Telling], Iterator[str]]:
+    if name == "sarif":
+        # The other forms need not wait until this is loaded.
+        from new_enemy_tools.sarif import sarif
+        return sarif
+    return FORMS[name]
+
+
+def report_text(path: str) -> str:
+    """What the program wrote, of the whole or of a part."""
+    data = read_bytes(path)
+    if data.startswith(b"part "):
+        from new_enemy_tools.parting.reports import text_of
+        return text_of(path, data)
+    return data.decode("utf-8", "replace")
 
 
 def left_out(ignore: Optional[str], baseline: Optional[str], is_named: bool) -> LeftOut:
@@ -66,8 +82,8 @@ class Teller:
 
     def __init__(self, given: argparse.Namespace, progress: Progress):
         self.given, self.progress = given, progress
-        self.data = split_joined(read_bytes(given.trace))[0]
-        self.report: Optional[bytes] = None
+        self.data = split_joined(read_joined(given.trace))[0]
+        self.report: Optional[str] = None
 
     def told(self) -> Told:
         if self.given.form != "html":
@@ -83,13 +99,13 @@ class Teller:
         ids = read_ids(given.ids, trace)
         out = left_out(given.ignore, given.baseline, ids is not None)
         if self.report is None:
-            self.report = read_bytes(given.report)
-        report = read_report(self.report.decode("utf-8", "replace"))
+            self.report = report_text(given.report)
+        report = read_report(self.report)
         told = told_of(trace, report, self.progress.steps("looked at %s findings"))
         telling = telling_of(told, trace, Names(ids), given.trace, report, out)
         gaps = gaps_in(self.data)
         warnings = ["the log of this trace has gaps (%d): what was asked in them is not in this report" % gaps] if gaps else []
-        return Told(telling, warnings + warnings_of(telling, out), [] if given.form == "html" else list(ALL_FORMS[given.form](telling)))
+        return Told(telling, warnings + warnings_of(telling, out), [] if given.form == "html" else list(form_of(given.form)(telling)))
 
 
 def told_quickly(given: argparse.Namespace, progress: Progress) -> Told:
@@ -135,5 +151,5 @@ def main(words: list[str]) -> int:
             write_html(parser, told.telling, given.out, progress)
         else:
             write(told.lines, given.out)
-    worst = min((one.effect.rank for one in told.telling.told), default=len(EFFECTS))
+    worst = told.telling.told[0].effect.rank if told.telling.told else len(EFFECTS)
     return 1 if given.fail_on is not None and worst <= EFFECTS.index(given.fail_on) else 0

@@ -64,6 +64,7 @@ class States:
         self.right = self.wrong = self.entries = 0
 
     def take(self, commit: Commit, writer: Writer) -> None:
+        assert commit.revision is not None
         for given, touch in commit.touched.items():
             self.store.touch(commit.revision, writer.named(given), touch.live)
 

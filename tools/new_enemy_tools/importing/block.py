@@ -4,7 +4,7 @@ import re
 from array import array
 from typing import Callable, Iterable, Iterator, Mapping, NamedTuple, Optional, Union
 
-from new_enemy_tools.importing.checks import NAMES, Checks, Look, Other
+from new_enemy_tools.importing.checks import NAMES, Checks, Look, Other, Row
 from new_enemy_tools.importing.events import EVERY, Event, Line
 from new_enemy_tools.importing.located import BLANK, Block
 from new_enemy_tools.importing.shapes import Form, Said, Shape, shape_of
@@ -52,7 +52,7 @@ class Columns:
         self.path, self.facts, self.rows = path, Facts(), 0
         self.pairs: dict[tuple[bytes, bytes], int] = {}
         self.users: dict[tuple[bytes, bytes], int] = {}
-        self.looks: list[tuple] = []
+        self.looks: list[Row] = []
         self.pair_of: list[int] = []
         self.user_of: list[int] = []
         self.look_of: list[int] = []
@@ -88,13 +88,13 @@ class Columns:
         self.facts.note(line)
         self._add_row(row_of(line))
 
-    def add_usual(self, row: tuple) -> None:
+    def add_usual(self, row: Row) -> None:
         """A write or a content check that was read by its shape."""
         self.first = self.first or (self.lines[0] if self.lines else row[2])
         self.facts.has_asked |= row[0] == "content" and row[11] is not None
         self._add_row(row)
 
-    def _add_row(self, row: tuple) -> None:
+    def _add_row(self, row: Row) -> None:
         self.rows += 1
         self.others.append((len(self.lines), len(self.users), row))
 
@@ -128,7 +128,7 @@ class Reader:
         self.shapes: list[Shape] = []
         self.tried = 0
         self.days: dict[bytes, bool] = {}
-        self.taken: dict[tuple, bool] = {}
+        self.taken: dict[Row, bool] = {}
 
     def pieces(self, block: Block, full: Full) -> Iterator[Union[Read, Event]]:
         """The lines of a block, with rules apart, which have no row."""
@@ -148,7 +148,8 @@ class Reader:
                 yield columns.read()
                 return
             yield columns.read()
-            yield from given
+            # such a line has nothing else
+            yield from [one for one in given if isinstance(one, Event)]
 
     def _odd(self, lines: Iterable[tuple[int, bytes]], columns: Columns) -> Iterator[tuple[int, bytes]]:
         """Takes the lines of usual shapes, and gives the others."""
@@ -197,7 +198,7 @@ class Reader:
             put_object(thing)
             put_line(number)
 
-    def _content(self, number: int, shape: Shape, found: re.Match) -> Optional[tuple]:
+    def _content(self, number: int, shape: Shape, found: re.Match[bytes]) -> Optional[Row]:
         """The row of a content check; None where it has to be read in full."""
         look = self.usual.look_of(shape.said(found))
         if look is None:
@@ -207,7 +208,7 @@ class Reader:
         return ("content", self.path, number, goal, reply, snapshot, shown, token, version, None, False, asked, None,
                 nanoseconds(found[shape.time].decode()) if shape.time else None, self.path)
 
-    def _write(self, number: int, shape: Shape, found: re.Match) -> Optional[tuple]:
+    def _write(self, number: int, shape: Shape, found: re.Match[bytes]) -> Optional[Row]:
         """The row of a write; None where it has to be read in full."""
         of, thing, relation, user_type, user_id = (text.decode() for text in found.group(*shape.goal))
         when = self.usual.when_of(shape.said(found))
@@ -222,7 +223,7 @@ class Reader:
         return ("write", self.path, number, when.revision, when.shown, False, None, None, time, self.path,
                 given if shape.adds else [], [] if shape.adds else given, None)
 
-    def _learn(self, number: int, line: bytes, row: tuple) -> None:
+    def _learn(self, number: int, line: bytes, row: Row) -> None:
         """Learns the shape of a line, where it gives what the line was read as."""
         given = row[10] + row[11] if row[0] == "write" else None
         shape = None

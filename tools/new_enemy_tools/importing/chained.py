@@ -1,7 +1,7 @@
 """The files of tools/record: each begins with the hash of the one before, and ends with its count of lines and its own hash."""
 import hashlib
 import json
-from typing import BinaryIO, NamedTuple, Optional
+from typing import Any, BinaryIO, NamedTuple, Optional
 
 from new_enemy_tools.importing.refusals import Refusals
 
@@ -21,10 +21,10 @@ class End(NamedTuple):
 
     lines: int
     found: str
-    said: Optional[tuple]
+    said: Optional[tuple[Any, ...]]
 
 
-def _line(raw: bytes, kind: str) -> Optional[dict]:
+def _line(raw: bytes, kind: str) -> Optional[dict[str, Any]]:
     try:
         value = json.loads(raw)
     except ValueError:
@@ -66,14 +66,15 @@ def end_of(path: str) -> End:
     return End(count, made.hexdigest(), None if closed is None else (closed.get("count"), closed.get("sha256")))
 
 
-def in_chain(paths: list[str], refusals: Refusals) -> Optional[list[str]]:
-    """The files of a chain in their order, all checked; None where they are none of a chain, or not all of them."""
+def in_chain(paths: list[str], refusals: Refusals, after: Optional[list] = None) -> Optional[list[str]]:
+    """The files of a chain in their order, all checked; None where they are none of a chain, or not all of them. `after` is the number
+    and the hash of a file that they go on from."""
     found = {path: head_of(path) for path in paths}
     heads = {path: head for path, head in found.items() if head is not None}
     if len(heads) < len(found):
         return None
     ordered = sorted(heads, key=lambda path: heads[path].number)
-    before: Optional[tuple[str, int, Optional[str]]] = None
+    before: Optional[tuple[str, int, Optional[str]]] = None if after is None else ("the last file of the day before", after[0], after[1])
     for path in ordered:
         _refuse_unlinked(path, heads[path], before, refusals)
         end = end_of(path)
@@ -100,3 +101,9 @@ def _refuse_unlinked(path: str, head: Head, before: Optional[tuple[str, int, Opt
         refusals.refuse(path, 1, "%s of the log, between it and %s, is missing; give all files" % (missing, before[0]))
     elif before[2] is not None and head.before != before[2]:
         refusals.refuse(path, 1, "it goes on from another file than %s; give the files of one log, as tools/record wrote them" % before[0])
+
+
+def last_of(path: str) -> Optional[list]:
+    """The number and the hash of a file of a chain; None where it is not closed."""
+    head, end = head_of(path), end_of(path)
+    return None if head is None or end.said is None else [head.number, end.found]

@@ -5,13 +5,15 @@ once: their types and relations, their users, and what they looked at.
 """
 from array import array
 from itertools import repeat
-from typing import Iterator, NamedTuple, Optional
+from typing import Any, Iterator, NamedTuple, Optional
 
 from new_enemy_tools.importing.times import nanoseconds
 
+# The plain values of a line.
+Row = tuple[Any, ...]
 # In place of a line: the checks behind it are the first of a type and relation.
 NAMES = "names"
-Other = tuple[int, int, tuple]
+Other = tuple[int, int, Row]
 
 
 class Look(NamedTuple):
@@ -22,7 +24,7 @@ class Look(NamedTuple):
     shown: str
     token: Optional[int]
     version: Optional[str]
-    asked: Optional[tuple]
+    asked: Optional[Row]
 
 
 class Checks(NamedTuple):
@@ -33,8 +35,8 @@ class Checks(NamedTuple):
 
     file: str
     pairs: list[tuple[str, str]]
-    users: list
-    looks: list[tuple]
+    users: list[Any]
+    looks: list[Row]
     pair_of: bytes
     user_of: bytes
     look_of: bytes
@@ -52,7 +54,7 @@ class Checks(NamedTuple):
         """The line of the first check."""
         return column(self.lines, "Q")[0]
 
-    def entries(self) -> Iterator[tuple]:
+    def entries(self) -> Iterator[Row]:
         """The checks as rows, each with the fields of an Entry."""
         times = self.times.split("\n") if self.times else repeat("")
         for pair, thing, user, look, line, time in zip(column(self.pair_of), self.objects.split("\n"), column(self.user_of),
@@ -62,7 +64,7 @@ class Checks(NamedTuple):
             yield ("check", self.file, line, (of, thing, relation, *self.users[user], None), reply, snapshot, shown, token, version,
                    None, False, asked, None, nanoseconds(time) if time else None, self.file)
 
-    def rows(self) -> Iterator[tuple]:
+    def rows(self) -> Iterator[Row]:
         """All lines as rows, in order."""
         entries, at = self.entries(), 0
         for place, _, row in self.others:
@@ -74,7 +76,7 @@ class Checks(NamedTuple):
         yield from entries
 
 
-def column(data: bytes, kind: str = "I") -> array:
-    made = array(kind)
+def column(data: bytes, kind: str = "I") -> "array[int]":
+    made: "array[int]" = array(kind)
     made.frombytes(data)
     return made

@@ -1,5 +1,5 @@
 """Commits: the writes of one revision, as the texts of a trace, in parts that fit on a line."""
-from typing import Iterator, NamedTuple, Optional
+from typing import Any, Iterator, NamedTuple, Optional
 
 from new_enemy_tools import limits, texts
 from new_enemy_tools.edges import TupleEdges
@@ -79,7 +79,7 @@ class Writer:
                         self._store(event, one, relationship)
                     texts_of.append(self.text(one))
 
-    def text_of(self, given: tuple) -> Optional[str]:
+    def text_of(self, given: tuple[Any, ...]) -> Optional[str]:
         """The text of a relationship that gives one tuple of one user and no edge; None for any other, which `write` takes."""
         of, thing, relation, user_type, user_id, user_relation = given
         name = of, relation
@@ -113,7 +113,7 @@ class Writer:
         if given.user_relation == EVERY:
             return [Tuple(of, self.wildcards.set_of(given.user_type))]
         if given.user_relation is not None:
-            return [Tuple(of, Userset(*given[3:]))]
+            return [Tuple(of, Userset(given.user_type, given.user_id, given.user_relation))]
         found = [Tuple(of, self.ids.number("user", given.user_type, given.user_id))]
         if (of.namespace, of.relation) in self.declared.tuplesets:
             found.append(Tuple(of, Userset(given.user_type, given.user_id, texts.NO_RELATION)))

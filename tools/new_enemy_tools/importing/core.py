@@ -6,15 +6,18 @@ of the trace needs is kept in a spool. Then timestamps and strata are known, and
 import marshal
 from functools import partial
 from itertools import chain, islice
-from typing import Iterable, Iterator, NamedTuple, Optional, Union
+from typing import Any, Iterable, Iterator, NamedTuple, Optional, Union
 
+from new_enemy_tools.edges import Name
 from new_enemy_tools.ids import Ids
+from new_enemy_tools.importing import going_on
 from new_enemy_tools.importing.between import STATES, Asked, Spans
 from new_enemy_tools.importing.checks import Checks
 from new_enemy_tools.importing.commits import Commit, Writer
 from new_enemy_tools.importing.declared import Declared
 from new_enemy_tools.importing.doubts import Doubts
 from new_enemy_tools.importing.events import Entry, Event
+from new_enemy_tools.importing.going_on import Left
 from new_enemy_tools.importing.newest import put_newest
 from new_enemy_tools.importing.order import in_order
 from new_enemy_tools.importing.refusals import Refusals
@@ -27,6 +30,7 @@ from new_enemy_tools.importing.writing import Counts, Written
 from new_enemy_tools.parting.sharing import shared
 from new_enemy_tools.progress import Progress
 from new_enemy_tools.texts import Tuple, Userset
+from new_enemy_tools.windowing.state import State
 
 class Given(NamedTuple):
     """The lines of an import, and the revision of its base state."""
@@ -35,9 +39,22 @@ class Given(NamedTuple):
     base: Optional[int]
 
 
+class GoesOn:
+    """An import that goes on from what another one left, or is the first of some that do."""
+
+    def __init__(self, service: str, file: str, before: Optional[Left], state: Optional[State] = None):
+        self.service, self.file, self.before, self.state = service, file, before, state
+        self.chain: Optional[list] = None if before is None else before.chain
+        self.left: Optional[Left] = None
+
+
 class Core:
-    def __init__(self, ids: Ids, skew: Optional[int], refusals: Refusals, progress: Progress):
+    def __init__(self, ids: Ids, skew: Optional[int], refusals: Refusals, progress: Progress, goes_on: Optional[GoesOn] = None):
         self.ids, self.skew, self.refusals, self.progress = ids, skew, refusals, progress
+        self.goes_on = goes_on
+        # of the days before how many commits are known, and the first state where not all are
+        self.commits_before = 0
+        self.oldest: Optional[int] = None
         self.edges = Edges()
         self.counts = Counts()
 
@@ -45,11 +62,22 @@ class Core:
         """The trace, whose lines are still to be written, by so many processes; None where something was refused."""
         lines = given.lines
         wildcards = Wildcards(lines)
-        self.declared = Declared(wildcards.rules() + lines.rules, self.edges, self.refusals)
+        before = None if self.goes_on is None else self.goes_on.before
+        rules = wildcards.rules() + lines.rules if before is None else going_on.events_of(before) + going_on.new_rules(before, lines, self.refusals)
+        if self.goes_on is not None:
+            going_on.refuse_unfit(lines.facts, before is None, self.goes_on.state is not None, self.goes_on.file, self.refusals)
+        if before is not None:
+            going_on.add_edges(before, self.edges)
+        self.declared = Declared(rules, self.edges, self.refusals)
         self.writer = Writer(self.declared, wildcards, self.ids, self.edges, self.refusals)
         base = self._base(lines)
-        self.taken = Taken(self.declared, self.writer, self.ids, self.refusals, self.progress, base.revision if base else given.base,
+        self.taken = Taken(self.declared, self.writer, self.ids, self.refusals, self.progress, self._base_revision(base, given),
                            lines.facts.has_between)
+        if before is not None:
+            going_on.take_up(before, self.taken)
+            if self.goes_on is not None and self.goes_on.state is not None and lines.facts.has_between:
+                self.oldest = going_on.take_states(self.taken.states, before, self.goes_on.state)
+                self.commits_before = len(self.taken.states.revisions)
         for commit in (self._every(wildcards), base):
             if commit:
                 self.taken.keep(commit)
@@ -58,8 +86,21 @@ class Core:
                          for relation in self.declared.rules.relations(name)], self.edges, self.refusals)
         if self.refusals.refused:
             return None
-        shown = Shown(self.declared, self.ids, strata, self.taken.timestamps(), self.refusals.gaps())
+        shown = Shown(self.declared, self.ids, strata, self._times(strata), self.refusals.gaps())
+        if before is not None:
+            shown.go_on(going_on.has_other_strata(before, strata))
         return Written(self._chunks(shown, jobs), self.counts, lambda: chain(wildcards.told(), self.taken.states.told()))
+
+    def _times(self, strata: dict[Name, int]) -> dict[int, int]:
+        """The last timestamp of each revision."""
+        if self.goes_on is None:
+            return self.taken.timestamps()
+        before, base = self.goes_on.before, self.taken.base_revision
+        if base is not None:
+            self.taken.wanted.setdefault(base, 1)
+        named = going_on.numbered(self.taken.wanted, before.named if before else [])
+        self.goes_on.left = going_on.left_by(self.goes_on.service, before, self.declared, strata, self.edges, self.taken, named, self.goes_on.chain)
+        return {one.revision: one.at for one in named}
 
     # Order and commits
 
@@ -74,14 +115,19 @@ class Core:
                 self.writer.write(base, event)
         return base
 
+    def _base_revision(self, base: Optional[Commit], given: Given) -> Optional[int]:
+        if self.goes_on is not None and self.goes_on.before is not None:
+            return self.goes_on.before.base
+        return base.revision if base else given.base
+
     def _every(self, wildcards: Wildcards) -> Optional[Commit]:
         event = wildcards.write()
         commit = Commit(event) if event else None
-        if commit:
+        if commit and event:
             self.writer.write(commit, event)
         return commit
 
-    def _stream(self, lines: Lines) -> Iterable[Union[Checks, Event, tuple]]:
+    def _stream(self, lines: Lines) -> Iterable[Union[Checks, Event, tuple[Any, ...]]]:
         """Everything behind the base state, in order. Entries are rows, or what has a row's fields, or many together."""
         facts = lines.facts
         if self.skew is None and not facts.is_sequenced and not facts.has_newest:
@@ -91,7 +137,7 @@ class Core:
         stream = in_order(self._behind_base(lines, facts), facts, self.skew, self.refusals)
         return put_newest(list(stream), self.skew, self.refusals) if facts.has_newest else stream
 
-    def _behind_base(self, lines: Iterable[Union[Event, tuple]], facts: Facts) -> Iterator[Union[Event, tuple]]:
+    def _behind_base(self, lines: Iterable[Any], facts: Facts) -> Iterator[Any]:
         last = facts.last_base
         for place, line in enumerate(lines):
             if isinstance(line, tuple):
@@ -120,10 +166,12 @@ class Core:
                 yield batch if len(others) == len(found.others) else marshal.dumps(tuple(found._replace(others=others)))
                 continue
             if isinstance(found, Checks):
-                found = found._replace(users=[self.ids.rows[number - 1][1:] for number in found.users]).rows()
-            yield marshal.dumps([row for row in found if self._is_kept(row, doubts)])
+                rows = found._replace(users=[self.ids.rows[number - 1][1:] for number in found.users]).rows()
+            else:
+                rows = iter(found)
+            yield marshal.dumps([row for row in rows if self._is_kept(row, doubts)])
 
-    def _is_kept(self, row: tuple, doubts: Doubts) -> bool:
+    def _is_kept(self, row: tuple[Any, ...], doubts: Doubts) -> bool:
         if row[0] not in CHECKS:
             return True
         entry = Entry._make(row)
@@ -140,10 +188,15 @@ class Core:
         """The lines of the trace. Where none hangs on others, batches of them are made by many processes."""
         head = "".join(shown.head()).encode()
         yield head
-        if head and not self.taken.has_between:
+        if (head or self.goes_on is not None and self.goes_on.before is not None) and not self.taken.has_between:
+            # What the first line says is not for the processes that make the others.
+            first, shown.mark = shown.mark, ""
             for chunk, counts in shared(partial(self._chunk, shown), self._kept(), jobs):
                 self.counts.merge(counts)
                 self.progress.step("wrote %s events", self.counts.count)
+                if first and chunk:
+                    line, _, rest = chunk.partition(b"\n")
+                    chunk, first = b"%s,%s}\n%s" % (line[:-1], first.encode(), rest), ""
                 yield chunk
             return
         self.taken.states.take_rules(shown.declarations(self.declared))
@@ -169,9 +222,9 @@ class Core:
             if row:
                 yield from self._texts((row,), shown, counts)
 
-    def _texts(self, rows: Iterable[tuple], shown: Shown, counts: Counts) -> Iterator[str]:
+    def _texts(self, rows: Iterable[tuple[Any, ...]], shown: Shown, counts: Counts) -> Iterator[str]:
         """Each line with its end."""
-        place = 0
+        place = self.commits_before
         waiting: dict[int, list[str]] = {}
         for row in rows:
             if row[0] in CHECKS:
@@ -195,6 +248,10 @@ class Core:
 
         Where the newest state was asked for, the token is that state, and the entry waits until the trace has come to it.
         """
+        if self.oldest is not None and entry.lowest is not None and entry.lowest < self.oldest:
+            self.refusals.refuse(entry.file, entry.line, "it was evaluated at a state of the days before that is not kept any more")
+            return
+        assert entry.lowest is not None and entry.snapshot is not None
         count = self.taken.states.count(entry.lowest, entry.snapshot)
         if count >= STATES:
             self.refusals.refuse(entry.file, entry.line, "`snapshot_between` takes in %d commits, and %d states at most are looked at"
@@ -208,7 +265,7 @@ class Core:
         made = [entry._replace(snapshot=first, token=token)]
         made += [entry._replace(kind="check", snapshot=at, token=None, version=None) for at in others]
         for one in made:
-            behind = self.taken.states.place(one.snapshot) if entry.newest else place
+            behind = self.taken.states.place(one.snapshot or 0) if entry.newest else place
             if behind > place:
                 waiting.setdefault(behind, []).append(shown.entry(one))
             else:

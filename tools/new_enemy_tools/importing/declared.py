@@ -27,7 +27,7 @@ class Declared:
             self._refuse(event, "namespace %s stands twice in the first rules" % name)
             return
         # What new rules leave out stays declared, since a trace has no form for less; they do not read it.
-        listed = [own.pop(old.name, None) or RelationRule(old.name, old.rewrite, event.line) for old in known.relations] if known else []
+        listed = [own.pop(old.name, RelationRule(old.name, old.rewrite, event.line)) for old in known.relations] if known else []
         listed += own.values()
         self._refuse_sizes(event, name, listed)
         declaration = Declaration(name, event.revision, [Relation(one.name, 0, one.rewrite) for one in listed])

@@ -43,8 +43,8 @@ class Doubts:
             if place.names[:1] == (relation,):
                 yield of, id_text, name
         for one in stored_in:
-            if one.user.relation == relation:
-                yield tuple(one.set)
+            if isinstance(one.user, Userset) and one.user.relation == relation:
+                yield one.set.namespace, one.set.id, one.set.relation
             for name, place in self._places(one.set.namespace):
                 if place.form == "tuple_to" and place.names == (one.set.relation, relation):
                     yield one.set.namespace, one.set.id, name

@@ -1,7 +1,7 @@
 """Neutral events: what the front ends hand to the core, and their form as JSON lines."""
 import sys
 from dataclasses import dataclass, field
-from typing import AbstractSet, Iterable, Iterator, NamedTuple, Optional, Union
+from typing import Any, Iterable, Iterator, NamedTuple, Optional, Union
 
 from new_enemy_tools.importing.refusals import Refusals
 from new_enemy_tools.importing.times import nanoseconds
@@ -48,7 +48,7 @@ class Relationship(NamedTuple):
 
 class RelationRule(NamedTuple):
     name: str
-    rewrite: dict
+    rewrite: dict[str, Any]
     line: int
 
 
@@ -63,7 +63,7 @@ class Entry(NamedTuple):
     kind: str
     file: str
     line: int
-    goal: tuple
+    goal: tuple[Any, ...]
     reply: bool
     snapshot: Optional[int]
     shown: str
@@ -71,7 +71,7 @@ class Entry(NamedTuple):
     version: Optional[str] = None
     lowest: Optional[int] = None
     newest: bool = False
-    asked: Optional[tuple] = None
+    asked: Optional[tuple[Any, ...]] = None
     sequence: Optional[tuple[int, int]] = None
     time: Optional[int] = None
     clock: str = ""
@@ -100,7 +100,7 @@ class Event:
     clock: str = ""
     add: list[Relationship] = field(default_factory=list)
     remove: list[Relationship] = field(default_factory=list)
-    asked: Optional[tuple] = None
+    asked: Optional[tuple[Any, ...]] = None
     namespaces: dict[str, list[RelationRule]] = field(default_factory=dict)
 
 
@@ -119,7 +119,7 @@ def is_whole(value: object) -> bool:
     return isinstance(value, int) and not isinstance(value, bool) and value >= 0
 
 
-def stamp_of(value: dict, file: str, line: int, refusals: Refusals) -> Stamp:
+def stamp_of(value: dict[str, Any], file: str, line: int, refusals: Refusals) -> Stamp:
     """The keys that a recorder may add to any line: `sequence`, `time` and `clock`."""
     if STAMP.isdisjoint(value):
         return Stamp(None, None, file)
@@ -150,12 +150,12 @@ class _Fault(Exception):
     """Why an event is refused."""
 
 
-def _refuse_unread(value: object, known: AbstractSet[str], where: str = "") -> None:
+def _refuse_unread(value: object, known: frozenset[str], where: str = "") -> None:
     for key in unread(value, known):
         raise _Fault(key.said(where and " in " + where))
 
 
-def newest_of(value: dict, fault: type) -> bool:
+def newest_of(value: dict[str, Any], fault: type) -> bool:
     """Whether a content check says that it was evaluated at the newest state; raises the fault that is given."""
     newest = value.get("newest")
     if not isinstance(newest, (bool, type(None))):
@@ -165,20 +165,23 @@ def newest_of(value: dict, fault: type) -> bool:
     return bool(newest)
 
 
+def _are_texts(value: list[Any]) -> bool:
+    try:
+        return "" not in value and "".join(value) != ""
+    except TypeError:
+        return False
+
+
 def _relationship(value: object, where: str, is_goal: bool = False) -> Relationship:
     sizes = (5,) if is_goal else (5, 6)
-    try:
-        is_good = isinstance(value, list) and len(value) in sizes and "" not in value and "".join(value) != ""
-    except TypeError:
-        is_good = False
-    if not is_good:
+    if not isinstance(value, list) or len(value) not in sizes or not _are_texts(value):
         raise _Fault("%s is no list of %s texts" % (where, " or ".join(map(str, sizes))))
     if value[5:] == [EVERY] and value[4] != EVERY:
         raise _Fault("%s has `*` for the relation of one user; every user of a type is [.., type, \"*\", \"*\"]" % where)
     return Relationship(*value)
 
 
-def _namespaces(value: dict, line: int) -> dict[str, list[RelationRule]]:
+def _namespaces(value: dict[str, Any], line: int) -> dict[str, list[RelationRule]]:
     found: dict[str, list[RelationRule]] = {}
     listed = value.get("namespaces")
     if not isinstance(listed, list):
@@ -221,15 +224,17 @@ def _refuse_names(namespace: str, relations: list[RelationRule]) -> None:
                              % (namespace, relation.name, place.names[0], namespace))
 
 
-def _whole(value: dict, key: str, optional: bool = False) -> Optional[int]:
-    if value.get(key) is None and optional:
-        return None
+def _whole(value: dict[str, Any], key: str) -> int:
     if not is_whole(value.get(key)):
         raise _Fault("`%s` is no whole number" % key)
-    return value[key]
+    return int(value[key])
 
 
-def _write(event: Event, value: dict) -> None:
+def _whole_or_none(value: dict[str, Any], key: str) -> Optional[int]:
+    return None if value.get(key) is None else _whole(value, key)
+
+
+def _write(event: Event, value: dict[str, Any]) -> None:
     event.revision = _whole(value, "revision")
     event.shown = str(event.revision)
     if not isinstance(value.get("base"), (bool, type(None))):
@@ -244,7 +249,7 @@ def _write(event: Event, value: dict) -> None:
         raise _Fault("a base state removes nothing")
 
 
-def _snapshot(value: dict) -> tuple[Optional[int], int]:
+def _snapshot(value: dict[str, Any]) -> tuple[Optional[int], int]:
     """The lowest revision that a check may have looked at, where there are several, and the highest."""
     key = "snapshot_between" if value.get("newest_between") is None else "newest_between"
     between = value.get(key)
@@ -258,11 +263,11 @@ def _snapshot(value: dict) -> tuple[Optional[int], int]:
     return between[0], between[1]
 
 
-def _entry(kind: str, file: str, line: int, value: dict, stamp: Stamp) -> Entry:
+def _entry(kind: str, file: str, line: int, value: dict[str, Any], stamp: Stamp) -> Entry:
     goal = _relationship(value.get("goal"), "`goal`", True)
     lowest, snapshot = _snapshot(value)
     shown = str(snapshot) if lowest is None else "between %d and %d" % (lowest, snapshot)
-    token = _whole(value, "token", True)
+    token = _whole_or_none(value, "token")
     if not isinstance(value.get("reply"), bool):
         raise _Fault("`reply` is neither true nor false")
     newest = newest_of(value, _Fault) or value.get("newest_between") is not None
@@ -272,7 +277,7 @@ def _entry(kind: str, file: str, line: int, value: dict, stamp: Stamp) -> Entry:
                  sequence_of(stamp), stamp.time, stamp.clock)
 
 
-def _gap(event: Event, value: dict, refusals: Refusals) -> None:
+def _gap(event: Event, value: dict[str, Any], refusals: Refusals) -> None:
     """A time of which a recorder says that its log has not all of it."""
     start, end, lost = value.get("from"), value.get("to"), value.get("lost")
     if nanoseconds(end) is None or start is not None and nanoseconds(start) is None or not isinstance(value.get("reason"), str):
@@ -283,7 +288,7 @@ def _gap(event: Event, value: dict, refusals: Refusals) -> None:
     refusals.note("gaps", "the log has gaps: a verdict says nothing of what was asked in them")
 
 
-def _unmapped(value: dict, file: str, line: int, refusals: Refusals) -> None:
+def _unmapped(value: dict[str, Any], file: str, line: int, refusals: Refusals) -> None:
     """What a recorder saw and has no form for."""
     userset, version, reason = value.get("userset"), value.get("version"), value.get("reason")
     for listed in userset, version:
@@ -295,7 +300,7 @@ def _unmapped(value: dict, file: str, line: int, refusals: Refusals) -> None:
     if userset:
         refusals.doubt(*userset)
     if version:
-        refusals.versions.add(tuple(version))
+        refusals.versions.add((version[0], version[1], version[2]))
 
 
 def _event(value: object, file: str, line: int, refusals: Refusals) -> Optional[Line]:
@@ -309,14 +314,15 @@ def _event(value: object, file: str, line: int, refusals: Refusals) -> Optional[
     if not isinstance(source, str) or not is_whole(source_line):
         raise _Fault("`file` is no text or `line` no whole number")
     if value["event"] in ("check", "content"):
-        return _entry(value["event"], source, source_line, value, stamp)
+        return _entry(str(value["event"]), source, source_line, value, stamp)
     event = put_stamp(Event(value["event"], source, source_line), stamp)
     if event.kind == "unmapped":
-        return _unmapped(value, source, source_line, refusals)
+        _unmapped(value, source, source_line, refusals)
+        return None
     if event.kind == "gap":
         _gap(event, value, refusals)
     elif event.kind == "rules":
-        event.revision = _whole(value, "revision", True)
+        event.revision = _whole_or_none(value, "revision")
         event.shown = None if event.revision is None else str(event.revision)
         event.namespaces = _namespaces(value, source_line)
     else:

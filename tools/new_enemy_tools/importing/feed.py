@@ -1,7 +1,7 @@
 """OpenFGA's changes feed: revisions are places in it, counted from 1 behind the base state, and timestamps are labels."""
 from bisect import bisect_right
 from itertools import accumulate
-from typing import Any, Iterator, NamedTuple, Optional, Union
+from typing import Any, Iterable, Iterator, NamedTuple, Optional, Union, cast
 
 from new_enemy_tools.importing.checks import Checks
 from new_enemy_tools.importing.events import Entry, Event, Line, is_whole
@@ -28,7 +28,7 @@ class Moment(NamedTuple):
 class Asked(NamedTuple):
     """What a check says of its snapshot: one moment, or two between which it was evaluated; and what its token demands."""
 
-    snapshot: tuple
+    snapshot: tuple[Any, ...]
     token: Optional[Moment]
     model: Optional[str]
 
@@ -42,7 +42,7 @@ def moment_of(value: Any, what: str) -> Moment:
     return Moment(None, time, value)
 
 
-def asked_of(value: dict, token: object, model: object) -> Asked:
+def asked_of(value: dict[str, Any], token: object, model: object) -> Asked:
     """What the keys of a check's line ask; raises Bad."""
     snapshot, between = value.get("snapshot"), value.get("snapshot_between")
     if (snapshot is None) == (between is None):
@@ -59,7 +59,7 @@ def asked_of(value: dict, token: object, model: object) -> Asked:
 
 
 def shown_of(asked: Asked) -> str:
-    shown = [moment.shown for moment in asked.snapshot]
+    shown: list[str] = [moment.shown for moment in asked.snapshot]
     return shown[0] if len(shown) == 1 else "between %s and %s" % tuple(shown)
 
 
@@ -71,7 +71,7 @@ class Feed:
         self.base_time = base.time
         self.times = times
         self.sorted = sorted(times)
-        self.highest = list(accumulate(times, max))
+        self.highest: list[int] = list(accumulate(times, max))
         self.earliest: dict[int, int] = {}
         self.latest: dict[int, int] = {}
         for place, time in enumerate(times, 1):
@@ -82,6 +82,7 @@ class Feed:
         """The one place of a moment, -1 where it lies before the base state; raises Bad."""
         if moment.place is not None:
             return self._counted(moment.place)
+        assert moment.time is not None
         if self.base_time is not None and moment.time < self.base_time:
             return -1
         count = bisect_right(self.sorted, moment.time)
@@ -160,7 +161,7 @@ def placed(lines: Lines, base: Moment, model: Optional[str], skew: Optional[int]
     feed, models, numbers = _changes(lines, base, model, skew, refusals)
     made = Lines()
 
-    def numbered(line: Union[Event, tuple]) -> Optional[Line]:
+    def numbered(line: Union[Event, tuple[Any, ...]]) -> Optional[Line]:
         if not isinstance(line, Event):
             return _place(Entry._make(line), feed, models, refusals)
         if line.base:
@@ -170,15 +171,15 @@ def placed(lines: Lines, base: Moment, model: Optional[str], skew: Optional[int]
             line.revision = next(numbers)
         return line
 
-    def numbered_row(row: tuple) -> Optional[tuple]:
+    def numbered_row(row: tuple[Any, ...]) -> Optional[tuple[Any, ...]]:
         if row[0] in CHECKS:
             kept = numbered(row)
-            return kept and row_of(kept)
+            return None if kept is None else row_of(kept)
         return (*row[:3], 0, *row[4:]) if row[5] else (*row[:3], next(numbers), *row[4:6], row[3], *row[7:])
 
     for found in lines.stream():
         looks = _looks(found, feed, models) if isinstance(found, Checks) else None
-        if looks is not None:
+        if isinstance(found, Checks) and looks is not None:
             made.add_checks(found._replace(looks=looks), numbered_row)
             continue
         for line in map(line_of, found.rows()) if isinstance(found, Checks) else (found,):
@@ -197,8 +198,12 @@ def _changes(lines: Lines, base: Moment, model: Optional[str], skew: Optional[in
     are_sorted = skew is not None or all(event.sequence is not None for event in changes())
     as_read = list(changes()) if are_sorted else []
     # What is wrong with the order is refused once, where all lines are put into it.
-    in_order = ordered(list(as_read), skew, Refusals()) if are_sorted else changes()
-    models, times, last, numbers, by_event = Models(model), [], 0, [], {}
+    # Rows of writes have the fields that order them.
+    in_order: Iterable[Any] = ordered(cast("list[Event]", as_read), skew, Refusals()) if are_sorted else changes()
+    models, last = Models(model), 0
+    times: list[int] = []
+    numbers: list[int] = []
+    by_event: dict[int, int] = {}
     for event in in_order:
         if event.kind == "rules":
             last += 1
@@ -215,9 +220,9 @@ def _changes(lines: Lines, base: Moment, model: Optional[str], skew: Optional[in
     return Feed(base, times), models, iter([by_event.get(id(event), 0) for event in as_read] if are_sorted else numbers)
 
 
-def _looks(checks: Checks, feed: Feed, models: Models) -> Optional[list[tuple]]:
+def _looks(checks: Checks, feed: Feed, models: Models) -> Optional[list[tuple[Any, ...]]]:
     """The looks of checks with their numbers; None where some look has none."""
-    known: dict[tuple, tuple] = {}
+    known: dict[tuple[Any, ...], tuple[Any, ...]] = {}
     try:
         for look in checks.looks:
             asked = look[5]
@@ -243,6 +248,7 @@ def _numbers(asked: Asked, feed: Feed, models: Models) -> tuple[int, Optional[in
 
 
 def _place(entry: Entry, feed: Feed, models: Models, refusals: Refusals) -> Optional[Entry]:
+    assert entry.asked is not None
     try:
         snapshot, lowest, token = _numbers(Asked(*entry.asked), feed, models)
         return entry._replace(snapshot=snapshot, lowest=lowest, token=token, asked=None)

@@ -5,16 +5,16 @@ import shutil
 import tempfile
 from bisect import bisect_left
 from itertools import islice
-from json.decoder import scanstring
-from json.scanner import NUMBER_RE
-from typing import Any, BinaryIO, Iterator, NamedTuple, NoReturn
+from json.decoder import scanstring  # type: ignore[attr-defined]
+from json.scanner import NUMBER_RE  # type: ignore[import]
+from typing import IO, Any, Iterator, NamedTuple, NoReturn
 
 from new_enemy_tools import limits
 from new_enemy_tools.importing.refusals import Refusals
 from new_enemy_tools.strictjson import has_half_pair, is_nested_too_deep
 
 try:
-    import orjson
+    import orjson  # type: ignore[import]
 except ImportError:
     orjson = None
 
@@ -30,7 +30,7 @@ class Malformed(Exception):
         self.line = line
 
 
-class Object(dict):
+class Object(dict[str, Any]):
     """An object that knows its line and those of its values."""
 
     line = 0
@@ -41,7 +41,7 @@ class Object(dict):
         self.lines: dict[str, int] = {}
 
 
-class List(list):
+class List(list[Any]):
     line = 0
 
 
@@ -58,7 +58,7 @@ def _no_constant(text: str) -> None:
     raise ValueError("%s is no JSON" % text)
 
 
-def _once(pairs: list[tuple[str, object]]) -> dict:
+def _once(pairs: list[tuple[str, object]]) -> dict[str, Any]:
     made = dict(pairs)
     if len(made) != len(pairs):
         keys = [key for key, _ in pairs]
@@ -120,7 +120,7 @@ class _Reader:
             self.fail("not JSON: a text without an end, or with a letter that has to be escaped")
         if has_half_pair(text):
             self.fail(HALF)
-        return text
+        return str(text)
 
     def object(self, depth: int) -> Object:
         made = Object(self.line())
@@ -230,7 +230,7 @@ class Source:
 
     def __init__(self, path: str):
         self.path = path
-        self.file: BinaryIO = open(path, "rb")
+        self.file: IO[bytes] = open(path, "rb")
         if not self.file.seekable():
             kept = tempfile.TemporaryFile()
             shutil.copyfileobj(self.file, kept)

@@ -6,7 +6,7 @@ from new_enemy_tools.importing.block import Reader, Usual, When
 from new_enemy_tools.importing.checks import Look
 from new_enemy_tools.importing.events import Event, Line, read_events
 from new_enemy_tools.importing.refusals import Refusals
-from new_enemy_tools.importing.shapes import GOAL, ID, LABEL, REPLY, TEXT, TIME, WHOLE, Field, Form, Said, field, form
+from new_enemy_tools.importing.shapes import GOAL, ID, LABEL, REPLY, TEXT, TIME, WHOLE, Field, Form, Said, field, form, needed
 from new_enemy_tools.importing.spool import Lines, Read
 from new_enemy_tools.parting.sharing import shared
 
@@ -26,12 +26,14 @@ WRITE = form({**_goal("add.0", TEXT + b"+"), **_goal("remove.0", TEXT + b"+"), "
 
 
 def look_of(said: Said) -> Look:
-    snapshot, token, version = said["snapshot"], said.get("token"), said.get("version")
-    return Look(said["reply"] == b"true", int(snapshot), snapshot.decode(), token and int(token), version and version.decode(), None)
+    snapshot, token, version = needed(said, "snapshot"), said.get("token"), said.get("version")
+    return Look(said["reply"] == b"true", int(snapshot), snapshot.decode(), None if token is None else int(token),
+                None if version is None else version.decode(), None)
 
 
 def when_of(said: Said) -> When:
-    return When(int(said["revision"]), said["revision"].decode())
+    revision = needed(said, "revision")
+    return When(int(revision), revision.decode())
 
 
 USUAL = Usual(CHECK, CONTENT, WRITE, look_of, when_of, lambda *_: True)
@@ -50,6 +52,7 @@ class Events:
             return block
         refusals = Refusals(self.refusals.skip)
         read, = self.pieces(block, refusals)
+        assert isinstance(read, Read)
         return read, refusals
 
     def pieces(self, block: located.Block, refusals: Refusals) -> Iterator[Union[Read, Event]]:

@@ -3,7 +3,7 @@
 A line that is logged a little behind its evaluation would else stand behind commits that the check could not see.
 """
 from bisect import bisect_left, bisect_right
-from typing import NamedTuple, Optional
+from typing import Any, NamedTuple, Optional
 
 from new_enemy_tools.importing.events import Entry, Event, Line
 from new_enemy_tools.importing.order import lowest_of
@@ -56,7 +56,7 @@ class Witnesses:
 
     def is_surely_before(self, commit: Event, event: Entry) -> bool:
         """Whether a commit came before an entry by times that --skew compares."""
-        margin = 0 if commit.clock == event.clock else self.skew
+        margin = 0 if commit.clock == event.clock else self.skew or 0
         return self.skew is not None and commit.time is not None and event.time is not None and commit.time + margin < event.time
 
 
@@ -64,22 +64,23 @@ def put_newest(stream: list[Line], skew: Optional[int], refusals: Refusals) -> l
     """The events with each such content check in its place, as far up as the checks of its version let it."""
     witnesses = Witnesses(stream, skew)
     writes = [(number, event) for number, event in enumerate(stream) if isinstance(event, Event) and event.revision is not None]
-    revisions = [event.revision for _, event in writes]
-    named: dict[tuple, int] = {}
+    revisions = [event.revision or 0 for _, event in writes]
+    named: dict[tuple[Any, ...], int] = {}
     for number, event in enumerate(stream):
         if isinstance(event, Entry) and event.kind == "check" and event.version is not None:
             named.setdefault((*event.goal[:2], event.version), number)
     places: list[tuple[int, int, int]] = []
     kept = []
     for number, event in enumerate(stream):
-        moves = isinstance(event, Entry) and event.newest and event.lowest is None
-        count = bisect_right(revisions, event.snapshot) if moves else len(writes)
-        place = (number, 0, number)
-        if count < len(writes) and writes[count][0] < number:
+        count, place = len(writes), (number, 0, number)
+        if isinstance(event, Entry) and event.newest and event.lowest is None:
+            count = bisect_right(revisions, event.snapshot or 0)
+        if isinstance(event, Entry) and count < len(writes) and writes[count][0] < number:
             later = writes[count][1]
             seen = witnesses.before(number, event)
-            if seen.revision >= later.revision or witnesses.is_surely_before(later, event):
-                _leave_out(event, seen.event if seen.revision >= later.revision else later, refusals)
+            was_seen = seen.revision >= revisions[count]
+            if was_seen or witnesses.is_surely_before(later, event):
+                _leave_out(event, seen.event if was_seen and seen.event else later, refusals)
                 continue
             behind = writes[count - 1][0] if count else -1
             first = named.get((*event.goal[:2], event.version), number)

@@ -12,7 +12,7 @@ from new_enemy_tools.importing.openfga_answers import answers_of, relationship_o
 from new_enemy_tools.importing.reading import Bad, get, spelled
 from new_enemy_tools.importing.refusals import Refusals
 from new_enemy_tools.importing.service import Answer, Log, Looked, ServiceRules, nested, one_of, refuse_wild_tuplesets, text_or_none
-from new_enemy_tools.importing.shapes import ID, LABEL, PART, REPLY, REST, TEXT, TIME, WHOLE, Field, Said, field, form
+from new_enemy_tools.importing.shapes import ID, LABEL, PART, REPLY, REST, TEXT, TIME, WHOLE, Field, Said, field, form, needed
 from new_enemy_tools.importing.simple_yaml import beside, is_yaml, read_yaml
 from new_enemy_tools.importing.spool import Lines
 from new_enemy_tools.importing.times import nanoseconds
@@ -31,7 +31,7 @@ def _goal(path: str, thing: bytes) -> dict[str, Field]:
 
 
 @lru_cache(1 << 12)
-def _moment(place: Optional[bytes], text: Optional[bytes]) -> Optional[tuple]:
+def _moment(place: Optional[bytes], text: Optional[bytes]) -> Optional[tuple[Any, ...]]:
     """The moment that a place or a text gives, as a row has it; raises Bad."""
     given = int(place) if place else text and text.decode()
     return None if given is None else tuple(moment_of(given, "a moment"))
@@ -97,7 +97,7 @@ class ModelReader:
         refuse_wild_tuplesets(event, takes, self.refusals)
         return ServiceRules(event, get(model, "id"), takes)
 
-    def _type(self, given: Any, event: Event, takes: dict) -> None:
+    def _type(self, given: Any, event: Event, takes: dict[tuple[str, str], set[tuple[str, Optional[str]]]]) -> None:
         line = line_of(given, self.line)
         name = get(given, "type")
         relations = get(given, "relations")
@@ -140,7 +140,7 @@ class ModelReader:
                 users.add((get(user, "type"), relation))
         return users
 
-    def _refuse_unknown_users(self, takes: dict, event: Event) -> None:
+    def _refuse_unknown_users(self, takes: dict[tuple[str, str], set[tuple[str, Optional[str]]]], event: Event) -> None:
         known = {(name, relation.name) for name, listed in event.namespaces.items() for relation in listed}
         for (name, relation), users in takes.items():
             line = next(one.line for one in event.namespaces[name] if one.name == relation)
@@ -149,7 +149,7 @@ class ModelReader:
                     self.refusals.refuse(self.path, line, "%s#%s takes %s, which the model does not define"
                                          % (name, relation, "%s#%s" % (of, of_relation) if of_relation else of))
 
-    def _rewrite(self, given: Any, relations: dict, where: str, line: int) -> dict:
+    def _rewrite(self, given: Any, relations: dict[str, Any], where: str, line: int) -> dict[str, Any]:
         line = line_of(given, line)
         forms = [form for form in REWRITES if form in given or spelled(form) in given] if isinstance(given, dict) else []
         if len(forms) != 1 or len(given) != 1:
@@ -176,7 +176,7 @@ class ModelReader:
         return nested(form, [self._rewrite(child, relations, where, line) for child in children])
 
     @staticmethod
-    def _relation(given: object, relations: dict, where: str, line: int) -> str:
+    def _relation(given: object, relations: dict[str, Any], where: str, line: int) -> str:
         name = get(given, "relation")
         if not isinstance(name, str) or name not in relations or get(given, "object"):
             raise Unmapped(line_of(given, line), "rewrite without a form",
@@ -260,7 +260,7 @@ class OpenFgaLog(Log):
     def is_write(self, value: object) -> bool:
         return isinstance(get(value, "changes"), list) or get(value, "operation") is not None
 
-    def writes(self, value: dict, stamp: Stamp, path: str, line: int) -> Iterator[Event]:
+    def writes(self, value: dict[str, Any], stamp: Stamp, path: str, line: int) -> Iterator[Event]:
         page = get(value, "changes")
         for place, change in enumerate(page if isinstance(page, list) else [value]):
             here = line_of(change, line)
@@ -285,7 +285,7 @@ class OpenFgaLog(Log):
         return self.put(event, given, live, "condition on a tuple" if get(key, "condition") else None)
 
     def when_of(self, said: Said) -> Optional[When]:
-        shown = said["timestamp"].decode()
+        shown = needed(said, "timestamp").decode()
         revision = nanoseconds(shown)
         return None if revision is None else When(revision, shown, revision)
 
@@ -295,22 +295,24 @@ class OpenFgaLog(Log):
             snapshot, token = _moment(said["place"], said["moment"]), _moment(said.get("token_place"), said.get("token"))
         except Bad:
             return None
-        return Look(said["reply"] == b"true", None, snapshot[2], None, version and version.decode(),
+        if snapshot is None:
+            return None
+        return Look(said["reply"] == b"true", None, snapshot[2], None, None if version is None else version.decode(),
                     ((snapshot,), token, model.decode() if model else None))
 
-    def moment(self, value: dict, content: Optional[dict]) -> Looked:
+    def moment(self, value: dict[str, Any], content: Optional[dict[str, Any]]) -> Looked:
         holder = value if content is None else content
         asked = asked_of(value, get(holder, "token"), get(get(value, "request"), "authorization_model_id"))
         return Looked(None, shown_of(asked), None, text_or_none(get(holder, "version"), "version"), asked)
 
-    def answers(self, value: dict) -> Iterator[Answer]:
+    def answers(self, value: dict[str, Any]) -> Iterator[Answer]:
         return answers_of(get(value, "request"), get(value, "response"), self.refusals)
 
     def new_rules(self, value: object) -> object:
         request = get(value, "request")
         return request if get(request, "type_definitions") is not None else get(value, "authorization_model")
 
-    def change(self, model: object, value: dict, stamp: Stamp, path: str, line: int) -> Iterator[Event]:
+    def change(self, model: object, value: dict[str, Any], stamp: Stamp, path: str, line: int) -> Iterator[Event]:
         """A model that is in force from here on: that of WriteAuthorizationModel, or one that a recorder names."""
         rules = ModelReader(path, self.refusals, line).rules(model)
         model_id = get(get(value, "response"), "authorization_model_id") or get(model, "id")

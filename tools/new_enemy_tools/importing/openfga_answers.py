@@ -1,6 +1,6 @@
 """OpenFGA's tuples as texts, and what the answers of its calls decide."""
 import re
-from typing import Iterator, Optional
+from typing import Any, Iterator, Optional
 
 from new_enemy_tools.importing.events import EVERY, Relationship
 from new_enemy_tools.importing.passing import failure_of
@@ -35,7 +35,8 @@ def relationship_of(key: object) -> Relationship:
     relation = get(key, "relation")
     if not isinstance(relation, str) or not relation:
         raise Bad("a tuple key has no `relation`")
-    return Relationship(*split_object(get(key, "object")), relation, *split_user(get(key, "user")))
+    (of, id_text), user = split_object(get(key, "object")), split_user(get(key, "user"))
+    return Relationship(of, id_text, relation, user[0], user[1], user[2])
 
 
 def answers_of(request: object, response: object, refusals: Refusals) -> Iterator[Answer]:
@@ -75,7 +76,7 @@ def _contextual(asked: object) -> object:
     return given if isinstance(given, list) else get(given, "tuple_keys")
 
 
-def _list(holder: object, key: str) -> list:
+def _list(holder: object, key: str) -> list[Any]:
     found = get(holder, key)
     if not isinstance(found, list):
         raise Bad("`%s` is no list" % key)

@@ -3,7 +3,7 @@
     define viewer: [user, user:*, group#member] or editor or viewer from parent
 """
 import re
-from typing import NamedTuple, Optional
+from typing import Any, NamedTuple, Optional
 
 from new_enemy_tools import limits
 from new_enemy_tools.importing.located import List, Malformed, Object
@@ -32,7 +32,7 @@ def made(line: int, **values: object) -> Object:
     return of
 
 
-def listed(line: int, values: list) -> List:
+def listed(line: int, values: list[Any]) -> List:
     of = List(values)
     of.line = line
     return of
@@ -186,6 +186,7 @@ class Reader:
                 and not HEADS.match(self.lines[self.at].text):
             rule += " " + self.lines[self.at].text
             self.at += 1
+        assert self.type is not None
         relations = self.type["relations"]
         if name in relations:
             raise malformed(line.number, "%s#%s stands twice" % (self.type["type"], name))

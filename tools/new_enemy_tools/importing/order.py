@@ -1,14 +1,18 @@
 """The order of events: that of one sequencer, or that of clocks that may be apart by so many milliseconds."""
-from typing import Iterable, Optional
+from typing import Iterable, Optional, TypeVar
 
 from new_enemy_tools.importing.events import Entry, Event, Line
 from new_enemy_tools.importing.refusals import Refusals
 from new_enemy_tools.importing.spool import Facts
 
+Some = TypeVar("Some", bound=Line)
+
 
 def lowest_of(entry: Entry) -> int:
     """The earliest revision that a check may have looked at."""
-    return entry.snapshot if entry.lowest is None else entry.lowest
+    lowest = entry.snapshot if entry.lowest is None else entry.lowest
+    assert lowest is not None
+    return lowest
 
 
 def in_order(lines: Iterable[Line], facts: Facts, skew: Optional[int], refusals: Refusals) -> Iterable[Line]:
@@ -22,7 +26,7 @@ def in_order(lines: Iterable[Line], facts: Facts, skew: Optional[int], refusals:
     return lines
 
 
-def ordered(lines: list[Line], skew: Optional[int], refusals: Refusals) -> list[Line]:
+def ordered(lines: list[Some], skew: Optional[int], refusals: Refusals) -> list[Some]:
     """Lines by their stamps, or as they stand."""
     if skew is not None:
         return _by_time(lines, skew * 1_000_000, refusals)
@@ -31,16 +35,26 @@ def ordered(lines: list[Line], skew: Optional[int], refusals: Refusals) -> list[
     return lines
 
 
-def _by_sequence(events: list[Line], refusals: Refusals) -> list[Line]:
-    result = sorted(events, key=lambda event: event.sequence)
+def _sequence(event: Line) -> tuple[int, int]:
+    assert event.sequence is not None
+    return event.sequence
+
+
+def _time(event: Line) -> int:
+    assert event.time is not None
+    return event.time
+
+
+def _by_sequence(events: list[Some], refusals: Refusals) -> list[Some]:
+    result = sorted(events, key=_sequence)
     for before, event in zip(result, result[1:]):
         if before.sequence == event.sequence:
             refusals.refuse(event.file, event.line, "sequence %d stands at %s:%d too"
-                            % (event.sequence[0], before.file, before.line))
+                            % (_sequence(event)[0], before.file, before.line))
     return result
 
 
-def _by_time(events: list[Line], skew: int, refusals: Refusals) -> list[Line]:
+def _by_time(events: list[Some], skew: int, refusals: Refusals) -> list[Some]:
     timed = [event for event in events if event.time is not None]
     for event in events:
         if event.time is None:
@@ -48,20 +62,20 @@ def _by_time(events: list[Line], skew: int, refusals: Refusals) -> list[Line]:
     last: dict[str, Line] = {}
     for event in timed:
         before = last.get(event.clock)
-        if before is not None and event.time < before.time:
+        if before is not None and _time(event) < _time(before):
             refusals.refuse(event.file, event.line, "its time is before that of %s:%d, of the same clock"
                             % (before.file, before.line))
         last[event.clock] = event
-    result = sorted(timed, key=lambda event: event.time)
+    result = sorted(timed, key=_time)
     lost: set[int] = set()
     for number, event in enumerate(result):
         place = number - 1
-        while place >= 0 and event.time - result[place].time <= skew:
+        while place >= 0 and _time(event) - _time(result[place]) <= skew:
             other = result[place]
             if event.clock != other.clock and not lost & {id(event), id(other)} and _matters(event, other):
                 told = "which came first, this %s or the %s at %s:%d, is not known: they are %s ms apart, and the skew is %d ms" % (
-                    event.kind, other.kind, other.file, other.line, format((event.time - other.time) / 1e6, "g"), skew // 1_000_000)
-                out = event if isinstance(event, Entry) else other
+                    event.kind, other.kind, other.file, other.line, format((_time(event) - _time(other)) / 1e6, "g"), skew // 1_000_000)
+                out: Line = event if isinstance(event, Entry) else other
                 _leave_out(out, "check that may have come before a line or behind it", told, refusals, event)
                 lost |= {id(out)} if refusals.skip else set()
             place -= 1
@@ -81,12 +95,9 @@ def _leave_out(event: Line, reason: str, told: str, refusals: Refusals, at: Opti
 
 def _matters(one: Line, other: Line) -> bool:
     """Whether the order of two events can change a finding."""
-    kinds = {one.kind, other.kind}
-    if kinds & {"write", "rules"}:
-        if "check" not in kinds:
-            return True
-        check, write = (one, other) if one.kind == "check" else (other, one)
-        return write.revision <= check.snapshot
-    if kinds == {"check", "content"}:
-        return one.version is not None and one.version == other.version and one.goal[:2] == other.goal[:2]
-    return False
+    if isinstance(one, Event) or isinstance(other, Event):
+        events = [event for event in (one, other) if isinstance(event, Event) and event.kind in ("write", "rules")]
+        checks = [entry for entry in (one, other) if isinstance(entry, Entry) and entry.kind == "check"]
+        return bool(events) and (not checks or (events[0].revision or 0) <= (checks[0].snapshot or 0))
+    return {one.kind, other.kind} == {"check", "content"} and one.version is not None and one.version == other.version \
+        and one.goal[:2] == other.goal[:2]

@@ -55,7 +55,7 @@ class Refusals:
         """A check that is not mapped; a version that it issued is left out with it."""
         self.unmapped(event.file, event.line, reason, detail, told)
         if event.kind == "content" and event.version is not None:
-            self.versions.add((*event.goal[:2], event.version))
+            self.versions.add((event.goal[0], event.goal[1], event.version))
 
     def pass_over(self, kind: str) -> None:
         """A line that records no decision."""

@@ -28,7 +28,7 @@ def text_or_none(value: object, what: str) -> Optional[str]:
     return value
 
 
-def nested(form: str, children: list[dict]) -> dict:
+def nested(form: str, children: list[dict[str, Any]]) -> dict[str, Any]:
     """A union or intersection, in groups where it has more children than a trace takes."""
     while len(children) > limits.CHILDREN:
         children = [{form: children[at:at + limits.CHILDREN]} for at in range(0, len(children), limits.CHILDREN)]
@@ -48,7 +48,7 @@ def refuse_wild_tuplesets(event: Event, takes: dict[tuple[str, str], set[tuple[s
     for name, relations in event.namespaces.items():
         for relation in relations:
             for place in places(relation.rewrite):
-                wild = sorted(of for of, taken in takes.get((name, *place.names[:1]), ()) if taken == EVERY)
+                wild = sorted(of for of, taken in (takes.get((name, place.names[0]), ()) if place.names else ()) if taken == EVERY)
                 if place.form == "tuple_to" and wild:
                     refusals.refuse(event.file, relation.line, "%s#%s goes on from %s#%s, which takes a wildcard: %s:*"
                                     % (name, relation.name, name, place.names[0], wild[0]))
@@ -69,10 +69,10 @@ class Looked(NamedTuple):
     shown: str
     token: Optional[int]
     version: Optional[str]
-    asked: Optional[tuple]
+    asked: Optional[tuple[Any, ...]]
 
 
-def content_of(value: object) -> Optional[dict]:
+def content_of(value: object) -> Optional[dict[str, Any]]:
     content = get(value, "content")
     if not isinstance(content, (dict, type(None))):
         raise Bad("`content` is no object")
@@ -128,14 +128,14 @@ class Log:
     def is_write(self, value: object) -> bool:
         raise NotImplementedError
 
-    def writes(self, value: dict, stamp: Stamp, path: str, line: int) -> Iterator[Event]:
+    def writes(self, value: dict[str, Any], stamp: Stamp, path: str, line: int) -> Iterator[Event]:
         raise NotImplementedError
 
     def new_rules(self, value: object) -> object:
         """The rules that a line says are in force from there on; None where it says of none."""
         raise NotImplementedError
 
-    def change(self, rules: object, value: dict, stamp: Stamp, path: str, line: int) -> Iterator[Event]:
+    def change(self, rules: object, value: dict[str, Any], stamp: Stamp, path: str, line: int) -> Iterator[Event]:
         """Rules of a line, as an event; raises Bad."""
         raise NotImplementedError
 
@@ -155,11 +155,11 @@ class Log:
     def _takes(self, of: str, relation: str, user_type: str, user_relation: Optional[str]) -> bool:
         return (user_type, user_relation) in self.rules.takes.get((of, relation), ())
 
-    def moment(self, value: dict, content: Optional[dict]) -> Looked:
+    def moment(self, value: dict[str, Any], content: Optional[dict[str, Any]]) -> Looked:
         """What a check looked at, and what it demanded; raises Bad."""
         raise NotImplementedError
 
-    def answers(self, value: dict) -> Iterator[Answer]:
+    def answers(self, value: dict[str, Any]) -> Iterator[Answer]:
         """What a line decides; raises Bad."""
         raise NotImplementedError
 
@@ -194,6 +194,7 @@ class Log:
         kept, self.refusals = self.refusals, Refusals(self.refusals.skip)
         try:
             read, = reader.pieces(block, partial(self._full, reader.path))
+            assert isinstance(read, Read)
             return read, self.refusals
         finally:
             self.refusals = kept
@@ -230,7 +231,7 @@ class Log:
             except Bad as fault:
                 self.refusals.refuse(path, line, str(fault))
 
-    def _checks(self, value: dict, stamp: Stamp, path: str, line: int) -> Iterator[Entry]:
+    def _checks(self, value: dict[str, Any], stamp: Stamp, path: str, line: int) -> Iterator[Entry]:
         """A check that can't be read is left out where that is allowed; a content check issues a version, and is not."""
         try:
             answers = list(self.answers(value))

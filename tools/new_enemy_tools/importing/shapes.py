@@ -4,7 +4,7 @@ A line that was read in full gives an expression, which takes each line that dif
 such a line is not parsed again. Values that are written in any unusual way are not taken, nor is a line with a key that is not known.
 """
 import re
-from typing import Callable, Iterator, Mapping, NamedTuple, Optional
+from typing import Any, Callable, Iterator, Mapping, NamedTuple, Optional
 
 from new_enemy_tools import limits
 
@@ -57,7 +57,7 @@ class Shape:
 
     __slots__ = ("match", "goal", "rest", "names", "time", "hits", "looks", "kind", "adds", "user_relation")
 
-    def __init__(self, match: Callable[[bytes], Optional[re.Match]], names: list[str]):
+    def __init__(self, match: Callable[[bytes], Optional[re.Match[bytes]]], names: list[str]):
         self.match = match
         places = {name: place for place, name in enumerate(names, 1)}
         self.goal = tuple(places.pop(name) for name in GOAL)
@@ -66,15 +66,22 @@ class Shape:
         self.names, self.rest = tuple(places), tuple(places.values())
         self.hits = 0
         # of a block, by the values of `rest`
-        self.looks: dict[tuple, int] = {}
+        self.looks: dict[tuple[Any, ...], int] = {}
         self.kind = "check"
         # what all writes have
         self.adds = False
         self.user_relation: Optional[str] = None
 
-    def said(self, found: re.Match) -> Said:
+    def said(self, found: re.Match[bytes]) -> Said:
         """What a line says beside its goal, by names."""
         return dict(zip(self.names, map(found.group, self.rest)))
+
+
+def needed(said: Said, name: str) -> bytes:
+    """A value that a line has to say."""
+    value = said[name]
+    assert value is not None
+    return value
 
 
 def _key(text: bytes) -> str:
@@ -83,7 +90,7 @@ def _key(text: bytes) -> str:
 
 def _places(raw: bytes) -> Iterator[tuple[Path, int, int]]:
     """The values of a line of JSON without escapes, and where they stand; of objects and lists the first letter alone."""
-    path: list = []
+    path: list[Any] = []
     for token in TOKEN.finditer(raw):
         mark = token[1]
         if mark in (b"}", b"]"):

@@ -1,7 +1,7 @@
 """The texts of a trace's lines."""
 import json
-from json.encoder import encode_basestring
-from typing import Iterator
+from json.encoder import encode_basestring  # type: ignore[attr-defined]
+from typing import Any, Iterator
 
 from new_enemy_tools import texts
 from new_enemy_tools.edges import Name
@@ -24,6 +24,13 @@ class Shown:
         self.mark = encode({"ids": ids.mark(), **({"gaps": gaps} if gaps else {})})[1:-1]
         self.files: dict[str, str] = {}
 
+    def go_on(self, has_other_strata: bool) -> None:
+        """The rules stand in the days before. Where strata are others by now, the first line says all of them."""
+        self._head = []
+        listed = [[self.ids.name("namespace", name), self.ids.name("relation", relation), stratum]
+                  for (name, relation), stratum in self.strata.items()]
+        self.mark = encode({"strata": listed})[1:-1] if has_other_strata else ""
+
     def head(self) -> Iterator[str]:
         for namespace in self._head:
             yield self._marked(encode(namespace) + "\n")
@@ -36,10 +43,11 @@ class Shown:
 
     def _file(self, file: str) -> str:
         """A file's name within quotation marks, of which the last is left out."""
-        known = self.files[file] = encode_basestring(file)[:-1]
+        known: str = encode_basestring(file)[:-1]
+        self.files[file] = known
         return known
 
-    def commit(self, revision: int, shown: str, file: str, line: int, parts: list) -> Iterator[str]:
+    def commit(self, revision: int, shown: str, file: str, line: int, parts: list[Any]) -> Iterator[str]:
         source = ',"revision":%s,"from":%s:%d"}\n' % (encode_basestring(shown), self._file(file), line)
         for at, sides in enumerate(parts, self.times[revision] - len(parts) + 1):
             listed = ['"%s":[%s]' % (key, ",".join(map(encode_basestring, side))) for key, side in zip(("add", "remove"), sides) if side]
@@ -61,7 +69,7 @@ class Shown:
         return [f'{begins[pair]}{thing}{ends[pair]}{users[user]}{looks[look]}{line}"}}\n' for pair, thing, user, look, line in zip(
             column(checks.pair_of), checks.objects.split("\n"), column(checks.user_of), column(checks.look_of), column(checks.lines, "Q"))]
 
-    def _look(self, look: tuple, file: str) -> str:
+    def _look(self, look: tuple[Any, ...], file: str) -> str:
         """What stands in a check's line from its user to the number of the line that it comes from."""
         reply, snapshot, shown, token, version, _ = look
         return '","snapshot":%d,"reply":%s%s%s,"revision":%s,"from":%s:' % (
@@ -70,7 +78,7 @@ class Shown:
             "" if version is None else ',"version":%s' % encode_basestring(version), encode_basestring(shown),
             self.files.get(file) or self._file(file))
 
-    def entry(self, row: tuple) -> str:
+    def entry(self, row: tuple[Any, ...]) -> str:
         """The line of an entry, by the first fields of its row."""
         kind, file, line, goal, reply, snapshot, shown, token, version = row[:9]
         ids = self.ids
@@ -80,12 +88,12 @@ class Shown:
         made = '{"kind":"%s","goal":%s%s%d"}\n' % (kind, encode_basestring(text)[:-1], self._look(look, file), line)
         return self._marked(made) if self.mark else made
 
-    def _namespace(self, declaration: Declaration) -> dict:
+    def _namespace(self, declaration: Declaration) -> dict[str, Any]:
         relations = []
         for relation in declaration.relations:
             stratum = self.strata[declaration.name, relation.name]
-            relations.append({"name": self.ids.name("relation", relation.name), **({"stratum": stratum} if stratum else {}),
-                              "rewrite": self._rewrite(relation.rewrite)})
+            told: dict[str, Any] = {"name": self.ids.name("relation", relation.name), **({"stratum": stratum} if stratum else {})}
+            relations.append({**told, "rewrite": self._rewrite(relation.rewrite)})
         return {"kind": "namespace", "name": self.ids.name("namespace", declaration.name), "relations": relations}
 
     def declarations(self, declared: Declared) -> Iterator[Declaration]:
@@ -95,7 +103,7 @@ class Shown:
             yield Declaration(made["name"], one.at, [Relation(relation["name"], relation.get("stratum", 0), relation["rewrite"])
                                                      for relation in made["relations"]])
 
-    def _rewrite(self, rewrite: dict) -> dict:
+    def _rewrite(self, rewrite: dict[str, Any]) -> dict[str, Any]:
         """The same rule with the names of the trace."""
         form = form_of(rewrite)
         inner = rewrite[form]

@@ -53,7 +53,7 @@ def _fault(line: Line, why: str) -> Malformed:
 class Reader:
     def __init__(self, text: str):
         self.raw = text.split("\n")
-        self.lines = []
+        self.lines: list[Line] = []
         for number, line in enumerate(self.raw, 1):
             bare = line.strip()
             if bare and not bare.startswith("#") and not (bare == "---" and not self.lines):
@@ -153,7 +153,7 @@ class Reader:
                 if quoted is None:
                     raise ValueError
                 inner = quoted[1]
-                return json.loads(inner) if inner[0] == '"' else inner[1:-1].replace("''", "'")
+                return str(json.loads(inner)) if inner[0] == '"' else inner[1:-1].replace("''", "'")
             except ValueError:
                 raise _fault(line, "a text in quotation marks: %s" % text[:60]) from None
         if text.startswith(SIGNS):

@@ -1,6 +1,6 @@
 """SpiceDB: relationships as text, the JSON of the watch stream, and checks of a recorder's log."""
 import re
-from typing import Iterator, Optional
+from typing import Any, Iterator, Optional
 
 from new_enemy_tools.importing import located, visibility
 from new_enemy_tools.importing.block import When
@@ -10,7 +10,7 @@ from new_enemy_tools.importing.located import line_of
 from new_enemy_tools.importing.reading import Bad, get
 from new_enemy_tools.importing.refusals import Refusals
 from new_enemy_tools.importing.service import Answer, Log, Looked, ServiceRules, one_of, text_or_none
-from new_enemy_tools.importing.shapes import GOAL, ID, LABEL, TEXT, TIME, Field, Said, field, form
+from new_enemy_tools.importing.shapes import GOAL, ID, LABEL, TEXT, TIME, Field, Said, field, form, needed
 from new_enemy_tools.importing.simple_yaml import is_yaml, read_yaml
 from new_enemy_tools.importing.spicedb_answers import answers_of, relationship_of, revision_at, revision_in
 from new_enemy_tools.importing.spicedb_schema import Parser
@@ -134,7 +134,7 @@ class SpiceDbLog(Log):
         response = get(value, "result") or value
         return any(get(response, key) is not None for key in ("changesThrough", "updates", "schemaUpdated"))
 
-    def writes(self, value: dict, stamp: Stamp, path: str, line: int) -> Iterator[Event]:
+    def writes(self, value: dict[str, Any], stamp: Stamp, path: str, line: int) -> Iterator[Event]:
         response = get(value, "result") or value
         updates = get(response, "updates") or []
         if not isinstance(updates, list):
@@ -161,7 +161,7 @@ class SpiceDbLog(Log):
 
     def when_of(self, said: Said) -> Optional[When]:
         try:
-            revision = read_revision(said["revision"].decode())
+            revision = read_revision(needed(said, "revision").decode())
         except Older:
             return None
         return When(revision.number, revision.shown) if revision and revision.number is not None else None
@@ -169,15 +169,17 @@ class SpiceDbLog(Log):
     def look_of(self, said: Said) -> Optional[Look]:
         demanded, version = said.get("token"), said.get("version")
         try:
-            revision, token = read_revision(said["snapshot"].decode()), demanded and read_revision(demanded.decode())
-            if revision is None or token is None and demanded:
+            revision = read_revision(needed(said, "snapshot").decode())
+            token = None if demanded is None else read_revision(demanded.decode())
+            if revision is None or token is None and demanded is not None:
                 return None
-            looked = self._looked(revision, token, version and version.decode())
+            looked = self._looked(revision, token, None if version is None else version.decode())
         except (Bad, Older):
             return None
-        return Look(said["reply"] == b"HAS", *looked[:4], plain(looked.asked))
+        return Look(said["reply"] == b"HAS", looked.snapshot, looked.shown, looked.token, looked.version,
+                    None if looked.asked is None else tuple(map(plain, looked.asked)))
 
-    def moment(self, value: dict, content: Optional[dict]) -> Looked:
+    def moment(self, value: dict[str, Any], content: Optional[dict[str, Any]]) -> Looked:
         revision = revision_at(get(value, "response"))
         token = self._token(get(value, "request"), content)
         version = text_or_none(get(value if content is None else content, "version"), "version")
@@ -199,13 +201,13 @@ class SpiceDbLog(Log):
         demanded = get(consistency, "atLeastAsFresh") or get(consistency, "atExactSnapshot")
         return revision_in(demanded, "the request's consistency") if demanded else None
 
-    def answers(self, value: dict) -> Iterator[Answer]:
+    def answers(self, value: dict[str, Any]) -> Iterator[Answer]:
         return answers_of(get(value, "request"), get(value, "response"), self.refusals)
 
     def new_rules(self, value: object) -> object:
         return get(get(value, "request"), "schema")
 
-    def change(self, schema: object, value: dict, stamp: Stamp, path: str, line: int) -> Iterator[Event]:
+    def change(self, schema: object, value: dict[str, Any], stamp: Stamp, path: str, line: int) -> Iterator[Event]:
         """The schema of a WriteSchema, in force from the revision of its response on."""
         if not isinstance(schema, str):
             raise Bad("`schema` is no text")

@@ -1,5 +1,5 @@
 """SpiceDB's relationships in JSON, and what the answers of its calls decide."""
-from typing import Iterator, Optional
+from typing import Any, Iterator, Optional
 
 from new_enemy_tools.importing.events import EVERY, Relationship
 from new_enemy_tools.importing.passing import failure_of
@@ -41,10 +41,14 @@ def relationship_of(given: object) -> Relationship:
     relation = get(given, "relation")
     if not isinstance(relation, str) or not relation:
         raise Bad("a relationship has no relation")
-    return Relationship(*_object(get(given, "resource"), "resource"), relation, *_subject(get(given, "subject")))
+    return _relationship(_object(get(given, "resource"), "resource"), relation, _subject(get(given, "subject")))
 
 
-def responses_of(response: object) -> list:
+def _relationship(thing: tuple[str, str], relation: str, user: tuple[str, str, Optional[str]]) -> Relationship:
+    return Relationship(thing[0], thing[1], relation, user[0], user[1], user[2])
+
+
+def responses_of(response: object) -> list[Any]:
     """The answers of a call that streams them: in a list or one by one, bare or as a `result`."""
     return [get(one, "result") or one for one in (response if isinstance(response, list) else [response])]
 
@@ -80,7 +84,7 @@ def _answer(request: object, resource: object, subject: object, found: object) -
     permission, said = get(request, "permission"), get(found, "permissionship")
     if not isinstance(permission, str) or not permission:
         raise Bad("the request has no permission")
-    goal = Relationship(*_object(resource, "resource"), permission, *_subject(subject))
+    goal = _relationship(_object(resource, "resource"), permission, _subject(subject))
     said = said[len(LOOKUP):] if isinstance(said, str) and said.startswith(LOOKUP) else said
     if said not in (*REPLIES, CONDITIONAL):
         raise Bad("the response has no permissionship")

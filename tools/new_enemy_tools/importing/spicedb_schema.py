@@ -1,6 +1,6 @@
 """The text of a SpiceDB schema: definitions with relations and permissions."""
 import re
-from typing import NamedTuple, Optional
+from typing import Any, NamedTuple, Optional
 
 from new_enemy_tools import limits
 from new_enemy_tools.importing import located
@@ -45,13 +45,13 @@ def tokens(text: str, line: int, is_file: bool) -> list[Token]:
     return found + [Token("", line, False)]
 
 
-def shown(rewrite: dict) -> str:
+def shown(rewrite: dict[str, Any]) -> str:
     """An expression with all its parentheses."""
     form = form_of(rewrite)
     if form == "this":
         return "nil"
     if form == "computed":
-        return rewrite[form]
+        return str(rewrite[form])
     if form == "tuple_to":
         return "%s->%s" % (rewrite[form]["tupleset"], rewrite[form]["computed"])
     sign = next(sign for sign, name in OPERATORS.items() if name == form)
@@ -138,7 +138,8 @@ class Parser:
         name = self.word("the name of a definition")
         if name.text in self.rules.namespaces:
             self.refusals.refuse(self.path, name.line, "definition %s stands twice" % name.text)
-        self.rules.namespaces[name.text] = rules = []
+        rules: list[RelationRule] = []
+        self.rules.namespaces[name.text] = rules
         self.take("{")
         while self.here().text != "}":
             token = self.next()
@@ -214,11 +215,11 @@ class Parser:
             rewrite = {"this": {}}
         return RelationRule(name.text, rewrite, name.line)
 
-    def _note_reading(self, name: Token, given: list[Token], rewrite: dict) -> None:
+    def _note_reading(self, name: Token, given: list[Token], rewrite: dict[str, Any]) -> None:
         self.refusals.note("binding", "%s:%d: `%s` is read as `%s`: union binds closest, then intersection, then exclusion"
                            % (self.path, name.line, " ".join(token.text for token in given), shown(rewrite)))
 
-    def side_by_side(self, of: str, name: str) -> dict:
+    def side_by_side(self, of: str, name: str) -> dict[str, Any]:
         """What stands in one pair of parentheses, or in none."""
         outer, self.signs = self.signs, set()
         made = self.expression(of, name)
@@ -226,7 +227,7 @@ class Parser:
         self.signs = outer
         return made
 
-    def expression(self, of: str, name: str, level: int = 0) -> dict:
+    def expression(self, of: str, name: str, level: int = 0) -> dict[str, Any]:
         """Operators bind as SpiceDB has them: exclusion loosest, then intersection, and union closest."""
         if level == len(BINDING):
             return self.term(of, name)
@@ -243,7 +244,7 @@ class Parser:
         subtracted = parts[1] if len(parts) == 2 else nested("union", parts[1:])
         return {"exclusion": {"base": parts[0], "subtract": subtracted}}
 
-    def term(self, of: str, name: str) -> dict:
+    def term(self, of: str, name: str) -> dict[str, Any]:
         if self.here().text == "(":
             self.next()
             self.open += 1
@@ -274,7 +275,7 @@ class Parser:
         self.reads.append((of, name, word.text, word.line))
         return {"computed": word.text}
 
-    def arrow(self, of: str, name: str, tupleset: Token, target: Token) -> dict:
+    def arrow(self, of: str, name: str, tupleset: Token, target: Token) -> dict[str, Any]:
         if self.here().text in ("->", "."):
             raise Unmapped(self.here().line, "arrow behind an arrow")
         self.reads.append((of, name, tupleset.text, tupleset.line))

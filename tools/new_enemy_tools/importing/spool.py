@@ -1,9 +1,9 @@
 """What is gone through several times and does not stay in memory: rows of plain values, in a file of their own."""
 import marshal
 import tempfile
-from typing import BinaryIO, Callable, Iterable, Iterator, NamedTuple, Optional, Union
+from typing import IO, Callable, Iterable, Iterator, NamedTuple, Optional, Union
 
-from new_enemy_tools.importing.checks import NAMES, Checks
+from new_enemy_tools.importing.checks import NAMES, Checks, Row
 from new_enemy_tools.importing.events import EVERY, Entry, Event, Line, Relationship
 
 BATCH = 1 << 12
@@ -14,11 +14,11 @@ class Spool:
     """Rows in order, batch by batch; only the last batch is in memory."""
 
     def __init__(self) -> None:
-        self.rows: list[tuple] = []
-        self.file: Optional[BinaryIO] = None
+        self.rows: list[Row] = []
+        self.file: Optional[IO[bytes]] = None
         self.starts: list[tuple[int, int]] = []
 
-    def add(self, row: tuple) -> None:
+    def add(self, row: Row) -> None:
         self.rows.append(row)
         if len(self.rows) >= BATCH:
             self._spill()
@@ -44,12 +44,13 @@ class Spool:
     def batches(self) -> Iterator[bytes]:
         """The rows as they are handed to other processes."""
         for start, end in self.starts:
+            assert self.file is not None
             self.file.seek(start)
             yield self.file.read(end - start)
         if self.rows:
             yield marshal.dumps(self.rows)
 
-    def __iter__(self) -> Iterator[tuple]:
+    def __iter__(self) -> Iterator[Row]:
         for batch in self.batches():
             found = checks_of(batch)
             yield from found.rows() if isinstance(found, Checks) else found
@@ -68,9 +69,9 @@ class WriteRow(NamedTuple):
     sequence: Optional[tuple[int, int]]
     time: Optional[int]
     clock: str
-    add: list[tuple]
-    remove: list[tuple]
-    asked: Optional[tuple]
+    add: list[Row]
+    remove: list[Row]
+    asked: Optional[Row]
 
 
 class Facts:
@@ -131,22 +132,23 @@ def plain(value: object) -> object:
     return tuple(map(plain, value)) if isinstance(value, tuple) else value
 
 
-def row_of(line: Line) -> tuple:
+def row_of(line: Line) -> Row:
     if isinstance(line, Entry):
         return (*line[:3], tuple(line.goal), *line[4:11], plain(line.asked), *line[12:])
     return (line.kind, line.file, line.line, line.revision, line.shown, line.base, line.group, line.sequence, line.time, line.clock,
             [tuple(given) for given in line.add], [tuple(given) for given in line.remove], plain(line.asked))
 
 
-def line_of(row: tuple) -> Union[Event, tuple]:
+def line_of(row: Row) -> Union[Event, Row]:
     """A write as it was before it became a row; a check stays a row."""
     if row[0] in CHECKS:
         return row
     relationship = Relationship._make
-    return Event(*row[:10], list(map(relationship, row[10])), list(map(relationship, row[11])), row[12])
+    fields: Row = (*row[:10], list(map(relationship, row[10])), list(map(relationship, row[11])), row[12])
+    return Event(*fields)
 
 
-def checks_of(data: bytes) -> Union[Checks, list[tuple]]:
+def checks_of(data: bytes) -> Union[Checks, list[Row]]:
     """What a batch has: checks with the lines among them, or rows."""
     found = marshal.loads(data)
     return Checks(*found) if isinstance(found, tuple) else found
@@ -163,7 +165,7 @@ class Lines:
 
     def add(self, line: Line) -> None:
         self.facts.note(line)
-        if line.kind == "rules":
+        if isinstance(line, Event) and line.kind == "rules":
             self.spool.add(("rules", len(self.rules)))
             self.rules.append(line)
         else:
@@ -177,7 +179,7 @@ class Lines:
             self.facts.merge(piece.facts)
             self.spool.add_batch(piece.data)
 
-    def add_checks(self, checks: Checks, made_of: Callable[[tuple], Optional[tuple]]) -> None:
+    def add_checks(self, checks: Checks, made_of: Callable[[Row], Optional[Row]]) -> None:
         """Adds checks and what is made of the rows among them."""
         facts, others, rows = Facts(), [], 0
         for place, seen, given in checks.others:
@@ -200,11 +202,11 @@ class Lines:
         for line in self.rows():
             yield Entry._make(line) if isinstance(line, tuple) else line
 
-    def rows(self) -> Iterator[Union[Event, tuple]]:
+    def rows(self) -> Iterator[Union[Event, Row]]:
         """As the lines themselves, but checks are plain rows with the fields of an Entry."""
         return map(self._line, self.spool)
 
-    def stream(self, behind: int = -1) -> Iterator[Union[Checks, Event, tuple]]:
+    def stream(self, behind: int = -1) -> Iterator[Union[Checks, Event, Row]]:
         """As `rows`, but many checks together where they were read so, and stand behind a place."""
         place = -1
         for batch in self.spool.batches():
@@ -229,23 +231,25 @@ class Lines:
         """The users that lines name, by type and id, in the order in which they are named first."""
         for batch in self.spool.batches():
             found, given = checks_of(batch), 0
+            users = found.users if isinstance(found, Checks) else []
             for _, seen, row in found.others if isinstance(found, Checks) else ((0, 0, row) for row in found):
-                yield from found.users[given:seen] if seen else ()
+                yield from users[given:seen]
                 given = seen
                 if row[0] in CHECKS:
                     yield row[3][3:5]
                 elif row[0] == "write":
                     yield from (one[3:5] for one in row[10] + row[11] if one[5] is None)
-            yield from found.users[given:] if isinstance(found, Checks) else ()
+            yield from users[given:]
 
     def spans(self) -> Iterator[tuple[int, int, Optional[int]]]:
         """From where to where the checks looked, and what they demanded; of many together once."""
         for found in self.stream():
             if isinstance(found, Checks):
                 yield from ((look[1], look[1], look[3]) for look in found.looks)
-            for row in [row for _, _, row in found.others] if isinstance(found, Checks) else [found]:
+            rows: list[Union[Event, Row]] = [row for _, _, row in found.others] if isinstance(found, Checks) else [found]
+            for row in rows:
                 if isinstance(row, tuple) and row[0] in CHECKS:
                     yield row[5] if row[9] is None else row[9], row[5], row[7]
 
-    def _line(self, row: tuple) -> Union[Event, tuple]:
+    def _line(self, row: Row) -> Union[Event, Row]:
         return self.rules[row[1]] if row[0] == "rules" else line_of(row)

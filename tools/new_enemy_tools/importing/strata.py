@@ -44,10 +44,11 @@ class Edges:
                     todo.append(edge.read)
         if end not in came:
             return None
-        found, name = [], end
-        while came[name] is not None:
-            found.append(came[name])
-            name = came[name].reader
+        found: list[Edge] = []
+        last = came[end]
+        while last is not None:
+            found.append(last)
+            last = came[last.reader]
         return found[::-1]
 
     def readers(self, names: set[Name]) -> set[Name]:

@@ -3,7 +3,7 @@
 What a line of the trace needs is kept in a spool. Of many checks that stand together what they name is taken once.
 """
 import marshal
-from typing import Iterable, Optional, Union
+from typing import Any, Iterable, Optional, Union
 
 from new_enemy_tools.edges import Name
 from new_enemy_tools.ids import Ids
@@ -27,7 +27,7 @@ class Taken:
         self.declared, self.writer, self.ids, self.refusals, self.progress = declared, writer, ids, refusals, progress
         self.base_revision, self.has_between = base_revision, has_between
         # of each version its content check, in short, with its file and line
-        self.issued: dict[tuple[str, str, str], tuple[tuple, str, int]] = {}
+        self.issued: dict[tuple[str, str, str], tuple[tuple[Any, ...], str, int]] = {}
         # the revisions that are named, each with how many lines of the trace it takes
         self.wanted: dict[int, int] = {}
         self.states = States()
@@ -38,14 +38,14 @@ class Taken:
         self.at = 0
         # the commit to which a write behind it may belong, or the row of its only write with its text
         self.open: Optional[Commit] = None
-        self.single: Optional[tuple[tuple, str]] = None
+        self.single: Optional[tuple[tuple[Any, ...], str]] = None
         self.last = base_revision
         # where the last write stood; none where it is the base state
-        self.last_place: Optional[tuple[str, int, str]] = None
+        self.last_place: Optional[tuple[str, int, Optional[str]]] = None
         self.count = 0
         self.declared_names: set[Name] = set()
 
-    def take_all(self, stream: Iterable[Union[Checks, Event, tuple]], spans: Spans) -> None:
+    def take_all(self, stream: Iterable[Union[Checks, Event, tuple[Any, ...]]], spans: Spans) -> None:
         for line in stream:
             if isinstance(line, Checks):
                 self._take_checks(line, spans)
@@ -53,13 +53,13 @@ class Taken:
                 self._take(line, spans)
         self._close()
 
-    def _take(self, line: Union[Event, tuple], spans: Spans) -> None:
+    def _take(self, line: Union[Event, tuple[Any, ...]], spans: Spans) -> None:
         """Writes of one revision that stand together become one commit."""
         self.count += 1
         if isinstance(line, tuple):
             self._close()
             if self._is_known(line) or self._takes(line):
-                self._keep(line if type(line) is tuple else row_of(line))
+                self._keep(row_of(line) if isinstance(line, Entry) else line)
             return
         self.progress.step("ordered %s events", self.count)
         if line.base or line.revision is None:
@@ -92,7 +92,7 @@ class Taken:
             self.keep(self.open)
             self.open = None
 
-    def _take_single(self, row: tuple) -> bool:
+    def _take_single(self, row: tuple[Any, ...]) -> bool:
         """Takes a write of one tuple that is a commit by itself as yet; whether it is one."""
         revision, group, given = row[3], row[6], row[10] + row[11]
         if row[5] or revision is None or len(given) != 1 or self.last is not None and revision <= self.last:
@@ -112,6 +112,7 @@ class Taken:
         """Makes the commit of the write that stands by itself, where the next line may belong to it."""
         if self.single and (self.single[0][3] == line.revision or line.group is not None and self.single[0][6] == line.group):
             event = line_of(self.single[0])
+            assert isinstance(event, Event)
             self.single, self.open = None, Commit(event)
             self.writer.write(self.open, event)
 
@@ -164,7 +165,7 @@ class Taken:
             self._close()
             self.at = place
 
-    def _keep(self, row: tuple) -> None:
+    def _keep(self, row: tuple[Any, ...]) -> None:
         if self.among is None:
             self.items.add(row)
         else:
@@ -177,7 +178,7 @@ class Taken:
         if commit.revision == event.revision and self.writer.is_repeated(commit, event):
             self.refusals.pass_over("write that was logged before")
             return True
-        if commit.revision != event.revision and (not commit.takes(event) or spans.has(commit.revision)):
+        if commit.revision != event.revision and (not commit.takes(event) or spans.has(commit.revision or 0)):
             return False
         self.writer.write(commit, event)
         return True
@@ -188,25 +189,27 @@ class Taken:
     def keep(self, item: Item) -> None:
         """Keeps a commit or a change of rules."""
         event = item.event if isinstance(item, Commit) else item
-        self.states.revisions += [item.revision] * self.has_between
-        source = (item.revision, event.shown, event.file, event.line)
+        revision = item.revision
+        assert revision is not None
+        self.states.revisions += [revision] * self.has_between
+        source = (revision, event.shown, event.file, event.line)
         if isinstance(item, Commit):
-            self.wanted[item.revision] = len(item.lines())
+            self.wanted[revision] = len(item.lines())
             self._keep(("commit", *source, item.lines()))
             if self.has_between:
                 self.states.take(item, self.writer)
         else:
-            self.wanted[item.revision] = len(self.declared.changes.get(item.revision, ()))
+            self.wanted[revision] = len(self.declared.changes.get(revision, ()))
             self._keep(("rules", *source))
 
-    def _is_known(self, row: tuple) -> bool:
+    def _is_known(self, row: tuple[Any, ...]) -> bool:
         """Whether a check names nothing that was not seen before, so that there is nothing to do with it."""
         goal, snapshot, token = row[3], row[5], row[7]
         return row[8] is None and row[9] is None and row[0] == "check" and snapshot in self.wanted and (
             token is None or token in self.wanted) and (goal[0], goal[2]) in self.declared_names and self.ids.has(goal) and (
             self.base_revision is None or snapshot >= self.base_revision)
 
-    def _takes(self, row: tuple) -> bool:
+    def _takes(self, row: tuple[Any, ...]) -> bool:
         """Gives what an entry names its numbers and gathers its revisions; whether it is kept."""
         kind, _, _, goal, _, snapshot, shown, token, version, lowest = row[:10]
         if not self._is_declared(goal[0], goal[2]):
@@ -241,7 +244,7 @@ class Taken:
         return True
 
     def has_good_version(self, entry: Entry) -> bool:
-        key = (*entry.goal[:2], entry.version)
+        key = (entry.goal[0], entry.goal[1], entry.version or "")
         short = (tuple(entry.goal), entry.reply, entry.snapshot, entry.lowest, entry.token)
         before = self.issued.get(key) if entry.kind == "content" and entry.version is not None else None
         if self.has_gap and entry.kind == "check" and entry.version is not None and key not in self.issued:

@@ -7,7 +7,7 @@ where none tells them apart. A snapshot that was not taken sees no beginning of 
 """
 from bisect import bisect_left
 from collections import Counter
-from typing import Callable, NamedTuple, Optional
+from typing import Any, Callable, NamedTuple, Optional
 
 from new_enemy_tools.importing.events import Entry, Event, Line, Stamp, put_stamp
 from new_enemy_tools.importing.order import ordered
@@ -21,7 +21,7 @@ class Seen(NamedTuple):
     that are missing, and one more."""
 
     end: int
-    missing: frozenset
+    missing: frozenset[int]
     extra: Optional[int]
 
     @property
@@ -42,11 +42,11 @@ class Seen(NamedTuple):
 class History:
     """The transactions of a log, in the order of its watch stream, and the snapshots that look at them, each with a count."""
 
-    def __init__(self, stream: list[int], snapshots: Counter):
+    def __init__(self, stream: list[int], snapshots: Counter[Snapshot]):
         self.ids = sorted(stream)
         self.places = {transaction: place for place, transaction in enumerate(stream)}
         self.seen = {snapshot: self._seen(snapshot) for snapshot in snapshots}
-        counts: Counter = Counter()
+        counts: Counter[Seen] = Counter()
         for snapshot, count in snapshots.items():
             counts[self.seen[snapshot]] += count
         whole = {self.seen[snapshot] for snapshot in snapshots if snapshot.own is None}
@@ -68,7 +68,8 @@ class History:
         count = len(self.ids)
         found = [(count, count)]
         for transaction in reversed(self.ids):
-            found.append(tuple(sorted((*found[-1], self.places[transaction]))[:2]))
+            first, second, _ = sorted((*found[-1], self.places[transaction]))
+            found.append((first, second))
         return found[::-1]
 
     def _is_first(self, seen: Seen, least: list[tuple[int, int]]) -> bool:
@@ -119,16 +120,16 @@ def placed(lines: list[Line], base: Optional[Snapshot], skew: Optional[int], ref
     # What is wrong with the order is refused once, where all lines are put into it.
     writes = ordered([event for event in lines if isinstance(event, Event) and event.asked is not None], skew, Refusals())
     for event in writes:
-        if base is not None and base.sees(event.asked[0].own):
+        if base is not None and base.sees(_own(event)):
             refusals.refuse(event.file, event.line, "its revision %s is not later than that of the base state" % event.shown)
     asked = {id(line): _snapshots(line.asked) for line in lines if isinstance(line, Entry)}
-    snapshots: Counter = Counter(one[0] for one in asked.values())
-    told = [one for pair in asked.values() for one in pair if one is not None] + [event.asked[0] for event in writes]
+    snapshots: Counter[Snapshot] = Counter(one[0] for one in asked.values())
+    told = [one for pair in asked.values() for one in pair if one is not None] + [_wrote(event) for event in writes]
     snapshots.update(dict.fromkeys(told, 0))
-    history = History(list(dict.fromkeys(event.asked[0].own for event in writes)), snapshots)
+    history = History(list(dict.fromkeys(map(_own, writes))), snapshots)
     numbers = {transaction: number for number, transaction in enumerate(history.order(), 1)}
     for event in writes:
-        event.revision = numbers[event.asked[0].own]
+        event.revision = numbers[_own(event)]
     made = Lines()
     for line in _in_order(lines, writes):
         found = _place(line, asked[id(line)], history, base, refusals) if isinstance(line, Entry) else line
@@ -137,23 +138,37 @@ def placed(lines: list[Line], base: Optional[Snapshot], skew: Optional[int], ref
     return made
 
 
-def _snapshots(asked: tuple) -> tuple:
+def _snapshots(asked: Optional[tuple[Any, ...]]) -> tuple[Any, ...]:
     """The snapshots of a row."""
-    return tuple(one and Snapshot(*one) for one in asked)
+    return tuple(one and Snapshot(*one) for one in asked or ())
+
+
+def _wrote(event: Event) -> Snapshot:
+    """The snapshot of a write."""
+    assert event.asked is not None
+    snapshot: Snapshot = event.asked[0]
+    return snapshot
+
+
+def _own(event: Event) -> int:
+    """The transaction that wrote."""
+    own = _wrote(event).own
+    assert own is not None
+    return own
 
 
 def _in_order(lines: list[Line], writes: list[Event]) -> list[Line]:
     """The writes in their order, each in the place and with the stamp of the one that the stream has there."""
-    slots = {id(event): other for event, other in zip(writes, sorted(writes, key=lambda event: event.revision))}
+    slots = {id(event): other for event, other in zip(writes, sorted(writes, key=lambda event: event.revision or 0))}
     stamps = {id(event): Stamp(event.sequence and event.sequence[0], event.time, event.clock) for event in writes}
-    found = []
+    found: list[Line] = []
     for line in lines:
-        other = slots.get(id(line), line)
-        found.append(other if other is line else put_stamp(other, stamps[id(line)]))
+        other = slots.get(id(line))
+        found.append(line if other is None or other is line else put_stamp(other, stamps[id(line)]))
     return found
 
 
-def _place(entry: Entry, asked: tuple, history: History, base: Optional[Snapshot], refusals: Refusals) -> Optional[Entry]:
+def _place(entry: Entry, asked: tuple[Any, ...], history: History, base: Optional[Snapshot], refusals: Refusals) -> Optional[Entry]:
     snapshot, token = asked
     number = -1 if base is not None and not snapshot.contains(base) else history.number(snapshot)
     if number is None:

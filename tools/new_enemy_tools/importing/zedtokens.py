@@ -9,12 +9,15 @@ import base64
 import binascii
 import re
 from functools import lru_cache
-from typing import NamedTuple, Optional
+from typing import Any, NamedTuple, Optional, TypeVar, Union
 
 NUMBER = re.compile(r"([0-9]{1,30})(?:\.([0-9]{10}))?")
 # The decimals of PostgreSQL before it had snapshots. A hybrid clock counts nanoseconds, and is much longer.
 OLDER = re.compile(r"[0-9]{1,15}\.[0-9]{1,15}")
 SHOWN = 5
+
+
+Kind = TypeVar("Kind")
 
 
 class Malformed(Exception):
@@ -33,7 +36,7 @@ class Snapshot(NamedTuple):
 
     xmin: int
     xmax: int
-    running: frozenset
+    running: frozenset[int]
     own: Optional[int]
 
     def sees(self, transaction: int) -> bool:
@@ -45,7 +48,8 @@ class Snapshot(NamedTuple):
         if any(other.sees(one) and one != self.own for one in self.running):
             return False
         above = range(self.xmax, max(self.xmax, other.xmax))
-        hidden = {one for one in (*(other.running - {other.own}), self.own) if one is not None and one in above}
+        running = [one for one in other.running if one != other.own]
+        hidden = {one for one in (*running, self.own) if one is not None and one in above}
         return len(hidden) == len(above) and (other.own is None or self.sees(other.own))
 
     def __str__(self) -> str:
@@ -75,10 +79,11 @@ def _varint(data: bytes, at: int) -> tuple[int, int]:
     raise Malformed
 
 
-def fields(data: bytes) -> dict[int, list]:
+def fields(data: bytes) -> dict[int, list[Any]]:
     """The fields of a protocol buffer, each a number or bytes, by their tags."""
-    found: dict[int, list] = {}
+    found: dict[int, list[Any]] = {}
     at = 0
+    value: Union[int, bytes]
     while at < len(data):
         tag, at = _varint(data, at)
         kind = tag & 7
@@ -93,10 +98,10 @@ def fields(data: bytes) -> dict[int, list]:
     return found
 
 
-def _only(found: dict[int, list], field: int, kind: type) -> Optional[object]:
+def _only(found: dict[int, list[Any]], field: int, kind: type[Kind]) -> Optional[Kind]:
     """The last value of a field; of another kind it is malformed."""
     value = found.get(field, [None])[-1]
-    if not isinstance(value, (kind, type(None))):
+    if value is not None and not isinstance(value, kind):
         raise Malformed
     return value
 
@@ -129,8 +134,14 @@ def _revision_text(token: str) -> str:
     found = fields(data)
     inner = _only(found, 3, bytes)
     if inner is not None:
-        return _only(fields(inner), 1, bytes).decode("ascii")
-    return str(int(_only(fields(_only(found, 2, bytes)), 1, int)))
+        return _needed(_only(fields(inner), 1, bytes)).decode("ascii")
+    return str(_needed(_only(fields(_needed(_only(found, 2, bytes))), 1, int)))
+
+
+def _needed(value: Optional[Kind]) -> Kind:
+    if value is None:
+        raise Malformed
+    return value
 
 
 def _of_text(text: str) -> Revision:

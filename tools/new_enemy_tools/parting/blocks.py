@@ -1,10 +1,16 @@
 """The lines of a file, many at a time."""
-from typing import BinaryIO, Iterator, Optional
+from typing import Iterator, Optional, Protocol
 
 from new_enemy_tools import limits
 from new_enemy_tools.files import split_joined
 
 BLOCK = 1 << 18
+
+
+class Source(Protocol):
+    """What bytes are read from: at most so many at a time, and none at the end."""
+
+    def read(self, size: int) -> bytes: ...
 
 
 class Blocks:
@@ -14,7 +20,7 @@ class Blocks:
     A trace ends before a line `---`; what was read behind it is `rest`, and None where there is no such line.
     """
 
-    def __init__(self, file: BinaryIO, given: bytes = b"", is_trace: bool = False):
+    def __init__(self, file: Source, given: bytes = b"", is_trace: bool = False):
         self.file = file
         self.given = given
         self.is_trace = is_trace

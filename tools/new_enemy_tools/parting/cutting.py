@@ -4,9 +4,9 @@ from collections import Counter
 from contextlib import ExitStack
 from functools import partial
 from hashlib import blake2b
-from typing import BinaryIO, Callable, Iterator, Optional
+from typing import Callable, Iterator, Optional
 
-from new_enemy_tools.parting.blocks import Blocks
+from new_enemy_tools.parting.blocks import Blocks, Source
 from new_enemy_tools.parting.manifest import Manifest, evidence_path, trace_path
 from new_enemy_tools.parting.placing import EVERYWHERE, Objects
 from new_enemy_tools.parting.sharing import shared
@@ -28,7 +28,7 @@ class Cut:
         self.table = array("H", [EVERYWHERE])
         self.name = blake2b(b"%d\n" % parts, digest_size=16)
 
-    def cut(self, trace: BinaryIO, evidence: Optional[BinaryIO]) -> Manifest:
+    def cut(self, trace: Source, evidence: Optional[Source]) -> Manifest:
         """Writes the parts. Without evidence it is that of joined input, if the trace is such."""
         blocks = Blocks(trace, is_trace=True)
         traces = self._spread(trace_path, blocks, partial(spread_trace, self.parts, Objects(self.parts)))

@@ -75,11 +75,20 @@ def _check_size(path: str, size: Optional[int]) -> None:
         raise PartsFault("%s has %d bytes, and the cut wrote %d" % (path, found, size))
 
 
-def part_files(manifest: Manifest, folder: str, part: int) -> tuple[str, str]:
-    """The trace and the evidence of a part, as long as the cut wrote them; evidence made later may have any length."""
+def part_files(manifest: Manifest, folder: str, part: int, makes: bool) -> tuple[str, Optional[str]]:
+    """The trace and the evidence of a part, as long as the cut wrote them; evidence made later may have any length.
+
+    Where the program makes evidence of its own, there is no file of it; one that stands there would not be read, and is refused.
+    """
     if not 1 <= part <= manifest.parts:
         raise PartsFault("there is no part %d of %d" % (part, manifest.parts))
     trace, evidence = trace_path(folder, part), evidence_path(folder, part)
     _check_size(trace, manifest.trace_bytes[part - 1])
+    if makes:
+        if os.path.exists(evidence):
+            raise PartsFault("%s is there, and would not be read with --make" % evidence)
+        return trace, None
+    if manifest.evidence_bytes is None and not os.path.exists(evidence):
+        raise PartsFault("%s is not there; with --make the program makes evidence of its own" % evidence)
     _check_size(evidence, manifest.evidence_bytes[part - 1] if manifest.evidence_bytes is not None else None)
     return trace, evidence

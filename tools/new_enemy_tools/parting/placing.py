@@ -19,7 +19,7 @@ EVERYWHERE = 0
 KNOWN = 1 << 16
 
 
-def _compiled(pattern: bytes) -> "re.Pattern[bytes]":
+def compiled(pattern: bytes) -> "re.Pattern[bytes]":
     """Each repetition ends where its letters do, so nothing is gained by going back; Python says so from 3.11 on."""
     return re.compile(pattern if sys.version_info >= (3, 11) else re.sub(rb"([*+?}])\+", rb"\1", pattern))
 
@@ -36,9 +36,9 @@ _COMMIT = rb'\{"kind": ?"(?:commit|namespace)"[^\n\\k]*+(?:k(?!ind")[^\n\\k]*+)*
 
 # Each match is a line in the first group, with its object or its entry's line in the second; or there lines that stand
 # everywhere, with nothing in the second; or else a line in the third.
-ENTRIES = _compiled(rb'(\{"kind": ?"(?:check|content)", ?"goal": ?' + _FACT + rb"(?:" + _MEMBER + rb")*+" + _END
+ENTRIES = compiled(rb'(\{"kind": ?"(?:check|content)", ?"goal": ?' + _FACT + rb"(?:" + _MEMBER + rb")*+" + _END
                      + rb"|(?:\n|" + _COMMIT + rb")++)|([^\n]*+\n)")
-RECORDS = _compiled(rb'(\{"line": ?(' + _NUMBER + rb'), ?"steps": ?\[(?:' + _STEP + rb"(?:, ?" + _STEP + rb")*+)?+\]" + _END
+RECORDS = compiled(rb'(\{"line": ?(' + _NUMBER + rb'), ?"steps": ?\[(?:' + _STEP + rb"(?:, ?" + _STEP + rb")*+)?+\]" + _END
                      + rb"|\n++)|([^\n]*+\n)")
 
 

@@ -4,6 +4,7 @@ import re
 import shutil
 from typing import IO, NamedTuple
 
+from new_enemy_tools.findings import ReportFault
 from new_enemy_tools.parting.faults import PartsFault
 from new_enemy_tools.parting.manifest import Manifest
 
@@ -40,6 +41,18 @@ def write_report(path: str, manifest: Manifest, part: int, status: int, output: 
         shutil.copyfileobj(output, report)
         shutil.copyfileobj(error, report)
     os.replace(path + ".new", path)
+
+
+def text_of(path: str, data: bytes) -> str:
+    """What the program wrote of a part; raises ReportFault where it ended with a fault."""
+    try:
+        report = read_part_report(path, data)
+    except PartsFault as fault:
+        raise ReportFault(str(fault)) from None
+    if report.status not in (0, 1):
+        raise ReportFault("%s: the audit of %s ended with status %d: %s"
+                          % (path, report.name, report.status, report.error.decode("utf-8", "replace").strip()))
+    return report.output.decode("utf-8", "replace")
 
 
 def read_part_report(path: str, data: bytes) -> PartReport:

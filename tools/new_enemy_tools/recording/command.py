@@ -11,7 +11,7 @@ import socket
 import subprocess
 import sys
 import time
-from argparse import Namespace
+from argparse import SUPPRESS, Namespace
 from typing import Any, Optional
 from urllib.parse import SplitResult, urlsplit
 
@@ -47,7 +47,7 @@ def words(arguments: list[str]) -> tuple[Parser, Namespace]:
     parser.add_argument("--stale-by", type=float, default=0.0, metavar="SECONDS", help="how long OpenFGA may answer from its cache (0)")
     parser.add_argument("--file-bytes", type=int, default=SIZE, metavar="N", help="how long a file of the log is at most (512 MB)")
     parser.add_argument("--file-seconds", type=float, default=AGE, metavar="N", help="how long a file of the log is written to (an hour)")
-    parser.add_argument("--keep", type=int, help="for the recorder itself")
+    parser.add_argument("--keep", type=int, help=SUPPRESS)
     return parser, parser.parse_args(arguments)
 
 
@@ -97,7 +97,7 @@ class Proxy:
         self.settings = settings
         self.teller = Teller(None)
         self.relay = relay_of(settings, url, self.teller)
-        self.keeper: Optional[subprocess.Popen] = None
+        self.keeper: Optional[subprocess.Popen[bytes]] = None
         self.start_at = 0.0
         self.is_over = False
 

@@ -12,8 +12,8 @@ from new_enemy_tools.recording.http_reading import BODY
 from new_enemy_tools.recording.messages import CHECKS, Ended, Started, Teller
 
 try:
-    import grpc
-    import grpc.aio
+    import grpc  # type: ignore[import]
+    import grpc.aio  # type: ignore[import]
 except ImportError:
     sys.stderr.write("record: --grpc needs grpcio, in Debian the package python3-grpcio, for this Python (%s)\n" % sys.executable)
     sys.exit(3)
@@ -54,7 +54,7 @@ class Kept:
                      200 if is_good else 0, *bodies, GRPC)
 
 
-class Handler(grpc.GenericRpcHandler):
+class Handler(grpc.GenericRpcHandler):  # type: ignore[misc]
     def __init__(self, relay: "GrpcRelay"):
         self.relay = relay
 
@@ -71,7 +71,7 @@ class GrpcRelay:
         self.under_way = 0
         self.server: Any = None
         self.channel: Any = None
-        self.stopping: Optional[asyncio.Future] = None
+        self.stopping: Optional[asyncio.Future[Any]] = None
 
     async def serve(self, host: str, port: int) -> None:
         secure = self.url.scheme == "https"
@@ -113,7 +113,7 @@ class GrpcRelay:
             if kept is not None and (is_good or kept.call.kind in CHECKS):
                 self.teller.tell(kept.ended(is_good))
 
-    async def _passed(self, method: str, requests: AsyncIterator[bytes], context: Any, metadata: list, kept: Optional[Kept]) -> bool:
+    async def _passed(self, method: str, requests: AsyncIterator[bytes], context: Any, metadata: list[Any], kept: Optional[Kept]) -> bool:
         """Whether the call ended well."""
         async def read_along() -> AsyncIterator[bytes]:
             async for data in requests:
@@ -136,4 +136,4 @@ class GrpcRelay:
         context.set_trailing_metadata(trailing or ())
         context.set_details(details or "")
         context.set_code(code)
-        return code == grpc.StatusCode.OK
+        return bool(code == grpc.StatusCode.OK)

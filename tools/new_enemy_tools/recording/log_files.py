@@ -233,7 +233,7 @@ def _base_of(path: str) -> int:
         for raw in file:
             value = _value_of(raw) or {}
             if value.get("base"):
-                return value["revision"]
+                return int(value["revision"])
     return 0
 
 

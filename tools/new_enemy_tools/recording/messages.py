@@ -4,7 +4,7 @@ import socket
 import struct
 import time
 from collections import deque
-from typing import Iterator, NamedTuple, Optional
+from typing import Any, Iterator, NamedTuple, Optional
 
 SIZE = struct.Struct("<I")
 # Calls that decide, and are told when they begin; all others are told when they have ended.
@@ -64,7 +64,7 @@ class Bye(NamedTuple):
 KINDS = (Started, Ended, Lost, Beat, Bye)
 
 
-def packed(message: tuple) -> bytes:
+def packed(message: tuple[Any, ...]) -> bytes:
     data = marshal.dumps((KINDS.index(type(message)), *message))
     return SIZE.pack(len(data)) + data
 
@@ -78,7 +78,7 @@ class Teller:
         self.size = 0
         self.lost: Optional[Lost] = None
 
-    def tell(self, message: tuple) -> None:
+    def tell(self, message: tuple[Any, ...]) -> None:
         if self._has_room():
             if self.lost is not None:
                 self._add(packed(self.lost))
@@ -138,7 +138,7 @@ class Teller:
             self.lose("the keeper of the log was gone")
 
 
-def messages_from(end: socket.socket) -> Iterator[tuple]:
+def messages_from(end: socket.socket) -> Iterator[tuple[Any, ...]]:
     """What the other side tells, until it is gone."""
     file = end.makefile("rb", 1 << 16)
     while len(head := file.read(SIZE.size)) == SIZE.size:

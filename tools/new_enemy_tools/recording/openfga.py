@@ -143,7 +143,7 @@ class OpenFga:
         stores = get(self.asker.ask("GET", "/stores?page_size=10"), "stores") or []
         if len(stores) != 1:
             raise FeedFault("the service has %s stores; name one by --store" % (len(stores) or "no"), bool(stores))
-        return stores[0]["id"]
+        return str(stores[0]["id"])
 
     def _path(self, call: str) -> str:
         return "/stores/%s/%s" % (quote(self.store or ""), call)

@@ -117,7 +117,7 @@ def _written(number: int, field: Field, given: Optional[Any]) -> bytes:
         return b""
     if field.kind == BOOL or isinstance(field.kind, tuple):
         return _varint(number << 3) + _varint(int(given) if field.kind == BOOL else field.kind.index(given))
-    data = given.encode() if field.kind == TEXT else written(str(field.kind), given)
+    data: bytes = given.encode() if field.kind == TEXT else written(str(field.kind), given)
     return _varint(number << 3 | 2) + _varint(len(data)) + data
 
 

@@ -159,7 +159,7 @@ class Relay:
         self.teller, self.call_of = teller, call_of
         self.context = ssl.create_default_context() if self.secure else None
         self.server: Any = None
-        self.tasks: set[asyncio.Task] = set()
+        self.tasks: set[asyncio.Task[Any]] = set()
         self.open: set[Client] = set()
 
     def is_busy(self) -> bool:

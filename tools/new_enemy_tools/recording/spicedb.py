@@ -48,10 +48,10 @@ class Source(Protocol):
     def schema(self) -> tuple[str, str]:
         """The text, and the token of the moment at which it was read."""
 
-    def relationships(self, of: str, token: str) -> Iterable[dict]:
+    def relationships(self, of: str, token: str) -> Iterable[dict[str, Any]]:
         """All of a type, at the moment of a token."""
 
-    def watch(self, token: str) -> Iterable[dict]:
+    def watch(self, token: str) -> Iterable[dict[str, Any]]:
         """The responses of Watch behind a token, until the stream ends."""
 
 

@@ -2,7 +2,7 @@
 from typing import Any, Iterator, Optional
 from urllib.parse import urlsplit
 
-import grpc
+import grpc  # type: ignore[import]
 
 from new_enemy_tools.importing.reading import get
 from new_enemy_tools.recording.asking import FeedFault
@@ -22,7 +22,7 @@ class GrpcSource:
             grpc.insecure_channel(target, OPTIONS)
         self.metadata = [("authorization", "Bearer " + key)] if key else []
 
-    def _asked(self, path: str, name: str, body: dict, timeout: Optional[float]) -> Iterator[dict]:
+    def _asked(self, path: str, name: str, body: dict[str, Any], timeout: Optional[float]) -> Iterator[dict[str, Any]]:
         """The answers of a call, as JSON; raises FeedFault."""
         call = self.channel.unary_stream(path)
         try:
@@ -44,11 +44,11 @@ class GrpcSource:
                 return text, token
         raise FeedFault("ReadSchema answers without a text and the token of its moment; a later SpiceDB has them")
 
-    def relationships(self, of: str, token: str) -> Iterator[dict]:
+    def relationships(self, of: str, token: str) -> Iterator[dict[str, Any]]:
         body = {"consistency": {"atExactSnapshot": {"token": token}}, "relationshipFilter": {"resourceType": of}}
         for answer in self._asked(PERMISSIONS + "ReadRelationships", "ReadRelationships", body, None):
             yield get(answer, "relationship")
 
-    def watch(self, token: str) -> Iterator[dict]:
+    def watch(self, token: str) -> Iterator[dict[str, Any]]:
         body = {"optionalStartCursor": {"token": token}, "optionalUpdateKinds": list(KIND[1:])}
         return self._asked("/authzed.api.v1.WatchService/Watch", "Watch", body, None)

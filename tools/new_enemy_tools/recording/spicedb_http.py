@@ -20,19 +20,20 @@ class HttpSource:
             raise FeedFault("ReadSchema answers without `schemaText` and `readAt`; a later SpiceDB has them")
         return text, token
 
-    def relationships(self, of: str, token: str) -> Iterator[dict]:
+    def relationships(self, of: str, token: str) -> Iterator[dict[str, Any]]:
         body = {"consistency": {"atExactSnapshot": {"token": token}}, "relationshipFilter": {"resourceType": of}}
         for value in self.asker.stream("/v1/relationships/read", body, QUIET):
             yield get(_result(value), "relationship")
 
-    def watch(self, token: str) -> Iterator[dict]:
+    def watch(self, token: str) -> Iterator[dict[str, Any]]:
         for value in self.asker.stream("/v1/watch", {"optionalStartCursor": {"token": token}, "optionalUpdateKinds": KINDS}, QUIET):
             yield _result(value)
 
 
-def _result(value: Any) -> dict:
+def _result(value: Any) -> dict[str, Any]:
     """What a line of a stream says; raises FeedFault where it is an error."""
     error = get(value, "error")
     if error:
         raise FeedFault("the service ends a stream: %s" % (get(error, "message") or error))
-    return get(value, "result") or value
+    found: dict[str, Any] = get(value, "result") or value
+    return found

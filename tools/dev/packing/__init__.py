@@ -1,0 +1,1 @@
+"""What tools/dev/package puts into packages: files, manual pages, completions, and what is known of their proof."""

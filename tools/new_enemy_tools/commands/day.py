@@ -1,0 +1,202 @@
+"""Audits a day's logs behind those of the days before: imports, audits and reports, for cron (docs/DAILY.md).
+
+    ne day [--at-least N] .. FOLDER events [--from-empty] LOG ..
+    ne day [--at-least N] .. FOLDER spicedb --schema SCHEMA (--base FILE --base-at TOKEN | --from-empty) LOG ..
+    ne day [--at-least N] .. FOLDER trace TRACE
+
+FOLDER keeps the days: of each its report, and of the last what the next one goes on from. The words behind FOLDER are those of `ne import`,
+each day the same; a base state is taken on the first day alone. `trace` takes a trace in place of logs.
+
+The status is 0 where nothing was found, 1 where something was, 6 where nothing was found and not every entry was audited, and 2 where
+something is refused; then no day was kept, and the same words can be tried again. A day that a killed run had kept and not told is told
+by the next run.
+"""
+import argparse
+import contextlib
+import gc
+import io
+import json
+import os
+import shutil
+import sys
+from argparse import Namespace
+from typing import Optional
+
+from new_enemy_tools.commands import import_logs
+from new_enemy_tools.commands.running import Parser
+from new_enemy_tools.commands.window import add_auditing, add_keeping, keep_of, places, refuse_usage
+from new_enemy_tools.files import write_whole
+from new_enemy_tools.forms import FORMS
+from new_enemy_tools.ids import Ids
+from new_enemy_tools.importing.chained import end_of, head_of
+from new_enemy_tools.importing.going_on import cut, read_left, write_left
+from new_enemy_tools.parting.faults import PartsFault
+from new_enemy_tools.progress import Progress
+from new_enemy_tools.windowing.auditing import How
+from new_enemy_tools.windowing.days import Days, Summary, digest_of
+from new_enemy_tools.windowing.effects import telling
+from new_enemy_tools.windowing.faults import WindowFault
+from new_enemy_tools.windowing.reading import Own
+from new_enemy_tools.windowing.run import Audited, Refused, audited, parts_needed, state_before, write_next
+from new_enemy_tools.windowing.state import State
+
+# The worst of two runs first.
+STATUSES = (2, 1, 6, 0)
+OWN_WORDS = ("--trace", "--ids", "--go-on", "--state")
+
+
+def given_of(words: list[str]) -> Namespace:
+    parser = Parser(prog="ne day", description=__doc__)
+    parser.add_argument("--at-least", type=int, default=1, metavar="N", help="refuse a day with fewer checks and content checks (1)")
+    add_auditing(parser)
+    add_keeping(parser)
+    parser.add_argument("folder", metavar="FOLDER", help="the folder of the days")
+    parser.add_argument("service", choices=("events", "spicedb", "trace"), help="what the logs are of")
+    parser.add_argument("words", nargs=argparse.REMAINDER, metavar="..", help="the other words of `ne import`, or TRACE")
+    given = parser.parse_args(words)
+    given.out = None
+    refuse_usage(parser, given)
+    if given.at_least < 0:
+        parser.error("--at-least is below 0")
+    for word in OWN_WORDS:
+        if any(one == word or one.startswith(word + "=") for one in given.words):
+            parser.error("%s is the folder's own: leave it out" % word)
+    if given.service == "trace" and len(given.words) != 1:
+        parser.error("give one TRACE")
+    given.logs = given.words if given.service == "trace" else import_logs.given_of([given.service, *given.words])[1].logs
+    return given
+
+
+def leave_out(days: Days, given: Namespace) -> None:
+    """Of the files of tools/record, leaves out those of the days before, and the last where it is still written."""
+    if given.service != "events":
+        return
+    heads = {log: head_of(log) for log in given.logs}
+    numbers = {log: head.number for log, head in heads.items() if head is not None}
+    if len(numbers) < len(heads):
+        return
+    left = days.before("left")
+    chain = None if left is None else read_left(left).chain
+    old = {log for log, number in numbers.items() if chain is not None and number <= chain[0]}
+    last = max(numbers, key=numbers.__getitem__)
+    if last not in old and end_of(last).said is None:
+        sys.stderr.write("day: %s is still written, and is audited with the next day\n" % last)
+        old.add(last)
+    given.logs = [log for log in given.logs if log not in old]
+    given.words = [word for word in given.words if word not in old]
+
+
+def go_on(days: Days, given: Namespace) -> State:
+    """Copies what the import goes on from into the folder to work in; the state of the last day."""
+    old = state_before(days.before("state"))
+    days.refuse_other(old.head)
+    ids, left = days.before("ids.jsonl"), days.before("left")
+    if ids is not None:
+        shutil.copyfile(ids, days.work("ids.jsonl"))
+    if left is not None:
+        write_left(days.work("left"), cut(read_left(left), old.head.base, given.keep_versions))
+    return old
+
+
+def traced(days: Days, given: Namespace) -> str:
+    """The day's trace; raises WindowFault where the import refuses the logs."""
+    if given.service == "trace":
+        return str(given.words[0])
+    said, state = io.StringIO(), days.before("state")
+    with contextlib.redirect_stderr(said):
+        status = import_logs.main([given.service, "--trace", days.work("trace"), "--ids", days.work("ids.jsonl"), "--go-on", days.work("left"),
+                                   "--jobs", str(given.jobs), *(["--state", state] if state is not None else []), *given.words])
+    if status:
+        sys.stderr.write(said.getvalue())
+        raise WindowFault("the import refused the logs")
+    lines = said.getvalue().splitlines()
+    write_whole(days.work("import.txt"), lines)
+    # What a day cannot show is of days no news; that its log has gaps, or lines that say nothing, is.
+    sys.stderr.writelines(line + "\n" for line in lines if not line.startswith(("commits ", "cannot show ")))
+    return days.work("trace")
+
+
+def made(days: Days, given: Namespace, digest: str, progress: Progress) -> int:
+    """Makes the next day; its number."""
+    os.mkdir(days.work())
+    old = go_on(days, given)
+    own = Own(traced(days, given), old, False)
+    # Rows make no circles, and there may be many of them to look through.
+    gc.disable()
+    how = How(given.program, given.jobs, parts_needed(own, old, given.parts))
+    found = audited(own, old, None, how, keep_of(given), False, progress.steps("read %s bytes"))
+    if found.window.entries < given.at_least:
+        raise WindowFault("the day has %d checks and content checks, and at least %d are wanted (--at-least)"
+                          % (found.window.entries, given.at_least))
+    write_next(days.work("state"), found.window, found.carry)
+    write_reports(days, given, found, own)
+    told = found.told
+    write_whole(days.work("summary.json"), [json.dumps(Summary([os.path.basename(log) for log in given.logs], digest, told.status, told.entries,
+                                                               len(told.findings), len(told.not_audited), told.held)._asdict())])
+    if os.path.exists(days.work("trace")):
+        os.remove(days.work("trace"))
+    number = days.keep()
+    days.tidy()
+    return number
+
+
+def write_reports(days: Days, given: Namespace, found: Audited, own: Own) -> None:
+    """The report as text, and with effects as rows of JSON."""
+    write_whole(days.work("report.txt"), found.told.lines(places(found, own).__getitem__))
+    ids = Ids(days.work("ids.jsonl")) if given.service != "trace" else None
+    rows = FORMS["jsonl"](telling(found.carried, own, found.told, ids, own.path)) if found.told.findings else ()
+    write_whole(days.work("report.jsonl"), rows)
+
+
+def tell(days: Days, number: int) -> int:
+    """Writes out the report of a day; its status."""
+    sys.stdout.write(days.tell(number))
+    sys.stdout.flush()
+    days.mark_told(number)
+    return days.summary(number).status
+
+
+def run(days: Days, given: Namespace, progress: Progress) -> int:
+    # What a run left that was killed.
+    days.end()
+    days.tidy()
+    leave_out(days, given)
+    digest, last, status = digest_of(given.logs), days.last, 0
+    if last is not None and not days.is_told(last):
+        sys.stderr.write("day: day %d was audited by a run that was broken off; its report:\n" % last)
+        status = tell(days, last)
+        if days.summary(last).digest == digest or not given.logs:
+            return status
+    if not given.logs:
+        raise WindowFault("no file of the log is new and complete")
+    twice = days.day_of(digest)
+    if twice is not None:
+        raise WindowFault("these logs were audited before, as day %d" % twice)
+    try:
+        number = made(days, given, digest, progress)
+    finally:
+        days.end()
+    progress.end()
+    return min(status, tell(days, number), key=STATUSES.index)
+
+
+def main(words: list[str]) -> int:
+    given = given_of(words)
+    days: Optional[Days] = None
+    try:
+        days = Days(given.folder)
+        with Progress() as progress:
+            return run(days, given, progress)
+    except Refused as fault:
+        sys.stderr.write(fault.answer.error)
+        return fault.answer.status
+    except (WindowFault, PartsFault) as fault:
+        sys.stderr.write("day: %s\n" % fault)
+        return 2
+    except OSError as fault:
+        sys.stderr.write("day: %s\n" % ": ".join(str(said) for said in (fault.filename, fault.strerror) if said))
+        return 5
+    finally:
+        gc.enable()
+        if days is not None:
+            days.close()

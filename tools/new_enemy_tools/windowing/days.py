@@ -1,0 +1,140 @@
+"""A folder of days: of each what was found, and of the last what the next one goes on from.
+
+A day is made in a folder of its own, which is renamed when all of it is there; so a run that is killed leaves the days as they were.
+`told` stands in the folder of a day whose report was written out.
+"""
+import fcntl
+import json
+import os
+import re
+import shutil
+from hashlib import blake2b
+from typing import BinaryIO, NamedTuple, Optional
+
+from new_enemy_tools.windowing.faults import WindowFault
+from new_enemy_tools.windowing.state import Head, read_sum
+
+WORK = "work"
+DAY = re.compile("day[0-9]{6,}")
+PIECE = 1 << 20
+# What a day goes on from; the last two days have it.
+GOING_ON = ("state", "left", "ids.jsonl")
+KEPT = 2
+
+
+class Summary(NamedTuple):
+    """What is known of a day beside its report."""
+
+    logs: list[str]
+    # the checksum of the logs' bytes
+    digest: str
+    status: int
+    entries: int
+    findings: int
+    not_audited: int
+    held_over: int
+
+
+class Days:
+    """The days of a folder, for one run at a time."""
+
+    def __init__(self, folder: str):
+        self.folder = folder
+        os.makedirs(folder, exist_ok=True)
+        others = [name for name in os.listdir(folder) if name not in ("lock", WORK) and not DAY.fullmatch(name)]
+        if others or os.path.exists(self.work()) and not os.path.exists(os.path.join(folder, "lock")):
+            raise WindowFault("%s has %s, and is no folder of days: give one that is empty or not there" % (folder, (others or [WORK])[0]))
+        # A lock of this kind goes with its process, and not with those that it began.
+        self._lock: BinaryIO = open(os.path.join(folder, "lock"), "ab")
+        try:
+            fcntl.lockf(self._lock, fcntl.LOCK_EX | fcntl.LOCK_NB)
+        except OSError:
+            self._lock.close()
+            raise WindowFault("another run works in %s" % folder) from None
+        self.numbers = sorted(int(name[3:]) for name in os.listdir(folder) if DAY.fullmatch(name))
+
+    def close(self) -> None:
+        self._lock.close()
+
+    @property
+    def last(self) -> Optional[int]:
+        return self.numbers[-1] if self.numbers else None
+
+    def path(self, number: int, name: str) -> str:
+        return os.path.join(self.folder, "day%06d" % number, name)
+
+    def before(self, name: str) -> Optional[str]:
+        """A file of the last day, where it is there."""
+        path = None if self.last is None else self.path(self.last, name)
+        return path if path is not None and os.path.exists(path) else None
+
+    def refuse_other(self, head: Head) -> None:
+        """Refuses a state that is not that of the last day, or goes on from another one than that of the day before."""
+        last = self.last or 0
+        previous = self.path(last - 1, "state")
+        if head.window != last or os.path.exists(previous) and head.before != read_sum(previous):
+            raise WindowFault("the state of day %d is not that of this folder: it stands for %d windows, or goes on from another state"
+                              % (last, head.window))
+
+    def work(self, name: str = "") -> str:
+        return os.path.join(self.folder, WORK, name)
+
+    def end(self) -> None:
+        """Takes away the folder that is worked in."""
+        if os.path.exists(self.work()):
+            shutil.rmtree(self.work())
+
+    def keep(self) -> int:
+        """Makes a day of the folder that was worked in; its number."""
+        number = 1 + (self.last or 0)
+        for name in [*os.listdir(self.work()), ""]:
+            _to_disk(self.work(name))
+        os.rename(self.work(), os.path.dirname(self.path(number, "state")))
+        _to_disk(self.folder)
+        self.numbers.append(number)
+        return number
+
+    def tidy(self) -> None:
+        """Takes away what older days went on from."""
+        for number in self.numbers[:-KEPT]:
+            for name in GOING_ON:
+                if os.path.exists(self.path(number, name)):
+                    os.remove(self.path(number, name))
+
+    def summary(self, number: int) -> Summary:
+        with open(self.path(number, "summary.json"), encoding="utf-8") as file:
+            return Summary(**json.load(file))
+
+    def is_told(self, number: int) -> bool:
+        return os.path.exists(self.path(number, "told"))
+
+    def tell(self, number: int) -> str:
+        """The report of a day, as it is written out."""
+        with open(self.path(number, "report.txt"), encoding="utf-8") as file:
+            return file.read()
+
+    def mark_told(self, number: int) -> None:
+        with open(self.path(number, "told"), "w", encoding="utf-8"):
+            pass
+
+    def day_of(self, digest: str) -> Optional[int]:
+        """The day of logs with a checksum."""
+        return next((number for number in reversed(self.numbers) if self.summary(number).digest == digest), None)
+
+
+def _to_disk(path: str) -> None:
+    place = os.open(path, os.O_RDONLY)
+    try:
+        os.fsync(place)
+    finally:
+        os.close(place)
+
+
+def digest_of(paths: list[str]) -> str:
+    """The checksum of some files, one behind the other."""
+    found = blake2b(digest_size=16)
+    for path in paths:
+        with open(path, "rb") as file:
+            while piece := file.read(PIECE):
+                found.update(piece)
+    return found.hexdigest()

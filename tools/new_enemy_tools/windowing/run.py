@@ -1,0 +1,126 @@
+"""A window from its lines to what is told of it, and the state behind it."""
+import os
+import tempfile
+from typing import Callable, NamedTuple, Optional
+
+from new_enemy_tools import limits
+from new_enemy_tools.parting.merging import Answer
+from new_enemy_tools.windowing.auditing import How, Running, answer_in_parts
+from new_enemy_tools.windowing.carrying import Carry, Keep, Window, carried
+from new_enemy_tools.windowing.faults import WindowFault
+from new_enemy_tools.windowing.reading import Numbers, Own, carried_lines, read_window, sizes, with_strata
+from new_enemy_tools.windowing.records import Records
+from new_enemy_tools.windowing.state import EMPTY, Row, State, read_head, read_state, write_state
+from new_enemy_tools.windowing.telling import Told, refused, told_of
+
+Step = Callable[[int], None]
+NOTHING = State(EMPTY, [], None)
+
+
+class Refused(Exception):
+    """The program's own refusal, and its status."""
+
+    def __init__(self, answer: Answer):
+        super().__init__(answer.error)
+        self.answer = answer
+
+
+class Audited(NamedTuple):
+    told: Told
+    window: Window
+    carry: Carry
+    carried: list[Row]
+
+
+def state_before(path: Optional[str]) -> State:
+    return NOTHING if path is None else read_state(path)
+
+
+def refuse_twice(window: Window) -> None:
+    """Refuses lines that the state stands for already; those without commits and versions may be the same for a reason."""
+    digest, recent = window.digest.hexdigest(), window.old.head.recent
+    if digest in recent and (window.commits or window.issued or window.rules):
+        raise WindowFault("these lines were read before, as window %d" % (window.old.head.window - len(recent) + recent.index(digest) + 1))
+
+
+def refuse_bad(window: Window) -> None:
+    if window.bad:
+        raise WindowFault("trace line %d: %s" % window.bad)
+
+
+def write_next(path: str, window: Window, carry: Carry) -> None:
+    """Writes the state behind a window; never in place of a later one, or of what is no state."""
+    if os.path.exists(path):
+        there = read_head(path)
+        if there.window > window.number or there.window == window.number and there.log != window.log.text:
+            raise WindowFault("%s is the state behind window %d of another run, and this is window %d" % (path, there.window, window.number))
+    write_state(path, carry.head, carry.rows)
+
+
+def read_own(own: Own, old: State, jobs: int, step: Step) -> Window:
+    """Reads the window behind a state that has its strata."""
+    window = read_window(own, old, jobs, step)
+    refuse_twice(window)
+    return window
+
+
+def audited(own: Own, old: State, evidence: Optional[str], how: How, keep: Keep, is_final: bool, step: Step) -> Audited:
+    """Raises Refused where the program refuses the window."""
+    old = with_strata(old, own.strata())
+    lines = carried_lines(old.rows)
+    numbers = Numbers(lines, old.head.lines)
+    records = 0
+    if evidence is not None:
+        window = read_own(own, old, how.jobs, step)
+        kept, records, answer = _answer_by(evidence, own, window, lines, numbers, how, keep, is_final, step)
+    else:
+        kept = {row.line: row.raw for row in old.rows if row.kind == "e"}
+        window, answer = _answer_made(own, old, lines, how, step)
+    own.refuse_changed()
+    _refuse(answer, window, numbers, records)
+    carry = carried(window, keep, kept, is_final)
+    return Audited(told_of(window, carry, numbers, answer), window, carry, lines)
+
+
+def _answer_made(own: Own, old: State, lines: list[Row], how: How, step: Step) -> tuple[Window, Answer]:
+    """In one process the program reads the window while it is read here."""
+    if how.parts > 1:
+        return read_own(own, old, how.jobs, step), answer_in_parts(how, lines, own, None, step)
+    running = Running(how, lines, own, None)
+    try:
+        window = read_own(own, old, how.jobs, step)
+        return window, running.answer()
+    except BaseException:
+        running.stop()
+        raise
+
+
+def _answer_by(evidence: str, own: Own, window: Window, lines: list[Row], numbers: Numbers, how: How, keep: Keep, is_final: bool,
+               step: Step) -> tuple[dict[int, bytes], int, Answer]:
+    """The records of entries that are held over, how many were kept before, and the answer."""
+    refuse_bad(window)
+    held = carried(window, keep, {}, is_final).held
+    records = Records(lines, window.old.rows, numbers, held)
+    with tempfile.NamedTemporaryFile() as file:
+        with open(evidence, "rb") as given:
+            file.writelines(records.lines(given))
+        file.flush()
+        if how.parts > 1:
+            answer = answer_in_parts(how, lines, own, file.name, step)
+        else:
+            answer = Running(how, lines, own, file.name).answer()
+    return records.kept, len(records.first), answer
+
+
+def _refuse(answer: Answer, window: Window, numbers: Numbers, records: int) -> None:
+    if answer.status > 1:
+        raise Refused(answer._replace(error=refused(answer, numbers, records)))
+    if window.bad:
+        raise Refused(Answer(2, "", "trace line %d: %s\n" % window.bad))
+
+
+def parts_needed(own: Own, old: State, given: Optional[int]) -> int:
+    """So many as are asked for, or as one program can take at least."""
+    size = os.path.getsize(own.path) - own.start + sizes(carried_lines(old.rows))
+    least = 1 if size < limits.INPUT_BYTES // 2 else 2 + size // (limits.INPUT_BYTES // 2)
+    return least if given is None else given

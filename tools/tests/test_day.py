@@ -1,0 +1,258 @@
+"""`ne day`: days told one by one are what the whole says; nothing is half-written; and what is refused.
+
+KILLS in the environment says how often a run is killed.
+"""
+import json
+import os
+import shutil
+import signal
+import subprocess
+import sys
+import time
+from random import Random
+
+from tests.support import NE, TOP, Case
+from tests.test_core import check, content, rel, write
+from tests.test_going_on import RULES, chained, events_of
+from tests.test_windows import Told
+
+KILLS = int(os.environ.get("KILLS", "20"))
+PROGRAM = os.path.abspath(os.environ.get("NEW_ENEMY", os.path.join(TOP, "new_enemy")))
+WORDS = ("--program", PROGRAM, "--jobs", "1")
+LOG = [RULES, write(1, rel("1", "viewer", "anne")), content(1, "first", goal=rel("1", "reader", "anne"), token=1),
+       check(1, goal=rel("1", "reader", "anne")), check(9, goal=rel("1", "reader", "anne")), write(2, rel("2", "viewer", "bob"))]
+NEXT = [write(4, remove=[rel("1", "viewer", "anne")]), check(4, goal=rel("1", "reader", "anne"), version="first"),
+        check(4, False, goal=rel("1", "reader", "anne")), write(12, rel("2", "viewer", "carla"))]
+
+
+class DayCase(Case):
+    def day(self, name, *options, folder="days", words=("--from-empty",)):
+        return self.run_tool("day", *WORDS, *options, folder, "events", *words, name)
+
+    def files(self, folder):
+        """The files of the days, each with its bytes; a checksum of the state before stands in a state."""
+        found = {}
+        for place, _, names in os.walk(self.path(folder)):
+            for name in names:
+                path = os.path.join(place, name)
+                with open(path, "rb") as file:
+                    found[os.path.relpath(path, self.path(folder))] = file.read()
+        return found
+
+
+class Days(DayCase):
+    def test_what_is_told(self):
+        self.put("one", LOG)
+        self.put("two", NEXT)
+        first, second = self.day("one"), self.day("two")
+        self.assertEqual(first, (0, "entries 2\nheld over 1\nfindings 0\nverdict clean\n", ""))
+        # The check at 9 was held over, until a commit came to its snapshot.
+        self.assertEqual(second.returncode, 1)
+        self.assertEqual(second.stdout.splitlines(), [
+            "line 6: F4 open snapshot, see line 7 (one:5)", "line 6: F10 wrong reply (one:5)", "line 9: F2 old token, see line 4 (two:2)",
+            "line 9: F10 wrong reply (two:2)", "entries 3", "findings 4", "verdict dirty"])
+        rows = self.rows("days/day000002/report.jsonl")
+        self.assertEqual(rows[0]["sums"]["wrong"], 2)
+        self.assertEqual([(row["line"], row["finding"], row["effect"], row["file"], row["file_line"]) for row in rows[1:]], [
+            (6, "F10", "wrong", "one", 5), (9, "F10", "wrong", "two", 2), (6, "F4", "changed", "one", 5), (9, "F2", "none", "two", 2)])
+        self.assertEqual(rows[1]["named"], "doc:1#reader@user:anne")
+        self.assertEqual(json.loads(self.get("days/day000002/summary.json")), {
+            "logs": ["two"], "digest": json.loads(self.get("days/day000002/summary.json"))["digest"], "status": 1, "entries": 3, "findings": 4,
+            "not_audited": 0, "held_over": 0})
+
+    def test_days_are_the_whole(self):
+        for number in range(6):
+            random = Random("days %d" % number)
+            log = [RULES, write(0, rel("0", "viewer", "u1"), base=True), *events_of(random, 60), write(10 ** 6)]
+            shutil.rmtree(self.path("days"), ignore_errors=True)
+            for name in ("whole_ids", "trace"):
+                if os.path.exists(self.path(name)):
+                    os.remove(self.path(name))
+            self.put("log", log)
+            self.imported("events", "--trace", "trace", "--ids", "whole_ids", "log")
+            whole = subprocess.run([PROGRAM, "audit", self.path("trace"), "--make"], capture_output=True, text=True, timeout=60).stdout
+            places = sorted(random.sample(range(2, len(log)), random.randint(1, 4)))
+            told, rows = Told(), set()
+            for place, (low, high) in enumerate(zip([0, *places], [*places, len(log)]), 1):
+                self.put("log", log[low:high])
+                run = self.day("log", "--oldest-snapshot", "0", "--at-least", "0", words=())
+                self.assertIn((run.returncode, run.stderr), ((0, ""), (1, "")))
+                told.take("".join(line.partition(" (")[0] + "\n" for line in run.stdout.splitlines()))
+                rows |= {"line %d: %s" % (row["line"], row["finding"]) for row in self.rows("days/day%06d/report.jsonl" % place) if "line" in row}
+            self.assertEqual(told.report, whole)
+            self.assertEqual(rows, {" ".join(line.split(" ")[:3]) for line in whole.splitlines() if line.startswith("line ")})
+
+    def test_what_is_kept(self):
+        for number in range(1, 5):
+            self.put("log", LOG if number == 1 else [write(10 * number), check(10 * number, goal=rel("1", "reader", "anne"))])
+            self.assertIn(self.day("log").returncode, (0, 1))
+        self.assertEqual([name for name in sorted(self.files("days")) if name.endswith(("state", "left", "ids.jsonl"))],
+                         ["day%06d/%s" % (day, name) for day in (3, 4) for name in ("ids.jsonl", "left", "state")])
+        # Of revisions below the base of the state before, the last is kept, and those of versions.
+        left = json.loads(self.get("days/day000004/left").splitlines()[0])
+        self.assertEqual([one[0] for one in left["named"]], [1, 9, 20, 30, 40])
+
+    def test_versions_that_are_let_go(self):
+        """Neither the state nor the import keeps them."""
+        for number in range(1, 5):
+            goal = rel("1", "viewer", "anne")
+            self.put("log", ([RULES, write(1, goal)] if number == 1 else []) + [write(10 * number), content(10 * number, "v%d" % number, goal=goal, token=10 * number),
+                                                                              check(10 * number, goal=goal, version="v%d" % max(1, number - 1), token=10 * number)])
+            run = self.day("log", "--keep-versions", "2")
+            self.assertEqual((run.returncode, run.stdout.splitlines()[-1]), (0, "verdict clean"))
+        left = json.loads(self.get("days/day000004/left").splitlines()[0])
+        self.assertEqual([row[0][2] for row in left["issued"]], ["v2", "v3", "v4"])
+        self.assertEqual(self.get("days/day000004/state").count("\nv "), 2)
+        self.put("log", [write(50), check(50, goal=goal, version="v2", token=50)])
+        self.assertIn("line 17: not audited, its version is not known", self.day("log", "--keep-versions", "2").stdout)
+
+    def test_gaps_are_said(self):
+        self.put("log", [*LOG, {"event": "gap", "from": "2024-01-01T00:00:00Z", "to": "2024-01-01T00:00:01Z", "reason": "why"}])
+        self.assertIn("the log has gaps: a verdict says nothing of what was asked in them\n", self.day("log").stderr)
+        # A version may have been issued in the gap, on this day and on later ones.
+        self.put("log", [write(3), check(3, goal=rel("1", "reader", "anne"), version="other", token=3), check(3, goal=rel("1", "reader", "anne"))])
+        run = self.day("log")
+        self.assertEqual((run.returncode, run.stdout.splitlines()[:1]), (0, ["entries 1"]))
+        self.assertEqual(run.stderr, "passed over 1: check of a content version that may have been issued in a gap\n")
+
+    def test_files_of_a_recorder(self):
+        """Each day gets all files that there are; those of days before are left out, and one that is still written."""
+        names, before = [], None
+        events = [LOG, [check(2, goal=rel("2", "reader", "bob"))], NEXT]
+        for number, some in enumerate(events, 1):
+            text, found = chained(number, before, *some, is_closed=number < 3)
+            names.append("%d.jsonl" % number)
+            self.put(names[-1], text)
+            if number == 2:
+                first = self.run_tool("day", *WORDS, "days", "events", "--from-empty", *names)
+                self.assertEqual(first, (0, "entries 3\nheld over 1\nfindings 0\nverdict clean\n", ""))
+            before = found
+        again = self.run_tool("day", *WORDS, "days", "events", "--from-empty", *names)
+        self.assertEqual(again, (2, "", "day: 3.jsonl is still written, and is audited with the next day\nday: no file of the log is new and complete\n"))
+        self.put("3.jsonl", chained(3, json.loads(self.get("2.jsonl").splitlines()[-1])["sha256"], *NEXT)[0])
+        second = self.run_tool("day", *WORDS, "days", "events", "--from-empty", *names)
+        self.assertEqual((second.returncode, second.stdout.splitlines()[-3:]), (1, ["entries 3", "findings 4", "verdict dirty"]))
+        # A run that was killed before it told the day tells it again.
+        os.remove(self.path("days/day000002/told"))
+        run = self.run_tool("day", *WORDS, "days", "events", "--from-empty", *names)
+        self.assertEqual((run.returncode, run.stdout), (1, second.stdout))
+        self.assertEqual(json.loads(self.get("days/day000001/summary.json"))["logs"], ["1.jsonl", "2.jsonl"])
+
+    def test_traces(self):
+        self.put("log", LOG)
+        self.imported("events", "--from-empty", "--trace", "trace", "log")
+        run = self.run_tool("day", *WORDS, "days", "trace", "trace")
+        self.assertEqual((run.returncode, run.stdout), (0, "entries 2\nheld over 1\nfindings 0\nverdict clean\n"))
+
+
+class Refused(DayCase):
+    def setUp(self):
+        super().setUp()
+        self.put("one", LOG)
+        self.put("two", NEXT)
+        self.assertEqual(self.day("one").returncode, 0)
+        self.before = self.files("days")
+
+    def refused(self, told, *words, status=2):
+        run = self.run_tool("day", *WORDS, *words)
+        self.assertEqual((run.returncode, run.stdout), (status, ""), run)
+        self.assertRegex(run.stderr, told)
+        self.assertEqual(self.files("days"), self.before)
+
+    def test_a_day_twice(self):
+        self.refused("^day: these logs were audited before, as day 1\n$", "days", "events", "--from-empty", "one")
+
+    def test_too_few(self):
+        self.refused("^day: the day has 2 checks and content checks, and at least 3 are wanted", "--at-least", "3", "days", "events", "two")
+        self.put("empty", "")
+        self.refused("^day: the day has 0 checks and content checks, and at least 1 are wanted", "days", "events", "empty")
+
+    def test_logs_that_are_refused(self):
+        self.put("bad", [write(1), {"event": "x"}])
+        self.refused("^bad:1: its revision 1 is not later than that of one:6, 2\nbad:2: `event` is none of .*\nrefused 2\nday: the import refused the logs\n$",
+                     "days", "events", "bad")
+        self.refused("none: No such file", "days", "events", "none", status=5)
+        # and the day can be tried again
+        self.assertEqual(self.day("two").returncode, 1)
+
+    def test_another_folder(self):
+        for name in ("notes", "work"):
+            os.makedirs(self.path("mine/" + name))
+            run = self.run_tool("day", *WORDS, "mine", "events", "two")
+            self.assertEqual((run.returncode, run.stdout, run.stderr), (
+                2, "", "day: mine has %s, and is no folder of days: give one that is empty or not there\n" % name))
+            self.assertEqual(os.listdir(self.path("mine")), [name])
+            os.rmdir(self.path("mine/" + name))
+
+    def test_two_at_once(self):
+        """Another process has the lock."""
+        code = "import fcntl, sys; file = open(sys.argv[1], 'ab'); fcntl.lockf(file, fcntl.LOCK_EX); print('locked', flush=True); sys.stdin.read()"
+        with subprocess.Popen([sys.executable, "-c", code, self.path("days/lock")], stdin=subprocess.PIPE, stdout=subprocess.PIPE) as other:
+            self.assertEqual(other.stdout.readline(), b"locked\n")
+            self.refused("^day: another run works in days\n$", "days", "events", "two")
+            other.stdin.close()
+        self.assertEqual(self.day("two").returncode, 1)
+
+    def test_a_state_that_was_altered(self):
+        data = self.before["day000001/state"]
+        self.put("days/day000001/state", data[:-9])
+        self.before = self.files("days")
+        self.refused("cut short", "days", "events", "two")
+
+    def test_a_state_of_another_day(self):
+        self.assertEqual(self.day("two").returncode, 1)
+        self.put("three", [write(13), check(13, goal=rel("2", "reader", "carla"))])
+        self.put("days/day000002/state", self.before["day000001/state"])
+        self.before = self.files("days")
+        self.refused("^day: the state of day 2 is not that of this folder: it stands for 1 windows", "days", "events", "three")
+        # One that goes on from another folder's state.
+        self.put("other", [*LOG, check(2, goal=rel("2", "reader", "bob"))])
+        self.assertEqual([self.day(name, folder="others").returncode for name in ("other", "two")], [0, 1])
+        self.put("days/day000002/state", self.files("others")["day000002/state"])
+        self.before = self.files("days")
+        self.refused("^day: the state of day 2 is not that of this folder: it stands for 2 windows, or goes on from another", "days", "events", "three")
+
+    def test_usage(self):
+        for words in (["days"], ["days", "events"], ["days", "events", "--trace", "x", "two"], ["days", "events", "--go-on=x", "two"],
+                      ["days", "trace", "one", "two"], ["--at-least", "-1", "days", "events", "two"], ["--jobs", "0", "days", "events", "two"]):
+            self.refused("usage: ne ", *words, status=3)
+
+
+class Kills(DayCase):
+    """A run that is killed leaves the days as they were, or a day that the next run tells."""
+
+    def begun(self, folder):
+        return subprocess.Popen([sys.executable, NE, "day", *WORDS, folder, "events", "two"], cwd=self.room, stdout=subprocess.PIPE, stderr=subprocess.PIPE,
+                                start_new_session=True, text=True)
+
+    def end(self, run):
+        out, err = run.communicate(timeout=60)
+        return run.returncode, out, err
+
+    def test_random_moments(self):
+        self.put("one", LOG)
+        self.put("two", NEXT)
+        self.assertEqual(self.day("one", folder="first").returncode, 0)
+        shutil.copytree(self.path("first"), self.path("unbroken"))
+        start = time.monotonic()
+        wanted = self.end(self.begun("unbroken"))
+        took = time.monotonic() - start
+        self.assertEqual(wanted[0], 1)
+        random, killed = Random(5), 0
+        for _ in range(KILLS):
+            shutil.rmtree(self.path("days"), ignore_errors=True)
+            shutil.copytree(self.path("first"), self.path("days"))
+            run = self.begun("days")
+            time.sleep(random.uniform(0, took * 1.1))
+            os.kill(run.pid, signal.SIGKILL)
+            broken = self.end(run)
+            is_told = os.path.exists(self.path("days/day000002/told"))
+            if is_told:
+                self.assertEqual(broken[1], wanted[1])
+            else:
+                killed += 1
+                again = self.end(self.begun("days"))
+                self.assertEqual(again[:2], wanted[:2], again[2])
+                self.assertIn(again[2], ("", "day: day 2 was audited by a run that was broken off; its report:\n"))
+            self.assertEqual(self.files("days"), self.files("unbroken"))
+        self.assertGreater(killed, 0)

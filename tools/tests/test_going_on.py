@@ -1,0 +1,261 @@
+"""Imports that go on day by day write what one import of all days writes, but for timestamps, whose order is the same."""
+import hashlib
+import json
+import os
+import subprocess
+from random import Random
+
+from new_enemy_tools.importing import going_on
+from new_enemy_tools.importing.going_on import APART, GoingOnFault, Named, numbered, read_left
+from tests.test_core import CoreCase, check, content, rel, write
+from tests.test_round_trips import SpiceDb
+from tests.test_windows import Told
+
+RULES = {"event": "rules", "namespaces": [
+    {"name": "doc", "relations": [{"name": "viewer"}, {"name": "banned"}, {"name": "reader", "rewrite": {"exclusion": {
+        "base": {"computed": "viewer"}, "subtract": {"computed": "banned"}}}}]}, {"name": "team", "relations": [{"name": "member"}]}]}
+OTHER = {"event": "rules", "namespaces": [{"name": "doc", "relations": [
+    {"name": "viewer"}, {"name": "reader", "rewrite": {"computed": "viewer"}}]}]}
+
+
+def between(event, low, high, newest):
+    """The event between two states, in place of one."""
+    event = {**event, "newest_between" if newest else "snapshot_between": [max(0, low), high]}
+    del event["snapshot"]
+    if newest:
+        event.pop("token", None)
+    return event
+
+
+def events_of(random, count, has_between=False):
+    """Random events: writes, changes of rules, checks at old and future snapshots, and versions."""
+    revision, labels, events, rules = random.randint(1, 9), [], [], RULES
+    for _ in range(count):
+        pick, thing = random.random(), str(random.randrange(3))
+        user = rel(thing, "viewer", "u%d" % random.randrange(3))
+        if pick < 0.3:
+            revision += random.randint(1, 5)
+            others = [rel(thing, "viewer", "staff", "team", "member"), rel("staff", "member", user[4], of="team"), rel(thing, "banned", user[4])]
+            some = random.sample([user, *others], random.randint(1, 3))
+            cut = random.randint(0, len(some))
+            events.append(write(revision, *some[:cut], remove=some[cut:]))
+        elif pick < 0.34:
+            revision += 1
+            # Rules that change nothing are a state of a log, and of a trace of the days before they are none.
+            rules = OTHER if rules is RULES else RULES
+            events.append({**rules, "revision": revision})
+        else:
+            goal = rel(thing, random.choice(["viewer", "reader"]), user[4])
+            at = max(0, revision + random.choice([0, 0, 0, -1, 1, 4, -6]))
+            token = {"token": max(0, at + random.choice([0, 0, -1, 1, -20]))} if random.random() < 0.6 else {}
+            if pick < 0.5:
+                labels.append("v%d" % len(labels))
+                events.append(content(at, labels[-1], goal=goal, **token))
+            else:
+                named = {"version": random.choice(labels)} if labels and random.random() < 0.4 else {}
+                events.append(check(at, random.random() < 0.6, goal, **named, **token))
+            if has_between and random.random() < 0.5:
+                events[-1] = between(events[-1], revision - random.randint(0, 9), revision, random.random() < 0.5)
+    return events
+
+
+class GoingOn(CoreCase):
+    def report(self, name):
+        run = subprocess.run([os.environ["NEW_ENEMY"], "audit", self.path(name), "--make"], capture_output=True, text=True, timeout=60)
+        self.assertIn(run.returncode, (0, 1), run.stderr)
+        return run.stdout
+
+    def days(self, log, random, *words, cut=None):
+        """Imports and audits a log day by day; what the days told."""
+        # the base state is the first day's
+        places = sorted(random.sample(range(2, len(log)), random.randint(1, 5)))
+        told = Told()
+        for low, high in zip([0, *places], [*places, len(log)]):
+            self.put("log", log[low:high])
+            state = ["--state", "state"] if low else []
+            self.imported(*words, "--go-on", "left", *state, "--trace", "day", "--ids", "day_ids")
+            out = ["--out", "state"] if high < len(log) else ["--final"]
+            run = self.run_tool("window", "audit", "day", *state, *out, "--oldest-snapshot", "0", "--jobs", "1",
+                                "--program", os.path.abspath(os.environ["NEW_ENEMY"]))
+            self.assertIn((run.returncode, run.stderr), ((0, ""), (1, "")))
+            told.take(run.stdout)
+            if cut:
+                cut()
+        return told.report
+
+    def compare(self, log, random, *words, cut=None):
+        for name in ("left", "day_ids", "whole_ids", "state"):
+            if os.path.exists(self.path(name)):
+                os.remove(self.path(name))
+        self.put("log", log)
+        self.imported(*words, "--trace", "whole", "--ids", "whole_ids")
+        report = self.report("whole")
+        self.assertEqual(self.days(log, random, *words, cut=cut), report)
+        return report
+
+    def test_random_events(self):
+        found = ""
+        for number in range(30):
+            random = Random("going on %d" % number)
+            found += self.compare([RULES, write(0, rel("0", "viewer", "u1"), base=True), *events_of(random, 60)], random, "events", "log")
+        for finding in ("F1", "F2", "F3", "F4", "F5", "F6", "F10"):
+            self.assertIn(finding, found)
+
+    def test_checks_between_two_states(self):
+        """What was stored on the days before is known from the state."""
+        found = ""
+        for number in range(20):
+            random = Random("going on between %d" % number)
+            log = [RULES, write(0, rel("0", "viewer", "u1"), base=True), *events_of(random, 60, True)]
+            found += self.compare(log, random, "events", "log")
+        for finding in ("F2", "F3", "F10"):
+            self.assertIn(finding, found)
+
+    def test_a_state_that_is_not_kept(self):
+        """A check between states of which not all are kept is refused."""
+        for number in range(1, 4):
+            self.put("log", ([RULES] if number == 1 else []) + [write(10 * number, rel(str(number), "viewer", "anne"))])
+            state = ["--state", "state"] if number > 1 else []
+            self.imported("events", "--from-empty", "--go-on", "left", *state, "--trace", "day", "log")
+            self.assertEqual(self.run_tool("window", "state", "day", *state, "--out", "state").returncode, 0)
+        goal = rel("1", "viewer", "anne")
+        self.put("log", [between(check(0, True, goal), 20, 30, False), between(check(0, False, goal), 19, 30, False)])
+        status, said = self.run_import("events", "--go-on", "left", "--state", "state", "--trace", "next", "log")
+        self.assertEqual((status, said), (2, "log:2: it was evaluated at a state of the days before that is not kept any more\nrefused 1\n"))
+        self.put("log", [between(check(0, True, goal), 20, 30, False), between(check(0, False, goal), 20, 30, False)])
+        self.assertIn("between two states 2: 1 right at one of them, 1 wrong at each (2 entries)",
+                      self.imported("events", "--go-on", "left", "--state", "state", "--trace", "next", "log"))
+
+    def test_spicedb(self):
+        for number in range(3):
+            random = Random("going on in SpiceDB %d" % number)
+            service, log, states = SpiceDb(random), [], []
+            for at in range(1, 10):
+                log.append(service.write(at))
+                states.append((at, service.state()))
+                for _ in range(10):
+                    _, line_for = service.check(*random.choice(states))
+                    log.append(line_for(random.random() < 0.5))
+            self.put("rules", service.rules)
+            self.assertIn("F10", self.compare(log, random, *service.words))
+
+    def test_revisions_that_are_let_go(self):
+        """Those that no later line needs stand in their order all the same."""
+        def let_go():
+            left = read_left(self.path("left"), "events")
+            going_on.write_left(self.path("left"), going_on.cut(left, left.named[-1].at, None))
+        for number in range(10):
+            random = Random("let go %d" % number)
+            # Each entry reads what no later day commits behind.
+            events = [one for one in events_of(random, 60) if one["event"] == "write"]
+            log = [RULES, write(0, base=True)]
+            for place, one in enumerate(events):
+                at = one["revision"]
+                log += [one, content(at, "v%d" % place, goal=rel(), token=at),
+                        check(at, goal=rel(), version="v%d" % random.randint(0, place), token=random.randint(0, at))]
+            self.assertIn("F2", self.compare(log, random, "events", "log", cut=let_go))
+
+
+class Numbers(CoreCase):
+    def test_between(self):
+        first = numbered({5: 1, 9: 3, 7: 1}, [])
+        self.assertEqual([(one.revision, one.lines) for one in first], [(5, 1), (7, 1), (9, 3)])
+        then = numbered({6: 1, 8: 2, 1: 1, 12: 1}, first)
+        self.assertEqual([one.revision for one in then], [1, 5, 6, 7, 8, 9, 12])
+        self.assertTrue(set(first) < set(then))
+        ends = [(one.at - one.lines, one.at) for one in then]
+        self.assertTrue(all(high <= low for (_, high), (low, _) in zip(ends, ends[1:])), ends)
+        self.assertGreaterEqual(ends[0][0], -1)
+
+    def test_no_room(self):
+        before = [Named(1, 10, 1), Named(9, 14, 1)]
+        self.assertEqual([one.at for one in numbered({3: 1, 4: 1}, before)], [10, 11, 12, 14])
+        for wanted in ({3: 1, 4: 1, 5: 1, 6: 1}, {3: 4}, {9: 6}):
+            with self.assertRaises(GoingOnFault):
+                numbered(wanted, before)
+        with self.assertRaises(GoingOnFault):
+            numbered({10: 1}, [Named(9, (1 << 64) - APART, 1)])
+
+
+def chained(number, before, *events, is_closed=True):
+    """A file of tools/record, and its hash."""
+    lines = "".join(json.dumps(one) + "\n" for one in ({"event": "log", "number": number, "before": before}, *events))
+    found = hashlib.sha256(lines.encode()).hexdigest()
+    return lines + json.dumps({"event": "closed", "count": lines.count("\n"), "sha256": found}) * is_closed, found
+
+
+class Chains(CoreCase):
+    """Files of tools/record, which are one chain from day to day."""
+
+    def file(self, name, *given, **how):
+        """A file of the chain; its hash."""
+        text, found = chained(*given, **how)
+        self.put(name, text)
+        return found
+
+    def next_day(self, name):
+        return self.run_import("events", "--from-empty", "--go-on", "left", "--trace", "next", name)
+
+    def test_chains(self):
+        first = self.file("one", 1, None, RULES, write(3, rel()), check(3))
+        second = self.file("two", 2, first, check(3))
+        self.file("three", 3, second, check(3))
+        self.file("other", 2, "0" * 64, check(3))
+        self.file("open", 2, first, check(3), is_closed=False)
+        self.put("plain", [check(3)])
+        status, said = self.next_day("two")
+        self.assertIn("two:1: files 1 to 1 of the log are missing", said)
+        self.assertEqual(self.next_day("one")[0], 0)
+        for name, told in (("three", "three:1: file 2 of the log, between it and the last file of the day before, is missing"),
+                           ("one", "one:1: the last file of the day before is file 1 too"), ("other", "other:1: it goes on from another file"),
+                           ("open", "open:1: the file is not closed"), ("plain", "the day before had files of tools/record, and this is none that goes on")):
+            status, said = self.next_day(name)
+            self.assertEqual(status, 2, name)
+            self.assertIn(told, said)
+        self.assertEqual([self.next_day(name)[0] for name in ("two", "three")], [0, 0])
+
+
+class Refusals(CoreCase):
+    def setUp(self):
+        super().setUp()
+        self.put("log", [RULES, write(3, rel()), check(3)])
+        self.imported("events", "--from-empty", "--go-on", "left", "log")
+        self.before = self.get("left"), self.get("ids.jsonl")
+
+    def refusal(self, *events, words=(), log="log"):
+        self.put(log, list(events))
+        status, said = self.run_import("events", *words, "--go-on", "left", "--trace", "next", log)
+        self.assertEqual(status, 2, said)
+        self.assertFalse(os.path.exists(self.path("next")))
+        self.assertEqual((self.get("left"), self.get("ids.jsonl")), self.before)
+        return said
+
+    def test_what_does_not_go_on(self):
+        self.assertIn("log:1: its revision 3 is not later than that of log:2, 3", self.refusal(write(3, rel("2"))))
+        self.assertIn("log:1: the rules are others than at the end of the day before", self.refusal({"event": "rules", "namespaces": [
+            {"name": "doc", "relations": [{"name": "viewer", "rewrite": {"computed": "banned"}}, {"name": "banned"}]}]}))
+        self.assertIn("log:1: a base state stands at the beginning", self.refusal(write(9, base=True)))
+        self.assertIn("tuples for every user of a type", self.refusal(write(9, ["doc", "1", "viewer", "user", "*", "*"])))
+        self.assertIn("checks between two states", self.refusal(check(3) | {"snapshot": None, "snapshot_between": [3, 4]}))
+        self.assertIn("which was issued", self.refusal(write(9), content(9, "one"), content(9, "one", goal=rel("1", user="z")))
+                      .replace("issued at", "which was issued"))
+
+    def test_files(self):
+        text = self.get("left")
+        for other in (text[:-1], text[:50], text.replace('"has_gap":false', '"has_gap":true'), ""):
+            self.put("left", other)
+            self.before = other, self.get("ids.jsonl")
+            self.assertIn("was not left by an import, or was altered or cut short", self.refusal(check(3)))
+        self.put("left", text)
+        self.put("schema", "definition user {}")
+        status, said = self.run_import("spicedb", "--schema", "schema", "--from-empty", "--go-on", "left", "--ids", "others", "log")
+        self.assertEqual((status, said), (2, "left was left by an import of events, and the logs are of spicedb\n"))
+
+    def test_usage(self):
+        status, said = self.run_import("events", "--go-on", "left", "--skip-unmapped", "log")
+        self.assertEqual(status, 3)
+        self.assertIn("--go-on takes no --skip-unmapped", said)
+        status, said = self.run_import("openfga", "--model", "x", "--from-empty", "--go-on", "left", "log")
+        self.assertEqual(status, 3)
+        self.assertIn("--go-on takes no logs of OpenFGA", said)
+        self.assertTrue(json.loads(self.get("left").splitlines()[0])["named"])
