@@ -169,7 +169,9 @@ class Signals(OnScreen):
         self.assertEqual((run.wait(60), self.screen.lines()), (7, ["ready", "told", ""]))
 
     def test_one_of_the_terminal_ends_both(self) -> None:
-        run = self.start([sys.executable, NE, "watch", self.stand_in(LOOPS)], self.room, start_new_session=True)
+        # A shell starts what runs in the background with this signal ignored.
+        run = self.start([sys.executable, NE, "watch", self.stand_in(LOOPS)], self.room, start_new_session=True,
+                         preexec_fn=lambda: signal.signal(signal.SIGINT, signal.SIG_DFL))
         self.screen.wait_for("ready")
         os.killpg(run.pid, signal.SIGINT)
         self.assertEqual(run.wait(60), -signal.SIGINT)

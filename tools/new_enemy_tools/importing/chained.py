@@ -66,7 +66,7 @@ def end_of(path: str) -> End:
     return End(count, made.hexdigest(), None if closed is None else (closed.get("count"), closed.get("sha256")))
 
 
-def in_chain(paths: list[str], refusals: Refusals, after: Optional[list] = None) -> Optional[list[str]]:
+def in_chain(paths: list[str], refusals: Refusals, after: Optional[list[Any]] = None) -> Optional[list[str]]:
     """The files of a chain in their order, all checked; None where they are none of a chain, or not all of them. `after` is the number
     and the hash of a file that they go on from."""
     found = {path: head_of(path) for path in paths}
@@ -103,7 +103,7 @@ def _refuse_unlinked(path: str, head: Head, before: Optional[tuple[str, int, Opt
         refusals.refuse(path, 1, "it goes on from another file than %s; give the files of one log, as tools/record wrote them" % before[0])
 
 
-def last_of(path: str) -> Optional[list]:
+def last_of(path: str) -> Optional[list[Any]]:
     """The number and the hash of a file of a chain; None where it is not closed."""
     head, end = head_of(path), end_of(path)
     return None if head is None or end.said is None else [head.number, end.found]

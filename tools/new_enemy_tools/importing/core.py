@@ -44,7 +44,7 @@ class GoesOn:
 
     def __init__(self, service: str, file: str, before: Optional[Left], state: Optional[State] = None):
         self.service, self.file, self.before, self.state = service, file, before, state
-        self.chain: Optional[list] = None if before is None else before.chain
+        self.chain: Optional[list[Any]] = None if before is None else before.chain
         self.left: Optional[Left] = None
 
 

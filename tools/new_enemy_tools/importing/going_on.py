@@ -5,7 +5,7 @@ The file is a line of JSON, and behind it the checksum of that line.
 """
 import json
 from hashlib import blake2b
-from typing import Iterable, NamedTuple, Optional
+from typing import Any, Iterable, NamedTuple, Optional
 
 from new_enemy_tools import limits
 from new_enemy_tools.edges import Edge, Name
@@ -44,20 +44,20 @@ class Left(NamedTuple):
     # how many imports went on so far
     day: int
     # of each event of rules its revision and namespaces, with the names and rewrites of their relations
-    rules: list[tuple[Optional[int], dict[str, list[list]]]]
+    rules: list[tuple[Optional[int], dict[str, list[list[Any]]]]]
     strata: list[tuple[str, str, int]]
-    edges: list[list]
+    edges: list[list[Any]]
     # by revision
     named: list[Named]
     # the revision of the last commit, and its file, line and text
     last: Optional[int]
-    last_place: Optional[list]
+    last_place: Optional[list[Any]]
     base: Optional[int]
     # what Taken keeps of versions, and the day of each
-    issued: list[list]
+    issued: list[list[Any]]
     has_gap: bool
     # the number and the hash of the last file of tools/record
-    chain: Optional[list]
+    chain: Optional[list[Any]]
 
 
 def read_left(path: str, service: Optional[str] = None) -> Left:
@@ -109,15 +109,16 @@ def refuse_unfit(facts: Facts, is_first: bool, has_state: bool, file: str, refus
 
 def events_of(left: Left) -> list[Event]:
     """The rules so far."""
-    return [Event("rules", "the days before", 1, revision, namespaces={name: [RelationRule(*one, 1) for one in relations]
+    return [Event("rules", "the days before", 1, revision, namespaces={name: [RelationRule(one[0], one[1], 1) for one in relations]
                                                                           for name, relations in namespaces.items()})
             for revision, namespaces in left.rules]
 
 
 def new_rules(left: Left, lines: Lines, refusals: Refusals) -> list[Event]:
     """The rules of a later day; those from its beginning have to be those that were in force, or those of the first day."""
-    first, current = ({}, {})
-    for place, (_, namespaces) in enumerate(left.rules):
+    first: dict[str, dict[str, Any]] = {}
+    current: dict[str, dict[str, Any]] = {}
+    for _, namespaces in left.rules:
         for name, relations in namespaces.items():
             current[name] = {**current.get(name, {}), **{relation: rewrite for relation, rewrite in relations}}
             first.setdefault(name, current[name])
@@ -128,7 +129,7 @@ def new_rules(left: Left, lines: Lines, refusals: Refusals) -> list[Event]:
     return [event for event in lines.rules if event.revision is not None]
 
 
-def _are_in(event: Event, known: dict[str, dict[str, dict]]) -> bool:
+def _are_in(event: Event, known: dict[str, dict[str, Any]]) -> bool:
     return all(known.get(name, {}).get(one.name) == one.rewrite for name, relations in event.namespaces.items() for one in relations)
 
 
@@ -170,7 +171,7 @@ def take_up(left: Left, taken: Taken) -> None:
     taken.last, taken.has_gap = left.last, left.has_gap
     taken.last_place = None if left.last_place is None else (left.last_place[0], left.last_place[1], left.last_place[2])
     for key, file, line, short, _ in left.issued:
-        goal, reply, snapshot, lowest, token = short[0], *short[1:]
+        goal, reply, snapshot, lowest, token = short
         taken.issued[key[0], key[1], key[2]] = ((tuple(goal), reply, snapshot, lowest, token), file, line)
 
 
@@ -207,9 +208,9 @@ def _between(low: int, high: int, waiting: list[tuple[int, int]]) -> Iterable[Na
 
 
 def left_by(service: str, before: Optional[Left], declared: Declared, strata: dict[Name, int], edges: Edges, taken: Taken, named: list[Named],
-            chain: Optional[list]) -> Left:
+            chain: Optional[list[Any]]) -> Left:
     """What is left of an import that took all lines."""
-    rules: list[tuple[Optional[int], dict[str, list[list]]]] = [
+    rules: list[tuple[Optional[int], dict[str, list[list[Any]]]]] = [
         (one.at, {one.name: [[relation.name, relation.rewrite] for relation in one.relations]}) for one in declared.rules.declarations]
     day = 1 + (before.day if before else 0)
     # Those of the days before come first.
