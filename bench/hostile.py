@@ -18,6 +18,13 @@ KIND is one of
   cube           a rule of many `this` in nested unions, usersets of a namespace that is not declared, and one record of many facts of their set
   stored         the same with a plain rule
   records        the same, with a record of one fact for each check
+  ghosts         as `records`, where each userset has a relation and a namespace of its own, which nobody declares
+  dead           as `stored`, where the usersets are declared and were removed again
+  late           the same, where they stand and are declared behind the snapshot that is asked for
+  churned        usersets that are added and removed again, and a record of one fact at each snapshot, in random order
+  parents        as `stored`, through a tupleset
+  lacking        the same, where the users' namespace is declared and lacks the relation
+  led            usersets that are not declared, stored behind a group that is, and facts that hold through that group
   wide_rule      a rule of many places in nested unions and intersections of two leaves, and records of many facts
   same_fact      the same, with one fact again and again
   wide_computed  a rule of many places that compute 250 other relations
@@ -36,6 +43,7 @@ KIND is one of
   long_ids       ids of 128 bytes
 """
 import json
+import random
 
 from trace import THIS, Input, asked, relation, text
 
@@ -242,11 +250,113 @@ def stored(size):
 def records(size):
     given = Input(size, [{"name": "doc", "relations": [relation("viewer")]}])
     barred(given, size // 2)
+    return asked_one_by_one(given)
+
+
+def ghosts(size):
+    given = Input(size, [{"name": "doc", "relations": [relation("viewer")]}])
+    k = 0
+    while given.bytes < size // 2:
+        given.commit([f"doc:a#viewer@g{j}:b#m{j}" for j in range(k, k + 100)])
+        k += 100
+    return asked_one_by_one(given)
+
+
+def asked_one_by_one(given):
+    """A record of one fact for each check, until the input is full."""
     user = 0
     while not given.is_full():
         refused(given, [f"doc:a#viewer@{user}"])
         user += 1
     return given
+
+
+def grouped(size):
+    """Documents whose viewers are groups."""
+    return Input(size, [{"name": "doc", "relations": [relation("viewer")]}, {"name": "group", "relations": [relation("member")]}])
+
+
+def stored_groups(given, size):
+    """Groups that are stored in one set."""
+    k = 0
+    while given.bytes < size:
+        given.commit([f"doc:a#viewer@group:{j}#member" for j in range(k, k + 100)])
+        k += 100
+    return k
+
+
+def dead(size):
+    given = grouped(size)
+    for k in range(0, stored_groups(given, size // 4), 100):
+        given.commit([], [f"doc:a#viewer@group:{j}#member" for j in range(k, k + 100)])
+    return asked_of_many(given)
+
+
+def late(size):
+    given = Input(size, [{"name": "doc", "relations": [relation("viewer")]}])
+    k = 0
+    while given.bytes < size // 2:
+        given.commit([f"doc:a#viewer@group:{j}#member" for j in range(k, k + 100)])
+        k += 100
+    snapshot = given.at
+    given.at += 1000
+    given.line({"kind": "namespace", "at": given.at, "name": "group", "relations": [relation("member")]})
+    first = 0
+    while not given.is_full():
+        facts = facts_of("doc:a#viewer", given.size - given.bytes, first) or ["doc:a#viewer@1"]
+        refused(given, facts, snapshot + 500)
+        first += len(facts)
+    return given
+
+
+def churned(size):
+    given = grouped(size)
+    k = 0
+    while given.bytes < size // 2:
+        given.commit([f"doc:a#viewer@group:{k}#member"], [f"doc:a#viewer@group:{k - 1}#member"] if k else [])
+        k += 1
+    order = random.Random(7)
+    user = 0
+    while not given.is_full():
+        at = order.randrange(1, k + 1)
+        refused(given, [f"doc:a#viewer@{user}", f"group:{at - 1}#member@{user}"], at)
+        user += 1
+    return given
+
+
+def led(size):
+    given = grouped(size)
+    given.commit(["doc:a#viewer@group:0#member"])
+    barred(given, size // 3)
+    user = 0
+    while not given.is_full():
+        users = range(user, user + 100)
+        given.commit([f"group:0#member@{one}" for one in users])
+        given.check(f"doc:a#viewer@{user}", True, [{"yes": f"{of}@{one}"} for one in users for of in ("group:0#member", "doc:a#viewer")])
+        user += 100
+    return given
+
+
+def parented(size, namespaces):
+    """Documents that are viewed through what stands in their tupleset."""
+    through = {"tuple_to": {"tupleset": "parent", "computed": "viewer"}}
+    return Input(size, [{"name": "doc", "relations": [relation("parent"), relation("viewer", through)]}, *namespaces])
+
+
+def through_parents(given):
+    k = 0
+    while given.bytes < given.size // 2:
+        given.commit([f"doc:a#parent@folder:{j}#..." for j in range(k, k + 100)])
+        k += 100
+    return asked_of_many(given)
+
+
+def parents(size):
+    return through_parents(parented(size, []))
+
+
+def lacking(size):
+    return through_parents(parented(size, [{"name": "folder", "relations": [relation("owner")]}]))
 
 
 def wide_rules(size, leaves):
@@ -414,6 +524,13 @@ KINDS = {
     "cube": cube,
     "stored": stored,
     "records": records,
+    "ghosts": ghosts,
+    "dead": dead,
+    "late": late,
+    "churned": churned,
+    "parents": parents,
+    "lacking": lacking,
+    "led": led,
     "wide_rule": wide_rule,
     "same_fact": same_fact,
     "wide_computed": wide_computed,

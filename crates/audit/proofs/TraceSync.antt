@@ -11,6 +11,8 @@ use Rattle.namespaces.specs.contracts.relation.Relation as relation
 use Rattle.namespaces.specs.contracts.table.Namespace as namespace
 use Rattle.namespaces.specs.contracts.rules.Line as line
 use Rattle.namespaces.specs.contracts.rules.Rules as rules
+use Rattle.userset_index.specs.contracts.spans.Spans as spans
+use Rattle.userset_index.specs.contracts.index.UsersetIndex as usersets
 use Rattle.trace_lines.specs.contracts.sample.Sample as sample
 use Rattle.trace_lines.specs.contracts.trace.Trace as trace
 
@@ -41,5 +43,11 @@ rules_sync = search (sendable, crosses, maps.crosses, line_sync) depth 40 fits 1
 sample_sync : IsSync sample.the_row
 sample_sync = search (sendable, crosses, maps.crosses, tuple_sync) depth 40
 
+spans_sync : IsSync spans.the_row
+spans_sync = search (sendable, crosses, maps.crosses, places_sync) depth 40
+
+usersets_sync : IsSync usersets.the_row
+usersets_sync = search (sendable, crosses, maps.crosses, spans_sync) depth 40
+
 pub trace_sync : IsSync trace.the_row
-trace_sync = search (sendable, crosses, maps.crosses, rules_sync, chains_sync, sample_sync, places_sync) depth 40 fits 100000
+trace_sync = search (sendable, crosses, maps.crosses, rules_sync, chains_sync, sample_sync, places_sync, usersets_sync) depth 40 fits 100000

@@ -71,71 +71,63 @@ fn audit<'a>(alloc: Global, evidence: Arg<'a>, make: Arg<'a>) -> Result<Command<
     ensures { rule_of evidence.entry ≡ new_rule (codes "EVIDENCE") → evidence.entry.global ≡ false → rule_of make.entry ≡ spec.flag (codes "make") → make.entry.global ≡ false
         → IfOk result (λ c. (app_of c ≡ spec.audit) × ((out-Command c).has_globals ≡ false)) }
 {
-    let trace = file(alloc, "TRACE", "The trace, JSON lines");
-    let workers = number(
-        alloc,
-        "workers",
-        "1",
-        "How many threads check entries, 1 to 16",
-    );
-    let slice = number(
-        alloc,
-        "slice",
-        "64",
-        "How many entries a thread takes at a time, 1 to 4096",
-    );
-    let early = flag(
-        alloc,
-        "early",
-        "Tell an entry's first finding on standard error as soon as it is seen",
-    );
     Command::new(alloc, "audit")
         .about("Audits a trace by evidence for its replies, read or made, and writes a report")
         .after_help(
             "Examples: new_enemy audit trace.jsonl evidence.jsonl --workers 4\n          new_enemy audit trace.jsonl --make\n\nA file that comes by a pipe is named /dev/stdin.\nExit status: 0 clean, 1 dirty, 2 the trace or the evidence is refused, 3 the words are, 4 out of memory,\n5 a file can't be opened or a device failed. With 2 to 5 there is no verdict.",
         )
-        .arg(trace)?
+        .arg(file(alloc, "TRACE", "The trace, JSON lines"))?
         .arg(evidence)?
         .arg(make)?
-        .arg(workers)?
-        .arg(slice)?
-        .arg(early)
+        .arg(number(
+            alloc,
+            "workers",
+            "1",
+            "How many threads check entries, 1 to 16",
+        ))?
+        .arg(number(
+            alloc,
+            "slice",
+            "64",
+            "How many entries a thread takes at a time, 1 to 4096",
+        ))?
+        .arg(flag(
+            alloc,
+            "early",
+            "Tell an entry's first finding on standard error as soon as it is seen",
+        ))
 }
 
 fn make<'a>(alloc: Global) -> Result<Command<'a>, AllocError>
     ensures { IfOk result (λ c. (app_of c ≡ spec.make) × ((out-Command c).has_globals ≡ false)) }
 {
-    let trace = file(alloc, "TRACE", "The trace, JSON lines");
-    let list = flag(
-        alloc,
-        "list",
-        "Name the line of each entry that has no record on standard error",
-    );
     Command::new(alloc, "make")
         .about("Writes evidence for a trace: a record for each entry that can be settled")
         .after_help(
             "Example: new_enemy make trace.jsonl > evidence.jsonl\n\nHow many entries have no record is told on standard error. A file that comes by a pipe is named /dev/stdin.\nExit status: 0 written, 2 the trace is refused, 3 the words are, 4 out of memory,\n5 a file can't be opened or a device failed.",
         )
-        .arg(trace)?
-        .arg(list)
+        .arg(file(alloc, "TRACE", "The trace, JSON lines"))?
+        .arg(flag(
+            alloc,
+            "list",
+            "Name the line of each entry that has no record on standard error",
+        ))
 }
 
 fn history<'a>(alloc: Global) -> Result<Command<'a>, AllocError>
     ensures { IfOk result (λ c. (app_of c ≡ spec.history) × ((out-Command c).has_globals ≡ false)) }
 {
-    let trace = file(alloc, "TRACE", "The trace, JSON lines");
-    let tuple = file(
-        alloc,
-        "TUPLE",
-        "The relation tuple, namespace:object_id#relation@user",
-    );
     Command::new(alloc, "history")
         .about("Writes when a relation tuple was added and removed, newest first")
         .after_help(
             "Example: new_enemy history trace.jsonl doc:readme#viewer@10\n\nOf a tuple that no commit touches nothing is written, also where its relation is not declared.\nA file that comes by a pipe is named /dev/stdin.\nExit status: 0 written, 2 the trace or the tuple is refused, 3 the words are, 4 out of memory,\n5 a file can't be opened or a device failed.",
         )
-        .arg(trace)?
-        .arg(tuple)
+        .arg(file(alloc, "TRACE", "The trace, JSON lines"))?
+        .arg(file(
+            alloc,
+            "TUPLE",
+            "The relation tuple, namespace:object_id#relation@user",
+        ))
 }
 
 fn with_commands<'a>(alloc: Global, audit: Command<'a>) -> Result<Command<'a>, AllocError>

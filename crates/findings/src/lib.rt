@@ -10,7 +10,8 @@
 //! findings and the number of entries. A trace without findings has replies that are right and fresh, whoever made the evidence
 //! ([`laws::right_and_fresh_without_findings`]). A reply that a finding F10 calls wrong is wrong, whatever else is found
 //! ([`laws::wrong_replies_are_wrong`]). A trace may be cut by object, and what is found in the parts is what is found in the whole
-//! ([`laws::bytes_of_part`], [`laws::findings_of_part`]).
+//! ([`laws::bytes_of_part`], [`laws::bytes_of_evidence`], [`laws::findings_of_part`], [`laws::findings_by_line`]). Each check without a
+//! finding saw all changes before its content check ([`laws::no_new_enemy`]).
 //!
 //! ```text
 //! let text = report_of(alloc, &findings_of(alloc, &trace, &evidence)?, trace.len())?;

@@ -114,6 +114,9 @@ module _ {W : Type 0} (taken : W → List ℕ) (contents : W → Option (List �
   by_take_some old new (Ok n) buf went held = (take n buf, went, held)
   by_take_some old new (Err e) buf went kept = ([], went, kept_behind (contents old) (contents new) kept)
 
+  pub by_finish : (old new : W) → taken new ≡ taken old → Keeps (contents old) (contents new) → StandBehind taken contents old new
+  by_finish old new went kept = ([], went ∙ sym (append-nil (taken old)), kept_behind (contents old) (contents new) kept)
+
   pub behind-trans : (a b c : W) → StandBehind taken contents a b → StandBehind taken contents b c → StandBehind taken contents a c
   behind-trans a b c one two = (
     one.0 ++ two.0,

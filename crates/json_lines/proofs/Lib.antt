@@ -1,5 +1,6 @@
 pub mod Cuts
 pub mod Elements
+pub mod Exits
 pub mod Folds
 pub mod Given
 pub mod JsonLines

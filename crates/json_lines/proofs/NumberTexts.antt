@@ -1,5 +1,5 @@
 -- A number with a sign, and one without.
-use Rattle.std.proofs.Common.{◌≡◌, ℕ, ◌==◌, ◌^◌, ◌<◌, ℤ, List, [], drop, length, get_or, Bool, true, false, Option, Some, None, Result, Ok, Err, Float, cond, option_and_then, refl, sym, ap, ◌∙◌, subst, arith, append-nil}
+use Rattle.std.proofs.Common.{◌≡◌, ℕ, ◌==◌, ◌^◌, ◌<◌, ℤ, List, [], drop, length, get_or, Bool, true, false, Some, None, Result, Ok, Err, Float, cond, option_and_then, refl, sym, ap, ◌∙◌, subst, arith, append-nil}
 use Rattle.std.specs.Prelude.{IfSome}
 use Rattle.std.specs.Result.{result_ok}
 use Rattle.std.specs.Str.Parse.{AllDigits, IsNumeral, ParsesUnsigned, digits_value, without_leading_plus}

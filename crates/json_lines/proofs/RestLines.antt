@@ -16,10 +16,6 @@ use Rattle.json_lines.specs.declared.reading.LineFault.{LineFault}
 use Rattle.json_lines.proofs.Folds.{parts_of_line, reads_line, told, within_from, Within}
 use Rattle.json_lines.proofs.NextLines.{most_behind, takes_both}
 
--- what the exit of a `?` says of the call
-pub exit_is : {T U E : Type 0} (result : Result T E) (called : Result U E) (y x fault : E) → result ≡ Err y → y ≡ x → called ≡ Err x → result ≡ Err fault → called ≡ Err fault
-exit_is result called y x fault returned same was is = cc
-
 not_false : (b : Bool) → not b ≡ false → b ≡ true
 not_false true is = refl
 not_false false is = absurd cc
@@ -335,3 +331,9 @@ module _ {S C : Type 0} (taken : ℕ → S → List ℕ → Result S C) (start :
     at_end = λ not_found. (refl, ended, none, λ is. ap joined_of (sym (append-nil go.used.bytes)) ∙ (go.unmarked is).same [] (λ e. refl));
     sought = λ found. absurd (true≢false (sym found));
   }
+
+-- where no marker is sought, it is all that is left
+pub part_is_all : {S C T : Type 0} (taken : ℕ → S → List ℕ → Result S C) (a b : List ℕ) (old new : RestValue) (start s : S) (read : Result T (LineFault C)) (found : Bool)
+    → IsPart taken a b old new start s false read found → IsTaken a b old.at_hand (λ input. (length input ≤ old.room) × Reads read s (read_all taken true start input))
+part_is_all taken a b old new start s read true p = absurd (true≢false (sym (p.sought refl)))
+part_is_all taken a b old new start s read false p = let end = p.at_end refl in (p.passed, rw end.2 at p.takes, (omega (arith, p.size), rw end.0 at p.reads))

@@ -2,9 +2,8 @@
 use Rattle.std.proofs.Common.{◌≡◌, ℕ, ◌+◌, ◌-◌, ◌^◌, Bool, true, false, cond, not, ◌&&◌, ◌==◌, List, [], ◌∷◌, length, Result, Ok, Err, refl, ap}
 use Rattle.refusals.specs.Refusals.{◌>>=◌}
 use Rattle.json_lines.specs.Reading.{at_line, passes_limit, parts, read_from, read_all}
-use Rattle.json_lines.specs.declared.lines.InputFault.TheVariants as inputs
 use Rattle.json_lines.specs.declared.reading.LineFault.{LineFault}
-use Rattle.json_lines.specs.declared.reading.Stop.TheVariants.{Input, Line}
+use Rattle.json_lines.specs.declared.reading.Stop.TheVariants.{Line}
 
 -- both took what came and stand for each other, or both refused it by the same
 abbrev pub Match : {S T E : Type 0} → (S → T → Type 0) → Result S E → Result T E → Type 0

@@ -1,3 +1,4 @@
 pub mod AlikeLemmas
+pub mod IndexLemmas
 pub mod MarkedLemmas
 pub mod PassLemmas

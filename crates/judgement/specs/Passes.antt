@@ -1,10 +1,15 @@
 -- What a pass over the stored usersets of a userset finds. No public clause cites this module.
-use Rattle.std.specs.Prelude.{ℕ, List, [], ◌∷◌, Option, None, Some, ◌⊎◌, Contains}
+use Rattle.std.specs.Prelude.{◌≡◌, ℕ, List, ◌∷◌, [], length, slice_get, Option, None, Some, ◌⊎◌, Contains, All}
 use Rattle.tuple_text.specs.Sets.{SetValue}
-use Rattle.tuple_text.specs.Tuples.{TupleValue, fact_of}
+use Rattle.tuple_text.specs.Tuples.{TupleValue, fact_of, tuple_of}
 use Rattle.tuple_text.specs.declared.users.User.TheVariants.{Set}
-use Rattle.namespaces.specs.Lookup.{Lookup}
+use Rattle.namespaces.specs.Declaration.{Declaration}
+use Rattle.namespaces.specs.Lookup.{Lookup, namespace_numbered, rule_at}
 use Rattle.strata.specs.Meaning.{with_relation, IsStored}
+use Rattle.version_chains.specs.Commits.{Commit, Touch, changelog, store_at}
+use Rattle.version_chains.specs.Marks.{pair_mark, set_mark}
+use Rattle.userset_index.specs.Lives.{touches_alive}
+use Rattle.userset_index.specs.declared.life.Life.{Life}
 use Rattle.judgement.specs.Judgement.{KnownValue, IsOut}
 
 -- the userset whose members are asked for: a stored one itself, or its object under a relation
@@ -37,3 +42,15 @@ IsLed store known set relation id =
 abbrev pub IsBarred : Lookup → List TupleValue → KnownValue → SetValue → Option (List ℕ) → ℕ → Type 0
 IsBarred rules store known set relation id =
     (g : SetValue) → IsStored store set (Set g) → IsOut rules known (fact_of (target g relation) id)
+
+-- the touch at an index is not of a userset that is stored in `set` and has a target that may hold the user id
+abbrev pub IsTouchOut : Lookup → List Commit → ℕ → KnownValue → SetValue → Option (List ℕ) → ℕ → ℕ → Type 0
+IsTouchOut rules commits at known set relation id touch =
+    (x : Touch) (g : SetValue) → slice_get (changelog commits) touch ≡ Some x → x.tuple ≡ tuple_of set (Set g)
+    → IsStored (store_at commits at) set (Set g) → IsOut rules known (fact_of (target g relation) id)
+
+-- nor is any touch that is found by the number of a namespace in which the relation is declared
+abbrev pub AreThroughOut : List Declaration → List Commit → ℕ → List Life → KnownValue → SetValue → List ℕ → ℕ → ℕ → Type 0
+AreThroughOut ds commits at lives known set relation id n =
+    (namespace : List ℕ) → namespace_numbered n ds ≡ Some namespace → ¬ (rule_at ds at namespace relation ≡ None)
+    → All (IsTouchOut (rule_at ds at) commits at known set (Some relation) id) (touches_alive (pair_mark (set_mark set) n) at lives (length lives))

@@ -9,6 +9,7 @@ ghost use Rattle.version_chains.specs.Commits.{store_at};
 ghost use Rattle.judgement.specs.Passes.{GivesId, BarsId, SomeSet, EachSet, IsLed, IsBarred};
 
 use crate::fact::KnownFact;
+use crate::indexed::is_barred_by_index;
 use crate::known::Known;
 use namespaces::Rules;
 use trace_lines::Trace;
@@ -38,7 +39,7 @@ fn is_in<F: KnownFact>(
 }
 
 /// Whether the target of a userset is known not to hold a user, or is undeclared at a timestamp and so has no members.
-fn is_out<F: KnownFact>(
+pub(crate) fn is_out<F: KnownFact>(
     rules: &Rules,
     at: u64,
     known: &Known<F>,
@@ -128,6 +129,10 @@ pub(crate) fn is_barred<F: KnownFact>(
         ↔ IsBarred (rule_at trace.now.declarations at) (store_at trace.now.commits at) known.now (set_value set.entry.set)
         (option_map (λ s. s.now) relation.entry) user }
 {
+    let index = trace.usersets();
+    if index.is_crowded(set) {
+        return is_barred_by_index(trace, index, at, known, set, relation, user);
+    }
     let sets = trace.chains().usersets(set, at);
     bars_each(trace.rules(), at, known, relation, user, sets)
 }

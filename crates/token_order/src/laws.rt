@@ -20,8 +20,8 @@ pub fn fresh_without_findings(trace: &Trace)
 }
 
 /// Each finding on tokens denies what it is named for: F1 that the snapshot reaches the zookie, F2 that the check's zookie demands the
-/// snapshot of its version, F3 that the content check is latest, F4 that the entry is closed, F5 that the token issued carries the
-/// snapshot, F6 that the version was issued.
+/// snapshot of its version, F3 that the content check is latest, F4 that the entry is closed, F5 that the token issued is a zookie which
+/// carries the snapshot, F6 that the version was issued on an earlier line for the goal's object.
 pub fn findings_deny(trace: &Trace)
     ensures { (i : ℕ) (e : EntryValue) → slice_get trace.now.entries i ≡ Some e → AreDenied trace.now e (order_of trace.now i e) }
 {

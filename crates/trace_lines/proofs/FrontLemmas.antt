@@ -1,5 +1,5 @@
 -- The trace in front of the marker of joined input.
-use Rattle.std.proofs.Common.{◌≡◌, ◌≢◌, ◌||◌, ℕ, List, Option, Some, None, Result, Ok, Err, refl, ap, ◌∙◌, true}
+use Rattle.std.proofs.Common.{◌≡◌, ◌≢◌, ◌||◌, ℕ, List, Option, Some, None, Result, Ok, Err, refl, sym, ap, ◌∙◌, true}
 use Rattle.std.specs.Prelude.{IfErr, IfSome, IsErrAnd}
 use Rattle.json_lines.specs.declared.lines.InputFault.{InputFault}
 use Rattle.json_lines.specs.Joined.{IsFront, RestValue}
@@ -42,3 +42,7 @@ made_by_lines t (Err fault) h = of_line_alone taken of_input fault readers_own h
 pub passed_on : {X Y : Type 0} (r : Result X InputFault) (f g : InputFault) → IsErrAnd r (λ e. e ≡ f) → ◌≡◌ {A = Result Y InputFault} (Err f) (Err g) → r ≡ Err g
 passed_on (Ok x) f g none same = absurd none
 passed_on (Err e) f g is same = let one : f ≡ g = cc in ap (λ (x : InputFault). Err x) (is ∙ one)
+
+pub passed_from : {X Y : Type 0} (r : Result X InputFault) (f g : InputFault) → IsErrAnd r (λ e. e ≡ f) → r ≡ Err g → ◌≡◌ {A = Result Y InputFault} (Err f) (Err g)
+passed_from (Ok x) f g none same = absurd none
+passed_from (Err e) f g is same = let one : e ≡ g = cc in ap (λ (x : InputFault). Err x) (sym is ∙ one)

@@ -25,11 +25,14 @@ pub struct TraceFront {
 }
 
 /// The trace that lines made, or which of them is refused.
-fn made_of(trace: Trace, read: Result<(), LineFault<Cause>>) -> Result<Trace, TraceFault>
+fn made_of(mut trace: Trace, read: Result<(), LineFault<Cause>>) -> Result<Trace, TraceFault>
     ensures { result ≡ made_of trace read }
 {
     match read {
-        Ok(()) => Ok(trace),
+        Ok(()) => {
+            trace.settle();
+            Ok(trace)
+        }
         Err(fault) => Err(TraceFault {
             line: fault.line,
             cause: fault.cause(),

@@ -6,8 +6,9 @@
 //!
 //! Callers may rely on this: what is read is `trace_of` the bytes, value or first fault, with its line, also of a reader that fails. Input
 //! that never ends is refused at the limits. Commits and entries stand on lines that rise. No look-up takes memory. Strata are valid at
-//! each timestamp, over what is stored then, as [`laws`] say of `trace_of` any bytes too. There is one pass over the input, with one JSON
-//! value at a time.
+//! each timestamp, over what is stored then, as [`laws`] say of `trace_of` any bytes too; they say which commits it has, and that each
+//! version is issued once. There is one pass over the input, with one JSON value at a time. [`Trace::usersets`] finds what is stored in
+//! a userset without a walk over what is dead or undeclared.
 //!
 //! ```text
 //! let trace = read_trace(alloc, &mut reader)?;

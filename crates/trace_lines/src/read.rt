@@ -35,7 +35,10 @@ pub fn read_trace<R: Source>(alloc: Global, reader: &mut R) -> Result<Trace, Tra
 {
     let mut trace = Trace::new(alloc);
     match read_lines(alloc, reader, &mut trace) {
-        Ok(()) => Ok(trace),
+        Ok(()) => {
+            trace.settle();
+            Ok(trace)
+        }
         Err(fault) => Err(TraceFault {
             line: fault.line,
             cause: fault.cause(),

@@ -25,6 +25,7 @@ ghost use Rattle.trace_lines.specs.Declaring.{rules_changed};
 ghost use Rattle.namespaces.specs.Changing.{IsLater};
 ghost use Rattle.std.specs.List.{list_all};
 ghost use Rattle.std.specs.List.Sorted.{IsStrictlyIncreasing};
+ghost use Rattle.userset_index.specs.Index.{IsUsersetIndex};
 
 use crate::cause::Cause;
 use crate::checks::entry_of;
@@ -42,6 +43,7 @@ use serde_json::Value;
 use std::alloc::{AllocError, Global};
 use std::marker::Model;
 use tuple_text::{SetRef, TupleRef};
+use userset_index::UsersetIndex;
 use version_chains::{AppendFault, Chains};
 
 /// A trace: its namespaces, its commits with the lines that they stand on, and its entries.
@@ -54,6 +56,8 @@ pub struct Trace {
     sample: Sample,
     // of the rules and the sample
     index: EdgeIndex,
+    // of the chains and the rules, when all lines are read
+    usersets: UsersetIndex,
     commit_lines: Vec<u64>,
     recorded: Vec<Recorded>,
     versions: Versions,
@@ -72,11 +76,13 @@ impl Model for Trace {
     ghost use Rattle.trace_lines.specs.Kept.{IsKept};
     ghost use Rattle.trace_lines.specs.Recorded.{shown, contents};
     ghost use Rattle.trace_lines.specs.Tuples.{IsOrderly};
+    ghost use Rattle.userset_index.specs.Index.{IsUsersetIndex};
 
     ghost view = { λ t. record { declarations = t.rules; commits = t.chains.commits; commit_lines = t.commit_lines.items; entries = shown t.recorded.items } };
 
     ghost invariant = { λ t. (t.chains.limit ≡ 2 ^ 32 - 1) × IsKept t.chains.commits t.commit_lines.items (shown t.recorded.items) (contents t.recorded.items) t.versions
-        × IsOrderly t.rules t.chains.commits t.sample × IsIndex t.rules t.index t.sample };
+        × IsOrderly t.rules t.chains.commits t.sample × IsIndex t.rules t.index t.sample
+        × IsUsersetIndex t.rules t.chains.commits t.usersets };
 }
 
 /// Commits changes to the chains, and takes what they add into the sample and the index. The tuples that were there stay in front.
@@ -116,6 +122,7 @@ impl Trace {
             chains: Chains::new(alloc, u32::MAX),
             sample: Sample::new(alloc),
             index: EdgeIndex::new(alloc),
+            usersets: UsersetIndex::new(alloc),
             commit_lines: Vec::new(alloc),
             recorded: Vec::new(alloc),
             versions: Versions::new(alloc),
@@ -135,6 +142,23 @@ impl Trace {
         ensures { result.now.commits ≡ self.now.commits }
     {
         &self.chains
+    }
+
+    /// An index of the usersets that are stored in others.
+    pub fn usersets(&self) -> &UsersetIndex
+        ensures { IsUsersetIndex self.now.declarations self.now.commits result.now }
+    {
+        &self.usersets
+    }
+
+    /// Makes that index, when all lines are read. Where memory is refused there is none, and whoever asks walks over all usersets.
+    pub(crate) fn settle(&mut self)
+        ensures { self.new ≡ self.old }
+    {
+        match UsersetIndex::of(self.alloc, &self.chains, &self.rules) {
+            Ok(usersets) => self.usersets = usersets,
+            Err(_) => {}
+        }
     }
 
     /// How many entries there are.
@@ -226,6 +250,7 @@ impl Trace {
         ensures { Gives (λ _. self.new) result (namespace_line self.old (view value.now)) }
     {
         let begun = self.is_begun();
+        self.usersets.give_up();
         declare(
             self.alloc,
             &mut self.rules,
@@ -264,6 +289,7 @@ impl Trace {
         requires last { last_at self.old.commits ≡ Some at }
         ensures { Gives (λ _. self.new) result (rules_changed at self.old (view value.now)) }
     {
+        self.usersets.give_up();
         change(
             self.alloc,
             &mut self.rules,
@@ -328,6 +354,7 @@ impl Trace {
         }
         self.commit_lines.reserve(1)?;
         let known = self.sample.len();
+        self.usersets.give_up();
         match commit(
             &self.rules,
             &mut self.sample,

@@ -8,5 +8,6 @@ pub mod Links
 pub mod Marks
 pub mod Placed
 pub mod Slots
+pub mod Touches
 pub mod Walks
 pub mod Words

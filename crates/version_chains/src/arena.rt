@@ -1,6 +1,6 @@
 //! The arena in which tuples and touches are kept.
 
-ghost use Rattle.std.specs.Prelude.{◌≡◌, ℕ, ◌<◌, ◌≤◌, ◌+◌, ◌∷◌, ◌++◌, [], Some, length, slice_get, IfOk, IfSome, OnOk, OnErr, MatchOption, false, true, None};
+ghost use Rattle.std.specs.Prelude.{◌≡◌, ℕ, ◌<◌, ◌≤◌, ◌+◌, ◌∷◌, ◌++◌, [], Some, length, slice_get, IfOk, IfSome, OnOk, OnErr, MatchOption, false, true, None, option_map};
 ghost use Rattle.tuple_text.specs.Order.{tuple_eq};
 ghost use Rattle.tuple_text.specs.Refs.{set_value, user_value};
 ghost use Rattle.tuple_text.specs.TupleRefs.{tuple_value};
@@ -10,11 +10,13 @@ ghost use Rattle.version_chains.specs.Commits.{Touch, touches_to, until, last_li
 ghost use Rattle.version_chains.specs.Given.{AreLaterFrom, AreTouchesKnown, Gives, IsTouchAt, IsUnnumbered, IsUntouched, IsWalkUntil, LeadsBack, has_mark_of, is_given, is_stored_by, newest_of};
 ghost use Rattle.version_chains.specs.Marks.{is_userset};
 ghost use Rattle.version_chains.specs.Placed.{last_place, most};
+ghost use Rattle.version_chains.specs.Touches.{touch_value};
 
 use crate::marks::{MarkedSet, MarkedUser, is_userset, kind_mark, tuple_mark};
 use crate::node::{Node, at_place, next_links};
 use crate::places::{MOST_PLACES, Places};
 use crate::row::Row;
+use crate::touch::TouchRef;
 use std::alloc::{AllocError, Global};
 use std::marker::Model;
 use tuple_text::{SetRef, Tuple, TupleRef, UserRef};
@@ -141,6 +143,25 @@ impl Arena {
         ensures { MatchOption result (length self.now.touches ≤ index) (λ n. IsTouchAt self.now.touches index n.now) }
     {
         self.nodes.get(index)
+    }
+
+    /// The touch at an index with its tuple, and the place of the touch before it of the same tuple.
+    pub fn touched(&self, index: usize) -> Option<TouchRef<'_>>
+        ensures value { option_map touch_value result ≡ slice_get self.now.touches index }
+        ensures older { IfSome result (λ t. t.older ≡ newest_of (touch_value t).tuple self.now.touches index) }
+    {
+        let touch = self.nodes.get(index)?;
+        let row = self.rows.get(touch.tuple as usize)?;
+        Some(TouchRef {
+            at: touch.at,
+            live: touch.live,
+            set: row.tuple.set(),
+            user: MarkedUser {
+                user: row.tuple.user(),
+                mark: row.user_mark,
+            },
+            older: touch.older as usize,
+        })
     }
 
     /// The place from which a walk goes on that looks for a touch up to the timestamp, where the touch at this index is

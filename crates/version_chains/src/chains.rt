@@ -1,9 +1,9 @@
 //! The store.
 
-ghost use Rattle.std.specs.Prelude.{◌≡◌, ◌<◌, ◌≤◌, ◌+◌, ◌++◌, [], List, ℕ, map, length, All, IfOk, IfErr, OnOk, OnErr, None};
+ghost use Rattle.std.specs.Prelude.{◌≡◌, ◌<◌, ◌≤◌, ◌+◌, ◌++◌, [], List, ℕ, map, length, All, IfOk, IfErr, IfSome, OnOk, OnErr, None, option_map, slice_get};
 ghost use Rattle.std.specs.List.{list_any, IsDistinct};
 ghost use Rattle.std.specs.List.Sorted.{IsStrictlyIncreasing};
-ghost use Rattle.tuple_text.specs.Order.{user_eq};
+ghost use Rattle.tuple_text.specs.Order.{tuple_eq, user_eq};
 ghost use Rattle.tuple_text.specs.Refs.{set_value};
 ghost use Rattle.tuple_text.specs.Sets.{SetValue, set_eq};
 ghost use Rattle.tuple_text.specs.TupleRefs.{tuple_values};
@@ -12,13 +12,16 @@ ghost use Rattle.tuple_text.specs.declared.users.User.{User};
 ghost use Rattle.tuple_text.specs.declared.users.User.TheVariants.{Id, Set};
 ghost use Rattle.version_chains.specs.Appends.{append_fault, appended, last_at, late_fault, IsRefusal};
 ghost use Rattle.version_chains.specs.Arena.{AreNumbersOf, AreNumbersOfParts, AreUpTo};
-ghost use Rattle.version_chains.specs.Commits.{TouchesOnce, touches, is_stored, history_of};
+ghost use Rattle.version_chains.specs.Commits.{TouchesOnce, changelog, touches, is_stored, history_of};
+ghost use Rattle.version_chains.specs.Placed.{last_place};
+ghost use Rattle.version_chains.specs.Touches.{touch_value};
 
 use crate::arena::Arena;
 use crate::fault::AppendFault;
 use crate::history::History;
 use crate::marks::{MarkedSet, MarkedUser};
 use crate::repeats::first_repeat;
+use crate::touch::TouchRef;
 use crate::users::{Users, Usersets};
 use std::alloc::{AllocError, Global};
 use std::marker::Model;
@@ -216,6 +219,17 @@ impl Chains {
         self.arena.is_stored(set, id, at)
     }
 
+    /// Whether the tuple of these two usersets, the second as its user, is stored at the timestamp.
+    pub fn has_set(&self, set: MarkedSet<'_>, user: MarkedSet<'_>, at: u64) -> bool
+        ensures { result ≡ is_stored self.now.commits at (tuple_of (set_value set.entry.set) (Set (set_value user.entry.set))) }
+    {
+        let user = MarkedUser {
+            user: UserRef::Set(user.set),
+            mark: user.mark,
+        };
+        self.arena.is_stored(set, user, at)
+    }
+
     /// The users of the userset's tuples that are stored at the timestamp, each once, in no promised order
     /// (Zanzibar, section 2.4.5, expands a userset into its users).
     pub fn users<'a>(&'a self, set: SetRef<'a>, at: u64) -> Users<'a>
@@ -239,6 +253,16 @@ impl Chains {
         ensures { result ≡ history_of self.now.commits tuple.now }
     {
         History::over(&self.arena, tuple)
+    }
+
+    /// The touch at an index of the changelog, which counts from 0, with the place of the touch before it of the same tuple. `None`
+    /// behind the last.
+    pub fn touch(&self, index: usize) -> Option<TouchRef<'_>>
+        ensures value { option_map touch_value result ≡ slice_get (changelog self.now.commits) index }
+        ensures older { IfSome result (λ t. t.older
+            ≡ last_place (λ x. tuple_eq x.tuple (touch_value t).tuple) (changelog self.now.commits) index) }
+    {
+        self.arena.touched(index)
     }
 
     /// The timestamps of the commits, in order.

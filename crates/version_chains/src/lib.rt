@@ -10,6 +10,8 @@
 //! definitions alone, and none of the questions takes memory. [`Users`], [`Usersets`] and [`History`] are iterators whose
 //! model is the list of what is left to give; `proofs.CallerLemmas` says what a loop over them shows.
 //!
+//! [`Chains::touch`] gives the changelog touch by touch, to who keeps an index of it.
+//!
 //! A [`MarkedSet`] is a userset with the hash of its texts, so that who asks for it again hashes nothing. [`Places`] finds what a crate
 //! above keeps by the marks of facts ([`fact_mark`]), as the store finds its own.
 //!
@@ -36,12 +38,14 @@ mod repeats;
 mod row;
 mod slots;
 mod table;
+mod touch;
 mod users;
 mod words;
 
 pub use chains::Chains;
 pub use fault::AppendFault;
 pub use history::History;
-pub use marks::{MarkedSet, fact_mark};
+pub use marks::{MarkedSet, MarkedUser, fact_mark, pair_mark};
 pub use places::Places;
+pub use touch::TouchRef;
 pub use users::{Users, Usersets};

@@ -20,9 +20,9 @@ pub struct MarkedSet<'a> {
 
 /// A user with its mark: that of a userset, or the id itself.
 #[derive(Clone, Copy, Drop)]
-pub(crate) struct MarkedUser<'a> {
-    pub(crate) user: UserRef<'a>,
-    pub(crate) mark: u64,
+pub struct MarkedUser<'a> {
+    pub user: UserRef<'a>,
+    pub mark: u64,
     ghost is_its_mark: { mark ≡ marks.user_mark (user_value user) },
 }
 
@@ -55,7 +55,8 @@ fn user_mark(user: UserRef<'_>) -> u64
     }
 }
 
-fn pair_mark(first: u64, second: u64) -> u64
+/// The mark of two marks, in this order.
+pub fn pair_mark(first: u64, second: u64) -> u64
     ensures { result ≡ marks.pair_mark first second }
 {
     WordHasher::new().with(first).with(second).finish()

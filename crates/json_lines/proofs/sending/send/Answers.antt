@@ -1,6 +1,6 @@
 use Rattle.std.proofs.Common.{rules}
 use Rattle.std.proofs.lemmas.List.{take_rest}
-use Rattle.json_lines.proofs.Given.{by_take_some, behind-trans}
+use Rattle.json_lines.proofs.Given.{by_take_some, by_finish, behind-trans}
 use Rattle.json_lines.proofs.Sent.{sent_more}
 use Rattle.json_lines.proofs.sending.send.Goals as goal
 
@@ -15,3 +15,56 @@ loop-turn-preserved g c = record {
       (by_take_some g.W.Sink.taken g.W.Write.contents c.loop-turn.out c.take_some.new.self c.take_some.result _ c.take_some.ensures.takes c.take_some.ensures.bytes);
   flushed = search rules;
 }
+
+pub returns-in-Ok-eq0-clause-all : goal.returns-in-Ok-eq0-clause-all
+returns-in-Ok-eq0-clause-all g c = tt
+
+pub returns-in-Ok-eq0-clause-flushed : goal.returns-in-Ok-eq0-clause-flushed
+returns-in-Ok-eq0-clause-flushed g c = tt
+
+pub returns-in-Ok-eq0-clause-kept : goal.returns-in-Ok-eq0-clause-kept
+returns-in-Ok-eq0-clause-kept g c = tt
+
+pub returns-in-Ok-eq0-clause-held : goal.returns-in-Ok-eq0-clause-held
+returns-in-Ok-eq0-clause-held g c =
+    behind-trans g.W.Sink.taken g.W.Write.contents c.args.out.now c.loop-turn.out c.take_some.new.self c.loop-turn.invariant.held
+    (by_take_some g.W.Sink.taken g.W.Write.contents c.loop-turn.out c.take_some.new.self c.take_some.result _ c.take_some.ensures.takes c.take_some.ensures.bytes)
+
+pub returns-in-Err-clause-all : goal.returns-in-Err-clause-all
+returns-in-Err-clause-all g c = tt
+
+pub returns-in-Err-clause-flushed : goal.returns-in-Err-clause-flushed
+returns-in-Err-clause-flushed g c = tt
+
+pub returns-in-Err-clause-kept : goal.returns-in-Err-clause-kept
+returns-in-Err-clause-kept g c = tt
+
+pub returns-in-Err-clause-held : goal.returns-in-Err-clause-held
+returns-in-Err-clause-held g c =
+    behind-trans g.W.Sink.taken g.W.Write.contents c.args.out.now c.loop-turn.out c.take_some.new.self c.loop-turn.invariant.held
+    (by_take_some g.W.Sink.taken g.W.Write.contents c.loop-turn.out c.take_some.new.self c.take_some.result _ c.take_some.ensures.takes c.take_some.ensures.bytes)
+
+pub returns-in-Err-finish-clause-held : goal.returns-in-Err-finish-clause-held
+returns-in-Err-finish-clause-held g c =
+    behind-trans g.W.Sink.taken g.W.Write.contents c.args.out.now c.loop-turn.out c.finish.new.self c.loop-turn.invariant.held
+    (by_finish g.W.Sink.taken g.W.Write.contents c.loop-turn.out c.finish.new.self c.finish.ensures.takes c.finish.ensures.bytes)
+
+pub returns-in-Ok-finish-clause-held : goal.returns-in-Ok-finish-clause-held
+returns-in-Ok-finish-clause-held g c =
+    behind-trans g.W.Sink.taken g.W.Write.contents c.args.out.now c.loop-turn.out c.finish.new.self c.loop-turn.invariant.held
+    (by_finish g.W.Sink.taken g.W.Write.contents c.loop-turn.out c.finish.new.self c.finish.ensures.takes c.finish.ensures.bytes)
+
+pub returns-in-Err-finish-clause-all : goal.returns-in-Err-finish-clause-all
+returns-in-Err-finish-clause-all g c = tt
+
+pub returns-in-Err-finish-clause-flushed : goal.returns-in-Err-finish-clause-flushed
+returns-in-Err-finish-clause-flushed g c = tt
+
+pub returns-in-Err-finish-clause-kept : goal.returns-in-Err-finish-clause-kept
+returns-in-Err-finish-clause-kept g c = tt
+
+pub returns-in-Ok-finish-clause-part : goal.returns-in-Ok-finish-clause-part
+returns-in-Ok-finish-clause-part g c = tt
+
+pub returns-in-Ok-finish-clause-refused : goal.returns-in-Ok-finish-clause-refused
+returns-in-Ok-finish-clause-refused g c = tt

@@ -1,8 +1,9 @@
-use Rattle.std.proofs.Common.{◌≡◌, ◌+◌, ◌-◌, ◌≤◌, ◌^◌, not, true, false, Err, ap, arith, refl, rules, sym, ◌∙◌, length}
+use Rattle.std.proofs.Common.{ℕ, ◌≡◌, ◌+◌, ◌-◌, ◌≤◌, ◌^◌, not, true, false, Err, ap, arith, refl, sym, ◌∙◌, length}
 use denote.Enum.Bare.{sameb}
 use Rattle.json_lines.specs.contracts.lines.InputFault.{the_type}
 use Rattle.json_lines.specs.declared.lines.InputFault.{InputFault}
 use Rattle.json_lines.specs.declared.lines.InputFault.TheVariants.{Read, TooLong, OutOfMemory}
+use Rattle.json_lines.proofs.Exits.{no_error, same_error, long_is_not_read, ended_by}
 use Rattle.json_lines.proofs.Given.{next-trans}
 use Rattle.json_lines.proofs.NextLines.{most_behind, passed_line, passed_long, passed_on, passed_over, room_after}
 use Rattle.json_lines.proofs.joined.Rest.next.Goals as goal
@@ -24,6 +25,21 @@ returns-then-is_over-clause-long g c = λ _.
     passed_over _ _ _ _ _ c.pieces.self-inside.lines c.next.new.self c.next.new.line.items c.pieces.self-inside.room c.pieces.whole c.in-Ok.more c.pieces.invariant.passed c.in-Ok.ensures.line.1
     (rw len (sym c.is_over.ensures ∙ c.if-is_over.true))
 
+pub returns-then-is_over-clause-line : goal.returns-then-is_over-clause-line
+returns-then-is_over-clause-line g c = tt
+
+pub returns-then-is_over-clause-ended : goal.returns-then-is_over-clause-ended
+returns-then-is_over-clause-ended g c = tt
+
+pub returns-then-is_over-clause-known : goal.returns-then-is_over-clause-known
+returns-then-is_over-clause-known g c = next-trans g.R.Source.given g.R.Source.ends g.R.Read.remaining c.args.reader.now c.pieces.reader c.next.new.reader c.pieces.invariant.known c.next.ensures.known
+
+pub returns-then-is_over-clause-failed : goal.returns-then-is_over-clause-failed
+returns-then-is_over-clause-failed g c = λ e. absurd (long_is_not_read _ refl e)
+
+pub returns-then-is_over-clause-kept : goal.returns-then-is_over-clause-kept
+returns-then-is_over-clause-kept g c = λ _. c.next.ensures.kept (λ e. no_error _ _ _ c.in-Ok.is e) ∙ c.pieces.invariant.kept
+
 pub returns-then-is_over-clause-most : goal.returns-then-is_over-clause-most
 returns-then-is_over-clause-most g c =
     most_behind _ _ _ _ c.pieces.self-inside.lines c.pieces.invariant.passed.bytes _ c.pieces.self-inside.room c.min.result 65536 c.pieces.invariant.passed.takes c.pieces.invariant.passed.size (omega (arith, c.min.ensures)) c.next.ensures.most
@@ -37,6 +53,18 @@ returns-in-Ok-clause-line g c =
     passed_line _ _ _ _ _ c.pieces.self-inside.lines c.next.new.self c.next.new.line.items c.pieces.self-inside.room c.pieces.whole c.in-Ok.more (c.pieces.self-inside.room - (c.len-in-Ok.result + c.from.result)) c.pieces.invariant.passed c.in-Ok.ensures.line.1 c.in-Ok.ensures.line.0
     (omega (arith, c.in-Ok.ensures.reached, c.next.new.line.ok.0)) (omega (arith, bound, c.min.ensures)) (omega (arith, after.0, after.1, size)) c.args.self.now refl refl
 
+pub returns-in-Ok-clause-long : goal.returns-in-Ok-clause-long
+returns-in-Ok-clause-long g c = λ e. absurd (no_error _ _ _ refl e)
+
+pub returns-in-Ok-clause-ended : goal.returns-in-Ok-clause-ended
+returns-in-Ok-clause-ended g c = ended_by c.in-Ok.more _ _ _ c.in-Ok.ensures.ends c.pieces.invariant.going
+
+pub returns-in-Ok-clause-failed : goal.returns-in-Ok-clause-failed
+returns-in-Ok-clause-failed g c = λ e. absurd (no_error _ _ _ refl e)
+
+pub returns-in-Ok-clause-kept : goal.returns-in-Ok-clause-kept
+returns-in-Ok-clause-kept g c = λ _. c.next.ensures.kept (λ e. no_error _ _ _ c.in-Ok.is e) ∙ c.pieces.invariant.kept
+
 pub returns-in-Ok-clause-most : goal.returns-in-Ok-clause-most
 returns-in-Ok-clause-most g c =
     most_behind _ _ _ _ c.pieces.self-inside.lines c.pieces.invariant.passed.bytes _ c.pieces.self-inside.room c.min.result 65536 c.pieces.invariant.passed.takes c.pieces.invariant.passed.size (omega (arith, c.min.ensures)) c.next.ensures.most
@@ -46,7 +74,8 @@ returns-in-Ok-clause-known g c = next-trans g.R.Source.given g.R.Source.ends g.R
 
 pub pieces-preserved : goal.pieces-preserved
 pieces-preserved g c =
-    let stuck = c.next.ensures.stuck (c.in-Err.is ∙ ap Err (is_too_long c.in-Err.fault (sym c.ne.ensures ∙ c.if-ne.false))) in
+    let long : c.next.result ≡ Err TooLong = c.in-Err.is ∙ ap Err (is_too_long c.in-Err.fault (sym c.ne.ensures ∙ c.if-ne.false)) in
+    let stuck = c.next.ensures.stuck long in
     let size : length c.next.new.line.items ≡ c.len-in-Err.result = omega (arith, c.len-in-Err.ensures, c.next.new.line.ok.0) in
     let whole_line : c.min.result ≡ 2 ^ 20 = omega (arith, c.min.ensures, c.if-self-lt-MAX_LINE.false) in
     record {
@@ -55,13 +84,13 @@ pieces-preserved g c =
       within = omega (arith, c.pieces.invariant.within);
       unended = c.pieces.invariant.unended;
       known = next-trans g.R.Source.given g.R.Source.ends g.R.Read.remaining c.args.reader.now c.pieces.reader c.next.new.reader c.pieces.invariant.known c.next.ensures.known;
-      going = search rules;
-      kept = search rules;
+      going = omega (arith, c.in-Err.ensures.ends, c.pieces.invariant.going);
+      kept = c.next.ensures.kept (λ e. long_is_not_read _ long e) ∙ c.pieces.invariant.kept;
     }
 
 pub returns-then-ne-clause-long : goal.returns-then-ne-clause-long
 returns-then-ne-clause-long g c = λ e.
-    let is : c.in-Err.fault ≡ TooLong = cc (e) in
+    let is : c.in-Err.fault ≡ TooLong = same_error _ _ _ refl e in
     let low : c.pieces.self-inside.room ≤ c.min.result =
     elim c.then-ne.branch [
       | then-ne-via-then-ne w ↦ absurd (other_fault c.in-Err.fault is (sym c.ne.ensures ∙ w.if-ne.true))
@@ -73,3 +102,18 @@ returns-then-ne-clause-long g c = λ e.
 pub returns-then-ne-clause-most : goal.returns-then-ne-clause-most
 returns-then-ne-clause-most g c =
     most_behind _ _ _ _ c.pieces.self-inside.lines c.pieces.invariant.passed.bytes _ c.pieces.self-inside.room c.min.result 65536 c.pieces.invariant.passed.takes c.pieces.invariant.passed.size (omega (arith, c.min.ensures)) c.next.ensures.most
+
+pub returns-then-ne-clause-line : goal.returns-then-ne-clause-line
+returns-then-ne-clause-line g c = tt
+
+pub returns-then-ne-clause-ended : goal.returns-then-ne-clause-ended
+returns-then-ne-clause-ended g c = tt
+
+pub returns-then-ne-clause-known : goal.returns-then-ne-clause-known
+returns-then-ne-clause-known g c = next-trans g.R.Source.given g.R.Source.ends g.R.Read.remaining c.args.reader.now c.pieces.reader c.next.new.reader c.pieces.invariant.known c.next.ensures.known
+
+pub returns-then-ne-clause-failed : goal.returns-then-ne-clause-failed
+returns-then-ne-clause-failed g c = λ e. c.next.ensures.failed (c.in-Err.is ∙ e) ∙ ap (λ (n : ℕ). n + 1) c.pieces.invariant.kept
+
+pub returns-then-ne-clause-kept : goal.returns-then-ne-clause-kept
+returns-then-ne-clause-kept g c = λ other. c.next.ensures.kept (λ e. other (sym c.in-Err.is ∙ e)) ∙ c.pieces.invariant.kept

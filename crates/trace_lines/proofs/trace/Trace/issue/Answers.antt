@@ -19,4 +19,5 @@ invariant_of-self-2 c =
       kept_content _ _ c.self.inside.recorded.items _ c.self.invariant.1 c.new.result c.push-3.new.self.items pushed (rw c.new.ensures.entry room) (rw c.new.ensures.entry before) (version_value c.in-Some.version) c.push-2.new.self (rw c.new.ensures.entry c.requires.kind) (rw c.new.ensures.entry (sym c.in-Some.ensures)) c.new.ensures.content new entries c.in_ok-push.ensures.marks,
       c.self.invariant.2,
       c.self.invariant.3,
+      c.self.invariant.4,
     )

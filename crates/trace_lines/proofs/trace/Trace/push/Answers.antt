@@ -30,4 +30,5 @@ invariant_of-self-2 c =
           (rw c.new.ensures.entry c.requires.issues_nothing) (rw c.new.ensures.entry (c.new.ensures.content ∙ content)),
       c.self.invariant.2,
       c.self.invariant.3,
+      c.self.invariant.4,
     )

@@ -1,0 +1,139 @@
+//! Passes over the usersets that are stored in a crowded userset, by the index of these.
+
+ghost use Rattle.std.specs.Prelude.{◌≡◌, ◌↔◌, ◌&&◌, IsTrue, true, All, None, Some, option_map, ◌<◌, ◌≤◌, suc, length, ℕ};
+ghost use Rattle.tuple_text.specs.Refs.{set_value};
+ghost use Rattle.namespaces.specs.Lookup.{namespace_names, rule_at};
+ghost use Rattle.version_chains.specs.Commits.{store_at};
+ghost use Rattle.version_chains.specs.Marks.{set_mark};
+ghost use Rattle.userset_index.specs.Index.{IsUsersetIndex, is_crowded};
+ghost use Rattle.judgement.specs.Passes.{AreThroughOut, IsTouchOut, IsBarred};
+
+use crate::fact::KnownFact;
+use crate::known::Known;
+use crate::stored::is_out;
+use trace_lines::Trace;
+use tuple_text::{SetRef, UserRef};
+use userset_index::{Alive, UsersetIndex};
+use version_chains::MarkedSet;
+
+/// How many namespaces there are at most.
+const MOST_NAMESPACES: u16 = 256;
+
+/// Whether a touch of the changelog is not of a userset that is stored in a set and has a target that may hold a user.
+fn is_touch_out<F: KnownFact>(
+    trace: &Trace,
+    at: u64,
+    known: &Known<F>,
+    set: MarkedSet<'_>,
+    relation: Option<&str>,
+    user: u64,
+    touch: usize,
+) -> bool
+    ensures out { IsTrue result → IsTouchOut (rule_at trace.now.declarations at) trace.now.commits at known.now (set_value set.entry.set)
+        (option_map (λ s. s.now) relation.entry) user touch }
+    ensures barred { IsBarred (rule_at trace.now.declarations at) (store_at trace.now.commits at) known.now (set_value set.entry.set)
+        (option_map (λ s. s.now) relation.entry) user → IsTrue result }
+{
+    let Some(touch) = trace.chains().touch(touch) else {
+        return true;
+    };
+    let UserRef::Set(stored) = touch.user.user else {
+        return true;
+    };
+    let stored = MarkedSet {
+        set: stored,
+        mark: touch.user.mark,
+    };
+    if touch.set != set.set || is_out(trace.rules(), at, known, stored, relation, user) {
+        return true;
+    }
+    !trace.chains().has_set(set, stored, at)
+}
+
+/// Whether that holds of each of some touches.
+fn are_out<F: KnownFact>(
+    trace: &Trace,
+    at: u64,
+    known: &Known<F>,
+    set: MarkedSet<'_>,
+    relation: Option<&str>,
+    user: u64,
+    touches: Alive<'_>,
+) -> bool
+    ensures out { IsTrue result → All (IsTouchOut (rule_at trace.now.declarations at) trace.now.commits at known.now (set_value set.entry.set)
+        (option_map (λ s. s.now) relation.entry) user) touches.entry }
+    ensures barred { IsBarred (rule_at trace.now.declarations at) (store_at trace.now.commits at) known.now (set_value set.entry.set)
+        (option_map (λ s. s.now) relation.entry) user → IsTrue result }
+{
+    for touch in touches {
+        if !is_touch_out(trace, at, known, set, relation, user, touch) {
+            return false;
+        }
+    }
+    true
+}
+
+/// Whether it holds of each touch of a crowded set that leads to a relation which is declared at the timestamp. It
+/// goes over the namespaces, of which there are 256 at most.
+fn are_out_through<F: KnownFact>(
+    trace: &Trace,
+    index: &UsersetIndex,
+    at: u64,
+    known: &Known<F>,
+    set: MarkedSet<'_>,
+    relation: &str,
+    user: u64,
+) -> bool
+    ensures out { IsTrue result → (n : ℕ) → n < 256 → AreThroughOut trace.now.declarations trace.now.commits at index.now.through known.now
+        (set_value set.entry.set) relation.now user (suc n) }
+    ensures few { IsTrue result → length (namespace_names trace.now.declarations) ≤ 256 }
+    ensures barred { IsBarred (rule_at trace.now.declarations at) (store_at trace.now.commits at) known.now (set_value set.entry.set)
+        (Some relation.now) user → IsTrue result }
+{
+    for before in 0..MOST_NAMESPACES {
+        let number = before + 1;
+        if let Some(namespace) = trace.rules().namespace(number) {
+            let target = SetRef {
+                namespace,
+                id: "",
+                relation,
+            };
+            if trace.rules().body(target, at).is_some()
+                && !are_out(
+                    trace,
+                    at,
+                    known,
+                    set,
+                    Some(relation),
+                    user,
+                    index.through(set, number, at),
+                )
+            {
+                return false;
+            }
+        }
+    }
+    true
+}
+
+/// Whether no userset that is stored in a crowded set has a target that may hold a user.
+pub(crate) fn is_barred_by_index<F: KnownFact>(
+    trace: &Trace,
+    index: &UsersetIndex,
+    at: u64,
+    known: &Known<F>,
+    set: MarkedSet<'_>,
+    relation: Option<&str>,
+    user: u64,
+) -> bool
+    requires index { IsUsersetIndex trace.now.declarations trace.now.commits index.now }
+    requires crowded { (index.now.is_whole && is_crowded index.now.crowds (set_mark (set_value set.set))) ≡ true }
+    ensures { IsTrue result
+        ↔ IsBarred (rule_at trace.now.declarations at) (store_at trace.now.commits at) known.now (set_value set.entry.set)
+        (option_map (λ s. s.now) relation.entry) user }
+{
+    match relation {
+        None => are_out(trace, at, known, set, None, user, index.own(set, at)),
+        Some(relation) => are_out_through(trace, index, at, known, set, relation, user),
+    }
+}

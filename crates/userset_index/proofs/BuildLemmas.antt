@@ -1,0 +1,152 @@
+-- What the passes over the changelog show.
+use Rattle.std.proofs.Common.{◌≡◌, ℕ, suc, ◌+◌, ◌<◌, ◌≤◌, ◌^◌, Bool, true, false, List, [], ◌∷◌, ◌++◌, length, refl, sym, ◌∙◌, ap, subst, Option, None, Some, inl, inr, arith}
+use Rattle.std.specs.Prelude.{slice_get, slice_set, option_map, nat_le, if◌then◌else◌, IsPermutation}
+use Rattle.std.specs.Option.{option_or}
+use Rattle.std.proofs.Math.Nat.{eq-or-lt_of_le}
+use Rattle.std.proofs.lemmas.Bool.{cases_lt, le-leb, leb-true}
+use Rattle.std.proofs.lemmas.List.Elements.{Contains-append_left, Contains-push}
+use Rattle.std.proofs.lemmas.List.Sorted.{Contains-permutation}
+use Rattle.std.proofs.lemmas.Option.{slice_get_within}
+use Rattle.tuple_text.specs.Order.{tuple_eq}
+use Rattle.tuple_text.specs.Sets.{SetValue}
+use Rattle.tuple_text.specs.declared.users.User.TheVariants.{Set}
+use Rattle.tuple_text.proofs.ValueLemmas.{tuple_eq-same}
+use Rattle.namespaces.specs.Declaration.{Declaration}
+use Rattle.namespaces.specs.Lookup.{Rule, as_rule, declared_in, in_force, relation_at, rule_at, rule_of}
+use Rattle.version_chains.specs.Commits.{Touch}
+use Rattle.version_chains.specs.Marks.{set_mark}
+use Rattle.version_chains.specs.Placed.{last_place}
+use Rattle.version_chains.proofs.PlacedLemmas.{at_last_place, slice_get-cases, slice_get-set}
+use Rattle.userset_index.specs.Building.{HaveEnds, HoldsFirst, IsEnd, IsLifeOf, IsUndeclaredBelow, kept}
+use Rattle.userset_index.specs.Index.{Holds, IsFound, IsLastTouch, IsMark, is_crowded}
+use Rattle.userset_index.specs.Lives.{is_alive}
+use Rattle.userset_index.specs.declared.life.Life.{Life}
+use Rattle.userset_index.specs.declared.life.Way.{Way}
+
+-- ---- ends
+
+module _ (touches : List Touch) (ends : List ℕ) (have : HaveEnds touches ends) where
+  -- a touch that has none after it so far
+  pub ends_more : (end : ℕ) → ((at : ℕ) → end < at → at < 2 ^ 64 → ⊥) → HaveEnds touches (ends ++ end ∷ [])
+  ends_more end never i x e here there = elim (slice_get-cases ends end i e there) [
+    | inl old ↦ have i x e here old
+    | inr new ↦ λ at late small. absurd (never at (subst (λ (n : ℕ). n < at) (sym new.1) late) small)
+  ]
+
+  -- the one before this touch of the same tuple
+  pub ends_set : (y : Touch) (k end : ℕ) → slice_get touches (length ends) ≡ Some y → last_place (λ x. tuple_eq x.tuple y.tuple) touches (length ends) ≡ suc k
+      → ((at : ℕ) → end < at → y.at ≤ at) → HaveEnds touches (slice_set ends k end)
+  ends_set y k end now last after i x e here there = elim (slice_get-set ends k i e end there) [
+    | inl new ↦ λ at late small.
+        let w = at_last_place (λ (x : Touch). tuple_eq x.tuple y.tuple) touches (length ends) k last in
+        let both : Some w.0 ≡ Some x = sym w.1 ∙ ap (slice_get touches) (sym new.0) ∙ here in
+        let is : w.0 ≡ x = cc in
+        let before : k < length ends = w.3 in
+        let place : i ≡ k = new.0 in (
+          length ends,
+          y,
+          omega (arith, before, place),
+          now,
+          sym (tuple_eq-same w.0.tuple y.tuple w.2) ∙ ap (λ (x : Touch). x.tuple) is,
+          after at (subst (λ (n : ℕ). n < at) (sym new.1) late),
+        )
+    | inr old ↦ have i x e here old.1
+  ]
+
+-- ---- declarations
+
+or_none : {X : Type 0} (a b : Option X) → option_or a b ≡ None → (a ≡ None) × (b ≡ None)
+or_none None b h = (refl, h)
+or_none (Some x) b h = absurd cc
+
+map_none : {X Y : Type 0} (f : X → Y) (o : Option X) → option_map f o ≡ None → o ≡ None
+map_none f None h = refl
+map_none f (Some x) h = absurd cc
+
+-- what is not declared at a timestamp is not declared before it
+relation_before : (ds : List Declaration) (a b : ℕ) (q r : List ℕ) → a ≤ b → relation_at ds b q r ≡ None → relation_at ds a q r ≡ None
+relation_before [] a b q r less none = refl
+relation_before (d ∷ ds) a b q r less none =
+    let both = or_none (relation_at ds b q r) (in_force b q r d) none in
+    let rest = relation_before ds a b q r less both.0 in
+    let first : in_force a q r d ≡ None = by_test (nat_le d.at a) refl both.1 in
+    rw (rest, first) refl
+  where
+    by_test : (t : Bool) → nat_le d.at a ≡ t → in_force b q r d ≡ None → (if t then declared_in q r d else None) ≡ None
+    by_test false e h = refl
+    by_test true e h =
+        let early = leb-true d.at a e in
+        let later : nat_le d.at b ≡ true = le-leb d.at b (omega (arith, early, less)) in
+        sym (ap (λ (t : Bool). if t then declared_in q r d else None) later) ∙ h
+
+pub undeclared_before : (ds : List Declaration) (g : SetValue) (a b : ℕ) → a ≤ b → rule_of (rule_at ds b) g ≡ None → rule_of (rule_at ds a) g ≡ None
+undeclared_before ds g a b less none = ap (option_map as_rule) (relation_before ds a b g.namespace g.relation less (map_none as_rule (relation_at ds b g.namespace g.relation) none))
+
+-- by what a look-up says of it
+pub undeclared_by : {X Y : Type 0} (f : X → Y) (h : Rule → Y) (o : Option X) (r : Option Rule) → option_map f o ≡ option_map h r → o ≡ None → r ≡ None
+undeclared_by f h o None same none = refl
+undeclared_by f h o (Some r) same none = absurd (let bad : None ≡ Some (h r) = sym (ap (option_map f) none) ∙ same in cc)
+
+pub undeclared_below : (ds : List Declaration) (g : SetValue) (middle : ℕ) → rule_of (rule_at ds middle) g ≡ None → IsUndeclaredBelow ds g (middle + 1)
+undeclared_below ds g middle none at less = undeclared_before ds g at middle (omega (arith, less)) none
+
+-- ---- lives
+
+found_further : (lives : List Life) (o : Option Life) (mark at i : ℕ) → IsFound lives mark at i → IsFound (kept lives o) mark at i
+found_further lives None mark at i f = f
+found_further lives (Some l) mark at i f = record { life = f.life; there = Contains-append_left lives (l ∷ []) f.life f.there; marked = f.marked; of = f.of; alive = f.alive }
+
+found_here : (lives : List Life) (o : Option Life) (mark at i : ℕ) → (l : Life) × (o ≡ Some l) × (l.mark ≡ mark) × (l.touch ≡ i) × (is_alive at l ≡ true)
+    → IsFound (kept lives o) mark at i
+found_here lives o mark at i w = subst (λ (p : Option Life). IsFound (kept lives p) mark at i) (sym w.1) (record {
+  life = w.0;
+  there = Contains-push lives w.0;
+  marked = w.2;
+  of = w.3;
+  alive = w.4;
+})
+
+module _ (ds : List Declaration) (way : Way) (touches : List Touch) (crowds : List ℕ) where
+  -- with the life of one more touch
+  pub holds_next : (lives : List Life) (n : ℕ) (life : Option Life) (x : Touch) (end : ℕ) → HoldsFirst n ds way touches crowds lives
+      → slice_get touches n ≡ Some x → IsLifeOf ds way crowds n x end life → IsEnd touches n x end → HoldsFirst (n + 1) ds way touches crowds (kept lives life)
+  holds_next lives n life x end first here of ended i at mark y g less last user crowd small key =
+      elim (eq-or-lt_of_le (let near : i ≤ n = omega (arith, less) in near)) [
+        | inr before ↦ found_further lives life mark at i (first i at mark y g before last user crowd small key)
+        | inl e ↦
+            let both : Some y ≡ Some x = sym last.here ∙ ap (slice_get touches) e ∙ here in
+            let is : y ≡ x = cc in
+            let last_x : IsLastTouch touches at n x = subst (λ (z : Touch). IsLastTouch touches at n z) is (subst (λ (k : ℕ). IsLastTouch touches at k y) e last) in
+            subst (IsFound (kept lives life) mark at) (sym e)
+            (found_here lives life mark at n
+            (of at mark g last_x.adds (subst (λ (z : Touch). z.tuple.user ≡ Set g) is user) (subst (λ (z : Touch). is_crowded crowds (set_mark z.tuple.set) ≡ true) is crowd) small last_x.until
+            (up_to last_x small) (subst (λ (z : Touch). IsMark ds way z.tuple.set g at mark) is key)))
+      ]
+    where
+      up_to : IsLastTouch touches at n x → at < 2 ^ 64 → at ≤ end
+      up_to l small = elim (cases_lt end at) [
+        | inl late ↦
+            let w = ended at late small in
+            let after = l.last w.0 w.1 w.2 w.3 w.4 in
+            let by = w.5 in
+            absurd (omega (arith, after, by))
+        | inr within ↦ within
+      ]
+
+  -- a touch that is not there has none
+  pub holds_past : (lives : List Life) (n : ℕ) → HoldsFirst n ds way touches crowds lives → slice_get touches n ≡ None → HoldsFirst (n + 1) ds way touches crowds lives
+  holds_past lives n first none i at mark y g less last user crowd small key =
+      elim (eq-or-lt_of_le (let near : i ≤ n = omega (arith, less) in near)) [
+        | inr before ↦ first i at mark y g before last user crowd small key
+        | inl e ↦ absurd (let bad : None ≡ Some y = sym none ∙ ap (slice_get touches) (sym e) ∙ last.here in cc)
+      ]
+
+  pub holds_all : (lives : List Life) (n : ℕ) → HoldsFirst n ds way touches crowds lives → length touches ≤ n → Holds ds way touches crowds lives
+  holds_all lives n first all i at mark x g last user crowd small key =
+      let within = slice_get_within touches i x last.here in
+      first i at mark x g (omega (arith, within, all)) last user crowd small key
+
+  pub holds_permuted : (lives more : List Life) → IsPermutation lives more → Holds ds way touches crowds lives → Holds ds way touches crowds more
+  holds_permuted lives more moved holds i at mark x g last user crowd small key =
+      let f = holds i at mark x g last user crowd small key in
+      record { life = f.life; there = Contains-permutation lives more f.life moved f.there; marked = f.marked; of = f.of; alive = f.alive }

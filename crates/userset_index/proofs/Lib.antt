@@ -1,0 +1,3 @@
+pub mod BuildLemmas
+pub mod CallerLemmas
+pub mod SpanLemmas

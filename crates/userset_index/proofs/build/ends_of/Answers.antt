@@ -1,0 +1,86 @@
+use Rattle.std.proofs.Common.{◌≡◌, ◌≤◌, ◌-◌, ◌++◌, ◌∷◌, [], ◌∙◌, suc, None, Some, length, inl, inr, ap, subst, sym, arith, rules}
+use Rattle.std.specs.Prelude.{slice_get, slice_set, option_map}
+use Rattle.std.proofs.lemmas.Option.{none-some, slice_get_cases, slice_get_within}
+use Rattle.tuple_text.specs.Order.{tuple_eq}
+use Rattle.version_chains.specs.Commits.{Touch, changelog}
+use Rattle.version_chains.specs.Placed.{last_place}
+use Rattle.version_chains.specs.Touches.{touch_value}
+use Rattle.version_chains.proofs.PlacedLemmas.{last_place-within, length-more, length-set}
+use Rattle.userset_index.specs.Building.{HaveEnds}
+use Rattle.userset_index.proofs.BuildLemmas.{ends_more, ends_set}
+use Rattle.userset_index.proofs.build.ends_of.Goals.{then-touch-gt0, else-touch-gt0}
+use Rattle.userset_index.proofs.build.ends_of.Goals as goal
+
+pub index_mut-requires : goal.index_mut-requires
+index_mut-requires c =
+    let touches = changelog c.args.chains.now.commits in
+    let within = last_place-within (λ (x : Touch). tuple_eq x.tuple (touch_value c.in-Some.touch).tuple) touches c.len.result in
+    let older = c.in-Some.ensures.older in
+    let len = c.len.ensures in
+    let some = c.if-touch-gt0.true in
+    omega (arith, within, older, len, some)
+
+pub loop-touch-preserved : goal.loop-touch-preserved
+loop-touch-preserved c =
+    let touches = changelog c.args.chains.now.commits in
+    let ends = c.loop-touch.ends.items in
+    let y = touch_value c.in-Some.touch in
+    let len : c.len.result ≡ length ends = search rules in
+    let now : slice_get touches (length ends) ≡ Some y = search rules in
+    let pushed : c.push.new.self.items ≡ c.if-touch-gt0.ends.items ++ 18446744073709551615 ∷ [] = search rules in
+    let older : c.in-Some.touch.older ≡ last_place (λ x. tuple_eq x.tuple y.tuple) touches (length ends) = c.in-Some.ensures.older ∙ ap (last_place (λ x. tuple_eq x.tuple y.tuple) touches) len in
+    let each : HaveEnds touches c.if-touch-gt0.ends.items = elim c.if-touch-gt0.branch [
+      | then-touch-gt0 w ↦
+          let some = w.if-touch-gt0.true in
+          let k : c.in-Some.touch.older ≡ suc (c.in-Some.touch.older - 1) = omega (arith, some) in
+          let set : c.if-touch-gt0.ends.items ≡ slice_set ends (c.in-Some.touch.older - 1) w.saturating_sub.result = search rules in
+          let end = w.saturating_sub.ensures in
+          subst (HaveEnds touches) (sym set)
+          (ends_set touches ends c.loop-touch.invariant.each y (c.in-Some.touch.older - 1) w.saturating_sub.result now (sym older ∙ k) (λ at late. omega (arith, late, end)))
+      | else-touch-gt0 w ↦
+          let same : c.if-touch-gt0.ends.items ≡ ends = search rules in
+          subst (HaveEnds touches) (sym same) c.loop-touch.invariant.each
+    ] in
+    let long : length c.if-touch-gt0.ends.items ≡ length ends = elim c.if-touch-gt0.branch [
+      | then-touch-gt0 w ↦
+          let set : c.if-touch-gt0.ends.items ≡ slice_set ends (c.in-Some.touch.older - 1) w.saturating_sub.result = search rules in
+          ap length set ∙ length-set ends (c.in-Some.touch.older - 1) w.saturating_sub.result
+      | else-touch-gt0 w ↦ let same : c.if-touch-gt0.ends.items ≡ ends = search rules in ap length same
+    ] in
+    let less = slice_get_within touches (length ends) y now in
+    let more = ap length pushed ∙ length-more c.if-touch-gt0.ends.items 18446744073709551615 in
+    record {
+      within = omega (arith, more, long, less);
+      each = subst (HaveEnds touches) (sym pushed) (ends_more touches c.if-touch-gt0.ends.items each 18446744073709551615 (λ at late small. omega (arith, late, small)));
+    }
+
+pub loop-touch-smaller : goal.loop-touch-smaller
+loop-touch-smaller c =
+    let touches = changelog c.args.chains.now.commits in
+    let ends = c.loop-touch.ends.items in
+    let len : c.len.result ≡ length ends = search rules in
+    let now : slice_get touches (length ends) ≡ Some (touch_value c.in-Some.touch) = search rules in
+    let pushed : c.push.new.self.items ≡ c.if-touch-gt0.ends.items ++ 18446744073709551615 ∷ [] = search rules in
+    let long : length c.if-touch-gt0.ends.items ≡ length ends = elim c.if-touch-gt0.branch [
+      | then-touch-gt0 w ↦
+          let set : c.if-touch-gt0.ends.items ≡ slice_set ends (c.in-Some.touch.older - 1) w.saturating_sub.result = search rules in
+          ap length set ∙ length-set ends (c.in-Some.touch.older - 1) w.saturating_sub.result
+      | else-touch-gt0 w ↦ let same : c.if-touch-gt0.ends.items ≡ ends = search rules in ap length same
+    ] in
+    let less = slice_get_within touches (length ends) (touch_value c.in-Some.touch) now in
+    let more : length c.push.new.self.items ≡ suc (length ends) = ap length pushed ∙ length-more c.if-touch-gt0.ends.items 18446744073709551615 ∙ ap suc long in
+    omega (arith, more, less)
+
+pub returns : goal.returns
+returns c =
+    let touches = changelog c.args.chains.now.commits in
+    let ends = c.loop-touch.ends.items in
+    let within = c.loop-touch.invariant.within in
+    let len : c.len.result ≡ length ends = search rules in
+    let nothing : c.touch.result ≡ None = search rules in
+    let none : slice_get touches (length ends) ≡ None = ap (slice_get touches) (sym len) ∙ sym c.touch.ensures.value ∙ ap (option_map touch_value) nothing in
+    let past : length touches ≤ length ends = elim (slice_get_cases touches (length ends)).1 [
+      | inl w ↦ absurd (none-some w.0 (sym none ∙ w.2))
+      | inr p ↦ p.0
+    ] in
+    record { all = omega (arith, within, past); each = c.loop-touch.invariant.each }

@@ -1,0 +1,58 @@
+-- What the passes leave that make an index. No public clause cites this module.
+use Rattle.std.specs.Prelude.{◌≡◌, ◌≤◌, ◌<◌, ◌^◌, ℕ, true, List, [], ◌∷◌, ◌++◌, Option, None, Some, length, slice_get}
+use Rattle.tuple_text.specs.Sets.{SetValue}
+use Rattle.tuple_text.specs.declared.users.User.TheVariants.{Set}
+use Rattle.namespaces.specs.Declaration.{Declaration}
+use Rattle.namespaces.specs.Lookup.{rule_at, rule_of}
+use Rattle.version_chains.specs.Commits.{Touch}
+use Rattle.version_chains.specs.Marks.{set_mark}
+use Rattle.userset_index.specs.Index.{IsFound, IsLastTouch, IsMark, is_crowded}
+use Rattle.userset_index.specs.Lives.{is_alive}
+use Rattle.userset_index.specs.declared.life.Life.{Life}
+use Rattle.userset_index.specs.declared.life.Way.{Way}
+
+-- behind this timestamp the touch is no longer the last of its tuple
+abbrev pub IsEnd : List Touch → ℕ → Touch → ℕ → Type 0
+IsEnd touches i x end =
+    (at : ℕ) → end < at → at < 2 ^ 64
+    → (j : ℕ) × (y : Touch) × (i < j) × (slice_get touches j ≡ Some y) × (y.tuple ≡ x.tuple) × (y.at ≤ at)
+
+abbrev pub HaveEnds : List Touch → List ℕ → Type 0
+HaveEnds touches ends =
+    (i : ℕ) (x : Touch) (end : ℕ) → slice_get touches i ≡ Some x → slice_get ends i ≡ Some end → IsEnd touches i x end
+
+-- an end for each touch
+pub record AreEnds (touches : List Touch) (ends : List ℕ) : Type 0 where
+  pub all : length ends ≡ length touches
+  pub each : HaveEnds touches ends
+
+abbrev pub IsNeverDeclared : List Declaration → SetValue → Type 0
+IsNeverDeclared ds g = (at : ℕ) → at < 2 ^ 64 → rule_of (rule_at ds at) g ≡ None
+
+abbrev pub IsUndeclaredBelow : List Declaration → SetValue → ℕ → Type 0
+IsUndeclaredBelow ds g from = (at : ℕ) → at < from → rule_of (rule_at ds at) g ≡ None
+
+-- a mark by which a userset is looked for at a timestamp is this one, from a timestamp on that is no later
+abbrev pub IsKeyOf : List Declaration → Way → SetValue → SetValue → Option (ℕ × ℕ) → Type 0
+IsKeyOf ds way s g key =
+    (at mark : ℕ) → at < 2 ^ 64 → IsMark ds way s g at mark → (from : ℕ) × (key ≡ Some (mark, from)) × (from ≤ at)
+
+-- the life of a touch, where it has one, holds each timestamp up to its end at which it is looked for
+abbrev pub IsLifeOf : List Declaration → Way → List ℕ → ℕ → Touch → ℕ → Option Life → Type 0
+IsLifeOf ds way crowds i x end life =
+    (at mark : ℕ) (g : SetValue) → x.live ≡ true → x.tuple.user ≡ Set g
+    → is_crowded crowds (set_mark x.tuple.set) ≡ true → at < 2 ^ 64
+    → x.at ≤ at → at ≤ end → IsMark ds way x.tuple.set g at mark
+    → (l : Life) × (life ≡ Some l) × (l.mark ≡ mark) × (l.touch ≡ i) × (is_alive at l ≡ true)
+
+-- with a life behind the others, if there is one
+abbrev pub kept : List Life → Option Life → List Life
+kept lives None = lives
+kept lives (Some l) = lives ++ l ∷ []
+
+-- the touches among the first so many are found
+abbrev pub HoldsFirst : ℕ → List Declaration → Way → List Touch → List ℕ → List Life → Type 0
+HoldsFirst n ds way touches crowds lives =
+    (i at mark : ℕ) (x : Touch) (g : SetValue) → i < n → IsLastTouch touches at i x → x.tuple.user ≡ Set g
+    → is_crowded crowds (set_mark x.tuple.set) ≡ true → at < 2 ^ 64 → IsMark ds way x.tuple.set g at mark
+    → IsFound lives mark at i

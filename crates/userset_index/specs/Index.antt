@@ -1,0 +1,73 @@
+-- What an index finds: the touches that make a userset stored in another at a timestamp.
+use Rattle.std.specs.Prelude.{◌≡◌, ◌≤◌, ◌<◌, ◌/◌, ◌^◌, ℕ, Bool, true, List, None, Some, slice_get, nat_lt, Contains}
+use Rattle.tuple_text.specs.Sets.{SetValue}
+use Rattle.tuple_text.specs.declared.users.User.TheVariants.{Set}
+use Rattle.namespaces.specs.Declaration.{Declaration}
+use Rattle.namespaces.specs.Lookup.{rule_at, rule_of, place_of, namespace_names}
+use Rattle.version_chains.specs.Commits.{Commit, Touch, changelog}
+use Rattle.version_chains.specs.Marks.{pair_mark, set_mark}
+use Rattle.version_chains.specs.Placed.{passes}
+use Rattle.userset_index.specs.Lives.{is_alive}
+use Rattle.userset_index.specs.declared.life.Life.{Life}
+use Rattle.userset_index.specs.declared.life.Way.{Way}
+use Rattle.userset_index.specs.declared.life.Way.TheVariants.{Own, Through}
+
+-- what a contract sees of an index: whether it holds of the changelog and the rules; the counts by which usersets are
+-- crowded; the lives by the mark of the userset that is stored in; and those by that and a namespace
+pub record IndexValue : Type 0 where
+  pub is_whole : Bool
+  pub crowds : List ℕ
+  pub own : List Life
+  pub through : List Life
+
+-- at how many touches a userset is no longer passed over one by one
+abbrev pub few : ℕ
+few = 16
+
+-- which count is that of a userset with this mark
+abbrev pub count_of : ℕ → ℕ
+count_of mark = mark / 2 ^ 48
+
+-- whether a userset with this mark has many usersets, or shares its count with one that has
+abbrev pub is_crowded : List ℕ → ℕ → Bool
+is_crowded crowds mark = passes (nat_lt few) (slice_get crowds (count_of mark))
+
+-- the touch at an index adds its tuple, and is the last of that tuple up to a timestamp
+pub record IsLastTouch (touches : List Touch) (at i : ℕ) (x : Touch) : Type 0 where
+  pub here : slice_get touches i ≡ Some x
+  pub until : x.at ≤ at
+  pub adds : x.live ≡ true
+  pub last : (j : ℕ) (y : Touch) → i < j → slice_get touches j ≡ Some y → y.tuple ≡ x.tuple → at < y.at
+
+-- one of the lives with the mark is of the touch and holds the timestamp
+pub record IsFound (lives : List Life) (mark at touch : ℕ) : Type 0 where
+  pub life : Life
+  pub there : Contains lives life
+  pub marked : life.mark ≡ mark
+  pub of : life.touch ≡ touch
+  pub alive : is_alive at life ≡ true
+
+abbrev pub IsDeclaredAt : List Declaration → ℕ → SetValue → Type 0
+IsDeclaredAt ds at g = ¬ (rule_of (rule_at ds at) g ≡ None)
+
+-- a mark by which a userset g that is stored in another, s, is looked for at a timestamp: for its own members, where
+-- it is declared then; or through it, by its namespace
+abbrev pub IsMark : List Declaration → Way → SetValue → SetValue → ℕ → ℕ → Type 0
+IsMark ds Own s g at mark = (mark ≡ set_mark s) × IsDeclaredAt ds at g
+IsMark ds Through s g at mark =
+    (n : ℕ) × (place_of g.namespace (namespace_names ds) ≡ Some n) × (mark ≡ pair_mark (set_mark s) n)
+
+-- each touch that makes a userset stored in a crowded one at a timestamp is found by such a mark
+abbrev pub Holds : List Declaration → Way → List Touch → List ℕ → List Life → Type 0
+Holds ds way touches crowds lives =
+    (i at mark : ℕ) (x : Touch) (g : SetValue) → IsLastTouch touches at i x → x.tuple.user ≡ Set g
+    → is_crowded crowds (set_mark x.tuple.set) ≡ true → at < 2 ^ 64 → IsMark ds way x.tuple.set g at mark
+    → IsFound lives mark at i
+
+pub record IsWhole (ds : List Declaration) (commits : List Commit) (v : IndexValue) : Type 0 where
+  pub own : Holds ds Own (changelog commits) v.crowds v.own
+  pub through : Holds ds Through (changelog commits) v.crowds v.through
+
+-- an index of these declarations and commits, unless it was given up
+abbrev pub IsUsersetIndex : List Declaration → List Commit → IndexValue → Type 0
+IsUsersetIndex ds commits v = v.is_whole ≡ true → IsWhole ds commits v

@@ -1,0 +1,4 @@
+pub mod Building
+pub mod Index
+pub mod Lives
+pub mod Spans

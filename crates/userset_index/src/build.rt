@@ -1,0 +1,198 @@
+//! Making an index, in passes over the changelog.
+
+ghost use Rattle.std.specs.Prelude.{◌≡◌, ◌<◌, ◌≤◌, ◌^◌, ◌++◌, ℕ, None, Some, List, length, slice_get, IfOk, MatchOption, OnOk, IsPermutation, Contains};
+ghost use Rattle.tuple_text.specs.Refs.{set_value};
+ghost use Rattle.tuple_text.specs.Sets.{SetValue};
+ghost use Rattle.namespaces.specs.Lookup.{rule_at, rule_of};
+ghost use Rattle.version_chains.specs.Commits.{changelog};
+ghost use Rattle.version_chains.specs.Marks.{set_mark};
+ghost use Rattle.version_chains.specs.Touches.{touch_value};
+ghost use Rattle.userset_index.specs.Building.{AreEnds, IsUndeclaredBelow, IsKeyOf, IsLifeOf, IsNeverDeclared, kept};
+ghost use Rattle.userset_index.specs.Index as spec;
+ghost use Rattle.userset_index.specs.Index.{Holds};
+
+use crate::life::{Life, Way};
+use crate::spans::Spans;
+use namespaces::Rules;
+use std::alloc::{AllocError, Global};
+use tuple_text::{SetRef, UserRef};
+use version_chains::{Chains, MarkedSet, TouchRef, pair_mark};
+
+/// At more touches of usersets than so many a userset is crowded, or those that share its count.
+const FEW: u8 = 16;
+
+/// How many counts there are: one for each beginning of 16 bits of a mark.
+const COUNTS: usize = 1 << 16;
+
+/// Which count is that of a userset with this mark.
+fn count_of(mark: u64) -> usize
+    ensures { result ≡ spec.count_of mark }
+{
+    (mark >> 48) as usize
+}
+
+pub(crate) fn is_crowded(crowds: &[u8], mark: u64) -> bool
+    ensures { result ≡ spec.is_crowded crowds.now mark }
+{
+    match crowds.get(count_of(mark)) {
+        Some(count) => *count > FEW,
+        None => false,
+    }
+}
+
+/// Counts the touches of usersets, by the userset that they are stored in. It goes once over the changelog.
+pub(crate) fn count_crowds(
+    alloc: Global,
+    chains: &Chains,
+    touches: usize,
+) -> Result<Vec<u8>, AllocError> {
+    let mut crowds = vec![in alloc; 0u8; COUNTS]?;
+    for index in 0..touches {
+        let Some(touch) = chains.touch(index) else {
+            break;
+        };
+        if let UserRef::Set(_) = touch.user.user {
+            if let Some(count) = crowds.get_mut(count_of(MarkedSet::of(touch.set).mark)) {
+                *count = count.saturating_add(1);
+            }
+        }
+    }
+    Ok(crowds)
+}
+
+/// For each touch the last timestamp at which it may be the last of its tuple: one before the next touch of that
+/// tuple, else the greatest. It goes once over the changelog.
+pub(crate) fn ends_of(alloc: Global, chains: &Chains) -> Result<Vec<u64>, AllocError>
+    ensures { IfOk result (λ ends. AreEnds (changelog chains.now.commits) ends.items) }
+{
+    let mut ends = Vec::new(alloc);
+    while let Some(touch) = chains.touch(ends.len()) {
+        if touch.older > 0 {
+            ends[touch.older - 1] = touch.at.saturating_sub(1);
+        }
+        ends.push(u64::MAX)?;
+    }
+    Ok(ends)
+}
+
+/// From which timestamp on the relation of a userset is declared. `None` where it never is.
+///
+/// What is declared stays declared, so this is found by halving, in at most 64 steps.
+fn declared_from(rules: &Rules, set: SetRef<'_>) -> Option<u64>
+    ensures { MatchOption result (IsNeverDeclared rules.now (set_value set.entry))
+        (IsUndeclaredBelow rules.now (set_value set.entry)) }
+{
+    if rules.body(set, 0).is_some() {
+        return Some(0);
+    }
+    if rules.body(set, u64::MAX).is_none() {
+        return None;
+    }
+    let mut low = 0;
+    let mut high = u64::MAX;
+    while low < high {
+        let middle = low + (high - low) / 2;
+        if rules.body(set, middle).is_some() {
+            high = middle;
+        } else {
+            low = middle + 1;
+        }
+    }
+    Some(low)
+}
+
+/// The mark by which a userset is looked for that is stored in one with this mark, and the timestamp from which on.
+/// `None` where it never is.
+fn key_of(way: Way, rules: &Rules, mark: u64, user: SetRef<'_>) -> Option<(u64, u64)>
+    ensures { (s : SetValue) → mark ≡ set_mark s → IsKeyOf rules.now way s (set_value user.entry) result }
+{
+    match way {
+        Way::Own => {
+            let from = declared_from(rules, user)?;
+            Some((mark, from))
+        }
+        Way::Through => {
+            let number = rules.namespace_number(user.namespace)?;
+            Some((pair_mark(mark, u64::from(number)), 0))
+        }
+    }
+}
+
+/// The life of a touch that may be the last of its tuple up to the timestamp `end`. `None` where it can never matter,
+/// or the userset is not crowded.
+fn life_of(
+    way: Way,
+    rules: &Rules,
+    crowds: &[u8],
+    index: usize,
+    touch: TouchRef<'_>,
+    end: u64,
+) -> Option<Life>
+    ensures { IsLifeOf rules.now way crowds.now index (touch_value touch.entry) end result }
+{
+    let UserRef::Set(user) = touch.user.user else {
+        return None;
+    };
+    let set = MarkedSet::of(touch.set);
+    if !touch.live || !is_crowded(crowds, set.mark) {
+        return None;
+    }
+    let (mark, from) = key_of(way, rules, set.mark, user)?;
+    Some(Life {
+        mark,
+        touch: index,
+        from: from.max(touch.at),
+        until: end,
+    })
+}
+
+/// Puts a life last, if there is one.
+fn keep(lives: &mut Vec<Life>, life: Option<Life>) -> Result<(), AllocError>
+    ensures { OnOk result (lives.new.items ≡ kept lives.old.items life) }
+{
+    if let Some(life) = life {
+        lives.push(life)?;
+    }
+    Ok(())
+}
+
+/// The lives that can matter, in the order of their touches. It goes once over the changelog.
+fn lives_of(
+    alloc: Global,
+    way: Way,
+    chains: &Chains,
+    rules: &Rules,
+    crowds: &[u8],
+    ends: &[u64],
+) -> Result<Vec<Life>, AllocError>
+    requires { AreEnds (changelog chains.now.commits) ends.now }
+    ensures { IfOk result (λ lives. Holds rules.now way (changelog chains.now.commits) crowds.now lives.items) }
+{
+    let mut lives = Vec::new(alloc);
+    for index in 0..ends.len() {
+        if let Some(touch) = chains.touch(index) {
+            keep(
+                &mut lives,
+                life_of(way, rules, crowds, index, touch, ends[index]),
+            )?;
+        }
+    }
+    Ok(lives)
+}
+
+/// The lives that can matter, in the order of their first timestamps, so that a walk passes over those that are later.
+pub(crate) fn linked_lives(
+    alloc: Global,
+    way: Way,
+    chains: &Chains,
+    rules: &Rules,
+    crowds: &[u8],
+    ends: &[u64],
+) -> Result<Spans, AllocError>
+    requires { AreEnds (changelog chains.now.commits) ends.now }
+    ensures { IfOk result (λ lives. Holds rules.now way (changelog chains.now.commits) crowds.now lives) }
+{
+    let mut lives = lives_of(alloc, way, chains, rules, crowds, ends)?;
+    lives.sort_unstable_by_key(|life| life.from);
+    Spans::of(alloc, &lives)
+}

@@ -1,0 +1,100 @@
+//! The index.
+
+ghost use Rattle.std.specs.Prelude.{◌≡◌, ◌&&◌, length, false, IfOk};
+ghost use Rattle.tuple_text.specs.Refs.{set_value};
+ghost use Rattle.version_chains.specs.Marks as marks;
+ghost use Rattle.userset_index.specs.Index as spec;
+ghost use Rattle.userset_index.specs.Index.{IsUsersetIndex};
+ghost use Rattle.userset_index.specs.Lives.{touches_alive};
+
+use crate::build::{count_crowds, ends_of, is_crowded, linked_lives};
+use crate::life::Way;
+use crate::spans::{Alive, Spans};
+use namespaces::Rules;
+use std::alloc::{AllocError, Global};
+use std::marker::Model;
+use version_chains::{Chains, MarkedSet, pair_mark};
+
+/// The lives of usersets that are stored in crowded ones. A userset with at most 16 touches that add or remove a
+/// userset is not crowded, and to pass over what is stored in it takes no index.
+#[derive(Drop)]
+pub struct UsersetIndex {
+    is_whole: bool,
+    crowds: Vec<u8>,
+    own: Spans,
+    through: Spans,
+}
+
+impl Model for UsersetIndex {
+    ghost use Rattle.userset_index.specs.Index.{IndexValue};
+
+    ghost Value = { IndexValue };
+
+    ghost view = { λ x. record { is_whole = x.is_whole; crowds = x.crowds.items; own = x.own; through = x.through } };
+}
+
+impl UsersetIndex {
+    /// No index, in which nothing is crowded.
+    pub fn new(alloc: Global) -> UsersetIndex
+        ensures { result.is_whole ≡ false }
+    {
+        UsersetIndex {
+            is_whole: false,
+            crowds: Vec::new(alloc),
+            own: Spans::new(alloc),
+            through: Spans::new(alloc),
+        }
+    }
+
+    /// Makes the index of a store under these rules.
+    ///
+    /// It takes time in the logarithm of the touches for each touch of a userset, and of its memory some 180 bytes for
+    /// each that adds one to a crowded userset.
+    pub fn of(alloc: Global, chains: &Chains, rules: &Rules) -> Result<UsersetIndex, AllocError>
+        ensures { IfOk result (λ index. IsUsersetIndex rules.now chains.now.commits index) }
+    {
+        let ends = ends_of(alloc, chains)?;
+        let crowds = count_crowds(alloc, chains, ends.len())?;
+        let own = linked_lives(alloc, Way::Own, chains, rules, &crowds, &ends)?;
+        let through = linked_lives(alloc, Way::Through, chains, rules, &crowds, &ends)?;
+        Ok(UsersetIndex {
+            is_whole: true,
+            crowds,
+            own,
+            through,
+        })
+    }
+
+    /// Leaves it that this is an index: the store or the rules go on. From then on nothing is crowded.
+    pub fn give_up(&mut self)
+        ensures { self.new.is_whole ≡ false }
+    {
+        self.is_whole = false;
+    }
+
+    /// Whether the index is to be asked for what is stored in a userset.
+    pub fn is_crowded(&self, set: MarkedSet<'_>) -> bool
+        ensures { result
+            ≡ (self.now.is_whole && spec.is_crowded self.now.crowds (marks.set_mark (set_value set.entry.set))) }
+    {
+        self.is_whole && is_crowded(&self.crowds, set.mark)
+    }
+
+    /// The touches of usersets that are stored in a userset and declared at a timestamp, and maybe others.
+    pub fn own(&self, set: MarkedSet<'_>, at: u64) -> Alive<'_>
+        ensures { result
+            ≡ touches_alive (marks.set_mark (set_value set.entry.set)) at self.now.own (length self.now.own) }
+    {
+        self.own.alive(set.mark, at)
+    }
+
+    /// The touches of usersets of a namespace, by its number, that are stored in a userset at a timestamp, and maybe
+    /// others.
+    pub fn through(&self, set: MarkedSet<'_>, namespace: u16, at: u64) -> Alive<'_>
+        ensures { result ≡ touches_alive (marks.pair_mark (marks.set_mark (set_value set.entry.set)) namespace) at
+            self.now.through (length self.now.through) }
+    {
+        self.through
+            .alive(pair_mark(set.mark, u64::from(namespace)), at)
+    }
+}

@@ -1,0 +1,29 @@
+use Rattle.std.proofs.Common.{rules, ◌≡◌, ◌∙◌, ap, Option, Some, subst, sym, map}
+use Rattle.std.specs.Prelude.{unwrap_or}
+use Rattle.tuple_text.specs.Refs.{set_value, user_value}
+use Rattle.tuple_text.specs.Tuples.{TupleValue, tuple_of}
+use Rattle.version_chains.specs.Arena.{Held, latest_of, nobody, touch_of, tuples_of}
+use Rattle.version_chains.specs.Commits.{Touch}
+use Rattle.version_chains.specs.Given.{newest_of}
+use Rattle.version_chains.proofs.ArenaLemmas.{item_of, touch_at}
+use Rattle.version_chains.proofs.PlacedLemmas.{read_item}
+use Rattle.version_chains.proofs.arena.Arena.touched.Goals as goal
+
+pub returns-clause-older : goal.returns-clause-older
+returns-clause-older c =
+    let inside = c.self.inside in
+    let touches = map (touch_of (tuples_of inside.rows.items)) inside.nodes.items in
+    let touch = c.in_ok-touch.touch.now in
+    let row = c.in_ok-row.row.now in
+    let read = read_item inside.nodes.items c.deref.result.now c.args.index touch c.deref.ensures.value c.in_ok-touch.ensures.lookup.3.0 c.in_ok-touch.ensures.lookup.1 in
+    let of_row = read_item inside.rows.items c.deref-2.result.now touch.tuple row c.deref-2.ensures.value c.in_ok-row.ensures.lookup.3.0 c.in_ok-row.ensures.lookup.1 in
+    let parts : row.tuple ≡ tuple_of (set_value c.set.result) (user_value c.user.result) = search rules in
+    let at = touch_at (tuples_of inside.rows.items) (latest_of inside.rows.items) inside.named inside.held inside.nodes.items c.self.invariant.0 c.args.index touch read in
+    let here : Some at.0 ≡ Some (touch_of (tuples_of inside.rows.items) touch) = sym at.1 ∙ item_of (touch_of (tuples_of inside.rows.items)) inside.nodes.items c.args.index touch read in
+    let same : at.0 ≡ touch_of (tuples_of inside.rows.items) touch = cc in
+    let tuple : at.0.tuple ≡ tuple_of (set_value c.set.result) (user_value c.user.result) =
+    ap (λ (x : Touch). x.tuple) same
+    ∙ ap (λ (o : Option TupleValue). unwrap_or o nobody) (item_of (λ r. r.tuple) inside.rows.items touch.tuple row of_row)
+    ∙ parts in
+    subst (λ (h : Held). touch.older ≡ newest_of (tuple_of (set_value c.set.result) (user_value c.user.result)) h.touches c.args.index) c.self.view_is
+    (at.4 ∙ ap (λ (t : TupleValue). newest_of t touches c.args.index) tuple)
