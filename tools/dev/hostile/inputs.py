@@ -1,10 +1,10 @@
-"""The worked inputs: those of rows/cases.json and the examples."""
-import json
+"""The worked inputs: those of the worked cases and of the examples."""
 import os
 from typing import Iterator, NamedTuple
 
 from hostile.answers import Answer
-from hostile.loading import loaded_file
+from worked.cases import read_cases
+from worked.pieces import given
 
 TOP = os.path.realpath(os.path.join(os.path.dirname(__file__), "..", "..", ".."))
 EXAMPLES = ("one_proved_check", "each_finding")
@@ -20,14 +20,11 @@ class Worked(NamedTuple):
 
 
 def _cases() -> Iterator[Worked]:
-    """The cases whose devices work."""
-    given = loaded_file(os.path.join(TOP, "rows", "run")).given
-    with open(os.path.join(TOP, "rows", "cases.json"), encoding="utf-8") as file:
-        cases = [case for case in json.load(file) if not {"room", "unreadable", "heavy"} & case.keys()]
-    for case in cases:
-        files = {name: given(text) for name, text in case.get("files", {}).items()}
-        yield Worked(case["name"], given(case.get("stdin")), Answer(case["status"], *(
-            None if text is None else text.encode() for text in (case["stdout"], case["stderr"]))), case.get("words", []), files)
+    """The cases whose devices work, with what their first run has to give."""
+    for name, run, _, is_heavy in read_cases():
+        if not is_heavy and run.room is None and not run.is_unreadable:
+            files = {file: given(pieces) for file, pieces in run.files.items()}
+            yield Worked(name, given(run.stdin), Answer(run.status, run.stdout, run.stderr), run.words, files)
 
 
 def worked_cases() -> list[Worked]:

@@ -1,0 +1,1 @@
+"""The worked cases of rows/, as they stand in their files."""
