@@ -8,7 +8,7 @@ from bisect import bisect_right
 from collections import Counter
 from itertools import accumulate, compress, repeat
 from operator import eq, itemgetter, lt
-from typing import Optional
+from typing import Iterable, Optional
 
 from new_enemy_tools.ids import mark_in
 from new_enemy_tools.kept import Commit, LateEntries
@@ -24,6 +24,8 @@ CHECK = b'{"kind":"check","goal":'
 CONTENT = b'{"kind":"content","goal":'
 AT = re.compile(rb"\n%s(%s)[,}]" % (re.escape(COMMIT), NUMBER))
 TOUCHED = re.compile(rb'"([^"@]+)@')
+# A line with its number.
+Numbered = tuple[int, bytes]
 # So many usersets are searched for among all commits before these are listed by the usersets that they touch.
 SEARCHES = 40
 
@@ -82,23 +84,27 @@ class LateStore(Store):
 
 
 class AuditedTrace(Trace):
-    """As Trace, of lines that begin as importers write them: first those of namespaces."""
+    """As Trace, of lines that begin as importers write them; of content checks those that may issue versions."""
 
-    def __init__(self, lines: list[bytes], starts: list[bytes], head: int, entries: int):
+    def __init__(self, rules: Iterable[Numbered], commits: list[int], raws: list[bytes], contents: Iterable[Numbered]):
         super().__init__()
-        for line, raw in enumerate(lines[:head], 1):
-            self.take(line, raw)
-        are_commits = list(map(eq, starts, repeat(COMMIT)))
-        numbers = list(compress(range(1, len(lines) + 1), are_commits))
-        self._raws = list(compress(lines, are_commits))
-        ats = list(map(int, AT.findall(b"\n" + b"\n".join(self._raws))))
-        if len(ats) != len(numbers) or not all(map(lt, ats, ats[1:])):
+        try:
+            for line, raw in rules:
+                self.take(line, raw)
+        except Refusal:
+            raise OtherForm from None
+        self._raws = raws
+        ats = list(map(int, AT.findall(b"\n" + b"\n".join(raws))))
+        if len(ats) != len(commits) or not all(map(lt, ats, ats[1:])):
             raise OtherForm
-        self.commits.keep_all(numbers, ats, self._raws)
-        self.entries = LateEntries(self._entry_again, lines, (CHECK, CONTENT), entries)
-        self.store = LateStore(ats, self._raws)
-        self._issues = ((line, raw) for line, raw in enumerate(lines, 1) if raw.startswith(CONTENT))
+        self.commits.keep_all(commits, ats, raws)
+        self.store = LateStore(ats, raws)
+        self._issues = iter(contents)
         self._sight: Optional[Sight] = None
+
+    def keep_late(self, lines: list[bytes], count: int) -> None:
+        """Has for entries so many of a trace's lines, which are looked at when they are asked for."""
+        self.entries = LateEntries(self._entry_again, lines, (CHECK, CONTENT), count)
 
     def line_that_issues(self, of: Userset, version: str) -> Optional[int]:
         for line, raw in self._issues:
@@ -119,21 +125,26 @@ class AuditedTrace(Trace):
         return super()._commit_again(line, raw)
 
 
+def refuse_other_keys(data: bytes, lines: int, commits: int) -> None:
+    """Raises OtherForm where some of these lines may have a key twice, or another key that tells what they are."""
+    # Without an escape no text has a quotation mark, so what is counted are keys.
+    if b"\\" in data or lines != data.count(b'"kind"') or commits != data.count(b'"at"') or not is_utf8(data):
+        raise OtherForm
+
+
 def read_audited(data: bytes) -> Trace:
     """The trace of bytes; raises OtherForm where a line does not begin so. Blank lines are those of other parts of a cut."""
-    if b"\\" in data or not is_utf8(data):
-        raise OtherForm
     lines = data.split(b"\n")
     starts = list(map(itemgetter(slice(len(COMMIT))), lines))
     begun = Counter(starts)
     blank, entries, commits = begun.pop(b"", 0), begun.pop(CHECK[:len(COMMIT)], 0) + begun.pop(CONTENT[:len(COMMIT)], 0), begun.pop(COMMIT, 0)
     head = next((place for place, line in enumerate(lines) if not line.startswith(NAMESPACE)), len(lines))
-    # Without an escape no text has a quotation mark, so what is counted are keys.
-    if head != sum(begun.values()) or len(lines) - blank != data.count(b'"kind"') or commits != data.count(b'"at"'):
+    if head != sum(begun.values()):
         raise OtherForm
-    try:
-        trace = AuditedTrace(lines, starts, head, entries)
-    except Refusal:
-        raise OtherForm from None
+    refuse_other_keys(data, len(lines) - blank, commits)
+    are_commits = list(map(eq, starts, repeat(COMMIT)))
+    trace = AuditedTrace(enumerate(lines[:head], 1), list(compress(range(1, len(lines) + 1), are_commits)), list(compress(lines, are_commits)),
+                         ((line, raw) for line, raw in enumerate(lines, 1) if raw.startswith(CONTENT)))
+    trace.keep_late(lines, entries)
     trace.table = mark_in(data)
     return trace

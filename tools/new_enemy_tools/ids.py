@@ -7,7 +7,7 @@ its table had, and their checksum.
 import json
 import os
 import re
-from typing import Optional
+from typing import BinaryIO, Optional
 
 from new_enemy_tools import limits, texts
 from new_enemy_tools.faults import ToolFault
@@ -18,6 +18,10 @@ SERVICE = "service"
 KINDS = ("user", "namespace", "relation", "object", "version")
 NAME = re.compile(r"n_([1-9][0-9]*)")
 ID = re.compile(r"~([1-9][0-9]*)")
+# A row without escapes, as it is written here.
+PLAIN = r'([^"\\\x00-\x1f]*)'
+ROWS = re.compile(r'^\{"kind":"(%s)","type":"%s","id":"%s","number":([1-9][0-9]*)(?:,"service":"%s")?\}$'
+                  % ("|".join(KINDS), PLAIN, PLAIN, PLAIN.replace("*", "+")), re.MULTILINE)
 encode = json.JSONEncoder(separators=(",", ":")).encode
 
 
@@ -71,22 +75,41 @@ class Ids:
 
     def _read(self, path: str) -> None:
         with open(path, "rb") as file:
-            for number, line in enumerate(file, 1):
-                try:
-                    value = json.loads(line)
-                    row = _row(value, number)
-                    self.service = value.get(SERVICE) if number == 1 else self.service
-                except TableFault as fault:
-                    raise TableFault("%s:%d: %s" % (path, number, fault)) from None
-                except ValueError:
-                    raise TableFault("%s:%d: no row of the table, or not number %d" % (path, number, number)) from None
-                if row in self.numbers:
-                    raise TableFault("%s:%d: this row stands on line %d too" % (path, number, self.numbers[row]))
-                if not line.endswith(b"\n"):
-                    raise TableFault("%s:%d: the line has no end" % (path, number))
-                self.rows.append(row)
-                self.numbers[row] = number
+            if not self._reads_quickly(file.read()):
+                file.seek(0)
+                self._read_in_full(path, file)
         self.kept = len(self.rows)
+
+    def _reads_quickly(self, data: bytes) -> bool:
+        """Takes rows as they are written here; False where one has another form, or may be at fault."""
+        try:
+            found = ROWS.findall(data.decode())
+        except UnicodeDecodeError:
+            return False
+        rows = [(kind, of, id_text) for kind, of, id_text, _, _ in found]
+        numbers = dict(zip(rows, range(1, len(rows) + 1)))
+        if len(rows) != data.count(b"\n") or not data.endswith(b"\n") or len(numbers) != len(rows) \
+                or [number for _, _, _, number, _ in found] != list(map(str, range(1, len(rows) + 1))) or any(service for *_, service in found[1:]):
+            return False
+        self.rows, self.numbers, self.service = rows, numbers, found[0][4] or None
+        return True
+
+    def _read_in_full(self, path: str, file: BinaryIO) -> None:
+        for number, line in enumerate(file, 1):
+            try:
+                value = json.loads(line)
+                row = _row(value, number)
+                self.service = value.get(SERVICE) if number == 1 else self.service
+            except TableFault as fault:
+                raise TableFault("%s:%d: %s" % (path, number, fault)) from None
+            except ValueError:
+                raise TableFault("%s:%d: no row of the table, or not number %d" % (path, number, number)) from None
+            if row in self.numbers:
+                raise TableFault("%s:%d: this row stands on line %d too" % (path, number, self.numbers[row]))
+            if not line.endswith(b"\n"):
+                raise TableFault("%s:%d: the line has no end" % (path, number))
+            self.rows.append(row)
+            self.numbers[row] = number
 
     def take_for(self, service: str) -> None:
         """Says whose table it is; raises TableFault where it is another's. A table may be older than that rows say so."""
@@ -94,6 +117,13 @@ class Ids:
             raise TableFault("%s:1: the table is of %s, and the logs are of %s; give each service a table of its own with --ids"
                              % (self.path, self.service, service))
         self.service = None if self.rows and self.service is None else service
+
+    def forget(self) -> None:
+        """Takes the rows back that are not in the file."""
+        for row in self.rows[self.kept:]:
+            del self.numbers[row]
+        del self.rows[self.kept:]
+        self._names.clear()
 
     def mark(self) -> dict[str, object]:
         """What a trace says of its table."""
@@ -130,6 +160,11 @@ class Ids:
     def known_users(self, given: list[tuple[str, str]]) -> list[Optional[int]]:
         """The numbers of users by their types and ids, None where there is none yet."""
         return [self.numbers.get(("user", of, id_text)) for of, id_text in given]
+
+    def kept_users(self, given: list[tuple[str, str]]) -> list[Optional[int]]:
+        """The numbers that users have in the file, None for others; nothing where the file has no rows."""
+        kept = self.kept
+        return [None if number is None or number > kept else number for number in self.known_users(given)] if kept else []
 
     def has(self, goal: tuple[str, ...]) -> bool:
         """Whether the user and the object of a goal were seen; its parts are those of a tuple of a service."""

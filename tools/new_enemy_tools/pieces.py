@@ -25,12 +25,21 @@ INDEX_BYTES = 1 << 17
 # A line has more than its last braces in so many bytes.
 LEAST_BYTES = 1_000
 ENDS = b"}\n"
+BLOCK = 1 << 20
 
 
 def _digest() -> "blake2b":
     # It takes long to load, and most commands do not need it.
     from hashlib import blake2b
     return blake2b(digest_size=16)
+
+
+def _digest_of(path: str) -> str:
+    digest = _digest()
+    with open(path, "rb") as file:
+        while data := file.read(BLOCK):
+            digest.update(data)
+    return digest.hexdigest()
 
 
 class InPieces(ToolFault):
@@ -131,7 +140,7 @@ class PiecesWriter:
         # pieces that have their names, while the trace has not
         self._named: list[str] = []
         self._file: BinaryIO = open(self._beside(1), "wb")
-        self._written, self._digest = 0, _digest()
+        self._written = 0
         # The last lines wait: where no more come, they may fill a piece to its end.
         self._held = b""
 
@@ -142,9 +151,11 @@ class PiecesWriter:
             self._held = lines
 
     def end(self) -> None:
-        """What was held is written, and the last file is closed."""
+        """What was held is written, and the last file is closed. One file has no index, and needs no digest."""
         self._put(self._held, False)
         self._close()
+        if len(self.pieces) > 1:
+            self.pieces = [piece._replace(digest=_digest_of(self._beside(number))) for number, piece in enumerate(self.pieces, 1)]
 
     def _put(self, data: bytes, has_more: bool) -> None:
         # each time a piece is filled, but for the braces of a line's end
@@ -159,20 +170,19 @@ class PiecesWriter:
 
     def _append(self, data: bytes) -> None:
         self._file.write(data)
-        self._digest.update(data)
         self._written += len(data)
         self.size += len(data)
 
     def _close(self) -> None:
         self._file.close()
-        self.pieces.append(Piece(piece_path(self.path, len(self.pieces) + 1), self._written, self._digest.hexdigest()))
+        self.pieces.append(Piece(piece_path(self.path, len(self.pieces) + 1), self._written, ""))
 
     def _next(self) -> None:
         self._close()
         if len(self.pieces) == MOST:
             raise ToolFault("the trace has more than %d pieces of %d bytes, and a cut has no more parts" % (MOST, self.most))
         self._file = open(self._beside(len(self.pieces) + 1), "wb")
-        self._written, self._digest = 0, _digest()
+        self._written = 0
 
     def keep(self, before: Callable[[], None]) -> None:
         """Gives the files their names, and calls `before` before the last of them, that of the trace, is given.

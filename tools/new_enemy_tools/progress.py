@@ -2,7 +2,7 @@
 import sys
 import time
 from types import TracebackType
-from typing import Callable, Iterable, Optional, TextIO
+from typing import Callable, Iterable, Iterator, Optional, TextIO
 
 
 class Progress:
@@ -36,10 +36,11 @@ class Progress:
         """What shows counts of one kind."""
         return lambda count: self.step(said, count)
 
-    def follow(self, said: str, counts: Iterable[int]) -> None:
-        """Goes through counts, and shows them as they rise."""
+    def follow(self, said: str, counts: Iterable[int]) -> Iterator[int]:
+        """Shows counts as they are gone through."""
         for count in counts:
             self.step(said, count)
+            yield count
 
     def end(self) -> None:
         """Takes the line away, before something else is written."""

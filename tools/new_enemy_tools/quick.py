@@ -25,7 +25,10 @@ FIELDS = re.compile(rb'\{"kind":"(check|content)","goal":"(%s):(%s)#(%s)@(%s)","
                     rb'(?:,"revision":"(%s*)")?(?:,"from":"(%s*)")?\}\r?\Z'
                     % (NAME, ID, NAME, NUMBER, NUMBER, PLAIN, limits.VERSION_BYTES, PLAIN, PLAIN))
 COMMIT = re.compile(rb'\{"kind":"commit","at":(%s)(?:,"add":%s)?(?:,"remove":%s)?' % (NUMBER, LIST, LIST) + TOLD)
-PAIR = re.compile(rb'"(%s)@(%s|%s:%s#(?:%s|\.\.\.))"(?:,|\Z)' % (SET, NUMBER, NAME, ID, NAME))
+USER = rb"%s|%s:%s#(?:%s|\.\.\.)" % (NUMBER, NAME, ID, NAME)
+PAIR = re.compile(rb'"(%s)@(%s)"(?:,|\Z)' % (SET, USER))
+# A commit of one tuple.
+TOUCH = re.compile(rb'\{"kind":"commit","at":%s,"(add|remove)":\["(%s@(?:%s))"\]' % (NUMBER, SET, USER) + TOLD)
 # Of a listed tuple, the bytes beside its userset and its user: two quotes, the letter @, and the comma behind it.
 BESIDE = 4
 
@@ -68,6 +71,12 @@ def quick_fields(raw: bytes) -> Optional[tuple[bytes, ...]]:
     if not found or found[1] == b"content" and (found[9] is not None) != (found[7] == b"true"):
         return None
     return found.groups()
+
+
+def quick_touch(raw: bytes) -> Optional[tuple[bytes, bool]]:
+    """Of a commit of one tuple its text, and whether it is added."""
+    found = TOUCH.match(raw)
+    return None if found is None else (found[2], found[1] == b"add")
 
 
 def quick_commit(raw: bytes) -> Optional[QuickCommit]:

@@ -11,15 +11,10 @@ import time
 from collections import Counter
 from random import Random
 
+from tests.ports import free_port
 from tests.support import TOOLS, Case
 
 READY = 20
-
-
-def free_port():
-    with socket.socket() as one:
-        one.bind(("127.0.0.1", 0))
-        return one.getsockname()[1]
 
 
 class Client:

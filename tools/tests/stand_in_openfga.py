@@ -1,7 +1,8 @@
 """A small stand-in of OpenFGA as a process, after its public API documents: stand_in_openfga.py PORT MODEL [SHARE PLANTED] [--key KEY].
 
 Of the share of checks that ask of a document called `fixed`, which no later write touches, the reply is a wrong one; of those that
-ask of a document called `early`, the state before its last change is looked at, whatever the request demands.
+ask of a document called `early`, the state before its last change is looked at, whatever the request demands. A check of the document
+`held` has no answer; a line on standard output says that it came. A list for the user `broken` breaks off behind its first object.
 """
 import json
 import re
@@ -74,6 +75,10 @@ class OpenFga:
 
     def check(self, handler, method, body, query):
         key = body["tuple_key"]
+        if key["object"] == "document:held":
+            sys.stdout.write("held\n")
+            sys.stdout.flush()
+            threading.Event().wait()
         jitter(self.random)
         allowed = self.decided(key["user"], key["relation"], key["object"])
         jitter(self.random)
@@ -89,6 +94,18 @@ class OpenFga:
         state = self.states[-1]
         things = sorted({key[2] for key in state if key[2].startswith(body["type"] + ":")})
         handler.answer({"objects": [one for one in things if self.holds(state, body["user"], body["relation"], one)]})
+
+    def streamed_list_objects(self, handler, method, body, query):
+        state = self.states[-1]
+        things = sorted({key[2] for key in state if key[2].startswith(body["type"] + ":")})
+        found = ({"object": one} for one in things if self.holds(state, body["user"], body["relation"], one))
+        if body["user"] != "user:broken":
+            handler.stream(found)
+            return
+        try:
+            handler.stream(first_and_fault(found))
+        except BrokenPipeError:
+            handler.close_connection = True
 
     def holds(self, state, user, relation, object):
         service = Service(self.models[-1])
@@ -114,6 +131,11 @@ class OpenFga:
             while self.states[last] is None:
                 last -= 1
             return self.states[last]
+
+
+def first_and_fault(values):
+    yield next(values)
+    raise BrokenPipeError
 
 
 def main(words):

@@ -4,6 +4,7 @@ KILLS in the environment says how often a run is killed.
 """
 import json
 import os
+import re
 import shutil
 import signal
 import subprocess
@@ -13,7 +14,7 @@ from random import Random
 
 from tests.support import NE, TOP, Case
 from tests.test_core import check, content, rel, write
-from tests.test_going_on import RULES, chained, events_of
+from tests.test_going_on import RULES, between, chained, events_of
 from tests.test_windows import Told
 
 KILLS = int(os.environ.get("KILLS", "20"))
@@ -23,6 +24,19 @@ LOG = [RULES, write(1, rel("1", "viewer", "anne")), content(1, "first", goal=rel
        check(1, goal=rel("1", "reader", "anne")), check(9, goal=rel("1", "reader", "anne")), write(2, rel("2", "viewer", "bob"))]
 NEXT = [write(4, remove=[rel("1", "viewer", "anne")]), check(4, goal=rel("1", "reader", "anne"), version="first"),
         check(4, False, goal=rel("1", "reader", "anne")), write(12, rel("2", "viewer", "carla"))]
+
+NO_TOKEN, NO_CONTENT = "F1 stale: no check carries a token", "F3 not latest: there is no content check"
+NO_ISSUE, NO_COMMIT = "F5 wrong token: there is no content check with the reply true", "F4 open snapshot: no commit stands behind a check"
+NO_NAME = ("F2 old token: no check names a content version", "F6 unknown version: no check names a content version")
+
+
+def cannot_show(*findings):
+    """What a run says on standard error of findings that the day's log cannot show."""
+    return "".join("the day's log cannot show %s\n" % finding for finding in sorted(findings))
+
+
+# Of the days LOG and NEXT. The second has no content check, and a check of the first one's version all the same.
+FIRST, SECOND = cannot_show(NO_TOKEN, *NO_NAME), cannot_show(NO_TOKEN, NO_CONTENT, NO_ISSUE)
 
 
 class DayCase(Case):
@@ -45,9 +59,9 @@ class Days(DayCase):
         self.put("one", LOG)
         self.put("two", NEXT)
         first, second = self.day("one"), self.day("two")
-        self.assertEqual(first, (0, "entries 2\nheld over 1\nfindings 0\nverdict clean\n", ""))
+        self.assertEqual(first, (0, "entries 2\nheld over 1\nfindings 0\nverdict clean\n", FIRST))
         # The check at 9 was held over, until a commit came to its snapshot.
-        self.assertEqual(second.returncode, 1)
+        self.assertEqual((second.returncode, second.stderr), (1, SECOND))
         self.assertEqual(second.stdout.splitlines(), [
             "line 6: F4 open snapshot, see line 7 (one:5)", "line 6: F10 wrong reply (one:5)", "line 9: F2 old token, see line 4 (two:2)",
             "line 9: F10 wrong reply (two:2)", "entries 3", "findings 4", "verdict dirty"])
@@ -59,6 +73,13 @@ class Days(DayCase):
         self.assertEqual(json.loads(self.get("days/day000002/summary.json")), {
             "logs": ["two"], "digest": json.loads(self.get("days/day000002/summary.json"))["digest"], "status": 1, "entries": 3, "findings": 4,
             "not_audited": 0, "held_over": 0})
+
+    def assert_could_be_shown(self, run, low, high):
+        """No line of the day's log, whose lines of the whole log are those above LOW up to HIGH, has a finding that this log cannot show."""
+        self.assertEqual([line for line in run.stderr.splitlines() if not line.startswith("the day's log cannot show F")], [])
+        places = [int(row.get("from", "log:0").rpartition(":")[2]) for row in self.rows("trace")]
+        found = {finding for line, finding in re.findall(r"(?m)^line (\d+): (F\d+)", run.stdout) if low < places[int(line) - 1] <= high}
+        self.assertEqual(found & set(re.findall(r"cannot show (F\d+)", run.stderr)), set())
 
     def test_days_are_the_whole(self):
         for number in range(6):
@@ -76,7 +97,8 @@ class Days(DayCase):
             for place, (low, high) in enumerate(zip([0, *places], [*places, len(log)]), 1):
                 self.put("log", log[low:high])
                 run = self.day("log", "--oldest-snapshot", "0", "--at-least", "0", words=())
-                self.assertIn((run.returncode, run.stderr), ((0, ""), (1, "")))
+                self.assertIn(run.returncode, (0, 1))
+                self.assert_could_be_shown(run, low, high)
                 told.take("".join(line.partition(" (")[0] + "\n" for line in run.stdout.splitlines()))
                 rows |= {"line %d: %s" % (row["line"], row["finding"]) for row in self.rows("days/day%06d/report.jsonl" % place) if "line" in row}
             self.assertEqual(told.report, whole)
@@ -113,7 +135,24 @@ class Days(DayCase):
         self.put("log", [write(3), check(3, goal=rel("1", "reader", "anne"), version="other", token=3), check(3, goal=rel("1", "reader", "anne"))])
         run = self.day("log")
         self.assertEqual((run.returncode, run.stdout.splitlines()[:1]), (0, ["entries 1"]))
-        self.assertEqual(run.stderr, "passed over 1: check of a content version that may have been issued in a gap\n")
+        self.assertEqual(run.stderr, "passed over 1: check of a content version that may have been issued in a gap\n" + cannot_show(
+            NO_TOKEN, "F2 old token: there is no content check", NO_CONTENT, NO_COMMIT, NO_ISSUE, NO_NAME[1]))
+
+    def test_what_a_day_cannot_show(self):
+        """It is said beside the verdict, whose status it does not change, and again where the report is told again."""
+        goal = rel("1", "viewer", "anne")
+        self.put("log", [RULES, write(1, goal), check(1, goal=goal)])
+        self.assertEqual(self.day("log"), (0, "entries 1\nfindings 0\nverdict clean\n", cannot_show(
+            NO_TOKEN, "F2 old token: there is no content check", NO_CONTENT, NO_COMMIT, NO_ISSUE, NO_NAME[1])))
+        # A check of a version needs no content check of its own day for an F2.
+        self.put("log", [write(2), content(2, "v2", goal=goal, token=2), check(2, goal=goal, version="v2", token=2), write(3)])
+        self.assertEqual(self.day("log"), (0, "entries 2\nfindings 0\nverdict clean\n", ""))
+        self.put("log", [write(4), check(4, goal=goal, version="v2", token=1), write(5)])
+        third = self.day("log")
+        self.assertEqual(third, (1, "line 10: F2 old token, see line 6 (log:2)\nentries 1\nfindings 1\nverdict dirty\n", cannot_show(NO_CONTENT, NO_ISSUE)))
+        os.remove(self.path("days/day000003/told"))
+        told = "day: day 3 was audited by a run that was broken off; its report:\n"
+        self.assertEqual(self.day("log"), (1, third.stdout, told + third.stderr))
 
     def test_files_of_a_recorder(self):
         """Each day gets all files that there are; those of days before are left out, and one that is still written."""
@@ -125,7 +164,7 @@ class Days(DayCase):
             self.put(names[-1], text)
             if number == 2:
                 first = self.run_tool("day", *WORDS, "days", "events", "--from-empty", *names)
-                self.assertEqual(first, (0, "entries 3\nheld over 1\nfindings 0\nverdict clean\n", ""))
+                self.assertEqual(first, (0, "entries 3\nheld over 1\nfindings 0\nverdict clean\n", FIRST))
             before = found
         again = self.run_tool("day", *WORDS, "days", "events", "--from-empty", *names)
         self.assertEqual(again, (2, "", "day: 3.jsonl is still written, and is audited with the next day\nday: no file of the log is new and complete\n"))
@@ -183,6 +222,25 @@ class Refused(DayCase):
                 2, "", "day: mine has %s, and is no folder of days: give one that is empty or not there\n" % name))
             self.assertEqual(os.listdir(self.path("mine")), [name])
             os.rmdir(self.path("mine/" + name))
+
+    def test_a_program_that_fails(self):
+        for text, told in (("kill -9 $$", "day: .*program was killed by signal 9"), ("echo no; echo why >&2; exit 2", "why")):
+            program = self.put("program", "#!/bin/sh\n%s\n" % text)
+            os.chmod(program, 0o755)
+            self.refused("^%s\n$" % told, "--program", program, "days", "events", "two")
+        self.refused("^cannot run none: No such file or directory\n$", "--program", "none", "days", "events", "two", status=5)
+
+    def test_what_is_refused_while_the_program_runs(self):
+        """A check between states of which one is not kept any more is seen when the lines before it are audited already."""
+        for name, at in (("two", 12), ("three", 20), ("four", 30)):
+            if at > 12:
+                self.put(name, [write(at, rel(str(at), "viewer", "anne"))])
+            self.assertIn(self.day(name, "--at-least", "0").returncode, (0, 1))
+        self.before = self.files("days")
+        self.put("five", [write(40), *[check(40, False, goal=rel("3", "reader", "u%d" % one)) for one in range(9)],
+                          between(check(0, False, goal=rel("1", "reader", "anne")), 1, 12, False)])
+        self.refused("^five:11: it was evaluated at a state of the days before that is not kept any more\nrefused 1\nday: the import refused the logs\n$",
+                     "days", "events", "five")
 
     def test_two_at_once(self):
         """Another process has the lock."""
@@ -253,6 +311,6 @@ class Kills(DayCase):
                 killed += 1
                 again = self.end(self.begun("days"))
                 self.assertEqual(again[:2], wanted[:2], again[2])
-                self.assertIn(again[2], ("", "day: day 2 was audited by a run that was broken off; its report:\n"))
+                self.assertIn(again[2], (SECOND, "day: day 2 was audited by a run that was broken off; its report:\n" + SECOND))
             self.assertEqual(self.files("days"), self.files("unbroken"))
         self.assertGreater(killed, 0)

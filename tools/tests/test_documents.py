@@ -2,14 +2,9 @@
 import glob
 import os
 import re
-import subprocess
 
+from tests.documents import DOCUMENTS, PAGES, Shown, behind_dollars, in_blocks, read, transcripts
 from tests.support import TOP, Case
-
-
-def read(*names):
-    with open(os.path.join(TOP, *names), encoding="utf-8") as file:
-        return file.read()
 
 
 class Events(Case):
@@ -20,37 +15,10 @@ class Events(Case):
         self.assertEqual(self.audited(), "entries 3\nfindings 0\nverdict clean\n")
 
 
-def transcripts(text):
-    """The commands behind a dollar sign in a document's indented blocks, in order, each with the lines that it prints."""
-    shown, within = [], False
-    for line in re.sub(r"\\\n *", "", text).splitlines():
-        if line.startswith("    $ "):
-            shown.append((line[6:], []))
-        elif within and (not line or line.startswith("    ")):
-            shown[-1][1].append(line[4:])
-        within = line.startswith("    $ ") or within and (not line or line.startswith("    "))
-    return [(command, "\n".join(lines).rstrip("\n").splitlines()) for command, lines in shown]
-
-
-class Transcripts(Case):
+class Transcripts(Shown):
     def setUp(self):
         super().setUp()
-        for name in "examples", "tools", "bench":
-            os.symlink(os.path.join(TOP, name), self.path(name))
-        os.symlink(os.path.abspath(os.environ["NEW_ENEMY"]), self.path("new_enemy"))
-
-    def printed(self, command):
-        """What the shell prints for a command in the folder, on both of its outputs."""
-        return subprocess.run(command, shell=True, cwd=self.room, stdin=subprocess.DEVNULL, stdout=subprocess.PIPE,
-                              stderr=subprocess.STDOUT, text=True, timeout=60).stdout
-
-    def show(self, *names):
-        """Runs the commands that a document shows, in order, in one folder. The commands."""
-        shown = transcripts(read(*names))
-        for command, lines in shown:
-            with self.subTest(command=command):
-                self.assertEqual(self.printed(command).splitlines(), lines)
-        return [command for command, _ in shown]
+        self.link(self.room, "examples", "tools", "bench")
 
     def test_the_readme(self):
         self.show("README.md")
@@ -73,16 +41,22 @@ class Transcripts(Case):
     def test_daily(self):
         self.show("docs", "DAILY.md")
 
+    def test_a_page_has_commands_of_one_kind(self):
+        for name in PAGES:
+            self.assertFalse(in_blocks(read("docs", name)) and behind_dollars(read("docs", name)), name)
+
+    def test_a_command_reaches_the_shell_as_it_stands(self):
+        """A backslash at a line's end is one within quotes; and a shell keeps what it was told."""
+        self.show_text("    $ NAME=one; printf '%s|' 'a \\\n        b' \\\n        c\n    a \\\n        b|c|\n\n    $ echo $NAME\n    one\n")
+        self.show_text("```sh\nNAME=two\nprintf '%s' 'a \\\n  b' \\\n  c\n```\n\n```text\na \\\n  bc\n```\n\n```sh\necho $NAME\n```\n\n```text\ntwo\n```\n")
+
     def test_every_example_and_document(self):
-        documents = [["README.md"], *(["docs", name] for name in sorted(os.listdir(os.path.join(TOP, "docs"))))]
+        documents = [["README.md"], *(["docs", name] for name in PAGES)]
         commands = {names[-1]: [command for command, _ in transcripts(read(*names))] for names in documents}
-        self.assertEqual([name for name in commands if commands[name]], ["README.md", "DAILY.md", "FORMATS.md", "IMPORTING.md", "RECORDING.md", "REPORTS.md", "SCALE.md"])
+        self.assertEqual([name for name in commands if commands[name]], ["README.md", "DAILY.md", "FORMATS.md", "IMPORTING.md", "RECORDING.md", "REPORTS.md", "SCALE.md", "TUTORIAL.md"])
         shown = " ".join(command for each in commands.values() for command in each)
         for example in os.listdir(os.path.join(TOP, "examples")):
             self.assertIn("examples/" + example, shown)
-
-
-DOCUMENTS = [*([name] for name in ("README.md", "ARCHITECTURE.md", "CHANGELOG.md", "CONTRIBUTING.md", "SECURITY.md")), *(["docs", name] for name in sorted(os.listdir(os.path.join(TOP, "docs"))))]
 
 
 def rows_of(text):
@@ -108,6 +82,9 @@ def names_in(paths, form):
 WRITTEN = ["dist/GATE"]
 
 
+PAGES_ELSEWHERE = ["https://research.google/pubs/zanzibar-googles-consistent-global-authorization-system/", "https://authzed.com/spicedb", "https://openfga.dev"]
+
+
 class Names(Case):
     def test_paths(self):
         for names in DOCUMENTS:
@@ -123,7 +100,13 @@ class Names(Case):
             headings = [re.sub(r"[^a-z0-9 -]", "", line.lstrip("# ").lower()).replace(" ", "-") for line in text.splitlines() if line.startswith("#")]
             for link in re.findall(r"\]\(([^)]+)\)", text):
                 with self.subTest(document=names[-1], link=link):
-                    self.assertIn(link.removeprefix("#"), headings)
+                    if link.startswith("#"):
+                        self.assertIn(link[1:], headings)
+                    elif "://" in link:
+                        # A page elsewhere is not asked for; these were.
+                        self.assertIn(link, PAGES_ELSEWHERE)
+                    else:
+                        self.assertTrue(os.path.exists(os.path.join(TOP, *names[:-1], link)))
 
     def test_definitions(self):
         text = read("docs", "MEANING.md")
@@ -140,15 +123,22 @@ class Names(Case):
                     self.assertTrue(set(word.split(".")) <= named)
 
     def test_calls(self):
-        for row in rows_of(read("docs", "PROMISES.md")):
-            if len(row) == 4 and words_of(row[1]):
-                crates = words_of(row[1]) + re.findall(r"`(\w+)::", row[2])
-                named = names_in([source for crate in crates for source in sources(crate, "src")], r"(?:fn|ensures|struct) (\w+)")
-                # A contract that several calls share is a record, and its clauses are the fields.
-                named |= names_in([source for crate in crates for source in sources(crate, "specs")], r"pub (?:record )?(\w+)")
-                for word in words_of(row[2]):
-                    with self.subTest(promise=row[0][:60], word=word):
-                        self.assertTrue(word.split("::")[-1] in named)
+        rows = [row for row in rows_of(read("docs", "PROMISES.md")) if len(row) == 4 and "::" in row[1]]
+        self.assertGreater(len(rows), 55)
+        for row in rows:
+            crates = {crate for crate in re.findall(r"`(\w+)::", row[1]) if os.path.isdir(os.path.join(TOP, "crates", crate))}
+            named = names_in([source for crate in crates for source in sources(crate, "src")], r"(?:fn|ensures|struct) (\w+)")
+            # A contract that several calls share is a record, and its clauses are the fields.
+            named |= names_in([source for crate in crates for source in sources(crate, "specs")], r"pub (?:record )?(\w+)")
+            for word in words_of(row[1] + row[2]):
+                with self.subTest(promise=row[0][:60], word=word):
+                    self.assertTrue(word.split("::")[-1] in named)
+
+    def test_every_law_is_a_promise(self):
+        said = {word.split("::")[-1] for row in rows_of(read("docs", "PROMISES.md")) if len(row) == 4 for word in words_of(row[1])}
+        laws = [law for path in glob.glob(os.path.join(TOP, "crates", "*", "src", "laws.rt")) for law in re.findall(r"^pub fn (\w+)", read(path), re.MULTILINE)]
+        self.assertTrue(laws)
+        self.assertEqual([law for law in laws if law not in said], [])
 
     def test_the_library_call(self):
         shown = read("ARCHITECTURE.md").split("```\n")[1]
@@ -158,5 +148,5 @@ class Names(Case):
 
     def test_crates(self):
         listed = re.findall(r"^(\w+)", read("crates.txt"), re.MULTILINE)
-        layers = read("ARCHITECTURE.md").split("## The way of a line")[0]
+        layers = read("ARCHITECTURE.md").split("## What the headline rests on")[0]
         self.assertEqual([word for row in rows_of(layers) if len(row) == 3 for word in words_of(row[1])], listed)

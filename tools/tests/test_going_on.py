@@ -2,10 +2,13 @@
 import hashlib
 import json
 import os
+import shutil
 import subprocess
+from collections import Counter
 from random import Random
+from unittest import mock
 
-from new_enemy_tools.importing import going_on
+from new_enemy_tools.importing import core, going_on, located
 from new_enemy_tools.importing.going_on import APART, GoingOnFault, Named, numbered, read_left
 from tests.test_core import CoreCase, check, content, rel, write
 from tests.test_round_trips import SpiceDb
@@ -142,7 +145,7 @@ class GoingOn(CoreCase):
     def test_revisions_that_are_let_go(self):
         """Those that no later line needs stand in their order all the same."""
         def let_go():
-            left = read_left(self.path("left"), "events")
+            left = read_left(self.path("left"))
             going_on.write_left(self.path("left"), going_on.cut(left, left.named[-1].at, None))
         for number in range(10):
             random = Random("let go %d" % number)
@@ -154,6 +157,66 @@ class GoingOn(CoreCase):
                 log += [one, content(at, "v%d" % place, goal=rel(), token=at),
                         check(at, goal=rel(), version="v%d" % random.randint(0, place), token=random.randint(0, at))]
             self.assertIn("F2", self.compare(log, random, "events", "log", cut=let_go))
+
+
+class TakenAhead(CoreCase):
+    """Lines that are taken while others are read give what they give when all are read."""
+
+    def outcome(self, log, jobs, *words):
+        """What an import says and writes that goes on from the first day."""
+        for name in ("left", "ids.jsonl"):
+            shutil.copyfile(self.path("first/" + name), self.path(name))
+        self.put("log", log)
+        with mock.patch.object(located, "BLOCK", 400):
+            status, said = self.run_import("events", *words, "--go-on", "left", "--jobs", str(jobs), "--trace", "trace", "log")
+        names = ["left", "ids.jsonl"] + ["trace"] * (status == 0)
+        return status, said, [self.get(name) for name in names]
+
+    def compare(self, log, *words):
+        """The status, and whether the lines that were taken ahead were taken for good."""
+        stands = []
+
+        def noted(ahead, lines):
+            stands.append(found(ahead, lines))
+            return stands[-1]
+        found = core.Ahead.stands
+        for jobs in (1, 4):
+            with mock.patch.object(core.Ahead, "stands", noted):
+                quick = self.outcome(log, jobs, *words)
+            with mock.patch.object(core.Ahead, "stands", lambda *_: False):
+                self.assertEqual(self.outcome(log, jobs, *words), quick)
+            with mock.patch.object(core.Core, "_taken_ahead", lambda *_: None):
+                self.assertEqual(self.outcome(log, jobs, *words), quick)
+        return quick[0], any(stands)
+
+    def setUp(self):
+        super().setUp()
+        self.put("log", [RULES, write(1, rel("0", "viewer", "u1")), content(1, "first", goal=rel("0", "viewer", "u1"), token=1)])
+        os.mkdir(self.path("first"))
+        self.imported("events", "--from-empty", "--go-on", "first/left", "--ids", "first/ids.jsonl", "log")
+
+    def test_random_events(self):
+        outcomes = Counter()
+        for number in range(40):
+            random = Random("ahead %d" % number)
+            log = [{**one, "revision": one["revision"] + 9} if "revision" in one else one for one in events_of(random, 40)]
+            log = [one for one in log if one["event"] != "rules" or number % 4 == 0]
+            if number % 5 == 4:
+                log.insert(random.randrange(len(log)), random.choice([write(5), check(99, goal=rel("1", "missing", "x")), {"event": "x"}]))
+            outcomes[self.compare(log)] += 1
+        self.assertEqual(set(outcomes), {(0, True), (0, False), (2, True), (2, False)})
+
+    def test_what_hangs_on_all_lines(self):
+        """Such a line stands behind many that were taken."""
+        plain = [write(20), *[check(20, False, rel("1", "viewer", "u%d" % one)) for one in range(20)]]
+        self.assertEqual(self.compare(plain), (0, True))
+        for line, status in ((write(30, ["doc", "1", "viewer", "user", "*", "*"]), 2), (write(30, base=True), 2), ({**RULES}, 0),
+                             ({**OTHER, "revision": 30}, 0), ({**content(20, "x", goal=rel("1", "viewer", "u3")), "newest": True}, 2),
+                             (between(check(20, False, rel("1", "viewer", "u1")), 19, 20, False), 2), ({**check(20, False, rel()), "sequence": 3}, 0)):
+            self.assertEqual(self.compare([*plain, line]), (status, line.get("sequence") == 3), line)
+        self.assertEqual(self.compare([{**one, "sequence": place} for place, one in enumerate(plain)]), (0, False))
+        self.assertEqual(self.compare([{**one, "time": "2024-01-01T00:00:%02dZ" % place} for place, one in enumerate(plain)], "--skew", "9"), (0, False))
+        self.assertEqual(self.compare([]), (0, False))
 
 
 class Numbers(CoreCase):

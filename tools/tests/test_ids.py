@@ -1,6 +1,9 @@
-"""The table of ids belongs to its trace, and to one service."""
+"""The table of ids belongs to its trace, and to one service; it is read quickly as it is read in full."""
 import json
+from random import Random
+from unittest import mock
 
+from new_enemy_tools.ids import Ids, TableFault
 from tests.test_core import RULES, CoreCase, check, rel, write
 from tests.test_openfga import MODEL, THIS, change
 
@@ -84,3 +87,55 @@ class OneService(CoreCase):
         self.put("ids.jsonl", '{"kind":"user","type":"user","id":"a","number":1}\n'
                  '{"kind":"user","type":"user","id":"b","number":2,"service":"events"}\n')
         self.assertIn('ids.jsonl:2: unknown key "service"', self.run_import("events", "--from-empty", "log")[1])
+
+
+class Reading(CoreCase):
+    IDS = ["a", "b", "Org/Doc", "a@b", "é", 'q"', "\\", "\u2028", "\x7f", "", "n_1"]
+
+    def table(self, random):
+        """The bytes of a table, of which some lines may be at fault."""
+        rows = [{"kind": random.choice(["user", "user", "object", "version"]), "type": random.choice(["user", ""]), "id": random.choice(self.IDS) + str(one),
+                 "number": one + 1} for one in range(random.randint(0, 6))]
+        if rows and random.random() < 0.6:
+            rows[0]["service"] = random.choice(["events", "events shop", "", "é"])
+        lines = [json.dumps(row, ensure_ascii=random.random() < 0.5, separators=random.choice([(",", ":")] * 3 + [(", ", ": ")])) + "\n" for row in rows]
+        if lines and random.random() < 0.5:
+            place = random.randrange(len(lines))
+            lines[place] = random.choice([lines[place] * 2, lines[place][:-1], "\n" + lines[place], lines[place].replace('"number":', '"number":1'),
+                                          lines[place].replace("}", ',"service":"events"}'), lines[place].replace('"user"', '"User"'),
+                                          lines[0].replace('"number":1', '"number":%d' % (place + 1))])
+        data = "".join(lines).encode()
+        return data[:-1] if random.random() < 0.1 else data.replace(b"a", b"\xff") if random.random() < 0.1 else data
+
+    def read(self):
+        try:
+            ids = Ids(self.path("table"))
+            return ids.rows, ids.numbers, ids.service, ids.kept
+        except TableFault as fault:
+            return str(fault)
+
+    def test_quickly_and_in_full(self):
+        faults = quick = 0
+        for number in range(2_000):
+            self.put("table", self.table(Random("table %d" % number)))
+            with mock.patch.object(Ids, "_read_in_full", side_effect=ValueError):
+                try:
+                    found = self.read()
+                    quick += 1
+                except ValueError:
+                    found = None
+            with mock.patch.object(Ids, "_reads_quickly", return_value=False):
+                wanted = self.read()
+            self.assertIn(found, (None, wanted))
+            self.assertEqual(self.read(), wanted)
+            faults += isinstance(wanted, str)
+        self.assertGreater(faults, 200)
+        self.assertGreater(quick, 100)
+
+    def test_rows_that_are_taken_back(self):
+        self.put("table", '{"kind":"user","type":"user","id":"a","number":1}\n')
+        ids = Ids(self.path("table"))
+        self.assertEqual((ids.number("user", "user", "b"), ids.name("relation", "Viewer")), (2, "n_3"))
+        ids.forget()
+        self.assertEqual((ids.rows, ids.numbers), (Ids(self.path("table")).rows, Ids(self.path("table")).numbers))
+        self.assertEqual((ids.name("relation", "Viewer"), ids.number("user", "user", "a")), ("n_2", 1))

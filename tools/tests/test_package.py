@@ -14,7 +14,7 @@ from packing.proof import proved_text
 from packing.sources import Commit, File
 from tests.packaged import HAS_DEB, NO_DEB, commit, done, made, package, passed, plain, run
 from tests.support import Case
-from tests.test_documents import read, transcripts
+from tests.documents import read, transcripts
 
 FORCED = ["--force-not-root", "--force-script-chrootless", "--force-depends", "--force-bad-path"]
 

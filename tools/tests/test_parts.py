@@ -5,7 +5,6 @@ RANDOM_TRACES and BENCH_BYTES in the environment say how many random traces ther
 import contextlib
 import functools
 import io
-import json
 import os
 import re
 import shutil
@@ -13,6 +12,7 @@ import subprocess
 import tempfile
 from random import Random
 
+from hostile.inputs import worked_cases
 from new_enemy_tools.files import read_bytes
 from new_enemy_tools.commands import ne
 from new_enemy_tools.commands.parts import cut_command
@@ -108,17 +108,12 @@ class Wholes(PartsCase):
                 self.assertEqual((status, error), (0, ""), name)
 
     def test_the_worked_cases(self):
-        given = loaded_file(os.path.join(TOP, "rows", "run")).given
-        with open(os.path.join(TOP, "rows", "cases.json"), encoding="utf-8") as file:
-            cases = [case for case in json.load(file) if not {"words", "room", "unreadable"} & set(case)
-                     and case["stderr"] != "joined input refused\n"]
         count = 0
-        for case in cases:
-            joined = given(case["stdin"])
-            if len(joined) < MOST_BYTES:
+        for case in worked_cases():
+            if len(case.data) < MOST_BYTES and case.wanted.err != b"joined input refused\n":
                 count += 1
-                told = self.compare(joined, case["name"])
-                self.assertEqual(told, (case["status"], case["stdout"], case["stderr"]), case["name"])
+                status, output, error = self.compare(case.data, case.name)
+                self.assertEqual((status, output.encode(), error.encode()), case.wanted, case.name)
         self.assertGreater(count, 500)
 
     def test_random_traces(self):

@@ -10,7 +10,7 @@ class Progresses(Case):
     def shown(self, stream: io.StringIO, times: list[float]) -> str:
         with mock.patch("time.monotonic", mock.Mock(side_effect=lambda: times.pop(0) if len(times) > 1 else times[0])):
             with Progress(stream) as progress:
-                progress.follow("read %s lines", (1_000, 2_000, 3_000))
+                self.assertEqual(list(progress.follow("read %s lines", (1_000, 2_000, 3_000))), [1_000, 2_000, 3_000])
         return stream.getvalue()
 
     def test_within_a_second(self) -> None:

@@ -7,8 +7,9 @@ from unittest import mock
 from hostile.inputs import worked_cases
 from new_enemy_tools import strictjson
 from new_enemy_tools.files import split_joined
+from new_enemy_tools.quick import quick_commit, quick_touch
 from new_enemy_tools.texts import Tuple, Userset
-from new_enemy_tools.trace import Fault, Trace, read_trace
+from new_enemy_tools.trace import Fault, Trace, is_utf8, read_trace
 from tests.random_traces import RandomInput
 from tests.support import Case
 from tests.test_effects import ChangingInput
@@ -80,3 +81,19 @@ class Quick(Case):
             taken.append(trace.take_quickly(len(taken) + 4, line.encode()))
         self.assertEqual(taken, [True] + [False] * 9)
         self.assertTrue(trace.store.has(Tuple(Userset("doc", "b", "viewer"), 1), 2))
+
+    def test_commits_of_one_tuple(self):
+        """What is said of them is what they say read in full; of another line nothing is said."""
+        line = b'{"kind":"commit","at":20,"remove":["doc:\xc3\xa9#viewer@7"],"revision":"3","from":"log:1"}'
+        self.assertEqual(quick_touch(line), (b"doc:\xc3\xa9#viewer@7", False))
+        random, taken = Random("one tuple"), 0
+        for _ in range(20_000):
+            place = random.randrange(len(line))
+            other = random.choice([line, line.replace(b"remove", b"add"), line.replace(b"@7", b"@doc:b#viewer"), line.replace(b"@7", b"@doc:b#...")])
+            other = other[:place] + random.choice([b"", b'"', b"]", b"@", b"#", b",", b"0", b"a", b"\\", b'","x']) + other[place + random.randint(0, 1):]
+            touch, commit = quick_touch(other), quick_commit(other)
+            if touch is not None and is_utf8(other):
+                taken += 1
+                self.assertEqual(strictjson.object_of(other).get("add" if touch[1] else "remove"), [touch[0].decode()])
+            self.assertIn(commit and len(commit.add) + len(commit.remove), (None, 0, 2) if touch is None else (None, 1), other)
+        self.assertGreater(taken, 1_000)

@@ -51,10 +51,11 @@ class Failing(OpenFga):
 
     def start_service(self, *words, port=0):
         """With the owner whose content is saved."""
-        super().start_service(MODEL, *words, port=port)
+        service = super().start_service(MODEL, *words, port=port)
         client = Client(self.service_port)
         self.write(client, key("user:owner", "owner", "document:d0"))
         client.close()
+        return service
 
     def assert_once(self):
         """No check and no change stands twice in the log, and the changes are those of the service, in their order."""
@@ -126,7 +127,8 @@ class Killed(Failing):
         client.close()
         self.wait_for(lambda: self.get("said").count("recording ") == 2, lambda: self.get("said"))
         self.end(recorder)
-        self.assertEqual([row["reason"] for row in self.of_kind("gap")][:2], ["the log begins", "the recorder did not run"])
+        self.assertEqual([row["reason"] for row in self.of_kind("gap")][:3],
+                         ["the log begins", "the recorder was killed", "the recorder did not run"])
 
 
 class KilledSpiceDb(SpiceDb):
@@ -168,6 +170,21 @@ class KilledSpiceDb(SpiceDb):
         self.assertEqual([one for one in written if one in added], written)
         self.assertEqual(self.import_log().count("the recorder did not run"), turns)
         self.assertEqual(self.found(), {}, self.said_of_audit)
+
+
+class Connections(Failing):
+    def test_what_is_closed_is_closed(self):
+        """The recorder keeps nothing open of connections that their clients have closed."""
+        self.start_service()
+        recorder = self.start_recorder()
+        folder = "/proc/%d/fd" % recorder.pid
+        before = len(os.listdir(folder))
+        for turn in range(30):
+            client = Client(self.port)
+            self.assertEqual(self.check(client, "user:%d" % turn, "viewer", "document:1")[0], 200)
+            client.close()
+        self.wait_for(lambda: len(os.listdir(folder)) <= before)
+        self.end(recorder)
 
 
 class Full(Failing):

@@ -1,9 +1,13 @@
 """tools/record in front of a stand-in of SpiceDB over gRPC; by a Python that has grpcio, where there is one."""
+import asyncio
+import importlib
 import json
 import os
 import subprocess
 import sys
 from random import Random
+from types import ModuleType, SimpleNamespace
+from unittest import mock
 
 from new_enemy_tools.recording.grpc_calls import CALLS, decoded, joined
 from new_enemy_tools.recording.messages import Ended
@@ -69,6 +73,47 @@ class Grpc(Recorded):
         self.assertEqual(through, self.clients())
         self.assertIn("'FAILED_PRECONDITION', 'refused as asked', 'asked for'", through)
         self.end(recorder)
+
+
+class Cut(Case):
+    """The relay's own steps, without the library: what it tells of a call that ends in the middle."""
+
+    def setUp(self):
+        super().setUp()
+        library = ModuleType("grpc")
+        library.GenericRpcHandler = object
+        library.aio = ModuleType("grpc.aio")
+        given = {"grpc": library, "grpc.aio": library.aio}
+        with mock.patch.dict(sys.modules, given):
+            sys.modules.pop("new_enemy_tools.recording.grpc_relay", None)
+            self.module = importlib.import_module("new_enemy_tools.recording.grpc_relay")
+
+    def told(self, responses, fault, is_stopping):
+        """What is told of a list that gets so many responses and then a fault."""
+        told = []
+        teller = SimpleNamespace(tell=told.append)
+        relay = self.module.GrpcRelay(None, teller)
+        relay.stopping = is_stopping or None
+
+        async def passed(method, requests, context, metadata, kept):
+            for _ in range(responses):
+                kept.take(kept.responses, b"x")
+            raise fault
+        relay._passed = passed
+        path = next(path for path, call in CALLS.items() if call.kind == "stream")
+        with self.assertRaises(type(fault)):
+            asyncio.run(relay.pass_on(path, None, SimpleNamespace(invocation_metadata=lambda: ())))
+        self.assertEqual((told[0].call, relay.under_way), ("stream", 0))
+        return [(one.status, one.response) for one in told[1:]]
+
+    def test_by_its_client(self):
+        self.assertEqual(self.told(0, asyncio.CancelledError(), False), [(0, None)])
+        self.assertEqual(self.told(2, asyncio.CancelledError(), False), [(200, None)])
+
+    def test_by_the_end_of_the_recorder(self):
+        for fault in asyncio.CancelledError(), RuntimeError():
+            for responses in 0, 2:
+                self.assertEqual(self.told(responses, fault, True), [])
 
 
 class Without(Case):

@@ -55,6 +55,13 @@ class Lines(CoreCase):
                          "the log of this trace has gaps (2): what was asked in them is not in this report\n")
         self.assertEqual(self.run_tool("lint", "trace.jsonl")[1].count("gaps"), 0)
 
+    def test_a_gap_reaches_back(self):
+        """A version may have been issued in it by a check that was lost, also where a check of the version stands before it."""
+        early, late = ("2023-12-31T23:59:59Z", "2024-01-01T00:00:00.5Z")
+        self.kinds(write(1, rel()), check(1, version="before", time=early), check(1, version="within", time=late), GAP)
+        self.assertIn("passed over 1: check of a content version that may have been issued in a gap\n", self.said)
+        self.assertEqual(self.audited(), "line 3: F6 unknown version\nentries 1\nfindings 1\nverdict dirty\n")
+
     def test_a_gap_without_its_times(self):
         self.assertEqual(self.refusals(RULES, {**GAP, "to": "soon"}),
                          ["log:2: a gap has no `reason`, or its `from` and `to` are no times of RFC 3339"])

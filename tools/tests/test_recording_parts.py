@@ -68,16 +68,16 @@ class Reading(Case):
 
 class Order(Case):
     def drained(self, sequencer):
-        return [one.revision if isinstance(one, Commit) else one for one in sequencer.drained()]
+        return [one.revision if isinstance(one, Commit) else one.data for one in sequencer.drained()]
 
     def test_an_entry_stands_behind_what_it_saw(self):
         made = Sequencer()
         made.told_until = 10
-        made.put_entry(5, 0, b"five")
+        made.put_entry(5, 0, b"five", 1)
         self.assertEqual(self.drained(made), [])
         made.put_commit(Commit(5, b"", 1))
         made.put_commit(Commit(7, b"", 2))
-        made.put_entry(6, 0, b"six")
+        made.put_entry(6, 0, b"six", 1)
         self.assertEqual(self.drained(made), [5, b"five", b"six", 7])
 
     def test_a_commit_waits_for_content_checks_that_began_before(self):
@@ -85,10 +85,10 @@ class Order(Case):
         made.told_until = 10
         made.saves[1] = 4
         made.put_commit(Commit(5, b"", 1))
-        made.put_entry(5, 0, b"check")
+        made.put_entry(5, 0, b"check", 1)
         self.assertEqual(self.drained(made), [])
         del made.saves[1]
-        made.put_entry(4, 0, b"content")
+        made.put_entry(4, 0, b"content", 1)
         self.assertEqual(self.drained(made), [b"content", 5, b"check"])
 
     def test_a_commit_waits_until_all_before_it_was_told(self):
@@ -101,8 +101,8 @@ class Order(Case):
 
     def test_what_waits_too_long(self):
         made = Sequencer()
-        made.put_entry(9, 1, b"old")
-        made.put_entry(8, 3, b"young")
+        made.put_entry(9, 1, b"old", 1)
+        made.put_entry(8, 3, b"young", 1)
         self.assertEqual([one.data for one in made.late(2)], [b"old"])
         self.assertEqual([one.data for one in made.ready], [b"young"])
 
@@ -222,7 +222,7 @@ class Telling(Case):
         reader.join()
 
     def test_all_that_has_room_comes(self):
-        told = [Started(1, 2, True), Ended(1, "check", "/p", 3, 4, 5, "v", None, None, 200, b"x" * 2_000_000, None, None), Bye(6)]
+        told = [Started(1, 2, True, "check"), Ended(1, "check", "/p", 3, 4, 5, "v", None, None, 200, b"x" * 2_000_000, None, None), Bye(6)]
         for one in told:
             self.teller.tell(one)
         self.read()

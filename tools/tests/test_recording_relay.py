@@ -11,7 +11,7 @@ from urllib.parse import urlsplit
 from new_enemy_tools.recording.keeper import body_of
 from new_enemy_tools.recording.messages import Ended, Started, Teller, messages_from
 from new_enemy_tools.recording.openfga import call_of
-from new_enemy_tools.recording.relay import Relay
+from new_enemy_tools.recording.relay import Reader, Relay
 from tests.support import Case
 
 HEAD = b"POST /stores/A/check HTTP/1.1\r\nHost: x\r\nAuthorization: Bearer z\r\nX-Content-Save: v1\r\n"
@@ -120,13 +120,23 @@ class Unchanged(Case):
 
     def test_what_is_no_http(self):
         random = Random(3)
+        # What comes later on the connection is counted too.
+        teller = Teller(None)
+        reader = Reader(teller, call_of)
+        for data in (b"one\r\n\r\n", b"two", b"three"):
+            reader.feed(reader.requests, data)
+        self.assertEqual((teller.lost.amount, teller.lost.reason), (3, "a connection can't be read along: a first line of fewer than two words"))
         for request, answer in ((random.randbytes(3000), random.randbytes(3000)), (HEAD + b"Content-Length: two\r\n\r\n", b"\r\n\r\nno answer\r\n\r\n"),
                                 (HEAD + b"Connection: Upgrade\r\n\r\n", b"HTTP/1.1 101 Switching\r\n\r\n" + random.randbytes(100))):
             self.assert_passes(request, answer)
 
     def test_an_answer_that_never_comes(self):
-        told = self.assert_passes(HEAD + b"Content-Length: 2\r\n\r\n{}", b"HTTP/1.1 200 OK\r\nContent-Length: 99\r\n\r\n")
+        told = self.assert_passes(HEAD + b"Content-Length: 2\r\n\r\n{}", b"")
         self.assertEqual((told[-1].number, told[-1].status), (told[0].number, 0))
+
+    def test_an_answer_that_breaks_off(self):
+        told = self.assert_passes(HEAD + b"Content-Length: 2\r\n\r\n{}", b"HTTP/1.1 200 OK\r\nContent-Length: 99\r\n\r\nno more")
+        self.assertEqual((told[-1].number, told[-1].status, told[-1].response), (told[0].number, 200, None))
 
 
 async def read_all(reader):

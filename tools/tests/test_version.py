@@ -6,7 +6,7 @@ import subprocess
 from new_enemy_tools import VERSION
 from tests.packaged import kit_line
 from tests.support import TOP, Case
-from tests.test_documents import read
+from tests.documents import read
 
 
 class Versions(Case):

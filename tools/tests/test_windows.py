@@ -12,6 +12,7 @@ import unittest.mock
 from random import Random
 from typing import NamedTuple, Optional
 
+from hostile.inputs import worked_cases
 from new_enemy_tools import limits
 from new_enemy_tools.commands import ne
 from new_enemy_tools.files import split_joined
@@ -23,7 +24,8 @@ from tests.random_windows import RandomHistory, cut_at_commits
 from tests.support import EXAMPLES, TOP, Run, loaded_file
 from tests.test_parts import BENCH_BYTES, LARGE_KINDS, MOST_BYTES, RANDOM_TRACES, PartsCase, answer
 
-PARTS = (1, 1, 2, 7)
+# Each window is audited as a whole, and in one of these numbers of parts.
+PARTS = (2, 7)
 
 
 def order(text):
@@ -41,6 +43,12 @@ class Told:
 
     def __init__(self):
         self.findings, self.not_audited, self.entries, self.counts = [], [], 0, []
+
+    def take_run(self, case, run):
+        """Takes what a run wrote that has to end well."""
+        case.assertIn((run.returncode, run.stderr), ((0, ""), (1, ""), (6, "")))
+        self.take(run.stdout)
+        case.assertEqual(run.returncode, {"clean": 0, "dirty": 1, "incomplete": 6}[self.counts[-1]["verdict"]])
 
     def take(self, text):
         lines = text.splitlines()
@@ -72,32 +80,40 @@ class WindowCase(PartsCase):
     def audit(self, *words):
         return self.run_window("audit", *words, "--program", os.environ["NEW_ENEMY"], "--jobs", 1)
 
-    def windows(self, cuts, records: Optional[list[bytes]] = None, parts=(1,), words_of=lambda number: (), edit=None, is_whole=False):
-        """Audits windows, each behind the state of the one before, which `edit` may change; what they told."""
-        told, line, log = Told(), 0, b""
-        if os.path.exists(self.path("state")):
-            os.remove(self.path("state"))
+    def windows(self, cuts, records: Optional[list[bytes]] = None, parts=(), words_of=lambda number: (), edit=None, is_whole=False):
+        """Audits windows, each behind the state of the one before, which `edit` may change. What they told, each audited as a whole; and each
+        in parts, where there are numbers of these, which the windows take by turns."""
+        told = {way: Told() for way in ("whole", *["parts"] * bool(parts))}
+        self.clear("state", *told)
+        line, log = 0, b""
         for number, lines in enumerate(cuts):
-            mine = b"".join(one + b"\n" for one in lines)
+            mine, is_last = b"".join(one + b"\n" for one in lines), number == len(cuts) - 1
             log += mine
             words = [self.put("window", log if is_whole else mine)]
             if records is not None:
                 low, high = line + 1, line + len(lines)
                 words.append(self.put("evidence", b"".join(one + b"\n" for at, one in records if low <= at <= high)))
             line += len(lines)
-            words += ["--whole"] * is_whole
-            if number:
-                words += ["--state", self.path("state")]
-            words += ["--final"] if number == len(cuts) - 1 else ["--out", self.path("state")]
-            run = self.audit(*words, *words_of(number), "--parts", parts[number % len(parts)])
-            self.assertIn((run.returncode, run.stderr), ((0, ""), (1, ""), (6, "")))
-            told.take(run.stdout)
-            self.assertEqual(run.returncode, {"clean": 0, "dirty": 1, "incomplete": 6}[told.counts[-1]["verdict"]])
-            if number < len(cuts) - 1:
+            words += [*["--whole"] * is_whole, *(["--state", self.path("state")] if number else []), *words_of(number)]
+            for way, one in told.items():
+                words_behind = ["--final"] if is_last else ["--out", self.path(way)]
+                one.take_run(self, self.audit(*words, *words_behind, "--parts", 1 if way == "whole" else parts[number % len(parts)]))
+            if not is_last:
+                self.assertEqual({self.data(way) for way in told}, {self.data("whole")})
+                os.replace(self.path("whole"), self.path("state"))
                 self.check_log(log)
                 if edit is not None:
                     edit(number)
         return told
+
+    def clear(self, *names):
+        for name in names:
+            if os.path.exists(self.path(name)):
+                os.remove(self.path(name))
+
+    def data(self, name):
+        with open(self.path(name), "rb") as file:
+            return file.read()
 
     def check_log(self, log):
         """The state stands for these bytes of the log, however it was cut."""
@@ -118,7 +134,7 @@ class WindowCase(PartsCase):
         return lambda number: ("--oldest-snapshot", least[number])
 
     def compare(self, random, trace, evidence, what, edit=None):
-        """The whole's report, which windows have to tell, by evidence and by made evidence."""
+        """What windows told, each as a whole and, but for edited states, in parts; the whole's report, which both have to be; how many there were."""
         lines = trace.split(b"\n")[:-1] if trace.endswith(b"\n") else trace.split(b"\n")
         records = []
         for raw in evidence.split(b"\n") if evidence is not None else ():
@@ -127,12 +143,14 @@ class WindowCase(PartsCase):
         whole = answer(trace + b"---\n" + evidence) if evidence is not None else None
         cuts = cut_at_commits(random, lines)
         keep = random.choice([self.oldest(cuts), self.oldest(cuts), lambda number: ("--oldest-snapshot", 0)])
-        told = self.windows(cuts, records if evidence is not None else None, random.sample(PARTS, 2), keep, edit, random.random() < 0.2)
-        self.assertEqual(told.not_audited, [], what)
+        parts = random.sample(PARTS, len(PARTS)) if edit is None else ()
+        told = self.windows(cuts, records if evidence is not None else None, parts, keep, edit, random.random() < 0.2)
         expected = whole[1].decode() if whole else self.made(trace)
-        if edit is None:
-            self.assertEqual(told.report, expected, "%s in %d windows" % (what, len(cuts)))
-        return told.report, expected, len(cuts)
+        for way, one in told.items():
+            self.assertEqual(one.not_audited, [], what)
+            if edit is None:
+                self.assertEqual(one.report, expected, "%s in %d windows, %s" % (what, len(cuts), way))
+        return told["whole"].report, expected, len(cuts)
 
     def made(self, trace):
         """The whole's report by made evidence."""
@@ -178,15 +196,12 @@ class WholesInWindows(WindowCase):
                     self.compare(Random("%s %d" % (name, seed)), trace, evidence if seed else None, name)
 
     def test_the_worked_cases(self):
-        given = loaded_file(os.path.join(TOP, "rows", "run")).given
-        with open(os.path.join(TOP, "rows", "cases.json"), encoding="utf-8") as file:
-            cases = [case for case in json.load(file) if not {"words", "room", "unreadable"} & set(case) and case["status"] < 2]
         counts = []
-        for case in cases:
-            trace, evidence = split_joined(given(case["stdin"]))
-            if len(trace) < MOST_BYTES and b'"commit"' in trace:
-                told, expected, count = self.compare(Random(case["name"]), trace, evidence, case["name"])
-                self.assertEqual((told, expected), (case["stdout"], case["stdout"]), case["name"])
+        for case in worked_cases():
+            trace, evidence = split_joined(case.data)
+            if case.wanted.status < 2 and len(trace) < MOST_BYTES and b'"commit"' in trace:
+                told, expected, count = self.compare(Random(case.name), trace, evidence, case.name)
+                self.assertEqual((told, expected), 2 * (case.wanted.out.decode(),), case.name)
                 counts.append(count)
         self.assertGreater(len(counts), 100)
         self.assertGreater(sum(counts), 2 * len(counts))
@@ -283,8 +298,7 @@ class NotAudited(WindowCase):
     def told(self, days, *words):
         """The output and the status of each day."""
         outcome = []
-        if os.path.exists(self.path("state")):
-            os.remove(self.path("state"))
+        self.clear("state")
         for number, day in enumerate(days):
             run = self.audit(self.put("day", day), *(["--state", self.path("state")] if number else []), "--out", self.path("state"), *words)
             self.assertEqual(run.stderr, "")
@@ -350,10 +364,6 @@ class Refusals(WindowCase):
         self.assertRegex(run.stderr, told)
         self.assertEqual(run.stderr.count("\n"), 1)
         self.assertEqual({name: self.data(name) for name in os.listdir(self.room)}, before)
-
-    def data(self, name):
-        with open(self.path(name), "rb") as file:
-            return file.read()
 
     def test_states_that_are_not_whole(self):
         data, day = self.data("state2"), self.put("day", DAYS[2])

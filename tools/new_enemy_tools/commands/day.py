@@ -26,7 +26,6 @@ from new_enemy_tools.commands import import_logs
 from new_enemy_tools.commands.running import Parser
 from new_enemy_tools.commands.window import add_auditing, add_keeping, keep_of, places, refuse_usage
 from new_enemy_tools.files import write_whole
-from new_enemy_tools.forms import FORMS
 from new_enemy_tools.ids import Ids
 from new_enemy_tools.importing.chained import end_of, head_of
 from new_enemy_tools.importing.going_on import cut, read_left, write_left
@@ -34,15 +33,16 @@ from new_enemy_tools.parting.faults import PartsFault
 from new_enemy_tools.progress import Progress
 from new_enemy_tools.windowing.auditing import How
 from new_enemy_tools.windowing.days import Days, Summary, digest_of
-from new_enemy_tools.windowing.effects import telling
+from new_enemy_tools.windowing.effects import json_rows
 from new_enemy_tools.windowing.faults import WindowFault
+from new_enemy_tools.windowing.following import Following
 from new_enemy_tools.windowing.reading import Own
-from new_enemy_tools.windowing.run import Audited, Refused, audited, parts_needed, state_before, write_next
-from new_enemy_tools.windowing.state import State
+from new_enemy_tools.windowing.run import Audited, Refused, audited, audited_so_far, parts_needed, state_before, write_next
 
 # The worst of two runs first.
 STATUSES = (2, 1, 6, 0)
 OWN_WORDS = ("--trace", "--ids", "--go-on", "--state")
+CANNOT = "cannot show "
 
 
 def given_of(words: list[str]) -> Namespace:
@@ -86,50 +86,60 @@ def leave_out(days: Days, given: Namespace) -> None:
     given.words = [word for word in given.words if word not in old]
 
 
-def go_on(days: Days, given: Namespace) -> State:
-    """Copies what the import goes on from into the folder to work in; the state of the last day."""
-    old = state_before(days.before("state"))
-    days.refuse_other(old.head)
-    ids, left = days.before("ids.jsonl"), days.before("left")
+def go_on(days: Days, given: Namespace) -> import_logs.Before:
+    """What the day goes on from, as far as later days need it; the table of ids stands in the folder to work in."""
+    state = state_before(days.before("state"))
+    days.refuse_other(state.head)
+    ids, path = days.before("ids.jsonl"), days.before("left")
     if ids is not None:
         shutil.copyfile(ids, days.work("ids.jsonl"))
-    if left is not None:
-        write_left(days.work("left"), cut(read_left(left), old.head.base, given.keep_versions))
-    return old
+    left = None if path is None else cut(read_left(path), state.head.base, given.keep_versions)
+    return import_logs.Before(left, state, Ids(days.work("ids.jsonl")), Following(state, How(given.program, given.jobs, given.parts or 1)))
 
 
-def traced(days: Days, given: Namespace) -> str:
+def traced(days: Days, given: Namespace, before: import_logs.Before) -> str:
     """The day's trace; raises WindowFault where the import refuses the logs."""
     if given.service == "trace":
+        if before.left is not None:
+            write_left(days.work("left"), before.left)
         return str(given.words[0])
-    said, state = io.StringIO(), days.before("state")
+    said = io.StringIO()
     with contextlib.redirect_stderr(said):
         status = import_logs.main([given.service, "--trace", days.work("trace"), "--ids", days.work("ids.jsonl"), "--go-on", days.work("left"),
-                                   "--jobs", str(given.jobs), *(["--state", state] if state is not None else []), *given.words])
+                                   "--jobs", str(given.jobs), *given.words], before)
     if status:
         sys.stderr.write(said.getvalue())
         raise WindowFault("the import refused the logs")
     lines = said.getvalue().splitlines()
     write_whole(days.work("import.txt"), lines)
-    # What a day cannot show is of days no news; that its log has gaps, or lines that say nothing, is.
-    sys.stderr.writelines(line + "\n" for line in lines if not line.startswith(("commits ", "cannot show ")))
+    # What the day's log cannot show is told with the report.
+    sys.stderr.writelines(line + "\n" for line in lines if not line.startswith(("commits ", CANNOT)))
     return days.work("trace")
+
+
+def audited_day(days: Days, given: Namespace, before: import_logs.Before, progress: Progress) -> tuple[Own, Audited]:
+    own = Own(traced(days, given, before), before.state, False)
+    how, step = How(given.program, given.jobs, parts_needed(own, before.state, given.parts)), progress.steps("read %s bytes")
+    if given.service == "trace":
+        return own, audited(own, before.state, None, how, keep_of(given), False, step)
+    return own, audited_so_far(before.following, own, how, keep_of(given), step)
 
 
 def made(days: Days, given: Namespace, digest: str, progress: Progress) -> int:
     """Makes the next day; its number."""
     os.mkdir(days.work())
-    old = go_on(days, given)
-    own = Own(traced(days, given), old, False)
     # Rows make no circles, and there may be many of them to look through.
     gc.disable()
-    how = How(given.program, given.jobs, parts_needed(own, old, given.parts))
-    found = audited(own, old, None, how, keep_of(given), False, progress.steps("read %s bytes"))
+    before = go_on(days, given)
+    try:
+        own, found = audited_day(days, given, before, progress)
+    finally:
+        before.following.stop()
     if found.window.entries < given.at_least:
         raise WindowFault("the day has %d checks and content checks, and at least %d are wanted (--at-least)"
                           % (found.window.entries, given.at_least))
     write_next(days.work("state"), found.window, found.carry)
-    write_reports(days, given, found, own)
+    write_reports(days, found, own, before.ids if given.service != "trace" else None)
     told = found.told
     write_whole(days.work("summary.json"), [json.dumps(Summary([os.path.basename(log) for log in given.logs], digest, told.status, told.entries,
                                                                len(told.findings), len(told.not_audited), told.held)._asdict())])
@@ -140,16 +150,29 @@ def made(days: Days, given: Namespace, digest: str, progress: Progress) -> int:
     return number
 
 
-def write_reports(days: Days, given: Namespace, found: Audited, own: Own) -> None:
+def write_reports(days: Days, found: Audited, own: Own, ids: Optional[Ids]) -> None:
     """The report as text, and with effects as rows of JSON."""
     write_whole(days.work("report.txt"), found.told.lines(places(found, own).__getitem__))
-    ids = Ids(days.work("ids.jsonl")) if given.service != "trace" else None
-    rows = FORMS["jsonl"](telling(found.carried, own, found.told, ids, own.path)) if found.told.findings else ()
-    write_whole(days.work("report.jsonl"), rows)
+    write_whole(days.work("report.jsonl"), json_rows(found, own, ids) if found.told.findings else ())
+
+
+def cannot_show(said: list[str], is_first: bool) -> list[str]:
+    """The lines in which the import says what no audit of a day's log can find.
+
+    It looks at that day alone. A later day may have a check of a version that a day before issued, which can be an F2 without a content check.
+    """
+    lines = [line for line in said if line.startswith(CANNOT)]
+    if is_first or any(line.startswith(CANNOT + "F6 ") for line in lines):
+        return lines
+    return [line for line in lines if not line.startswith(CANNOT + "F2 ")]
 
 
 def tell(days: Days, number: int) -> int:
-    """Writes out the report of a day; its status."""
+    """Writes out the report of a day, and on standard error what its log could not show; its status."""
+    path = days.path(number, "import.txt")
+    if os.path.exists(path):
+        with open(path, encoding="utf-8") as file:
+            sys.stderr.writelines("the day's log %s\n" % line for line in cannot_show(file.read().splitlines(), number == 1))
     sys.stdout.write(days.tell(number))
     sys.stdout.flush()
     days.mark_told(number)

@@ -12,7 +12,9 @@ import gc
 import os
 import sys
 from argparse import Namespace
-from typing import Any, Iterable, Optional
+from functools import partial
+from itertools import chain
+from typing import Any, Iterable, NamedTuple, Optional
 
 from new_enemy_tools import limits
 from new_enemy_tools.commands.running import Parser
@@ -21,15 +23,27 @@ from new_enemy_tools.ids import Ids
 from new_enemy_tools.importing import openfga, spicedb, spicedb_schema
 from new_enemy_tools.importing.chained import in_chain, last_of
 from new_enemy_tools.importing.core import Core, Given, GoesOn
-from new_enemy_tools.importing.going_on import read_left, write_left
+from new_enemy_tools.importing.going_on import Left, read_left, refuse_other, write_left
 from new_enemy_tools.importing.neutral import gather_events
 from new_enemy_tools.importing.refusals import Refusals
 from new_enemy_tools.importing.service import ServiceRules
 from new_enemy_tools.importing.spool import Lines
+from new_enemy_tools.importing.writing import Piece
 from new_enemy_tools.parting.faults import PartsFault
 from new_enemy_tools.pieces import LEAST_BYTES, PiecesWriter
 from new_enemy_tools.progress import Progress
-from new_enemy_tools.windowing.state import read_state
+from new_enemy_tools.windowing.following import Following
+from new_enemy_tools.windowing.state import State, read_state
+
+
+class Before(NamedTuple):
+    """What is known of the days before where it was read already: what the import of the last one left, the state, and the table of ids;
+    and what follows the day's trace as it is written."""
+
+    left: Optional[Left]
+    state: State
+    ids: Ids
+    following: Following
 
 
 def given_of(words: list[str]) -> tuple[Parser, Namespace]:
@@ -96,32 +110,36 @@ def rules_of(given: Namespace, refusals: Refusals) -> Optional[ServiceRules]:
     return spicedb_schema.read_schema(given.rules, refusals)
 
 
-def gathered(given: Namespace, base: Any, refusals: Refusals, progress: Progress, goes_on: Optional[GoesOn]) -> Given:
-    """All lines of the service's files, base state first; that stands in the first day alone."""
-    lines, is_later = Lines(), goes_on is not None and goes_on.before is not None
+def gathered(given: Namespace, base: Any, refusals: Refusals, progress: Progress, goes_on: Optional[GoesOn], ids: Ids) -> Given:
+    """The lines of the service's files, base state first; that stands in the first day alone."""
+    lines, is_later = Lines(ids=ids), goes_on is not None and goes_on.before is not None
     if given.service == "events":
         chained = in_chain(given.logs, refusals, None if goes_on is None else goes_on.chain)
         if goes_on is not None:
             take_chain(goes_on, chained, refusals)
-        for path in chained or given.logs:
-            progress.follow("read %s events", gather_events(path, lines, given.jobs, refusals))
-        facts = lines.facts
-        facts.is_chained = chained is not None
-        if facts.count and not is_later and given.from_empty == (facts.last_base >= 0):
-            first = next(iter(lines))
-            refusals.refuse(first.file, first.line, "give either base writes (\"base\":true) or --from-empty")
-        return Given(lines, None)
+        lines.facts.is_chained = chained is not None
+        more = chain.from_iterable(gather_events(path, lines, given.jobs, refusals) for path in chained or given.logs)
+        end = partial(with_base, given, lines, refusals, is_later)
+        return Given(lines, None, progress.follow("read %s events", more), end)
     rules = rules_of(given, refusals)
     if rules is None:
-        return Given(lines, None)
+        return Given(lines, None, iter(()), lambda: lines)
     log = LOGS[given.service](rules, base, refusals)
     lines.add(rules.event)
     for path in [] if is_later else given.base:
         for line in log.base(path):
             lines.add(line)
-    for path in given.logs:
-        progress.follow("read %s events", log.gather(path, lines, given.jobs))
-    return Given(log.placed(lines, given.skew), log.base_number())
+    more = chain.from_iterable(log.gather(path, lines, given.jobs) for path in given.logs)
+    return Given(lines, log.base_number(), progress.follow("read %s events", more), lambda: log.placed(lines, given.skew))
+
+
+def with_base(given: Namespace, lines: Lines, refusals: Refusals, is_later: bool) -> Lines:
+    """All events, of which the first day's have to say what was stored before them."""
+    facts = lines.facts
+    if facts.count and not is_later and given.from_empty == (facts.last_base >= 0):
+        first = next(iter(lines))
+        refusals.refuse(first.file, first.line, "give either base writes (\"base\":true) or --from-empty")
+    return lines
 
 
 def take_chain(goes_on: GoesOn, chained: Optional[list[str]], refusals: Refusals) -> None:
@@ -135,12 +153,14 @@ def take_chain(goes_on: GoesOn, chained: Optional[list[str]], refusals: Refusals
         refusals.refuse(chained[-1], 1, "the file is not closed: give it when it is, and then the next day's files can go on from it")
 
 
-def write(given: Namespace, chunks: Iterable[bytes], ids: Ids, refusals: Refusals) -> PiecesWriter:
+def write(given: Namespace, pieces: Iterable[Piece], ids: Ids, refusals: Refusals, following: Optional[Following]) -> PiecesWriter:
     """The trace, in pieces where it is too long for a file, and the new rows of the table; or neither where something is refused meanwhile."""
     writer = PiecesWriter(given.trace, given.piece_bytes)
     try:
-        for chunk in chunks:
-            writer.write(chunk)
+        for piece in pieces:
+            writer.write(piece.lines)
+            if following is not None and piece.lines:
+                following.take(piece.lines, piece.seen)
         writer.end()
         if not refusals.refused:
             writer.keep(ids.append)
@@ -168,39 +188,48 @@ def told_refused(refusals: Refusals) -> int:
     return 2
 
 
-def main(words: list[str]) -> int:
+def main(words: list[str], before: Optional[Before] = None) -> int:
     parser, given = given_of(words)
     base = base_at(parser, given)
+    is_on = gc.isenabled()
     # Rows make no circles, and there are many of them to look through.
     gc.disable()
     try:
-        return imported(given, base)
+        return imported(given, base, before)
     except PartsFault as fault:
         raise DeviceFault(str(fault)) from None
     except OSError as fault:
         raise DeviceFault("cannot %s: %s" % ("use %s" % fault.filename if fault.filename else "keep lines in a temporary file",
                                              fault.strerror)) from None
     finally:
-        gc.enable()
+        if is_on:
+            gc.enable()
 
 
-def goes_on_of(given: Namespace, service: str) -> Optional[GoesOn]:
+def goes_on_of(given: Namespace, service: str, before: Optional[Before]) -> Optional[GoesOn]:
     if given.go_on is None:
         return None
-    before = read_left(given.go_on, service) if os.path.exists(given.go_on) else None
-    return GoesOn(service, given.logs[0], before, read_state(given.state) if given.state is not None and before is not None else None)
+    if before is not None:
+        left, state = before.left, None if before.left is None else before.state
+    else:
+        left = read_left(given.go_on) if os.path.exists(given.go_on) else None
+        state = read_state(given.state) if given.state is not None and left is not None else None
+    if left is not None:
+        refuse_other(left, given.go_on, service)
+    return GoesOn(service, given.logs[0], left, state)
 
 
-def imported(given: Namespace, base: Any) -> int:
+def imported(given: Namespace, base: Any, before: Optional[Before]) -> int:
     refusals = Refusals(given.skip_unmapped)
     with Progress() as progress:
         service = given.service if given.name is None else "%s %s" % (given.service, given.name)
-        goes_on = goes_on_of(given, service)
-        ids = Ids(given.ids)
+        goes_on = goes_on_of(given, service, before)
+        ids = Ids(given.ids) if before is None else before.ids
         ids.take_for(service)
-        core = Core(ids, given.skew, refusals, progress, goes_on)
-        made = core.trace(gathered(given, base, refusals, progress, goes_on), given.jobs)
-        written = write(given, made.chunks, ids, refusals) if made else None
+        following = None if before is None else before.following
+        core = Core(ids, given.skew, refusals, progress, goes_on, None if following is None else following.look)
+        made = core.trace(gathered(given, base, refusals, progress, goes_on, ids), given.jobs)
+        written = write(given, made.chunks, ids, refusals, following) if made else None
         if goes_on is not None and goes_on.left is not None and not refusals.refused:
             write_left(given.go_on, goes_on.left)
     told_left_out(refusals)

@@ -26,7 +26,7 @@ from new_enemy_tools.windowing.auditing import How
 from new_enemy_tools.windowing.carrying import Keep, carried
 from new_enemy_tools.windowing.faults import WindowFault
 from new_enemy_tools.windowing.reading import Own, lines_of, with_strata
-from new_enemy_tools.windowing.run import Audited, Refused, audited, parts_needed, read_own, refuse_bad, state_before, write_next
+from new_enemy_tools.windowing.run import Audited, Refused, audited, parts_needed, read_own, records_of, refuse_bad, state_before, write_next
 from new_enemy_tools.windowing.state import read_state
 
 PROGRAM = os.path.join(os.path.dirname(os.path.dirname(os.path.dirname(os.path.dirname(os.path.abspath(__file__))))), "new_enemy")
@@ -111,7 +111,7 @@ def state_command(given: Namespace, progress: Progress) -> int:
     window = read_own(own, with_strata(old, own.strata()), given.jobs, progress.steps("read %s bytes"))
     refuse_bad(window)
     own.refuse_changed()
-    write_next(given.out, window, carried(window, keep_of(given), {row.line: row.raw for row in old.rows if row.kind == "e"}))
+    write_next(given.out, window, carried(window, keep_of(given), records_of(old)))
     return 0
 
 

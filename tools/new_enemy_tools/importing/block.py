@@ -17,6 +17,8 @@ TRIES = 200
 DAY = len("2024-05-06")
 
 Full = Callable[[int, bytes], list[Line]]
+# The numbers of users by their types and ids, None for one that is not known; nothing where none is.
+Known = Callable[[list[tuple[str, str]]], list[Optional[int]]]
 
 
 class When(NamedTuple):
@@ -48,8 +50,8 @@ class Usual(NamedTuple):
 class Columns:
     """The columns of the checks of a block, as they are read."""
 
-    def __init__(self, path: str):
-        self.path, self.facts, self.rows = path, Facts(), 0
+    def __init__(self, path: str, known: Known):
+        self.path, self.known, self.facts, self.rows = path, known, Facts(), 0
         self.pairs: dict[tuple[bytes, bytes], int] = {}
         self.users: dict[tuple[bytes, bytes], int] = {}
         self.looks: list[Row] = []
@@ -106,8 +108,8 @@ class Columns:
             self.facts.note_checks(self.path, first)
 
     def checks(self) -> Checks:
-        times = self.times and self.times + [b""] * (len(self.lines) - len(self.times))
-        return Checks(self.path, _texts(self.pairs), _texts(self.users), self.looks, array("I", self.pair_of).tobytes(),
+        times, users = self.times and self.times + [b""] * (len(self.lines) - len(self.times)), _texts(self.users)
+        return Checks(self.path, _texts(self.pairs), users, self.known(users), self.looks, array("I", self.pair_of).tobytes(),
                       array("I", self.user_of).tobytes(), array("I", self.look_of).tobytes(), b"\n".join(self.objects).decode(),
                       array("Q", self.lines).tobytes(), b"\n".join(times).decode(), self.others)
 
@@ -123,19 +125,20 @@ def _texts(pairs: Mapping[tuple[bytes, bytes], int]) -> list[tuple[str, str]]:
 class Reader:
     """Reads a log's blocks, and learns the shapes of its lines."""
 
-    def __init__(self, path: str, usual: Usual):
-        self.path, self.usual = path, usual
+    def __init__(self, path: str, usual: Usual, known: Known = lambda users: []):
+        self.path, self.usual, self.known = path, usual, known
         self.shapes: list[Shape] = []
         self.tried = 0
         self.days: dict[bytes, bool] = {}
-        self.taken: dict[Row, bool] = {}
+        # of writes, by the bytes of their names, these names where such tuples may be written
+        self.taken: dict[Row, Optional[tuple[str, str, str]]] = {}
 
     def pieces(self, block: Block, full: Full) -> Iterator[Union[Read, Event]]:
         """The lines of a block, with rules apart, which have no row."""
         lines = enumerate(block.data.split(b"\n"), block.first)
         given: list[Line] = []
         while True:
-            columns = Columns(self.path)
+            columns = Columns(self.path, self.known)
             for number, line in self._odd(lines, columns):
                 given = full(number, line)
                 if any(one.kind == "rules" for one in given):
@@ -155,7 +158,7 @@ class Reader:
         """Takes the lines of usual shapes, and gives the others."""
         shapes, pairs, users = self.shapes, columns.pairs, columns.users
         put_pair, put_user, put_look = columns.pair_of.append, columns.user_of.append, columns.look_of.append
-        put_object, put_line = columns.objects.append, columns.lines.append
+        put_object, put_line, look_of = columns.objects.append, columns.lines.append, self.usual.look_of
         shapes.sort(key=lambda shape: -shape.hits)
         for shape in shapes:
             shape.looks.clear()
@@ -184,7 +187,7 @@ class Reader:
             said = found.group(*shape.rest)
             look = shape.looks.get(said)
             if look is None:
-                look = shape.looks[said] = columns.add_look(self.usual.look_of(shape.said(found)))
+                look = shape.looks[said] = columns.add_look(look_of(dict(zip(shape.names, said))))
             if look < 0:
                 yield number, line
                 continue
@@ -210,18 +213,22 @@ class Reader:
 
     def _write(self, number: int, shape: Shape, found: re.Match[bytes]) -> Optional[Row]:
         """The row of a write; None where it has to be read in full."""
-        of, thing, relation, user_type, user_id = (text.decode() for text in found.group(*shape.goal))
-        when = self.usual.when_of(shape.said(found))
+        of, thing, relation, user_type, user_id = found.group(*shape.goal)
         key = of, relation, user_type, shape.user_relation
-        taken = self.taken.get(key)
-        if taken is None:
-            taken = self.taken[key] = self.usual.takes(*key)
-        if when is None or not taken:
+        if key not in self.taken:
+            self.taken[key] = self._names(of, relation, user_type, shape.user_relation)
+        names, when = self.taken[key], self.usual.when_of(shape.said(found))
+        if when is None or names is None:
             return None
         time = nanoseconds(found[shape.time].decode()) if shape.time else when.time
-        given = [(of, thing, relation, user_type, user_id, shape.user_relation)]
+        given = [(names[0], thing.decode(), names[1], names[2], user_id.decode(), shape.user_relation)]
         return ("write", self.path, number, when.revision, when.shown, False, None, None, time, self.path,
                 given if shape.adds else [], [] if shape.adds else given, None)
+
+    def _names(self, of: bytes, relation: bytes, user_type: bytes, user_relation: Optional[str]) -> Optional[tuple[str, str, str]]:
+        """The names of tuples that may be written so."""
+        names = of.decode(), relation.decode(), user_type.decode()
+        return names if self.usual.takes(*names, user_relation) else None
 
     def _learn(self, number: int, line: bytes, row: Row) -> None:
         """Learns the shape of a line, where it gives what the line was read as."""
@@ -229,12 +236,13 @@ class Reader:
         shape = None
         if given is None or len(given) == 1 and given[0][5] != EVERY:
             shape = shape_of(line, getattr(self.usual, row[0]))
-        if shape:
+        # a check says its snapshot and its reply
+        if shape and (row[0] != "check" or len(shape.rest) > 1):
             shape.kind = row[0]
             if given:
                 shape.adds, shape.user_relation = bool(row[10]), given[0][5]
             known, self.shapes = self.shapes, [shape]
-            columns = Columns(self.path)
+            columns = Columns(self.path, self.known)
             if not list(self._odd([(number, line)], columns)) and list(columns.checks().rows()) == [row]:
                 known.append(shape)
             shape.looks.clear()

@@ -84,7 +84,7 @@ def in_chain(paths: list[str], refusals: Refusals, after: Optional[list[Any]] = 
         elif end.said is None and path != ordered[-1]:
             refusals.refuse(path, 1, "the file is not closed, and others go on from it; give it as tools/record left it")
         elif end.said is None:
-            refusals.note("open", "%s is not closed: it is still written, or its recorder was killed" % path)
+            refusals.gap(path, "gap at the end: %s is not closed, since it is still written or its recorder was killed" % path)
         before = (path, heads[path].number, end.found if end.said else None)
     return ordered
 

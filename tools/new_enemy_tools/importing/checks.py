@@ -30,12 +30,13 @@ class Look(NamedTuple):
 class Checks(NamedTuple):
     """The columns have an item for each check: its pair, user and look by their places, its object, its line, and its time, if any has one.
 
-    `others` are rows, each with the number of checks before it, and of the users that these have.
+    `numbers` are those of users that the table of ids has, None for others, or nothing where that is not known. `others` are rows, each with the number of checks before it, and of the users that these have.
     """
 
     file: str
     pairs: list[tuple[str, str]]
     users: list[Any]
+    numbers: list[Optional[int]]
     looks: list[Row]
     pair_of: bytes
     user_of: bytes

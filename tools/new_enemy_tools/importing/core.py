@@ -6,11 +6,12 @@ of the trace needs is kept in a spool. Then timestamps and strata are known, and
 import marshal
 from functools import partial
 from itertools import chain, islice
-from typing import Any, Iterable, Iterator, NamedTuple, Optional, Union
+from typing import Any, Callable, Iterable, Iterator, NamedTuple, Optional, Union
 
 from new_enemy_tools.edges import Name
 from new_enemy_tools.ids import Ids
 from new_enemy_tools.importing import going_on
+from new_enemy_tools.importing.ahead import Ahead
 from new_enemy_tools.importing.between import STATES, Asked, Spans
 from new_enemy_tools.importing.checks import Checks
 from new_enemy_tools.importing.commits import Commit, Writer
@@ -26,17 +27,26 @@ from new_enemy_tools.importing.spool import BATCH, CHECKS, Facts, Lines, checks_
 from new_enemy_tools.importing.strata import Edges, choose
 from new_enemy_tools.importing.taken import Taken
 from new_enemy_tools.importing.wildcards import Wildcards
-from new_enemy_tools.importing.writing import Counts, Written
+from new_enemy_tools.importing.writing import Counts, Piece, Written
 from new_enemy_tools.parting.sharing import shared
 from new_enemy_tools.progress import Progress
 from new_enemy_tools.texts import Tuple, Userset
 from new_enemy_tools.windowing.state import State
 
+# By lines of the trace and, where these are known, their snapshots, with -1 for a line of which it is not.
+Look = Callable[[bytes, Optional[list[int]]], Any]
+
+
 class Given(NamedTuple):
-    """The lines of an import, and the revision of its base state."""
+    """The lines of an import, and the revision of its base state.
+
+    `more` adds lines while it is gone through; then `end` gives all of them.
+    """
 
     lines: Lines
     base: Optional[int]
+    more: Iterator[object]
+    end: Callable[[], Lines]
 
 
 class GoesOn:
@@ -49,53 +59,86 @@ class GoesOn:
 
 
 class Core:
-    def __init__(self, ids: Ids, skew: Optional[int], refusals: Refusals, progress: Progress, goes_on: Optional[GoesOn] = None):
+    """`look` says what the processes that make lines of the trace are to see there for who takes them."""
+
+    def __init__(self, ids: Ids, skew: Optional[int], refusals: Refusals, progress: Progress, goes_on: Optional[GoesOn] = None,
+                 look: Optional[Look] = None):
         self.ids, self.skew, self.refusals, self.progress = ids, skew, refusals, progress
-        self.goes_on = goes_on
+        self.goes_on, self.look = goes_on, look
         # of the days before how many commits are known, and the first state where not all are
         self.commits_before = 0
         self.oldest: Optional[int] = None
-        self.edges = Edges()
         self.counts = Counts()
 
     def trace(self, given: Given, jobs: int = 1) -> Optional[Written]:
         """The trace, whose lines are still to be written, by so many processes; None where something was refused."""
-        lines = given.lines
+        ahead = self._taken_ahead(given)
+        for _ in given.more:
+            pass
+        lines = given.end()
         wildcards = Wildcards(lines)
-        before = None if self.goes_on is None else self.goes_on.before
-        rules = wildcards.rules() + lines.rules if before is None else going_on.events_of(before) + going_on.new_rules(before, lines, self.refusals)
-        if self.goes_on is not None:
-            going_on.refuse_unfit(lines.facts, before is None, self.goes_on.state is not None, self.goes_on.file, self.refusals)
-        if before is not None:
-            going_on.add_edges(before, self.edges)
-        self.declared = Declared(rules, self.edges, self.refusals)
-        self.writer = Writer(self.declared, wildcards, self.ids, self.edges, self.refusals)
-        base = self._base(lines)
-        self.taken = Taken(self.declared, self.writer, self.ids, self.refusals, self.progress, self._base_revision(base, given),
-                           lines.facts.has_between)
-        if before is not None:
-            going_on.take_up(before, self.taken)
-            if self.goes_on is not None and self.goes_on.state is not None and lines.facts.has_between:
-                self.oldest = going_on.take_states(self.taken.states, before, self.goes_on.state)
-                self.commits_before = len(self.taken.states.revisions)
-        for commit in (self._every(wildcards), base):
-            if commit:
-                self.taken.keep(commit)
-        self.taken.take_all(self._stream(lines), Spans(lines.spans() if lines.facts.has_groups else ()))
+        if ahead is not None and ahead.stands(lines):
+            self.refusals.merge(ahead.refusals)
+        else:
+            self._take_all(given, lines, wildcards)
         strata = choose([(name, relation) for name in self.declared.rules.current
                          for relation in self.declared.rules.relations(name)], self.edges, self.refusals)
         if self.refusals.refused:
             return None
-        shown = Shown(self.declared, self.ids, strata, self._times(strata), self.refusals.gaps())
-        if before is not None:
+        shown, before = Shown(self.declared, self.ids, strata, self._times(strata)), self._before
+        if before is None:
+            shown.begin(self.refusals.gaps())
+        else:
             shown.go_on(going_on.has_other_strata(before, strata))
         return Written(self._chunks(shown, jobs), self.counts, lambda: chain(wildcards.told(), self.taken.states.told()))
+
+    @property
+    def _before(self) -> Optional[Left]:
+        return None if self.goes_on is None else self.goes_on.before
+
+    # The first time
+
+    def _begin(self, lines: Lines, wildcards: Wildcards, base: Optional[int], refusals: Refusals) -> Optional[Commit]:
+        """Begins with the rules, and what is known of the days before; the commit of the base state, if the lines have one."""
+        before, self.edges = self._before, Edges()
+        rules = wildcards.rules() + lines.rules if before is None else going_on.events_of(before) + going_on.new_rules(before, lines, refusals)
+        if self.goes_on is not None:
+            going_on.refuse_unfit(lines.facts, before is None, self.goes_on.state is not None, self.goes_on.file, refusals)
+        if before is not None:
+            going_on.add_edges(before, self.edges)
+        self.declared = Declared(rules, self.edges, refusals)
+        self.writer = Writer(self.declared, wildcards, self.ids, self.edges, refusals)
+        commit = self._base(lines)
+        self.taken = Taken(self.declared, self.writer, self.ids, refusals, self.progress, self._base_revision(commit, base), lines.facts.has_between)
+        if before is not None:
+            going_on.take_up(before, self.taken)
+        return commit
+
+    def _taken_ahead(self, given: Given) -> Optional[Ahead]:
+        """Where a day's log has nothing that hangs on all of its lines, they are taken while others are still read; None where it has."""
+        if self._before is None or self.skew is not None:
+            return None
+        ahead = Ahead(given.lines, Refusals(self.refusals.skip))
+        self._begin(given.lines, Wildcards(given.lines), given.base, ahead.refusals)
+        self.taken.take_all(ahead.stream(given.more), Spans(()))
+        return ahead
+
+    def _take_all(self, given: Given, lines: Lines, wildcards: Wildcards) -> None:
+        self.ids.forget()
+        base, before = self._begin(lines, wildcards, given.base, self.refusals), self._before
+        if before is not None and self.goes_on is not None and self.goes_on.state is not None and lines.facts.has_between:
+            self.oldest = going_on.take_states(self.taken.states, before, self.goes_on.state)
+            self.commits_before = len(self.taken.states.revisions)
+        for commit in (self._every(wildcards), base):
+            if commit:
+                self.taken.keep(commit)
+        self.taken.take_all(self._stream(lines), Spans(lines.spans() if lines.facts.has_groups else ()))
 
     def _times(self, strata: dict[Name, int]) -> dict[int, int]:
         """The last timestamp of each revision."""
         if self.goes_on is None:
             return self.taken.timestamps()
-        before, base = self.goes_on.before, self.taken.base_revision
+        before, base = self._before, self.taken.base_revision
         if base is not None:
             self.taken.wanted.setdefault(base, 1)
         named = going_on.numbered(self.taken.wanted, before.named if before else [])
@@ -115,10 +158,10 @@ class Core:
                 self.writer.write(base, event)
         return base
 
-    def _base_revision(self, base: Optional[Commit], given: Given) -> Optional[int]:
-        if self.goes_on is not None and self.goes_on.before is not None:
-            return self.goes_on.before.base
-        return base.revision if base else given.base
+    def _base_revision(self, commit: Optional[Commit], base: Optional[int]) -> Optional[int]:
+        if self._before is not None:
+            return self._before.base
+        return commit.revision if commit else base
 
     def _every(self, wildcards: Wildcards) -> Optional[Commit]:
         event = wildcards.write()
@@ -184,64 +227,78 @@ class Core:
             return self.taken.has_good_version(entry)
         return False
 
-    def _chunks(self, shown: Shown, jobs: int) -> Iterator[bytes]:
+    def _chunks(self, shown: Shown, jobs: int) -> Iterator[Piece]:
         """The lines of the trace. Where none hangs on others, batches of them are made by many processes."""
         head = "".join(shown.head()).encode()
-        yield head
-        if (head or self.goes_on is not None and self.goes_on.before is not None) and not self.taken.has_between:
+        yield Piece(head)
+        if (head or self._before is not None) and not self.taken.has_between:
             # What the first line says is not for the processes that make the others.
             first, shown.mark = shown.mark, ""
-            for chunk, counts in shared(partial(self._chunk, shown), self._kept(), jobs):
+            for piece, counts in shared(partial(self._piece, shown), self._kept(), jobs):
                 self.counts.merge(counts)
                 self.progress.step("wrote %s events", self.counts.count)
-                if first and chunk:
-                    line, _, rest = chunk.partition(b"\n")
-                    chunk, first = b"%s,%s}\n%s" % (line[:-1], first.encode(), rest), ""
-                yield chunk
+                if first and piece.lines:
+                    line, _, rest = piece.lines.partition(b"\n")
+                    piece, first = Piece(b"%s,%s}\n%s" % (line[:-1], first.encode(), rest)), ""
+                yield piece
             return
         self.taken.states.take_rules(shown.declarations(self.declared))
         self.taken.states.revisions.sort()
         texts = self._texts((row for batch in self._kept() for row in marshal.loads(batch)), shown, self.counts)
         while some := list(islice(texts, BATCH)):
-            yield "".join(some).encode()
+            yield Piece("".join(some).encode())
 
-    def _chunk(self, shown: Shown, batch: bytes) -> tuple[bytes, Counts]:
+    def _piece(self, shown: Shown, batch: bytes) -> tuple[Piece, Counts]:
         counts, found = Counts(), checks_of(batch)
-        texts = self._checks_texts(found, shown, counts) if isinstance(found, Checks) else self._texts(found, shown, counts)
-        return "".join(texts).encode(), counts
+        if isinstance(found, Checks):
+            texts, snapshots = self._checks_texts(found, shown, counts)
+        else:
+            texts, snapshots = list(self._texts(found, shown, counts)), None
+        lines = "".join(texts).encode()
+        return Piece(lines, None if self.look is None else self.look(lines, snapshots)), counts
 
-    def _checks_texts(self, checks: Checks, shown: Shown, counts: Counts) -> Iterator[str]:
-        """The lines of many checks, and of what stands among them."""
-        texts, at = shown.checks(checks), 0
+    def _checks_texts(self, checks: Checks, shown: Shown, counts: Counts) -> tuple[list[str], list[int]]:
+        """The lines of many checks, and of what stands among them; and of each line the snapshot, -1 where it is none of many checks."""
+        made, ats, at = shown.checks(checks), shown.snapshots(checks), 0
         counts.has_token |= any(look[3] is not None for look in checks.looks)
         counts.has_named |= any(look[4] is not None for look in checks.looks)
-        for place, _, row in (*checks.others, (len(texts), 0, None)):
+        texts: list[str] = []
+        snapshots: list[int] = []
+        for place, _, row in (*checks.others, (len(made), 0, None)):
             counts.checks += place - at
-            yield "".join(texts[at:place])
+            texts += made[at:place]
+            snapshots += ats[at:place]
             at = place
             if row:
-                yield from self._texts((row,), shown, counts)
+                texts += self._lines(row, shown, counts)
+                snapshots += [-1] * (len(texts) - len(snapshots))
+        return texts, snapshots
+
+    @staticmethod
+    def _lines(row: tuple[Any, ...], shown: Shown, counts: Counts) -> Iterable[str]:
+        """The lines of a row that hangs on no other."""
+        if row[0] in CHECKS:
+            counts.take_entry(row[0], row[4], row[7] is not None, row[8] is not None)
+            return (shown.entry(row),)
+        if row[0] == "commit":
+            counts.take_commit(len(row[-1]))
+            return shown.commit(*row[1:])
+        counts.take_change()
+        return shown.change(*row[1:])
 
     def _texts(self, rows: Iterable[tuple[Any, ...]], shown: Shown, counts: Counts) -> Iterator[str]:
         """Each line with its end."""
         place = self.commits_before
         waiting: dict[int, list[str]] = {}
         for row in rows:
-            if row[0] in CHECKS:
-                counts.take_entry(row[0], row[4], row[7] is not None or row[9] is not None and row[10], row[8] is not None)
-                if row[9] is None:
-                    yield shown.entry(row)
-                else:
-                    yield from self._between(Entry._make(row), place, shown, waiting)
+            if row[0] in CHECKS and row[9] is not None:
+                counts.take_entry(row[0], row[4], row[7] is not None or row[10], row[8] is not None)
+                yield from self._between(Entry._make(row), place, shown, waiting)
                 continue
-            place += 1
-            if row[0] == "commit":
-                counts.take_commit(len(row[-1]))
-                yield from shown.commit(*row[1:])
-            else:
-                counts.take_change()
-                yield from shown.change(*row[1:])
-            yield from waiting.pop(place, ())
+            yield from self._lines(row, shown, counts)
+            if row[0] not in CHECKS:
+                place += 1
+                yield from waiting.pop(place, ())
 
     def _between(self, entry: Entry, place: int, shown: Shown, waiting: dict[int, list[str]]) -> Iterator[str]:
         """An entry at the state where its reply is right; or at each, the others as plain checks.

@@ -280,12 +280,12 @@ def _entry(kind: str, file: str, line: int, value: dict[str, Any], stamp: Stamp)
 def _gap(event: Event, value: dict[str, Any], refusals: Refusals) -> None:
     """A time of which a recorder says that its log has not all of it."""
     start, end, lost = value.get("from"), value.get("to"), value.get("lost")
-    if nanoseconds(end) is None or start is not None and nanoseconds(start) is None or not isinstance(value.get("reason"), str):
+    since = nanoseconds(start)
+    if nanoseconds(end) is None or start is not None and since is None or not isinstance(value.get("reason"), str):
         raise _Fault("a gap has no `reason`, or its `from` and `to` are no times of RFC 3339")
     count = " (%d lost)" % lost if is_whole(lost) and lost else ""
-    refusals.note("gap %s:%d" % (event.file, event.line),
-                  "gap %sto %s: %s%s" % ("" if start is None else "from %s " % start, end, value["reason"], count))
-    refusals.note("gaps", "the log has gaps: a verdict says nothing of what was asked in them")
+    refusals.gap("%s:%d" % (event.file, event.line),
+                 "gap %sto %s: %s%s" % ("" if start is None else "from %s " % start, end, value["reason"], count), since)
 
 
 def _unmapped(value: dict[str, Any], file: str, line: int, refusals: Refusals) -> None:

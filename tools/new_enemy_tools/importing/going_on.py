@@ -5,6 +5,7 @@ The file is a line of JSON, and behind it the checksum of that line.
 """
 import json
 from hashlib import blake2b
+from itertools import starmap
 from typing import Any, Iterable, NamedTuple, Optional
 
 from new_enemy_tools import limits
@@ -60,8 +61,8 @@ class Left(NamedTuple):
     chain: Optional[list[Any]]
 
 
-def read_left(path: str, service: Optional[str] = None) -> Left:
-    """Raises GoingOnFault where the file is none, or was left by an import of another service than is given."""
+def read_left(path: str) -> Left:
+    """Raises GoingOnFault where the file is none."""
     data = read_bytes(path)
     line, _, rest = data.partition(b"\n")
     if rest != b"sum %s\n" % blake2b(line, digest_size=32).hexdigest().encode():
@@ -70,9 +71,13 @@ def read_left(path: str, service: Optional[str] = None) -> Left:
     if value.pop("new_enemy_import") != FORMAT:
         raise GoingOnFault("%s was left by an import of another version" % path)
     left = Left(**value)
-    if service is not None and left.service != service:
+    return left._replace(named=list(starmap(Named, left.named)))
+
+
+def refuse_other(left: Left, path: str, service: str) -> None:
+    """Refuses what was left by an import of another service."""
+    if left.service != service:
         raise GoingOnFault("%s was left by an import of %s, and the logs are of %s" % (path, left.service, service))
-    return left._replace(named=[Named(*one) for one in left.named])
 
 
 def write_left(path: str, left: Left) -> None:
@@ -176,8 +181,24 @@ def take_up(left: Left, taken: Taken) -> None:
 
 
 def numbered(wanted: dict[int, int], before: list[Named]) -> list[Named]:
-    """Timestamps for revisions, by how many lines each takes: those that were named have theirs, and the others stand between."""
+    """Timestamps for revisions, by how many lines each takes: those that were named have theirs, and the others stand between or behind."""
+    last = before[-1].revision if before else -1
+    found = _named_again({revision: lines for revision, lines in wanted.items() if revision <= last}, before)
+    at = found[-1].at if found else 0
+    for revision in sorted(revision for revision in wanted if revision > last):
+        lines = max(1, wanted[revision])
+        at += APART + lines
+        found.append(Named(revision, at, lines))
+    if at > limits.NUMBER:
+        raise GoingOnFault("there are no timestamps left: begin a new log")
+    return found
+
+
+def _named_again(wanted: dict[int, int], before: list[Named]) -> list[Named]:
+    """The revisions that were named, and among them those that are named now; none stands behind the last."""
     known = {one.revision: one for one in before}
+    if all(revision in known and lines <= known[revision].lines for revision, lines in wanted.items()):
+        return list(before)
     found: list[Named] = []
     waiting: list[tuple[int, int]] = []
     for revision in sorted({*wanted, *known}):
@@ -190,12 +211,6 @@ def numbered(wanted: dict[int, int], before: list[Named]) -> list[Named]:
         found += _between(found[-1].at if found else -1, one.at - one.lines, waiting)
         found.append(one)
         waiting = []
-    at = found[-1].at if found else 0
-    for revision, lines in waiting:
-        at += APART + lines
-        found.append(Named(revision, at, lines))
-    if at > limits.NUMBER:
-        raise GoingOnFault("there are no timestamps left: begin a new log")
     return found
 
 

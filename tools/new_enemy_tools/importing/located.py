@@ -16,7 +16,7 @@ from new_enemy_tools.strictjson import has_half_pair, is_nested_too_deep
 try:
     import orjson  # type: ignore[import]
 except ImportError:
-    orjson = None
+    orjson = None  # type: ignore[assignment]
 
 BLOCK = 1 << 20
 BLANK = b" \t\r"

@@ -1,6 +1,7 @@
 """Logs of neutral events, by as many processes as there are."""
 from typing import Iterator, Union
 
+from new_enemy_tools.ids import Ids
 from new_enemy_tools.importing import located
 from new_enemy_tools.importing.block import Reader, Usual, When
 from new_enemy_tools.importing.checks import Look
@@ -26,9 +27,8 @@ WRITE = form({**_goal("add.0", TEXT + b"+"), **_goal("remove.0", TEXT + b"+"), "
 
 
 def look_of(said: Said) -> Look:
-    snapshot, token, version = needed(said, "snapshot"), said.get("token"), said.get("version")
-    return Look(said["reply"] == b"true", int(snapshot), snapshot.decode(), None if token is None else int(token),
-                None if version is None else version.decode(), None)
+    shown, token, version = needed(said, "snapshot").decode(), said.get("token"), said.get("version")
+    return Look(said["reply"] == b"true", int(shown), shown, None if token is None else int(token), None if version is None else version.decode(), None)
 
 
 def when_of(said: Said) -> When:
@@ -42,9 +42,9 @@ USUAL = Usual(CHECK, CONTENT, WRITE, look_of, when_of, lambda *_: True)
 class Events:
     """The events of a log."""
 
-    def __init__(self, path: str, refusals: Refusals):
+    def __init__(self, path: str, refusals: Refusals, ids: Ids):
         self.path, self.refusals = path, refusals
-        self.reader = Reader(path, USUAL)
+        self.reader = Reader(path, USUAL, ids.kept_users)
 
     def block(self, block: located.Block) -> Union[tuple[Read, Refusals], located.Block]:
         """What a process makes of a block without rules."""
@@ -69,7 +69,7 @@ def gather_events(path: str, lines: Lines, jobs: int, refusals: Refusals) -> Ite
             lines.add(line)
             yield lines.facts.count
         return
-    events = Events(path, refusals)
+    events = Events(path, refusals, lines.ids)
     for found in shared(events.block, source.blocks(), jobs):
         if isinstance(found, located.Block):
             for piece in events.pieces(found, refusals):

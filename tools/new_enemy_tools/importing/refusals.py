@@ -25,6 +25,8 @@ class Refusals:
         self.left_out: Counter[str] = Counter()
         self.passed: Counter[str] = Counter()
         self.notes: dict[str, str] = {}
+        # the time from which on something may be in a gap that stands further behind
+        self.gap_since: Optional[int] = None
         # the changes of the schema that a log tells of
         self.updated: list[tuple[Optional[int], str, int]] = []
         self.doubts: list[tuple[str, Optional[str], str]] = []
@@ -37,6 +39,7 @@ class Refusals:
         self.passed.update(other.passed)
         for kind, text in other.notes.items():
             self.note(kind, text)
+        self._reach_back(other.gap_since)
         self.updated += other.updated
         self.doubts += other.doubts
         self.versions |= other.versions
@@ -64,6 +67,16 @@ class Refusals:
     def note(self, kind: str, text: str) -> None:
         """Says something of how the input is read, the first of each kind."""
         self.notes.setdefault(kind, text)
+
+    def gap(self, place: str, text: str, since: Optional[int] = None) -> None:
+        """Says a gap of a recorder's log, which begins at a time where that is known."""
+        self._reach_back(since)
+        self.note("gap " + place, text)
+        self.note("gaps", "the log has gaps: a verdict says nothing of what was asked in them")
+
+    def _reach_back(self, since: Optional[int]) -> None:
+        if since is not None:
+            self.gap_since = since if self.gap_since is None else min(since, self.gap_since)
 
     def gaps(self) -> int:
         """How many gaps a recorder's log had."""

@@ -166,7 +166,7 @@ class Log:
     def gather(self, path: str, lines: Lines, jobs: int) -> Iterator[int]:
         """Adds the lines of a log; how many there are, now and then. New rules matter to all behind them, which one process reads."""
         usual = Usual(self.CHECK, self.CONTENT_CHECK, self.WRITE, self.look_of, self.when_of, self._takes)
-        source, reader = located.Source(path), Reader(path, usual)
+        source, reader = located.Source(path), Reader(path, usual, lines.ids.kept_users)
         if not source.is_lines():
             for line in self.events(path, source.values(self.refusals)):
                 lines.add(line)

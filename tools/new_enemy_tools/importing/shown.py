@@ -1,7 +1,7 @@
 """The texts of a trace's lines."""
 import json
 from json.encoder import encode_basestring  # type: ignore[attr-defined]
-from typing import Any, Iterator
+from typing import Any, Iterable, Iterator
 
 from new_enemy_tools import texts
 from new_enemy_tools.edges import Name
@@ -16,13 +16,17 @@ encode = json.JSONEncoder(ensure_ascii=False, separators=(",", ":")).encode
 class Shown:
     """Lines by the timestamps of revisions; the names of rules are put into the table before all lines."""
 
-    def __init__(self, declared: Declared, ids: Ids, strata: dict[Name, int], times: dict[int, int], gaps: int):
+    def __init__(self, declared: Declared, ids: Ids, strata: dict[Name, int], times: dict[int, int]):
         self.ids, self.strata, self.times = ids, strata, times
         first = {one.name: one for one in declared.rules.declarations if one.at is None}
         self._head = [self._namespace(first[name]) for name in declared.head]
         self.changes = {revision: list(map(self._namespace, changes)) for revision, changes in declared.changes.items()}
-        self.mark = encode({"ids": ids.mark(), **({"gaps": gaps} if gaps else {})})[1:-1]
+        self.mark = ""
         self.files: dict[str, str] = {}
+
+    def begin(self, gaps: int) -> None:
+        """The first line says which table is the trace's, and how many gaps its log had."""
+        self.mark = encode({"ids": self.ids.mark(), **({"gaps": gaps} if gaps else {})})[1:-1]
 
     def go_on(self, has_other_strata: bool) -> None:
         """The rules stand in the days before. Where strata are others by now, the first line says all of them."""
@@ -36,7 +40,7 @@ class Shown:
             yield self._marked(encode(namespace) + "\n")
 
     def _marked(self, line: str) -> str:
-        """The first line says which table is the trace's, and how many gaps its log had."""
+        """The first line, with what it says of the whole."""
         if self.mark:
             line, self.mark = "%s,%s}\n" % (line.rstrip("\n")[:-1], self.mark), ""
         return line
@@ -48,10 +52,11 @@ class Shown:
         return known
 
     def commit(self, revision: int, shown: str, file: str, line: int, parts: list[Any]) -> Iterator[str]:
-        source = ',"revision":%s,"from":%s:%d"}\n' % (encode_basestring(shown), self._file(file), line)
-        for at, sides in enumerate(parts, self.times[revision] - len(parts) + 1):
-            listed = ['"%s":[%s]' % (key, ",".join(map(encode_basestring, side))) for key, side in zip(("add", "remove"), sides) if side]
-            yield self._marked('{"kind":"commit","at":%d%s%s' % (at, "".join("," + side for side in listed), source))
+        source = ',"revision":%s,"from":%s:%d"}\n' % (encode_basestring(shown), self.files.get(file) or self._file(file), line)
+        for at, (add, remove) in enumerate(parts, self.times[revision] - len(parts) + 1):
+            added = ',"add":[%s]' % ",".join(map(encode_basestring, add)) if add else ""
+            removed = ',"remove":[%s]' % ",".join(map(encode_basestring, remove)) if remove else ""
+            yield self._marked('{"kind":"commit","at":%d%s%s%s' % (at, added, removed, source))
 
     def change(self, revision: int, shown: str, file: str, line: int) -> Iterator[str]:
         changes = self.changes.get(revision, ())
@@ -65,18 +70,23 @@ class Shown:
         begins = ['{"kind":"check","goal":"%s:' % ids.name("namespace", of) for of, _ in checks.pairs]
         ends = ["#%s@" % ids.name("relation", relation) for _, relation in checks.pairs]
         users = list(map(str, checks.users))
-        looks = [self._look(look, checks.file) for look in checks.looks]
+        looks = self._looks(checks.looks, checks.file)
         return [f'{begins[pair]}{thing}{ends[pair]}{users[user]}{looks[look]}{line}"}}\n' for pair, thing, user, look, line in zip(
             column(checks.pair_of), checks.objects.split("\n"), column(checks.user_of), column(checks.look_of), column(checks.lines, "Q"))]
 
-    def _look(self, look: tuple[Any, ...], file: str) -> str:
-        """What stands in a check's line from its user to the number of the line that it comes from."""
-        reply, snapshot, shown, token, version, _ = look
-        return '","snapshot":%d,"reply":%s%s%s,"revision":%s,"from":%s:' % (
-            self.times[snapshot], "true" if reply else "false",
-            "" if token is None else ',"zookie":"%s"' % texts.zookie_text(self.times[token]),
-            "" if version is None else ',"version":%s' % encode_basestring(version), encode_basestring(shown),
-            self.files.get(file) or self._file(file))
+    def snapshots(self, checks: Checks) -> list[int]:
+        """The timestamps at which many checks looked."""
+        ats = [self.times[look[1]] for look in checks.looks]
+        return [ats[look] for look in column(checks.look_of)]
+
+    def _looks(self, looks: Iterable[tuple[Any, ...]], file: str) -> list[str]:
+        """What stands in the lines of checks from their users to the numbers of the lines that they come from."""
+        times, source = self.times, self.files.get(file) or self._file(file)
+        return ['","snapshot":%d,"reply":%s%s%s,"revision":%s,"from":%s:' % (
+            times[snapshot], "true" if reply else "false",
+            "" if token is None else ',"zookie":"%s"' % texts.zookie_text(times[token]),
+            "" if version is None else ',"version":' + encode_basestring(version), encode_basestring(shown), source)
+            for reply, snapshot, shown, token, version, _ in looks]
 
     def entry(self, row: tuple[Any, ...]) -> str:
         """The line of an entry, by the first fields of its row."""
@@ -85,7 +95,7 @@ class Shown:
         text = "%s:%s#%s@%d" % (ids.name("namespace", goal[0]), ids.object(goal[0], goal[1]), ids.name("relation", goal[2]),
                                 ids.number("user", goal[3], goal[4]))
         look = Look(reply, snapshot, shown, token, None if version is None else ids.version(version), None)
-        made = '{"kind":"%s","goal":%s%s%d"}\n' % (kind, encode_basestring(text)[:-1], self._look(look, file), line)
+        made = '{"kind":"%s","goal":%s%s%d"}\n' % (kind, encode_basestring(text)[:-1], self._looks([look], file)[0], line)
         return self._marked(made) if self.mark else made
 
     def _namespace(self, declaration: Declaration) -> dict[str, Any]:

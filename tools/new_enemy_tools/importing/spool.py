@@ -3,6 +3,7 @@ import marshal
 import tempfile
 from typing import IO, Callable, Iterable, Iterator, NamedTuple, Optional, Union
 
+from new_enemy_tools.ids import Ids
 from new_enemy_tools.importing.checks import NAMES, Checks, Row
 from new_enemy_tools.importing.events import EVERY, Entry, Event, Line, Relationship
 
@@ -41,9 +42,9 @@ class Spool:
         self.file.write(data)
         self.starts.append((at, at + len(data)))
 
-    def batches(self) -> Iterator[bytes]:
-        """The rows as they are handed to other processes."""
-        for start, end in self.starts:
+    def batches(self, first: int = 0) -> Iterator[bytes]:
+        """The rows as they are handed to other processes, from a batch on."""
+        for start, end in self.starts[first:]:
             assert self.file is not None
             self.file.seek(start)
             yield self.file.read(end - start)
@@ -157,7 +158,9 @@ def checks_of(data: bytes) -> Union[Checks, list[Row]]:
 class Lines:
     """The writes, rules and checks of an import, in order."""
 
-    def __init__(self, given: Iterable[Line] = ()):
+    def __init__(self, given: Iterable[Line] = (), ids: Optional[Ids] = None):
+        # that of the days before is known to all who read
+        self.ids = ids or Ids()
         self.spool, self.facts = Spool(), Facts()
         self.rules: list[Event] = []
         for line in given:
@@ -216,6 +219,23 @@ class Lines:
                 continue
             for place, row in enumerate(found.rows() if isinstance(found, Checks) else found, place + 1):
                 yield self._line(row)
+
+    def growing(self, more: Iterator[object]) -> Iterator[Union[Checks, Event, Row]]:
+        """As `stream`, while `more` adds lines when it is gone through."""
+        given = 0
+        for _ in more:
+            while given < len(self.spool.starts):
+                yield from self._of_batch(next(self.spool.batches(given)))
+                given += 1
+        for batch in self.spool.batches(given):
+            yield from self._of_batch(batch)
+
+    def _of_batch(self, batch: bytes) -> Iterator[Union[Checks, Event, Row]]:
+        found = checks_of(batch)
+        if isinstance(found, Checks):
+            yield found
+        else:
+            yield from map(self._line, found)
 
     def events(self) -> Iterator[Union[Event, WriteRow]]:
         """Those of the lines that are no checks; writes as their rows."""

@@ -14,6 +14,7 @@ from new_enemy_tools.importing.declared import Declared
 from new_enemy_tools.importing.events import Entry, Event
 from new_enemy_tools.importing.refusals import Refusals
 from new_enemy_tools.importing.spool import Spool, line_of, row_of
+from new_enemy_tools.importing.times import nanoseconds
 from new_enemy_tools.progress import Progress
 
 Item = Union[Commit, Event]
@@ -122,12 +123,11 @@ class Taken:
             for row in checks.rows():
                 self._take(line_of(row), spans)
             return
-        for _, snapshot, _, token, _, _ in checks.looks:
-            self.wanted.setdefault(snapshot, 1)
-            if token is not None:
-                self.wanted.setdefault(token, 1)
+        for revision in {look[1] for look in checks.looks} | {look[3] for look in checks.looks}:
+            if revision is not None:
+                self.wanted.setdefault(revision, 1)
         self.among, self.at = [], 0
-        numbers = self.ids.known_users(checks.users)
+        numbers = checks.numbers or self.ids.known_users(checks.users)
         new = [place for place, number in enumerate(numbers) if number is None]
         given = 0
         for place, seen, row in checks.others:
@@ -144,20 +144,24 @@ class Taken:
             numbers[place] = self.ids.number("user", *checks.users[place])
         self._pass(checks.size)
         self.count += checks.size
-        self.items.add_batch(marshal.dumps(tuple(checks._replace(users=numbers, others=self.among))))
+        self.items.add_batch(marshal.dumps(tuple(checks._replace(users=numbers, numbers=[], others=self.among))))
         self.among = None
 
     def _are_plain(self, checks: Checks) -> bool:
         """Whether all checks are of declared relations and none before the base state, and each becomes one line of a trace with rules.
 
-        A check of a version may be left out behind a gap.
+        A check of a version may be left out behind a gap, or in one.
         """
-        has_gap = self.has_gap or any(row[0] == "gap" for _, _, row in checks.others)
-        if has_gap and any(look[4] is not None for look in checks.looks):
+        if any(look[4] is not None for look in checks.looks) and self._may_be_in_gap(checks):
             return False
         return bool(self.declared.head) and not self.has_between and all(
             self.declared.rules.is_declared(*pair) for pair in checks.pairs) and (
             self.base_revision is None or all(look[1] >= self.base_revision for look in checks.looks))
+
+    def _may_be_in_gap(self, checks: Checks) -> bool:
+        times = [] if self.refusals.gap_since is None else checks.times.split("\n")
+        return self.has_gap or any(row[0] == "gap" for _, _, row in checks.others) or any(
+            self._is_in_gap(nanoseconds(time)) for time in times)
 
     def _pass(self, place: int) -> None:
         """Goes behind so many of the checks."""
@@ -243,11 +247,17 @@ class Taken:
         self.ids.name("relation", relation)
         return True
 
+    def _is_in_gap(self, time: Optional[int]) -> bool:
+        """Whether something of a time may hang on what was lost before it, in a gap that is told further behind."""
+        since = self.refusals.gap_since
+        return since is not None and time is not None and time >= since
+
     def has_good_version(self, entry: Entry) -> bool:
         key = (entry.goal[0], entry.goal[1], entry.version or "")
         short = (tuple(entry.goal), entry.reply, entry.snapshot, entry.lowest, entry.token)
         before = self.issued.get(key) if entry.kind == "content" and entry.version is not None else None
-        if self.has_gap and entry.kind == "check" and entry.version is not None and key not in self.issued:
+        is_in_gap = self.has_gap or self._is_in_gap(entry.time)
+        if is_in_gap and entry.kind == "check" and entry.version is not None and key not in self.issued:
             self.refusals.pass_over("check of a content version that may have been issued in a gap")
             return False
         if entry.version == "":

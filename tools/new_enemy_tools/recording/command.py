@@ -148,10 +148,13 @@ class Proxy:
         return await self.end()
 
     async def end(self) -> int:
-        """Tells the keeper that it is over, and waits for it to close the log."""
+        """Tells the keeper all that is to be told and that it is over, and waits for it to close the log."""
         self.is_over = True
-        self.teller.tell(Bye(time.time_ns()))
         until = time.monotonic() + 4 * LAST
+        while self.teller.end is not None and not self.teller.has_told() and time.monotonic() < until:
+            await asyncio.sleep(TICK)
+            self.teller.catch_up()
+        self.teller.tell(Bye(time.time_ns()))
         while not self.teller.flush() and time.monotonic() < until:
             await asyncio.sleep(TICK)
         if self.teller.end is not None:

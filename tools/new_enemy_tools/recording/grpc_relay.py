@@ -41,7 +41,7 @@ class Kept:
             side.append(data)
 
     def started(self) -> Started:
-        return Started(self.number, time.monotonic_ns(), self._text("x-content-save") is not None)
+        return Started(self.number, time.monotonic_ns(), self._text("x-content-save") is not None, self.call.kind)
 
     def _text(self, name: str) -> Optional[str]:
         value = self.metadata.get(name)
@@ -49,9 +49,11 @@ class Kept:
 
     def ended(self, is_good: bool) -> Ended:
         save, version, token = (self._text("x-content-" + name) for name in ("save", "version", "token"))
-        bodies = (joined(self.requests), joined(self.responses)) if self.size <= BODY else (None, None)
+        # Of an answer that broke off the client has a part.
+        status = 200 if is_good or self.responses else 0
+        bodies = (joined(self.requests), joined(self.responses)) if is_good and self.size <= BODY else (None, None)
         return Ended(self.number, self.call.kind, self.method, self.begun, time.time_ns(), time.monotonic_ns(), save, version, token,
-                     200 if is_good else 0, *bodies, GRPC)
+                     status, *bodies, GRPC)
 
 
 class Handler(grpc.GenericRpcHandler):  # type: ignore[misc]
@@ -105,12 +107,16 @@ class GrpcRelay:
         if kept is not None and kept.call.kind in CHECKS:
             self.teller.tell(kept.started())
         self.under_way += 1
-        is_good = False
+        is_good = is_cut = False
         try:
             is_good = await self._passed(method, requests, context, metadata, kept)
+        except BaseException:
+            # What the end of the recorder cut off is told no more, so that the keeper counts it.
+            is_cut = self.stopping is not None
+            raise
         finally:
             self.under_way -= 1
-            if kept is not None and (is_good or kept.call.kind in CHECKS):
+            if kept is not None and not is_cut and (is_good or kept.call.kind in CHECKS):
                 self.teller.tell(kept.ended(is_good))
 
     async def _passed(self, method: str, requests: AsyncIterator[bytes], context: Any, metadata: list[Any], kept: Optional[Kept]) -> bool:
@@ -124,9 +130,9 @@ class GrpcRelay:
         try:
             await context.send_initial_metadata(await call.initial_metadata())
             async for data in call:
-                await context.write(data)
                 if kept is not None:
                     kept.take(kept.responses, data)
+                await context.write(data)
         except grpc.aio.AioRpcError:
             pass
         finally:

@@ -28,6 +28,8 @@ TICK = 0.2
 # So long the end waits for changes that entries need.
 LAST = 5.0
 FOREVER = 1 << 63
+# What a gap calls the requests of a call.
+KINDS = {"check": "checks", "batch": "batches of checks", "list": "lists", "stream": "lists"}
 
 
 class Settings(NamedTuple):
@@ -83,10 +85,12 @@ class Service(Protocol):
 
 
 class Asked(NamedTuple):
-    """When a check began, and the newest revision that was known then."""
+    """When a check began, the newest revision that was known then, and what a gap calls it; `is_early` where the log had not begun."""
 
     clock: int
     known: int
+    kind: str = ""
+    is_early: bool = False
 
 
 class Gaps:
@@ -100,6 +104,12 @@ class Gaps:
         before = self.open.get(reason)
         self.open[reason] = Lost(start, end, amount, reason) if before is None else Lost(
             min(before.start, start), max(before.end, end), before.amount + amount, reason)
+
+    def take(self) -> int:
+        """How much was lost, which is then told."""
+        lost = sum(one.amount for one in self.open.values())
+        self.open.clear()
+        return lost
 
     def lines(self, at_once: bool) -> bytes:
         if not self.open or not at_once and time.monotonic() - self.told < 1 and self.told:
@@ -129,12 +139,14 @@ class Keeper:
     def __init__(self, settings: Settings, service: Service, end: socket.socket):
         self.settings, self.service, self.end = settings, service, end
         self.queue: queue.SimpleQueue[Any] = queue.SimpleQueue()
-        self.log = LogFiles(settings.folder, settings.service, settings.size, settings.age)
+        self.log = LogFiles(settings.folder, settings.service, settings.size, settings.age, settings.hold)
         self.sequencer, self.gaps = Sequencer(), Gaps()
         self.is_ready = self.is_over = False
         self.ticks = 0
         self.left: Optional[Left] = None
+        # the checks without an answer, and those with one that are neither in the log nor in a gap yet
         self.asked: dict[int, Asked] = {}
+        self.held: dict[int, Asked] = {}
         self.saves_since: dict[int, int] = {}
         self.unheld: set[int] = set()
         self.unsaid: list[bytes] = []
@@ -247,11 +259,10 @@ class Keeper:
             self.lose(_reason(fault), 0)
 
     def _begin(self, message: Started) -> None:
-        if not self.is_ready:
-            return
         known = self.service.known(message.clock)
-        self.asked[message.number] = Asked(message.clock, known)
-        if message.save:
+        kind = "content checks" if message.save else KINDS[message.call]
+        self.asked[message.number] = Asked(message.clock, known, kind, not self.is_ready)
+        if message.save and self.is_ready:
             self.sequencer.saves[message.number] = known
             self.saves_since[message.number] = message.clock
 
@@ -259,33 +270,37 @@ class Keeper:
         asked = self.asked.pop(message.number, None)
         is_late = message.number in self.unheld
         self.unheld.discard(message.number)
-        if message.status == 0 or message.status >= 400:
+        if message.status < 200 or message.status >= 400:
             self.forget(message.number)
         elif is_late:
             self.lose("an answer took longer than %g seconds" % self.settings.hold, message.begun)
         elif message.call not in CHECKS:
             self.service.end(message, Asked(0, 0), self)
-        elif asked is None:
+        elif asked is None or asked.is_early:
             self.lose("the recorder was beginning", message.begun)
+        elif message.response is None:
+            self.forget(message.number)
+            self.lose("an answer broke off, or was too long to be kept", message.begun)
         else:
+            self.held[message.number] = asked
             self.tried(message, partial(self.service.end, message, asked, self))
 
     def begin_log(self, message: Begun) -> None:
         """The log goes on: the time before it is a gap, but for a log that begins with an empty store."""
-        now = time.time_ns()
-        lost = sum(one.amount for one in self.gaps.open.values())
-        self.gaps.open.clear()
-        left = self.left
+        lost = self.gaps.take()
         data = b"".join(message.data) + _place_line(message.place)
-        if left is not None:
-            start = nanoseconds(left.time)
-            data = gap_line(start, now, "the recorder did not run", lost) + data
-        elif not message.is_empty or lost:
-            data = gap_line(None, now, "the log begins", lost) + data
+        if self.left is not None or lost or not message.is_empty:
+            data = self._gap_before(lost) + data
         self._write_whole(data)
         self.log.place = message.place
         self.is_ready, self.said = True, None
         self.say("recording %s at %s into %s" % (self.settings.service, self.settings.url, self.settings.folder))
+
+    def _gap_before(self, lost: int) -> bytes:
+        """The gap up to now, of a log that goes on or begins."""
+        if self.left is None:
+            return gap_line(None, time.time_ns(), "the log begins", lost)
+        return gap_line(nanoseconds(self.left.time), time.time_ns(), "the recorder did not run", lost)
 
     # What a service puts into the log
 
@@ -308,7 +323,12 @@ class Keeper:
             self.unsaid.append(self.gaps.lines(at_once))
 
     def forget(self, number: int) -> None:
-        """A content check is not waited for any more."""
+        """Of a call nothing more is to be written."""
+        self.held.pop(number, None)
+        self._let_go(number)
+
+    def _let_go(self, number: int) -> None:
+        """Commits do not wait for a content check any more."""
         self.sequencer.saves.pop(number, None)
         self.saves_since.pop(number, None)
 
@@ -317,7 +337,7 @@ class Keeper:
 
     def put_entries(self, message: Ended, answers: list[Answer], place: int, **values: Any) -> None:
         """The entries of a call, which has all that it needs."""
-        self.forget(message.number)
+        self._let_go(message.number)
         if message.save is not None and len(answers) > 1:
             raise Bad("X-Content-Save on a call that asks more than one question")
         if message.version is not None and len({one.goal[:2] for one in answers}) > 1:
@@ -326,7 +346,7 @@ class Keeper:
             raise Bad("X-Content-Save or X-Content-Version without a label")
         made = b"".join(_entry(message, answer, values) for answer in answers)
         if made:
-            self.sequencer.put_entry(place, message.at, made)
+            self.sequencer.put_entry(place, message.at, made, message.number)
 
     # Time, and the files
 
@@ -336,10 +356,11 @@ class Keeper:
         before = now - int(self.settings.hold * 1e9)
         for number, since in list(self.saves_since.items()):
             if since < time.monotonic_ns() - int(self.settings.hold * 1e9) and number in self.sequencer.saves:
-                self.forget(number)
+                self._let_go(number)
                 self.unheld.add(number)
         behind = "the changes were more than %g seconds behind" % self.settings.hold
         for one in self.sequencer.late(before):
+            self.forget(one.call)
             self.lose(behind, one.since, one.data.count(b"\n"))
         for message in self.service.late(before):
             self.forget(message.number)
@@ -358,7 +379,8 @@ class Keeper:
                 if one.cursor is not None or one.rules is not None:
                     made.append(_place_line(place))
             else:
-                made.append(one)
+                made.append(one.data)
+                self.held.pop(one.call, None)
         self._write_whole(b"".join(made))
         self.log.place = place
 
@@ -381,21 +403,37 @@ class Keeper:
 
     def _end_log(self) -> None:
         """Waits a little for what entries need, says what is lost, and closes the log."""
+        self._lose_open(self.asked, "the recorder ended before their answers")
         while self.is_ready and not self._is_last() and (self.sequencer.ready or self.service.waiting()):
             try:
                 self._take(self.queue.get(timeout=TICK))
             except queue.Empty:
                 pass
             self._write()
-        if not self.is_ready:
-            return
-        left = sum(one.data.count(b"\n") for one in self.sequencer.ready) + len(self.sequencer.saves)
-        if left:
-            self.lose("the recorder ended before the changes that these needed", 0, left)
-        self.sequencer.ready, self.sequencer.saves = [], {}
+        self.sequencer.ready = []
+        self._lose_open(self.held, "the recorder ended before the changes that these needed")
+        if self.is_ready:
+            self._write()
+            self.log.close()
+        elif self.gaps.open:
+            self._end_unbegun(self.gaps.take())
+
+    def _lose_open(self, calls: dict[int, Asked], reason: str) -> None:
+        """The recorder ends with these calls; each is counted."""
+        now, clock = time.time_ns(), time.monotonic_ns()
+        for number, asked in list(calls.items()):
+            self.forget(number)
+            self.gaps.add("%s: %s" % (reason, asked.kind), now - (clock - asked.clock), now)
+        calls.clear()
         self._say_gaps(True)
-        self._write()
-        self.log.close()
+
+    def _end_unbegun(self, lost: int) -> None:
+        """The recorder ends before the log could begin or go on; what passed is a gap behind what there is of it."""
+        if self.left is None:
+            self.say("the log was never begun; requests that passed and stand in no log: %d" % lost)
+        else:
+            self._write_whole(self._gap_before(lost))
+            self.log.close()
 
 
 def _reason(fault: Exception) -> str:

@@ -1,6 +1,6 @@
 """The files of a log: each begins with the hash of the one before, and is closed with its count of lines and its own hash.
 
-A line is written whole or not at all. What a killed recorder left is cut behind its last whole line and closed by the next.
+A line is written whole or not at all. What a killed recorder left is cut behind its last whole line, and closed by the next with a gap.
 """
 import fcntl
 import hashlib
@@ -10,13 +10,16 @@ import re
 import time
 from typing import Any, NamedTuple, Optional
 
-from new_enemy_tools.recording.lines import line, time_text
+from new_enemy_tools.importing.times import nanoseconds
+from new_enemy_tools.recording.lines import gap_line, line, time_text
 
 NAME = re.compile(r"[0-9]{6}\.jsonl")
 SIZE = 512 << 20
 AGE = 3600.0
 # A first line that was cut is shorter.
 HEAD = 1 << 10
+# So much later than it should may what waits be given up.
+LATER = 1.0
 
 
 class LogFault(Exception):
@@ -66,8 +69,8 @@ class _Found(NamedTuple):
 
 
 class LogFiles:
-    def __init__(self, folder: str, service: str, size: int = SIZE, age: float = AGE):
-        self.folder, self.service, self.limit, self.age = folder, service, size, age
+    def __init__(self, folder: str, service: str, size: int = SIZE, age: float = AGE, hold: float = 0.0):
+        self.folder, self.service, self.limit, self.age, self.hold = folder, service, size, age, hold
         self.descriptor: Optional[int] = None
         self.number = 0
         self.before: Optional[str] = None
@@ -141,17 +144,29 @@ class LogFiles:
         if head is None or place.rules is None:
             return None
         if closed is None:
-            self._close_left(path, size, count, hashed.hexdigest())
-        self.number, self.before, self.place = head.number, hashed.hexdigest(), place
+            now = time.time_ns()
+            gap = self._gap_of_killed(last, now)
+            hashed.update(gap)
+            self._close_left(path, size, gap + line("closed", count=count + 1, sha256=hashed.hexdigest()))
+            last = time_text(now)
+        self.number, self.before = head.number, hashed.hexdigest()
+        # A file may follow that has no changes.
+        self.place = Place(place.cursor, revision, place.rules, writes + place.behind)
         return Left(place, writes, revision, last, 0)
 
+    def _gap_of_killed(self, last: Optional[str], now: int) -> bytes:
+        """What waited when a recorder was killed had its answer so long before the last line, or later."""
+        at = nanoseconds(last)
+        return gap_line(None if at is None else at - int((self.hold + LATER) * 1e9), now, "the recorder was killed")
+
     @staticmethod
-    def _close_left(path: str, size: int, count: int, found: str) -> None:
+    def _close_left(path: str, size: int, end: bytes) -> None:
+        """Cuts a file behind its last whole line, and ends it."""
         descriptor = os.open(path, os.O_RDWR)
         try:
             os.ftruncate(descriptor, size)
             os.lseek(descriptor, size, os.SEEK_SET)
-            _write_all(descriptor, line("closed", count=count, sha256=found))
+            _write_all(descriptor, end)
             os.fsync(descriptor)
         finally:
             os.close(descriptor)

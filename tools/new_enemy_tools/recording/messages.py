@@ -19,11 +19,12 @@ class Started(NamedTuple):
     number: int
     clock: int
     save: bool
+    call: str
 
 
 class Ended(NamedTuple):
-    """A call has its answer; without bodies where they were not kept. `at` is the time of that, `begun` that of the request, and
-    `clock` that of the answer by the clock of all processes."""
+    """A call has its answer; without bodies where they were not kept, or where the answer broke off. `at` is the time of that, `begun`
+    that of the request, and `clock` that of the answer by the clock of all processes."""
 
     number: int
     call: str
@@ -87,6 +88,10 @@ class Teller:
         else:
             self.lose("the keeper of the log does not keep up" if self.end is not None else "the keeper of the log was gone")
         self.flush()
+
+    def has_told(self) -> bool:
+        """Whether nothing is still to be told."""
+        return self.flush() and self.lost is None
 
     def catch_up(self) -> None:
         """Tells what was lost and what waits, where there is room again, and that nothing else happened."""

@@ -12,6 +12,8 @@ from new_enemy_tools.recording.messages import CHECKS, Ended, Started, Teller
 
 NUMBERS = itertools.count(1)
 Call = Callable[[str, str], Optional[str]]
+# What counts as the status of an answer that may have been given, and can't be read along.
+UNREAD = 200
 
 
 class Exchange:
@@ -41,47 +43,60 @@ class Reader:
         self.asked: Optional[Exchange] = None
         self.requests = Messages(self._request, self._request_body)
         self.answers = Messages(self._answer, self._answer_body)
-        self.is_blind = False
+        # why the connection can't be read along any more
+        self.blind: Optional[str] = None
+        self.is_over = False
 
     def feed(self, side: Messages, data: bytes) -> None:
-        if self.is_blind:
+        if self.is_over:
+            return
+        if self.blind is not None:
+            # Each piece may be a request.
+            if side is self.requests:
+                self.teller.lose(self.blind)
             return
         try:
             side.feed(data)
         except Exception as fault:
             # Whatever it is, it must not touch the request.
-            self.is_blind = True
+            self.blind = "a connection can't be read along: %s" % (fault if isinstance(fault, Strange) else type(fault).__name__)
+            self.teller.lose(self.blind)
+            for exchange in self.exchanges:
+                exchange.status = UNREAD
             self._give_up()
-            self._lose("a connection can't be read along: %s" % (fault if isinstance(fault, Strange) else type(fault).__name__))
 
-    def end(self) -> None:
-        """The service has closed the connection."""
-        if not self.is_blind:
-            self.feed_end()
-        self._give_up()
-
-    def _give_up(self) -> None:
-        """No answer will be read of what was asked."""
-        for exchange in self.exchanges:
-            if exchange.call in CHECKS:
-                self.teller.tell(exchange.ended(None)._replace(status=0))
+    def leave(self) -> None:
+        """The recorder ends. What has no answer yet is told no more, so that the keeper counts it."""
+        self.is_over = True
         self.exchanges.clear()
 
-    def feed_end(self) -> None:
+    def end(self) -> None:
+        """The service has ended its side of the connection, or one side is gone: no more answers come."""
+        if not self.is_over:
+            self.is_over = True
+            if self.blind is None:
+                self._feed_end()
+            self._give_up()
+
+    def _give_up(self) -> None:
+        """No answer will be read of what was asked; one that had begun broke off."""
+        for exchange in self.exchanges:
+            if exchange.call in CHECKS:
+                self.teller.tell(exchange.ended(None))
+        self.exchanges.clear()
+
+    def _feed_end(self) -> None:
         try:
             self.answers.end()
         except Exception:
-            self._lose("a connection can't be read along at its end")
-
-    def _lose(self, reason: str) -> None:
-        self.teller.lose(reason)
+            self.teller.lose("a connection can't be read along at its end")
 
     def _request(self, head: Head) -> Optional[int]:
         exchange = Exchange(self.call_of(head.words[0], head.words[1].split("?")[0]), head)
         self.exchanges.append(exchange)
         self.asked = exchange
         if exchange.call in CHECKS:
-            self.teller.tell(Started(exchange.number, time.monotonic_ns(), exchange.save is not None))
+            self.teller.tell(Started(exchange.number, time.monotonic_ns(), exchange.save is not None, exchange.call or ""))
         return head.length() or 0
 
     def _request_body(self, body: Optional[bytes]) -> None:
@@ -117,6 +132,7 @@ class Side(asyncio.Protocol):
         self.reader, self.is_client = reader, is_client
         self.transport: Any = None
         self.other: Optional["Side"] = None
+        self.has_ended = False
 
     def connection_made(self, transport: Any) -> None:
         self.transport = transport
@@ -132,14 +148,17 @@ class Side(asyncio.Protocol):
             self.reader.feed(self.reader.answers, data)
 
     def eof_received(self) -> bool:
-        if self.other is not None and self.other.transport.can_write_eof():
-            self.other.transport.write_eof()
-            return True
-        return False
-
-    def connection_lost(self, fault: Optional[Exception]) -> None:
+        """Whether the connection stays open for what comes from the other end."""
+        self.has_ended = True
         if not self.is_client:
             self.reader.end()
+        if self.other is None or self.other.has_ended or not self.other.transport.can_write_eof():
+            return False
+        self.other.transport.write_eof()
+        return True
+
+    def connection_lost(self, fault: Optional[Exception]) -> None:
+        self.reader.end()
         if self.other is not None:
             self.other.transport.close()
 
@@ -178,6 +197,7 @@ class Relay:
 
     async def close(self) -> None:
         for client in list(self.open):
+            client.reader.leave()
             client.transport.close()
 
     async def connect(self, client: "Client") -> None:
@@ -200,7 +220,6 @@ class Client(Side):
         super().__init__(Reader(relay.teller, relay.call_of), True)
         self.relay = relay
         self.early = bytearray()
-        self.has_ended = False
 
     def begin(self, service: Side) -> None:
         """The service is there, and gets what has come."""

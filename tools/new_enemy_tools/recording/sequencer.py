@@ -24,12 +24,13 @@ class Commit(NamedTuple):
 
 
 class Ready(NamedTuple):
-    """An entry with all that it needs, to be written right behind the commits up to its place."""
+    """An entry of a call with all that it needs, to be written right behind the commits up to its place."""
 
     place: int
     number: int
     since: int
     data: bytes
+    call: int
 
 
 class Known:
@@ -70,18 +71,18 @@ class Sequencer:
         self.commits.append(commit)
         self.reached = max(self.reached, commit.revision)
 
-    def put_entry(self, place: int, since: int, data: bytes) -> None:
+    def put_entry(self, place: int, since: int, data: bytes, call: int) -> None:
         self._number += 1
-        heapq.heappush(self.ready, Ready(place, self._number, since, data))
+        heapq.heappush(self.ready, Ready(place, self._number, since, data, call))
 
-    def drained(self) -> list[Union[Commit, bytes]]:
-        """What can be written now, in order: commits, and the lines of entries."""
-        found: list[Union[Commit, bytes]] = []
+    def drained(self) -> list[Union[Commit, Ready]]:
+        """What can be written now, in order."""
+        found: list[Union[Commit, Ready]] = []
         oldest = min(self.saves.values(), default=None)
         while True:
             limit = self.commits[0].revision - 1 if self.commits else self.reached
             while self.ready and self.ready[0].place <= limit:
-                found.append(heapq.heappop(self.ready).data)
+                found.append(heapq.heappop(self.ready))
             first = self.commits[0] if self.commits else None
             if first is None or first.received > self.told_until or oldest is not None and oldest < first.revision:
                 return found

@@ -1,9 +1,12 @@
 """The program's audit of a window, by one process or in parts."""
-import subprocess
 import os
+import subprocess
 import tempfile
+from io import BytesIO
 from multiprocessing import get_context
-from typing import BinaryIO, Callable, NamedTuple, Optional
+from queue import Queue
+from threading import Thread
+from typing import BinaryIO, Callable, Generic, NamedTuple, Optional, Protocol, TypeVar, cast
 
 from new_enemy_tools.faults import DeviceFault
 from new_enemy_tools.files import read_bytes
@@ -18,6 +21,8 @@ from new_enemy_tools.windowing.state import Row
 
 PIECE = 1 << 20
 WORKERS = 16
+# So many pieces of a trace wait at most until the program reads them.
+WAITING = 16
 
 
 class How(NamedTuple):
@@ -28,10 +33,20 @@ class How(NamedTuple):
     parts: int
 
 
-def _feed(pipe: int, carried: list[Row], own: Own) -> None:
-    """Writes a window to a pipe, in a process of its own."""
+class Feeder(Protocol):
+    """What writes a window to the program."""
+
+    def end(self) -> None: ...
+
+    def stop(self) -> None: ...
+
+
+Feeding = TypeVar("Feeding", bound=Feeder)
+
+
+def _feed(pipe: BinaryIO, carried: list[Row], own: Own) -> None:
     try:
-        with own.open() as file, open(pipe, "wb") as out:
+        with own.open() as file, pipe as out:
             joined = Joined(carried, file)
             while piece := joined.read(PIECE):
                 out.write(piece)
@@ -39,10 +54,70 @@ def _feed(pipe: int, carried: list[Row], own: Own) -> None:
         pass
 
 
-class Running:
+class FileFeeder:
+    """Writes a window that stands in a file, in a process of its own."""
+
+    def __init__(self, carried: list[Row], own: Own, pipe: BinaryIO):
+        self._process = get_context("fork").Process(target=_feed, args=(pipe, carried, own))
+        self._process.start()
+        pipe.close()
+
+    def end(self) -> None:
+        self._process.join()
+        if self._process.exitcode:
+            raise WindowFault("the process that gives the window to the program ended with %d" % self._process.exitcode)
+
+    def stop(self) -> None:
+        self._process.kill()
+        self._process.join()
+
+
+class LinesFeeder:
+    """Writes carried lines, and behind them those that it is given, in a thread of its own."""
+
+    def __init__(self, carried: list[Row], pipe: BinaryIO):
+        self._pipe = pipe
+        self._fault: Optional[OSError] = None
+        self._waiting: "Queue[Optional[bytes]]" = Queue(WAITING)
+        self._thread = Thread(target=self._write_all, args=(carried,), daemon=True)
+        self._thread.start()
+
+    def put(self, lines: bytes) -> None:
+        self._waiting.put(lines)
+
+    def _write_all(self, carried: list[Row]) -> None:
+        """What the program does not read any more is let go."""
+        joined = Joined(carried, BytesIO())
+        while piece := joined.read(PIECE):
+            self._write(piece)
+        while (lines := self._waiting.get()) is not None:
+            self._write(lines)
+        try:
+            self._pipe.close()
+        except OSError as fault:
+            self._fault = self._fault or fault
+
+    def _write(self, lines: bytes) -> None:
+        if self._fault is None:
+            try:
+                self._pipe.write(lines)
+            except OSError as fault:
+                self._fault = fault
+
+    def end(self) -> None:
+        self.stop()
+        if self._fault is not None and not isinstance(self._fault, BrokenPipeError):
+            raise WindowFault("the window cannot be given to the program: %s" % self._fault.strerror)
+
+    def stop(self) -> None:
+        self._waiting.put(None)
+        self._thread.join()
+
+
+class Running(Generic[Feeding]):
     """The program on a window that is written to its standard input meanwhile."""
 
-    def __init__(self, how: How, carried: list[Row], own: Own, evidence: Optional[str]):
+    def __init__(self, how: How, evidence: Optional[str], feeder_of: Callable[[BinaryIO], Feeding]):
         self.program = how.program
         self.output, self.error = tempfile.TemporaryFile(), tempfile.TemporaryFile()
         words = [how.program, "audit", "/dev/stdin", "--make" if evidence is None else evidence, "--workers", str(min(how.jobs, WORKERS))]
@@ -51,22 +126,18 @@ class Running:
         except OSError as fault:
             raise DeviceFault("cannot run %s: %s" % (how.program, fault.strerror)) from None
         assert self.process.stdin is not None
-        self.feeder = get_context("fork").Process(target=_feed, args=(self.process.stdin.fileno(), carried, own))
-        self.feeder.start()
-        self.process.stdin.close()
+        self.feeder = feeder_of(cast(BinaryIO, self.process.stdin))
 
     def stop(self) -> None:
         """Ends what still runs, where the answer is not wanted any more."""
-        self.feeder.kill()
         self.process.kill()
-        self.feeder.join()
         self.process.wait()
+        self.feeder.stop()
 
     def answer(self) -> Answer:
+        """Where the program ends before it has read all, what is written is let go."""
+        self.feeder.end()
         status = self.process.wait()
-        self.feeder.join()
-        if self.feeder.exitcode:
-            raise WindowFault("the process that gives the window to the program ended with %d" % self.feeder.exitcode)
         if status < 0:
             raise WindowFault("%s was killed by signal %d" % (self.program, -status))
         texts = []

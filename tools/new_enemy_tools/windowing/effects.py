@@ -1,38 +1,76 @@
 """The findings of a window with their effects, as `ne report` tells them; lines are those of the log."""
-from typing import Iterator, Optional
+from typing import NamedTuple, Optional
 
-from new_enemy_tools.findings import Report
+from new_enemy_tools.audited import CHECK, COMMIT, CONTENT, NAMESPACE, AuditedTrace, Numbered, refuse_other_keys
+from new_enemy_tools.faults import ToolFault
+from new_enemy_tools.findings import ON_TOKENS, Report
+from new_enemy_tools.forms import FORMS
 from new_enemy_tools.ids import Ids
 from new_enemy_tools.names import Names
-from new_enemy_tools.parting.blocks import Blocks
-from new_enemy_tools.telling import Telling, telling_of, told_of
+from new_enemy_tools.quick import OtherForm
+from new_enemy_tools.telling import telling_of, told_of
 from new_enemy_tools.trace import Trace
-from new_enemy_tools.windowing.reading import Own
+from new_enemy_tools.windowing.reading import Own, lines_of
+from new_enemy_tools.windowing.run import Audited
 from new_enemy_tools.windowing.state import Row
-from new_enemy_tools.windowing.telling import Told
 
 
-def _lines(carried: list[Row], own: Own, wanted: set[int]) -> Iterator[tuple[int, bytes]]:
-    """The lines of a window without checks that are not wanted."""
-    for row in carried:
-        if row.kind != "h" or row.line in wanted or b'"content"' in row.raw:
-            yield row.line, row.raw
-    line = own.old.head.lines
-    with own.open() as file:
-        for block in Blocks(file):
-            for raw in block.split(b"\n")[:-1]:
-                line += 1
-                is_check = raw.startswith(b'{"kind":"check"') and raw.count(b'"kind"') == 1 and b"\\" not in raw
-                if line in wanted or not is_check and raw.strip(b" \t\r"):
-                    yield line, raw
+class Lines(NamedTuple):
+    """What the effects of a window's findings hang on: its rules and commits, the content checks that issue versions, and the entries that
+    have findings, each in the order of the log."""
+
+    rules: list[Numbered]
+    commits: list[Numbered]
+    issued: list[Numbered]
+    wanted: list[Numbered]
+
+    def quickly(self) -> Trace:
+        """The trace of these lines, of which as much is read as is asked for; raises OtherForm."""
+        kinds = ((self.rules, (NAMESPACE,)), (self.commits, (COMMIT,)), (self.issued, (CONTENT,)), (self.wanted, (CHECK, CONTENT)))
+        if not all([raw.startswith(starts) for lines, starts in kinds for _, raw in lines]):
+            raise OtherForm
+        raws = [raw for lines in self for _, raw in lines]
+        refuse_other_keys(b"\n".join(raws), len(raws), len(self.commits))
+        trace = AuditedTrace(self.rules, [line for line, _ in self.commits], [raw for _, raw in self.commits], self.issued)
+        for line, raw in self.issued + self.wanted:
+            trace.entries.keep(line, raw)
+        return trace
+
+    def in_full(self) -> Trace:
+        trace = Trace()
+        for line, raw in sorted({line for lines in self for line in lines}):
+            if not trace.take_quickly(line, raw):
+                trace.take(line, raw)
+        return trace
 
 
-def telling(carried: list[Row], own: Own, told: Told, ids: Optional[Ids], path: str) -> Telling:
-    """It keeps the store, the commits and the versions of the window, and the entries that have findings."""
-    trace = Trace()
-    for line, raw in _lines(carried, own, {one.line for one in told.findings}):
-        if not trace.take_quickly(line, raw):
-            trace.take(line, raw)
+def lines_for(found: Audited, own: Own) -> Lines:
+    """Of a window that was audited. It keeps the entries that have findings and, where some of these are on tokens, the store, the commits
+    and the versions."""
+    carried, window, findings = found.carried, found.window, found.told.findings
+    wanted = sorted(lines_of(own, window.old, {one.line for one in findings}).items())
+    rules = _lines(carried, "r", window.rules)
+    if not any(one.finding in ON_TOKENS for one in findings):
+        return Lines(rules, [], [], wanted)
+    issued = _lines(carried, "v", window.issued) + [one for one in _lines(carried, "h", []) if b'"content"' in one[1] and b'"version"' in one[1]]
+    return Lines(rules, _lines(carried, "fc", window.commits), sorted(issued), wanted)
+
+
+def _lines(carried: list[Row], kinds: str, own: list[Row]) -> list[Numbered]:
+    return [(row.line, row.raw) for row in carried if row.kind in kinds] + [(row.line, row.raw) for row in own]
+
+
+def json_rows(found: Audited, own: Own, ids: Optional[Ids]) -> list[str]:
+    """The report of a window as rows of JSON."""
+    lines = lines_for(found, own)
+    try:
+        return _rows(lines.quickly(), found, own, ids)
+    except (OtherForm, ToolFault):
+        return _rows(lines.in_full(), found, own, ids)
+
+
+def _rows(trace: Trace, found: Audited, own: Own, ids: Optional[Ids]) -> list[str]:
+    told = found.told
     report = Report(told.findings, len(trace.entries), told.verdict)
-    found = telling_of(told_of(trace, report), trace, Names(ids), path, report)
-    return found._replace(report=report._replace(entries=told.entries))
+    telling = telling_of(told_of(trace, report), trace, Names(ids), own.path, report)
+    return list(FORMS["jsonl"](telling._replace(report=report._replace(entries=told.entries))))

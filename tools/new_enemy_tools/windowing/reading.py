@@ -51,21 +51,24 @@ class Own:
         return file
 
     def strata(self) -> dict[tuple[str, str], int]:
-        """The strata of relations, where the first line says that they are others than in the days before."""
         with self.open() as file:
-            line = file.readline(limits.LINE_BYTES + 1)
-        if b'"strata"' not in line:
-            return {}
-        try:
-            given = strictjson.object_of(line).get("strata")
-            return {(name, relation): int(stratum) for name, relation, stratum in given or ()}
-        except (strictjson.NotJson, AssertionError, TypeError, ValueError):
-            return {}
+            return strata_in(file.readline(limits.LINE_BYTES + 1))
 
     def refuse_changed(self) -> None:
         with open(self.path, "rb") as file:
             if _stamp(file) != self._seen:
                 raise WindowFault("%s changed while it was read: give a copy, or the part that is complete" % self.path)
+
+
+def strata_in(line: bytes) -> dict[tuple[str, str], int]:
+    """The strata of relations, where the first line of a window says that they are others than in the days before."""
+    if b'"strata"' not in line:
+        return {}
+    try:
+        given = strictjson.object_of(line).get("strata")
+        return {(name, relation): int(stratum) for name, relation, stratum in given or ()}
+    except (strictjson.NotJson, AssertionError, TypeError, ValueError):
+        return {}
 
 
 def with_strata(old: State, strata: dict[tuple[str, str], int]) -> State:

@@ -9,7 +9,7 @@ from bisect import bisect_left
 from typing import Iterator, NamedTuple, Optional
 
 from new_enemy_tools import limits, strictjson
-from new_enemy_tools.quick import Pair, quick_commit
+from new_enemy_tools.quick import Pair, quick_commit, quick_touch
 from new_enemy_tools.windowing.state import Row
 
 LINE = b'{"kind":"commit","at":%d,"add":[%s]}'
@@ -24,6 +24,9 @@ class Place(NamedTuple):
 
 def touched_by(raw: bytes) -> tuple[list[bytes], list[bytes]]:
     """The texts of the tuples that a commit adds and removes."""
+    touch = quick_touch(raw)
+    if touch is not None:
+        return ([touch[0]], []) if touch[1] else ([], [touch[0]])
     quick = quick_commit(raw)
     if quick is not None:
         return _texts(quick.add), _texts(quick.remove)

@@ -1,13 +1,15 @@
 """A window from its lines to what is told of it, and the state behind it."""
 import os
 import tempfile
+from functools import partial
 from typing import Callable, NamedTuple, Optional
 
 from new_enemy_tools import limits
 from new_enemy_tools.parting.merging import Answer
-from new_enemy_tools.windowing.auditing import How, Running, answer_in_parts
+from new_enemy_tools.windowing.auditing import FileFeeder, How, Running, answer_in_parts
 from new_enemy_tools.windowing.carrying import Carry, Keep, Window, carried
 from new_enemy_tools.windowing.faults import WindowFault
+from new_enemy_tools.windowing.following import Following
 from new_enemy_tools.windowing.reading import Numbers, Own, carried_lines, read_window, sizes, with_strata
 from new_enemy_tools.windowing.records import Records
 from new_enemy_tools.windowing.state import EMPTY, Row, State, read_head, read_state, write_state
@@ -74,7 +76,7 @@ def audited(own: Own, old: State, evidence: Optional[str], how: How, keep: Keep,
         window = read_own(own, old, how.jobs, step)
         kept, records, answer = _answer_by(evidence, own, window, lines, numbers, how, keep, is_final, step)
     else:
-        kept = {row.line: row.raw for row in old.rows if row.kind == "e"}
+        kept = records_of(old)
         window, answer = _answer_made(own, old, lines, how, step)
     own.refuse_changed()
     _refuse(answer, window, numbers, records)
@@ -82,11 +84,33 @@ def audited(own: Own, old: State, evidence: Optional[str], how: How, keep: Keep,
     return Audited(told_of(window, carry, numbers, answer), window, carry, lines)
 
 
+def records_of(state: State) -> dict[int, bytes]:
+    """The records of entries that are held over, by their lines."""
+    return {row.line: row.raw for row in state.rows if row.kind == "e"}
+
+
+def audited_so_far(following: Following, own: Own, how: How, keep: Keep, step: Step) -> Audited:
+    """As `audited`, of a window that was followed. One that turned out to be too long for one process is audited in parts."""
+    window = following.window()
+    lines = carried_lines(window.old.rows)
+    numbers = Numbers(lines, window.old.head.lines)
+    refuse_twice(window)
+    # Meanwhile the program comes to its end.
+    carry = None if window.bad else carried(window, keep, records_of(window.old))
+    if how.parts > 1:
+        following.stop()
+    answer = following.answer() or answer_in_parts(how, lines, own, None, step)
+    own.refuse_changed()
+    _refuse(answer, window, numbers, 0)
+    assert carry is not None
+    return Audited(told_of(window, carry, numbers, answer), window, carry, lines)
+
+
 def _answer_made(own: Own, old: State, lines: list[Row], how: How, step: Step) -> tuple[Window, Answer]:
     """In one process the program reads the window while it is read here."""
     if how.parts > 1:
         return read_own(own, old, how.jobs, step), answer_in_parts(how, lines, own, None, step)
-    running = Running(how, lines, own, None)
+    running = Running(how, None, partial(FileFeeder, lines, own))
     try:
         window = read_own(own, old, how.jobs, step)
         return window, running.answer()
@@ -108,7 +132,7 @@ def _answer_by(evidence: str, own: Own, window: Window, lines: list[Row], number
         if how.parts > 1:
             answer = answer_in_parts(how, lines, own, file.name, step)
         else:
-            answer = Running(how, lines, own, file.name).answer()
+            answer = Running(how, file.name, partial(FileFeeder, lines, own)).answer()
     return records.kept, len(records.first), answer
 
 

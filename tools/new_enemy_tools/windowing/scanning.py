@@ -3,7 +3,6 @@
 A check of the form that importers write is looked at for its snapshot alone. Any other line is read as JSON where its form does not
 show at once what it is; of a repeated key the last counts. What a line says beyond that is the program's to judge.
 """
-import re
 from typing import NamedTuple, Optional
 
 from new_enemy_tools import strictjson
@@ -17,7 +16,7 @@ _ENTRY = rb'\{"kind": ?"%s", ?"goal": ?' + _GOAL + rb', ?"snapshot": ?(' + _NUMB
 # Each match is a line: a check with its snapshot in the first group, or any other in the second.
 LINES = compiled(_ENTRY % (b"check", b"(?:true|false)") + rb"|([^\n]*+\n)")
 CONTENT = compiled(_ENTRY % (b"content", b"(true|false)"))
-COMMIT = re.compile(rb'\{"kind": ?"commit", ?"at": ?(' + _NUMBER + rb")[,}]")
+COMMIT = compiled(rb'\{"kind": ?"commit", ?"at": ?(' + _NUMBER + rb")[,}]")
 
 # Of a line the number within its block, from 0, the timestamp or snapshot, and the bytes.
 Found = tuple[int, int, bytes]
@@ -102,8 +101,20 @@ def scan(base: Optional[int], last: int, block: bytes) -> Scanned:
         if not snapshot:
             scanner.take(number, other)
     values = {text: int(text) for text, _ in found if text}
-    # the snapshot of each line, and -1 where no entry stands
-    snapshots = [values.get(text, -1) for text, _ in found]
+    return _scanned(base, last, block, [values.get(text, -1) for text, _ in found], scanner)
+
+
+def scan_checks(base: Optional[int], last: int, block: bytes, snapshots: list[int]) -> Scanned:
+    """As `scan`, of lines of which some are checks with known snapshots; -1 stands for each of the others."""
+    raws, scanner = block.split(b"\n"), _Scanner()
+    for number, snapshot in enumerate(snapshots):
+        if snapshot < 0:
+            scanner.take(number, raws[number] + b"\n")
+    return _scanned(base, last, block, snapshots, scanner)
+
+
+def _scanned(base: Optional[int], last: int, block: bytes, snapshots: list[int], scanner: _Scanner) -> Scanned:
+    """Snapshots are those of checks, and -1 where none stands."""
     for number, snapshot in scanner.entries.items():
         snapshots[number] = snapshot
     least = -1 if base is None else base
@@ -111,7 +122,7 @@ def scan(base: Optional[int], last: int, block: bytes) -> Scanned:
     some = set(snapshots) - {-1}
     low = _where(block, snapshots, {value for value in some if value < least})
     high = _where(block, snapshots, {value for value in some if value > top})
-    return Scanned(len(found), len(snapshots) - snapshots.count(-1), scanner.rules, scanner.commits, scanner.issued, low, high,
+    return Scanned(len(snapshots), len(snapshots) - snapshots.count(-1), scanner.rules, scanner.commits, scanner.issued, low, high,
                    scanner.bad if is_utf8(block) else _first_that_is_no_text(block, scanner.bad))
 
 

@@ -13,8 +13,8 @@ order in which the next window has them: a letter, the number of the line in the
 import json
 import os
 from hashlib import blake2b
-from itertools import islice
-from typing import Iterator, NamedTuple, Optional
+from io import BytesIO
+from typing import Iterable, Iterator, NamedTuple, Optional
 
 from new_enemy_tools.files import read_bytes
 from new_enemy_tools.windowing.faults import WindowFault
@@ -82,11 +82,12 @@ def _head_of(line: bytes) -> Head:
     return head
 
 
-def _rows_of(lines: list[bytes]) -> Iterator[Row]:
+def _rows_of(lines: Iterable[bytes]) -> Iterator[Row]:
+    """Lines have their ends."""
     kinds = {kind.encode(): kind for kind in KINDS}
-    for line in islice(lines, 1, None):
+    for line in lines:
         kind, number, other, raw = line.split(b" ", 3)
-        yield Row(kinds[kind], int(number), int(other), raw)
+        yield Row(kinds[kind], int(number), int(other), raw[:-1])
 
 
 def read_state(path: str) -> State:
@@ -98,12 +99,13 @@ def read_state(path: str) -> State:
         raise WindowFault("%s is no state of a window" % path)
     if not last.startswith(SUM) or not last.endswith(b"\n"):
         raise WindowFault("%s is cut short: its last line is no checksum" % path)
-    found = blake2b(data[:end], digest_size=32).hexdigest()
+    found = blake2b(memoryview(data)[:end], digest_size=32).hexdigest()
     if last != SUM + found.encode() + b"\n":
         raise WindowFault("%s was altered: its checksum is another" % path)
-    lines = data[:end].split(b"\n")[:-1]
+    lines = BytesIO(data)
     try:
-        return State(_head_of(lines[0]), list(_rows_of(lines)), found)
+        head = _head_of(lines.readline())
+        return State(head, list(_rows_of(iter(lines.readline, last))), found)
     except (ValueError, KeyError, TypeError, AttributeError):
         raise WindowFault("%s is no state that this version reads" % path) from None
 
