@@ -1,12 +1,13 @@
 #!/usr/bin/env python3
-"""How the cost of an input grows: kinds of a generator of this folder at two sizes, as a table.
+"""How the cost of an input grows: kinds of a generator of this folder at several sizes, as a table.
 
-    python3 bench/growth.py [--runs N] [--make] PROGRAM trace|hostile SMALL LARGE [KIND ..] > table
+    python3 bench/growth.py [--runs N] [--make] PROGRAM trace|hostile SIZE [SIZE ..] [KIND ..] > table
 
 With --make the program makes evidence for the trace in front of the parting line, in place of an audit.
 
-Sizes are megabytes. Seconds are processor time, the least of N runs, or of three; memory is the most that the program held, in MB. The column behind a size
-says what a megabyte costs there; the last one how many times more a megabyte costs at the large size: 1 is in proportion.
+Sizes are megabytes. Seconds are processor time, the least of N runs, or of three; memory is the most that the program held, in MB. The column
+behind the seconds says what a megabyte costs there, and the one behind the memory, from the second size on, how many times as much a megabyte
+costs as at the size before: 1 is in proportion.
 """
 import argparse
 import os
@@ -50,12 +51,17 @@ def cost(program, generator, kind, megabytes, count, makes):
         return os.path.getsize(file.name) / 10**6, min(seconds for seconds, _ in runs), max(memory for _, memory in runs)
 
 
-def row(kind, small, large):
-    cells, each = [], []
-    for size, seconds, memory in small, large:
-        each.append(seconds / size)
-        cells.append(f"{size:.1f} | {seconds:.2f} | {each[-1]:.3f} | {memory:,.0f}")
-    return f"| `{kind}` | {cells[0]} | {cells[1]} | {each[1] / each[0]:.2f} |"
+def row(kind, costs):
+    cells, before = [], None
+    for size, seconds, memory in costs:
+        each = seconds / size
+        cells.append(f"{size:.1f} | {seconds:.2f} | {each:.3f} | {memory:,.0f}" + (f" | {each / before:.2f}" if before else ""))
+        before = each
+    return f"| `{kind}` | {' | '.join(cells)} |"
+
+
+def is_size(word):
+    return word.replace(".", "", 1).isdigit()
 
 
 def main():
@@ -64,16 +70,20 @@ def main():
     parser.add_argument("--make", action="store_true")
     parser.add_argument("program", metavar="PROGRAM")
     parser.add_argument("generator", choices=GENERATORS)
-    parser.add_argument("small", metavar="SMALL")
-    parser.add_argument("large", metavar="LARGE")
-    parser.add_argument("kinds", metavar="KIND", nargs="*")
+    parser.add_argument("words", metavar="SIZE|KIND", nargs="+")
     given = parser.parse_args()
     generator = GENERATORS[given.generator]
-    print("| Kind | MB | s | s per MB | memory | MB | s | s per MB | memory | Grows |")
-    print("|---|---|---|---|---|---|---|---|---|---|")
-    for kind in given.kinds or generator.KINDS:
-        small, large = (cost(given.program, generator, kind, size, given.runs, given.make) for size in (given.small, given.large))
-        print(row(kind, small, large), flush=True)
+    sizes = [word for word in given.words if is_size(word)]
+    kinds = [word for word in given.words if not is_size(word)]
+    unknown = [kind for kind in kinds if kind not in generator.KINDS]
+    if not sizes or unknown:
+        parser.error(f"no such kind: {', '.join(unknown)}" if unknown else "give at least one size in megabytes")
+    columns = ["Kind", *["MB", "s", "s per MB", "memory"], *["MB", "s", "s per MB", "memory", "grows"] * (len(sizes) - 1)]
+    print(f"| {' | '.join(columns)} |")
+    print(f"|{'---|' * len(columns)}")
+    for kind in kinds or generator.KINDS:
+        costs = [cost(given.program, generator, kind, size, given.runs, given.make) for size in sizes]
+        print(row(kind, costs), flush=True)
 
 
 if __name__ == "__main__":

@@ -17,12 +17,12 @@ use Rattle.strata.specs.Meaning.{with_relation, IsStored}
 use Rattle.version_chains.specs.Commits.{Commit, Touch, changelog, store_at}
 use Rattle.version_chains.specs.Marks.{pair_mark, set_mark}
 use Rattle.version_chains.proofs.StoreLemmas.{store_at-iff}
-use Rattle.userset_index.specs.Index.{IndexValue, IsLastTouch, IsWhole, is_crowded}
+use Rattle.userset_index.specs.Index.{IndexValue, IsLastTouch, IsWhole, is_crowded, object_mark}
 use Rattle.userset_index.specs.Lives.{touches_alive}
 use Rattle.userset_index.proofs.CallerLemmas.{each_found, stored_by_touch}
 use Rattle.judgement.specs.Decided.{dec_undeclared}
 use Rattle.judgement.specs.Judgement.{KnownValue, IsOut}
-use Rattle.judgement.specs.Passes.{AreThroughOut, IsBarred, IsTouchOut, target}
+use Rattle.judgement.specs.Passes.{AreThroughOut, IsBarred, IsObjectStored, IsTouchApart, IsTouchOut, target}
 
 -- ---- a declared relation has a namespace with a number
 
@@ -73,43 +73,58 @@ numbered ds at q r declared few = by_position (position (bytes_eq q) (namespace_
 
 -- ---- passes
 
-module _ (ds : List Declaration) (commits : List Commit) (at : ℕ) (small : at < 2 ^ 64) (v : IndexValue) (is : IsWhole ds commits v) (set : SetValue) (crowded : is_crowded v.crowds (set_mark set) ≡ true)
-    (known : KnownValue) (id : ℕ) where
+-- the userset of a tuple
+pub set_of : (s g h : SetValue) (t : TupleValue) → t ≡ tuple_of s (Set g) → t.user ≡ Set h → g ≡ h
+set_of s g h t is user = let both : Set g ≡ Set h = sym (ap (λ (u : TupleValue). u.user) is) ∙ user in cc
+
+module _ (ds : List Declaration) (commits : List Commit) (at : ℕ) (small : at < 2 ^ 64) (v : IndexValue) (is : IsWhole ds commits v) (set : SetValue) (crowded : is_crowded v.crowds (set_mark set) ≡ true) where
   -- the touch of a stored userset
   of_stored : (g : SetValue) → IsStored (store_at commits at) set (Set g) → (i : ℕ) × (x : Touch) × IsLastTouch (changelog commits) at i x × (x.tuple ≡ tuple_of set (Set g))
   of_stored g stored = stored_by_touch commits at (tuple_of set (Set g)) ((store_at-iff commits at (tuple_of set (Set g))).0 stored)
 
-  of_touch : (relation : Option (List ℕ)) (g : SetValue) → IsStored (store_at commits at) set (Set g)
-      → (i : ℕ) (x : Touch) → IsLastTouch (changelog commits) at i x → x.tuple ≡ tuple_of set (Set g) → IsTouchOut (rule_at ds at) commits at known set relation id i
-      → IsOut (rule_at ds at) known (fact_of (target g relation) id)
-  of_touch relation g stored i x last same out = out x g last.here same stored
-
   crowded_there : (x : Touch) (g : SetValue) → x.tuple ≡ tuple_of set (Set g) → is_crowded v.crowds (set_mark x.tuple.set) ≡ true
   crowded_there x g same = ap (λ (t : TupleValue). is_crowded v.crowds (set_mark t.set)) same ∙ crowded
 
-  pub barred_by_own : All (IsTouchOut (rule_at ds at) commits at known set None id) (touches_alive (set_mark set) at v.own (length v.own))
-      → IsBarred (rule_at ds at) (store_at commits at) known set None id
-  barred_by_own all g stored = by_rule (dec_undeclared (rule_of (rule_at ds at) g))
-    where
-      by_rule : Dec (rule_of (rule_at ds at) g ≡ None) → IsOut (rule_at ds at) known (fact_of g id)
-      by_rule (yes none) = inl none
-      by_rule (no declared) =
-          let w = of_stored g stored in
-          let found = is.own w.0 at (set_mark set) w.1 g w.2 (ap (λ (t : TupleValue). t.user) w.3) (crowded_there w.1 g w.3) small (ap (λ (t : TupleValue). set_mark t.set) (sym w.3), declared) in
-          of_touch None g stored w.0 w.1 w.2 w.3 (each_found (IsTouchOut (rule_at ds at) commits at known set None id) v.own (set_mark set) at w.0 found all)
+  pub apart_by_objects : (other : SetValue) → All (IsTouchApart commits at set other) (touches_alive (object_mark set other) at v.objects (length v.objects))
+      → ¬ IsObjectStored (store_at commits at) set other
+  apart_by_objects other all o =
+      let g = o.0 in
+      let w = of_stored g o.1 in
+      let object : record other { relation = [] } ≡ record g { relation = [] } = λ i. record { namespace = sym o.2.0 i; id = sym o.2.1 i; relation = [] } in
+      let mark : object_mark set other ≡ object_mark w.1.tuple.set g =
+      ap (λ (h : SetValue). pair_mark (set_mark set) (set_mark h)) object ∙ ap (λ (t : TupleValue). object_mark t.set g) (sym w.3) in
+      let found = is.objects w.0 at (object_mark set other) w.1 g w.2 (ap (λ (t : TupleValue). t.user) w.3) (crowded_there w.1 g w.3) small mark in
+      each_found (IsTouchApart commits at set other) v.objects (object_mark set other) at w.0 found all w.1 g w.2.here w.3 o.1 o.2
 
-  pub barred_by_through : length (namespace_names ds) ≤ 256 → (relation : List ℕ)
-      → ((n : ℕ) → n < 256 → AreThroughOut ds commits at v.through known set relation id (suc n))
-      → IsBarred (rule_at ds at) (store_at commits at) known set (Some relation) id
-  barred_by_through few relation all g stored = by_rule (dec_undeclared (rule_at ds at g.namespace relation))
-    where
-      by_rule : Dec (rule_at ds at g.namespace relation ≡ None) → IsOut (rule_at ds at) known (fact_of (with_relation g relation) id)
-      by_rule (yes none) = inl none
-      by_rule (no declared) =
-          let n = numbered ds at g.namespace relation declared few in
-          let w = of_stored g stored in
-          let mark : pair_mark (set_mark set) (suc n.0) ≡ pair_mark (set_mark w.1.tuple.set) (suc n.0) = ap (λ (t : TupleValue). pair_mark (set_mark t.set) (suc n.0)) (sym w.3) in
-          let found = is.through w.0 at (pair_mark (set_mark set) (suc n.0)) w.1 g w.2 (ap (λ (t : TupleValue). t.user) w.3) (crowded_there w.1 g w.3) small (suc n.0, n.2, mark) in
-          of_touch (Some relation) g stored w.0 w.1 w.2 w.3
-          (each_found (IsTouchOut (rule_at ds at) commits at known set (Some relation) id) v.through (pair_mark (set_mark set) (suc n.0)) at w.0 found
-          (all n.0 n.1 g.namespace n.3 declared))
+  module _ (known : KnownValue) (id : ℕ) where
+    of_touch : (relation : Option (List ℕ)) (g : SetValue) → IsStored (store_at commits at) set (Set g)
+        → (i : ℕ) (x : Touch) → IsLastTouch (changelog commits) at i x → x.tuple ≡ tuple_of set (Set g) → IsTouchOut (rule_at ds at) commits at known set relation id i
+        → IsOut (rule_at ds at) known (fact_of (target g relation) id)
+    of_touch relation g stored i x last same out = out x g last.here same stored
+
+    pub barred_by_own : All (IsTouchOut (rule_at ds at) commits at known set None id) (touches_alive (set_mark set) at v.own (length v.own))
+        → IsBarred (rule_at ds at) (store_at commits at) known set None id
+    barred_by_own all g stored = by_rule (dec_undeclared (rule_of (rule_at ds at) g))
+      where
+        by_rule : Dec (rule_of (rule_at ds at) g ≡ None) → IsOut (rule_at ds at) known (fact_of g id)
+        by_rule (yes none) = inl none
+        by_rule (no declared) =
+            let w = of_stored g stored in
+            let found = is.own w.0 at (set_mark set) w.1 g w.2 (ap (λ (t : TupleValue). t.user) w.3) (crowded_there w.1 g w.3) small (ap (λ (t : TupleValue). set_mark t.set) (sym w.3), declared) in
+            of_touch None g stored w.0 w.1 w.2 w.3 (each_found (IsTouchOut (rule_at ds at) commits at known set None id) v.own (set_mark set) at w.0 found all)
+
+    pub barred_by_through : length (namespace_names ds) ≤ 256 → (relation : List ℕ)
+        → ((n : ℕ) → n < 256 → AreThroughOut ds commits at v.through known set relation id (suc n))
+        → IsBarred (rule_at ds at) (store_at commits at) known set (Some relation) id
+    barred_by_through few relation all g stored = by_rule (dec_undeclared (rule_at ds at g.namespace relation))
+      where
+        by_rule : Dec (rule_at ds at g.namespace relation ≡ None) → IsOut (rule_at ds at) known (fact_of (with_relation g relation) id)
+        by_rule (yes none) = inl none
+        by_rule (no declared) =
+            let n = numbered ds at g.namespace relation declared few in
+            let w = of_stored g stored in
+            let mark : pair_mark (set_mark set) (suc n.0) ≡ pair_mark (set_mark w.1.tuple.set) (suc n.0) = ap (λ (t : TupleValue). pair_mark (set_mark t.set) (suc n.0)) (sym w.3) in
+            let found = is.through w.0 at (pair_mark (set_mark set) (suc n.0)) w.1 g w.2 (ap (λ (t : TupleValue). t.user) w.3) (crowded_there w.1 g w.3) small (suc n.0, n.2, mark) in
+            of_touch (Some relation) g stored w.0 w.1 w.2 w.3
+            (each_found (IsTouchOut (rule_at ds at) commits at known set (Some relation) id) v.through (pair_mark (set_mark set) (suc n.0)) at w.0 found
+            (all n.0 n.1 g.namespace n.3 declared))

@@ -19,7 +19,7 @@ or_second : (a b : Bool) → b ≡ true → (a || b) ≡ true
 or_second true b h = refl
 or_second false b h = h
 
-some_given : (P : SetValue → Type 0) (gs : List SetValue) → SomeSet P gs → (g : SetValue) × (list_any (set_eq g) gs ≡ true) × P g
+pub some_given : (P : SetValue → Type 0) (gs : List SetValue) → SomeSet P gs → (g : SetValue) × (list_any (set_eq g) gs ≡ true) × P g
 some_given P [] h = absurd h
 some_given P (x ∷ xs) (inl p) = (x, first_there x xs, p)
 some_given P (x ∷ xs) (inr h) = let w = some_given P xs h in (w.0, or_second (set_eq w.0 x) _ w.1, w.2)
@@ -35,7 +35,7 @@ split g x xs h = by_test (set_eq g x) refl h
 none_there : (g : SetValue) → list_any (set_eq g) [] ≡ true → ⊥
 none_there g h = cc
 
-some_from : (P : SetValue → Type 0) (gs : List SetValue) (g : SetValue) → list_any (set_eq g) gs ≡ true → P g → SomeSet P gs
+pub some_from : (P : SetValue → Type 0) (gs : List SetValue) (g : SetValue) → list_any (set_eq g) gs ≡ true → P g → SomeSet P gs
 some_from P [] g h p = none_there g h
 some_from P (x ∷ xs) g h p = by_cases (λ k. some_from P xs g k p) (split g x xs h)
   where

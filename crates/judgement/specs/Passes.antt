@@ -43,6 +43,23 @@ abbrev pub IsBarred : Lookup → List TupleValue → KnownValue → SetValue →
 IsBarred rules store known set relation id =
     (g : SetValue) → IsStored store set (Set g) → IsOut rules known (fact_of (target g relation) id)
 
+-- some userset that is stored in `set` has this target
+abbrev pub IsTargetStored : List TupleValue → SetValue → Option (List ℕ) → SetValue → Type 0
+IsTargetStored store set relation t = (g : SetValue) × IsStored store set (Set g) × (target g relation ≡ t)
+
+abbrev pub AreOfOneObject : SetValue → SetValue → Type 0
+AreOfOneObject g h = (g.namespace ≡ h.namespace) × (g.id ≡ h.id)
+
+-- some userset that is stored in `set` is of the object of another
+abbrev pub IsObjectStored : List TupleValue → SetValue → SetValue → Type 0
+IsObjectStored store set other = (g : SetValue) × IsStored store set (Set g) × AreOfOneObject g other
+
+-- the touch at an index is not of a userset of that object that is stored in `set`
+abbrev pub IsTouchApart : List Commit → ℕ → SetValue → SetValue → ℕ → Type 0
+IsTouchApart commits at set other touch =
+    (x : Touch) (g : SetValue) → slice_get (changelog commits) touch ≡ Some x → x.tuple ≡ tuple_of set (Set g)
+    → IsStored (store_at commits at) set (Set g) → ¬ AreOfOneObject g other
+
 -- the touch at an index is not of a userset that is stored in `set` and has a target that may hold the user id
 abbrev pub IsTouchOut : Lookup → List Commit → ℕ → KnownValue → SetValue → Option (List ℕ) → ℕ → ℕ → Type 0
 IsTouchOut rules commits at known set relation id touch =

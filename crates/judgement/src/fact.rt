@@ -43,6 +43,14 @@ pub trait KnownFact: Drop {
     /// The mark of the fact's tuple.
     fn mark(&self) -> u64
         ensures { result ≡ tuple_mark (fact_tuple (fact self.now)) };
+
+    /// The userset, with its mark.
+    fn marked_set(&self) -> MarkedSet<'_>
+        ensures { set_value result.set ≡ (fact self.now).set };
+
+    /// The user id.
+    fn user_id(&self) -> u64
+        ensures { result ≡ (fact self.now).user };
 }
 
 impl KnownFact for Fact {
@@ -58,6 +66,14 @@ impl KnownFact for Fact {
 
     fn mark(&self) -> u64 {
         fact_mark(MarkedSet::of(self.set()), self.user())
+    }
+
+    fn marked_set(&self) -> MarkedSet<'_> {
+        MarkedSet::of(self.set())
+    }
+
+    fn user_id(&self) -> u64 {
+        self.user()
     }
 }
 
@@ -76,6 +92,14 @@ impl<'a> KnownFact for MarkedFact<'a> {
 
     fn mark(&self) -> u64 {
         fact_mark(self.set, self.user)
+    }
+
+    fn marked_set(&self) -> MarkedSet<'_> {
+        self.set
+    }
+
+    fn user_id(&self) -> u64 {
+        self.user
     }
 }
 

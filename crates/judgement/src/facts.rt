@@ -1,11 +1,14 @@
 //! Facts, few or many.
 
-ghost use Rattle.std.specs.Prelude.{◌≡◌, ◌∷◌, ◌++◌, [], IfOk, OnOk, OnErr, IsTrue, ◌↔◌, Contains, map, true};
+ghost use Rattle.std.specs.Prelude.{◌≡◌, ◌≤◌, ◌∷◌, ◌++◌, [], Some, length, slice_get, IfOk, OnOk, OnErr, IsTrue, ◌↔◌, Contains, map, option_map, true};
+ghost use Rattle.std.specs.Iterator.{YieldsFirstBy, item_count};
 ghost use Rattle.std.specs.List.{list_any};
 ghost use Rattle.tuple_text.specs.Order.{fact_eq};
 ghost use Rattle.tuple_text.specs.Refs.{set_value};
 ghost use Rattle.tuple_text.specs.Tuples.{fact_of, fact_tuple};
 ghost use Rattle.version_chains.specs.Marks.{tuple_mark};
+ghost use Rattle.version_chains.specs.Placed.{last_place, passes};
+ghost use Rattle.judgement.specs.Facts.{is_of_user, sets_of_user, user_of};
 
 use crate::fact::KnownFact;
 use std::alloc::{AllocError, Global};
@@ -23,15 +26,17 @@ const FEW: usize = 16;
 #[derive(Drop)]
 pub(crate) struct Facts<F: KnownFact> {
     facts: Vec<F>,
-    // whether the marks are those of the facts
+    // whether the marks are those of the facts, and the users theirs
     is_marked: bool,
     marks: Places,
+    users: Places,
 }
 
 impl<F: KnownFact> Model for Facts<F> {
     ghost use Rattle.std.specs.Prelude.{List, ◌≡◌, map, true};
     ghost use Rattle.tuple_text.specs.Tuples.{FactValue, fact_tuple};
     ghost use Rattle.version_chains.specs.Marks.{tuple_mark};
+    ghost use Rattle.judgement.specs.Facts.{user_of};
     ghost use Rattle.judgement.specs.KnownCode.{facts_code};
 
     ghost Value = { List FactValue };
@@ -40,7 +45,8 @@ impl<F: KnownFact> Model for Facts<F> {
 
     ghost view = { λ s. map F.fact s.facts.items };
 
-    ghost invariant = { λ s. s.is_marked ≡ true → s.marks ≡ map tuple_mark (map fact_tuple (map F.fact s.facts.items)) };
+    ghost invariant = { λ s. (s.is_marked ≡ true → s.marks ≡ map tuple_mark (map fact_tuple (map F.fact s.facts.items)))
+        × (s.is_marked ≡ true → s.users ≡ map user_of (map F.fact s.facts.items)) };
 }
 
 fn is_among<F: KnownFact>(facts: &[F], set: SetRef<'_>, user: u64) -> bool
@@ -76,6 +82,29 @@ fn marks_of<F: KnownFact>(alloc: Global, facts: &[F], room: usize) -> Result<Pla
     Ok(marks)
 }
 
+/// The users of facts, in order, with room for so many.
+fn users_of<F: KnownFact>(alloc: Global, facts: &[F], room: usize) -> Result<Places, AllocError>
+    ensures { IfOk result (λ users. users ≡ map user_of (map F.fact facts.now)) }
+{
+    let mut users = Places::with_room(alloc, room)?;
+    for fact in facts {
+        users.push(fact.user_id())?;
+    }
+    Ok(users)
+}
+
+/// The last place among the first so many at which a fact of a user stands; 0 where there is none.
+fn last_of<F: KnownFact>(facts: &[F], user: u64, places: usize) -> usize
+    requires { places ≤ length facts.now }
+    ensures { result ≡ last_place (is_of_user user) (map F.fact facts.now) places }
+{
+    let mut place = places;
+    while place > 0 && facts[place - 1].user_id() != user {
+        place -= 1;
+    }
+    place
+}
+
 /// Whether a fact stands at a place that its mark names.
 fn is_found<F: KnownFact>(facts: &[F], marks: &Places, set: MarkedSet<'_>, user: u64) -> bool
     requires { marks.now ≡ map tuple_mark (map fact_tuple (map F.fact facts.now)) }
@@ -100,6 +129,7 @@ impl<F: KnownFact> Facts<F> {
             facts: Vec::new(alloc),
             is_marked: false,
             marks: Places::new(alloc),
+            users: Places::new(alloc),
         }
     }
 
@@ -111,17 +141,20 @@ impl<F: KnownFact> Facts<F> {
             facts: Vec::with_capacity(alloc, count)?,
             is_marked: false,
             marks: Places::new(alloc),
+            users: Places::new(alloc),
         })
     }
 
-    /// Finds all facts by their marks from now on. There is room for as many marks as for facts. For want of memory nothing
+    /// Finds all facts by their marks and their users from now on. There is room for as many marks as for facts. For want of memory nothing
     /// changes.
     fn mark(&mut self) -> Result<(), AllocError>
         ensures same { self.new ≡ self.old }
     {
         if !self.is_marked {
+            let alloc = *self.facts.allocator();
             let room = self.facts.capacity().max(2 * FEW);
-            self.marks = marks_of(*self.facts.allocator(), &self.facts, room)?;
+            self.marks = marks_of(alloc, &self.facts, room)?;
+            self.users = users_of(alloc, &self.facts, room)?;
             self.is_marked = true;
         }
         Ok(())
@@ -137,7 +170,11 @@ impl<F: KnownFact> Facts<F> {
         }
         self.facts.reserve(1)?;
         if self.is_marked {
+            // where memory is refused for one of them, the next fact makes both anew
+            self.is_marked = false;
             self.marks.push(fact.mark())?;
+            self.users.push(fact.user_id())?;
+            self.is_marked = true;
         }
         if self.facts.push(fact).is_err() {
             unreachable!();
@@ -165,5 +202,88 @@ impl<F: KnownFact> Facts<F> {
         } else {
             is_marked_among(&self.facts, set, user)
         }
+    }
+
+    /// The newest place at which a fact of a user stands, counted from 1; 0 where there is none.
+    fn newest_of(&self, user: u64) -> usize
+        ensures { result ≡ last_place (is_of_user user) self.now (length self.now) }
+    {
+        if self.is_marked {
+            self.users.newest(user)
+        } else {
+            last_of(&self.facts, user, self.facts.len())
+        }
+    }
+
+    /// The place before that of the fact at this index, with a fact of the same user.
+    fn older_of(&self, index: usize, user: u64) -> usize
+        ensures { passes (is_of_user user) (slice_get self.now index) ≡ true
+            → result ≡ last_place (is_of_user user) self.now index }
+    {
+        if self.is_marked {
+            self.users.older(index)
+        } else {
+            last_of(&self.facts, user, index.min(self.facts.len()))
+        }
+    }
+
+    /// The userset of the fact at an index.
+    fn set_at(&self, index: usize) -> Option<MarkedSet<'_>>
+        ensures { option_map (λ g. set_value g.set) result ≡ option_map (λ f. f.set) (slice_get self.now index) }
+    {
+        match self.facts.get(index) {
+            Some(fact) => Some(fact.marked_set()),
+            None => None,
+        }
+    }
+
+    /// The usersets of the facts of a user, the newest first.
+    pub(crate) fn sets_of(&self, user: u64) -> SetsOfUser<'_, F>
+        ensures { result ≡ sets_of_user user self.now }
+    {
+        SetsOfUser {
+            facts: self,
+            user,
+            place: self.newest_of(user),
+        }
+    }
+}
+
+/// The usersets of a user's facts. A contract sees the list of those that are left to give.
+#[derive(Drop)]
+pub(crate) struct SetsOfUser<'a, F: KnownFact> {
+    facts: &'a Facts<F>,
+    user: u64,
+    place: usize,
+}
+
+impl<'a, F: KnownFact> Model for SetsOfUser<'a, F> {
+    ghost use Rattle.std.specs.Prelude.{List};
+    ghost use Rattle.tuple_text.specs.Sets.{SetValue};
+    ghost use Rattle.version_chains.specs.Placed.{IsLinkedPlace};
+    ghost use Rattle.judgement.specs.Facts.{is_of_user, sets_before};
+
+    ghost Value = { List SetValue };
+
+    ghost view = { λ it. sets_before it.user it.facts.now it.place };
+
+    ghost invariant = { λ it. IsLinkedPlace (is_of_user it.user) it.facts.now it.place };
+}
+
+impl<'a, F: KnownFact> Iterator for SetsOfUser<'a, F> {
+    type Item = MarkedSet<'a>;
+
+    ghost next_gives = { YieldsFirstBy (λ g. set_value g.set) (λ sets. sets) };
+
+    ghost remaining = { item_count (λ sets. sets) };
+
+    fn next(&mut self) -> Option<MarkedSet<'a>> {
+        if self.place == 0 {
+            return None;
+        }
+        let index = self.place - 1;
+        let set = self.facts.set_at(index)?;
+        self.place = self.facts.older_of(index, self.user);
+        Some(set)
     }
 }

@@ -3,9 +3,10 @@
 ghost use Rattle.std.specs.Prelude.{◌≡◌, ◌∷◌, ◌++◌, [], IfOk, OnOk, OnErr, IsTrue, ◌↔◌, Contains};
 ghost use Rattle.tuple_text.specs.Refs.{set_value};
 ghost use Rattle.tuple_text.specs.Tuples.{fact_of};
+ghost use Rattle.judgement.specs.Facts.{sets_of_user};
 
 use crate::fact::KnownFact;
-use crate::facts::Facts;
+use crate::facts::{Facts, SetsOfUser};
 use std::alloc::{AllocError, Global};
 use std::marker::Model;
 use tuple_text::SetRef;
@@ -95,5 +96,12 @@ impl<F: KnownFact> Known<F> {
         ensures { IsTrue result ↔ Contains self.now.no (fact_of (set_value set.entry.set) user) }
     {
         self.no.has_marked(set, user)
+    }
+
+    /// The usersets that are known to hold a user, the newest first.
+    pub(crate) fn sets_of(&self, user: u64) -> SetsOfUser<'_, F>
+        ensures { result ≡ sets_of_user user self.now.yes }
+    {
+        self.yes.sets_of(user)
     }
 }

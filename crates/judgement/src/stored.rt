@@ -11,6 +11,7 @@ ghost use Rattle.judgement.specs.Passes.{GivesId, BarsId, SomeSet, EachSet, IsLe
 use crate::fact::KnownFact;
 use crate::indexed::is_barred_by_index;
 use crate::known::Known;
+use crate::leading::is_led_by_index;
 use namespaces::Rules;
 use trace_lines::Trace;
 use tuple_text::SetRef;
@@ -24,7 +25,7 @@ pub(crate) fn under<'a>(set: SetRef<'a>, relation: &'a str) -> SetRef<'a>
 }
 
 /// Whether the target of a userset is known to hold a user: the userset itself, or its object under a relation.
-fn is_in<F: KnownFact>(
+pub(crate) fn is_in<F: KnownFact>(
     known: &Known<F>,
     set: MarkedSet<'_>,
     relation: Option<&str>,
@@ -112,6 +113,10 @@ pub(crate) fn is_led<F: KnownFact>(
     ensures { IsTrue result
         ↔ IsLed (store_at trace.now.commits at) known.now (set_value set.entry.set) (option_map (λ s. s.now) relation.entry) user }
 {
+    let index = trace.usersets();
+    if index.is_crowded(set) {
+        return is_led_by_index(trace, index, at, known, set, relation, user);
+    }
     let sets = trace.chains().usersets(set, at);
     gives_some(known, relation, user, sets)
 }

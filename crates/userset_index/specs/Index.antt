@@ -1,5 +1,5 @@
 -- What an index finds: the touches that make a userset stored in another at a timestamp.
-use Rattle.std.specs.Prelude.{◌≡◌, ◌≤◌, ◌<◌, ◌/◌, ◌^◌, ℕ, Bool, true, List, None, Some, slice_get, nat_lt, Contains}
+use Rattle.std.specs.Prelude.{◌≡◌, ◌≤◌, ◌<◌, ◌/◌, ◌^◌, ℕ, Bool, true, List, [], None, Some, slice_get, nat_lt, Contains}
 use Rattle.tuple_text.specs.Sets.{SetValue}
 use Rattle.tuple_text.specs.declared.users.User.TheVariants.{Set}
 use Rattle.namespaces.specs.Declaration.{Declaration}
@@ -10,15 +10,17 @@ use Rattle.version_chains.specs.Placed.{passes}
 use Rattle.userset_index.specs.Lives.{is_alive}
 use Rattle.userset_index.specs.declared.life.Life.{Life}
 use Rattle.userset_index.specs.declared.life.Way.{Way}
-use Rattle.userset_index.specs.declared.life.Way.TheVariants.{Own, Through}
+use Rattle.userset_index.specs.declared.life.Way.TheVariants.{Own, Through, Object}
 
 -- what a contract sees of an index: whether it holds of the changelog and the rules; the counts by which usersets are
--- crowded; the lives by the mark of the userset that is stored in; and those by that and a namespace
+-- crowded; the lives by the mark of the userset that is stored in; those by that and a namespace; and those by that
+-- and an object
 pub record IndexValue : Type 0 where
   pub is_whole : Bool
   pub crowds : List ℕ
   pub own : List Life
   pub through : List Life
+  pub objects : List Life
 
 -- at how many touches a userset is no longer passed over one by one
 abbrev pub few : ℕ
@@ -50,12 +52,17 @@ pub record IsFound (lives : List Life) (mark at touch : ℕ) : Type 0 where
 abbrev pub IsDeclaredAt : List Declaration → ℕ → SetValue → Type 0
 IsDeclaredAt ds at g = ¬ (rule_of (rule_at ds at) g ≡ None)
 
+-- the mark of a userset and of the object of another
+abbrev pub object_mark : SetValue → SetValue → ℕ
+object_mark s g = pair_mark (set_mark s) (set_mark (record g { relation = [] }))
+
 -- a mark by which a userset g that is stored in another, s, is looked for at a timestamp: for its own members, where
--- it is declared then; or through it, by its namespace
+-- it is declared then; through it, by its namespace; or by its object
 abbrev pub IsMark : List Declaration → Way → SetValue → SetValue → ℕ → ℕ → Type 0
 IsMark ds Own s g at mark = (mark ≡ set_mark s) × IsDeclaredAt ds at g
 IsMark ds Through s g at mark =
     (n : ℕ) × (place_of g.namespace (namespace_names ds) ≡ Some n) × (mark ≡ pair_mark (set_mark s) n)
+IsMark ds Object s g at mark = mark ≡ object_mark s g
 
 -- each touch that makes a userset stored in a crowded one at a timestamp is found by such a mark
 abbrev pub Holds : List Declaration → Way → List Touch → List ℕ → List Life → Type 0
@@ -67,6 +74,7 @@ Holds ds way touches crowds lives =
 pub record IsWhole (ds : List Declaration) (commits : List Commit) (v : IndexValue) : Type 0 where
   pub own : Holds ds Own (changelog commits) v.crowds v.own
   pub through : Holds ds Through (changelog commits) v.crowds v.through
+  pub objects : Holds ds Object (changelog commits) v.crowds v.objects
 
 -- an index of these declarations and commits, unless it was given up
 abbrev pub IsUsersetIndex : List Declaration → List Commit → IndexValue → Type 0

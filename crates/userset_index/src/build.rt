@@ -101,6 +101,17 @@ fn declared_from(rules: &Rules, set: SetRef<'_>) -> Option<u64>
     Some(low)
 }
 
+/// The mark by which the usersets of an object are looked for that are stored in a userset with this mark.
+pub(crate) fn object_mark(mark: u64, user: SetRef<'_>) -> u64
+    ensures { (s : SetValue) → mark ≡ set_mark s → result ≡ spec.object_mark s (set_value user.entry) }
+{
+    let object = SetRef {
+        relation: "",
+        ..user
+    };
+    pair_mark(mark, MarkedSet::of(object).mark)
+}
+
 /// The mark by which a userset is looked for that is stored in one with this mark, and the timestamp from which on.
 /// `None` where it never is.
 fn key_of(way: Way, rules: &Rules, mark: u64, user: SetRef<'_>) -> Option<(u64, u64)>
@@ -115,6 +126,7 @@ fn key_of(way: Way, rules: &Rules, mark: u64, user: SetRef<'_>) -> Option<(u64, 
             let number = rules.namespace_number(user.namespace)?;
             Some((pair_mark(mark, u64::from(number)), 0))
         }
+        Way::Object => Some((object_mark(mark, user), 0)),
     }
 }
 

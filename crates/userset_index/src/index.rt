@@ -7,12 +7,13 @@ ghost use Rattle.userset_index.specs.Index as spec;
 ghost use Rattle.userset_index.specs.Index.{IsUsersetIndex};
 ghost use Rattle.userset_index.specs.Lives.{touches_alive};
 
-use crate::build::{count_crowds, ends_of, is_crowded, linked_lives};
+use crate::build::{count_crowds, ends_of, is_crowded, linked_lives, object_mark};
 use crate::life::Way;
 use crate::spans::{Alive, Spans};
 use namespaces::Rules;
 use std::alloc::{AllocError, Global};
 use std::marker::Model;
+use tuple_text::SetRef;
 use version_chains::{Chains, MarkedSet, pair_mark};
 
 /// The lives of usersets that are stored in crowded ones. A userset with at most 16 touches that add or remove a
@@ -23,6 +24,7 @@ pub struct UsersetIndex {
     crowds: Vec<u8>,
     own: Spans,
     through: Spans,
+    objects: Spans,
 }
 
 impl Model for UsersetIndex {
@@ -30,7 +32,7 @@ impl Model for UsersetIndex {
 
     ghost Value = { IndexValue };
 
-    ghost view = { λ x. record { is_whole = x.is_whole; crowds = x.crowds.items; own = x.own; through = x.through } };
+    ghost view = { λ x. record { is_whole = x.is_whole; crowds = x.crowds.items; own = x.own; through = x.through; objects = x.objects } };
 }
 
 impl UsersetIndex {
@@ -43,12 +45,13 @@ impl UsersetIndex {
             crowds: Vec::new(alloc),
             own: Spans::new(alloc),
             through: Spans::new(alloc),
+            objects: Spans::new(alloc),
         }
     }
 
     /// Makes the index of a store under these rules.
     ///
-    /// It takes time in the logarithm of the touches for each touch of a userset, and of its memory some 180 bytes for
+    /// It takes time in the logarithm of the touches for each touch of a userset, and of its memory some 270 bytes for
     /// each that adds one to a crowded userset.
     pub fn of(alloc: Global, chains: &Chains, rules: &Rules) -> Result<UsersetIndex, AllocError>
         ensures { IfOk result (λ index. IsUsersetIndex rules.now chains.now.commits index) }
@@ -57,11 +60,13 @@ impl UsersetIndex {
         let crowds = count_crowds(alloc, chains, ends.len())?;
         let own = linked_lives(alloc, Way::Own, chains, rules, &crowds, &ends)?;
         let through = linked_lives(alloc, Way::Through, chains, rules, &crowds, &ends)?;
+        let objects = linked_lives(alloc, Way::Object, chains, rules, &crowds, &ends)?;
         Ok(UsersetIndex {
             is_whole: true,
             crowds,
             own,
             through,
+            objects,
         })
     }
 
@@ -96,5 +101,14 @@ impl UsersetIndex {
     {
         self.through
             .alive(pair_mark(set.mark, u64::from(namespace)), at)
+    }
+
+    /// The touches of usersets of an object, which is that of another userset, that are stored in a userset at a
+    /// timestamp, and maybe others.
+    pub fn of_object(&self, set: MarkedSet<'_>, other: SetRef<'_>, at: u64) -> Alive<'_>
+        ensures { result ≡ touches_alive (spec.object_mark (set_value set.entry.set) (set_value other.entry)) at
+            self.now.objects (length self.now.objects) }
+    {
+        self.objects.alive(object_mark(set.mark, other), at)
     }
 }

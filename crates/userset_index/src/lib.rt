@@ -2,14 +2,14 @@
 //! section 2.1): at a timestamp it gives those that can matter then, and passes over those that are dead, or whose
 //! relation is not declared yet, without looking at each.
 //!
-//! Contracts see a [`UsersetIndex`] as two lists of [`Life`]s. A life is a touch that adds a tuple whose user is a
+//! Contracts see a [`UsersetIndex`] as three lists of [`Life`]s. A life is a touch that adds a tuple whose user is a
 //! userset, and the timestamps from which on and until which it can matter. One list has it by the userset that it is
-//! stored in, from when its own relation is declared; the other by that and its namespace.
+//! stored in, from when its own relation is declared; one by that and its namespace; and one by that and its object.
 //!
 //! Callers may rely on this: of a userset that is crowded the index gives each userset that is stored in it and
-//! declared at a timestamp ([`UsersetIndex::own`]), and of a namespace each that is stored in it
-//! ([`UsersetIndex::through`]), as touches of the changelog. It may give more; who asks looks whether a touch's tuple
-//! is stored.
+//! declared at a timestamp ([`UsersetIndex::own`]), and of a namespace or an object each that is stored in it
+//! ([`UsersetIndex::through`], [`UsersetIndex::of_object`]), as touches of the changelog. It may give more; who asks
+//! looks whether a touch's tuple is stored.
 //!
 //! ```text
 //! let index = UsersetIndex::of(alloc, &chains, &rules)?;

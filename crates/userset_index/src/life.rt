@@ -11,9 +11,10 @@ pub struct Life {
 }
 
 /// How a userset that is stored in another is looked for: for its own members, or through it for those of another
-/// relation of its object.
+/// relation of its object, or by its object.
 #[derive(Clone, Copy, Drop)]
 pub enum Way {
     Own,
     Through,
+    Object,
 }

@@ -1,7 +1,7 @@
-use Rattle.std.proofs.Common.{◌≡◌, ℕ, ◌-◌, ◌<◌, ◌≤◌, suc, get_or, length, map, Some, IsTrue, false, nat_eq, arith, ap, ◌∙◌, sym, subst, refl, rules}
-use Rattle.std.specs.Prelude.{Contains, slice_get}
+use Rattle.std.proofs.Common.{◌≡◌, ℕ, ◌-◌, suc, length, map, Some, IsTrue, false, nat_eq, arith, ap, ◌∙◌, sym, refl}
+use Rattle.std.specs.Prelude.{slice_get}
 use Rattle.tuple_text.specs.Refs.{set_value}
-use Rattle.tuple_text.specs.Tuples.{FactValue, fact_of, fact_tuple}
+use Rattle.tuple_text.specs.Tuples.{fact_of, fact_tuple}
 use Rattle.tuple_text.proofs.ValueLemmas.{fact_eq-same}
 use Rattle.version_chains.specs.Placed.{last_place}
 use Rattle.version_chains.proofs.FindLemmas.{find_start, find_within, find_on, find_smaller, found_nowhere}

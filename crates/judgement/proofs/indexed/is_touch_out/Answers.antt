@@ -2,7 +2,7 @@ use Rattle.std.proofs.Common.{◌≡◌, ◌∙◌, Bool, true, false, not, IsTr
 use Rattle.std.specs.Prelude.{slice_get, option_map}
 use Rattle.tuple_text.specs.Refs.{set_value, user_value}
 use Rattle.tuple_text.specs.Sets.{SetValue}
-use Rattle.tuple_text.specs.Tuples.{TupleValue, tuple_of}
+use Rattle.tuple_text.specs.Tuples.{tuple_of}
 use Rattle.tuple_text.specs.declared.users.User.TheVariants.{Set}
 use Rattle.namespaces.specs.Declaration.{Declaration}
 use Rattle.namespaces.specs.Lookup.{rule_at}
@@ -10,10 +10,8 @@ use Rattle.version_chains.specs.Commits.{Commit, Touch, changelog, is_stored}
 use Rattle.version_chains.specs.Touches.{touch_value}
 use Rattle.version_chains.proofs.StoreLemmas.{store_at-iff}
 use Rattle.judgement.specs.Passes.{BarsId}
+use Rattle.judgement.proofs.IndexLemmas.{set_of}
 use Rattle.judgement.proofs.indexed.is_touch_out.Goals as goal
-
-set_of : (s g h : SetValue) (t : TupleValue) → t ≡ tuple_of s (Set g) → t.user ≡ Set h → g ≡ h
-set_of s g h t is user = let both : Set g ≡ Set h = sym (ap (λ (u : TupleValue). u.user) is) ∙ user in cc
 
 not_both : {G : Type 0} (b : Bool) → IsTrue (not b) → b ≡ true → G
 not_both true h e = absurd (let bad : false ≡ true = h in cc)

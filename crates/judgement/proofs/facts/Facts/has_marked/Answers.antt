@@ -1,9 +1,9 @@
-use Rattle.std.proofs.Common.{◌≡◌, ◌∙◌, List, map, ap, sym, subst, ◌↔◌, IsTrue, Bool}
+use Rattle.std.proofs.Common.{◌≡◌, ◌∙◌, map, ap, sym, subst, ◌↔◌, IsTrue, Bool}
 use Rattle.std.specs.Prelude.{Contains}
 use Rattle.std.specs.List.{list_any}
 use Rattle.tuple_text.specs.Order.{fact_eq}
 use Rattle.tuple_text.specs.Refs.{set_value}
-use Rattle.tuple_text.specs.Tuples.{FactValue, fact_of}
+use Rattle.tuple_text.specs.Tuples.{fact_of}
 use Rattle.judgement.proofs.MarkedLemmas.{there_if_any}
 use Rattle.judgement.proofs.facts.Facts.has_marked.Goals as goal
 

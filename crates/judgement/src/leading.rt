@@ -1,0 +1,158 @@
+//! Whether a fact holds through a userset that is stored in a crowded one.
+
+ghost use Rattle.std.specs.Prelude.{◌≡◌, ◌↔◌, ◌&&◌, ◌⊎◌, IsTrue, true, false, All, option_map};
+ghost use Rattle.tuple_text.specs.Refs.{set_value};
+ghost use Rattle.version_chains.specs.Commits.{store_at};
+ghost use Rattle.version_chains.specs.Marks.{set_mark};
+ghost use Rattle.userset_index.specs.Index.{IsUsersetIndex, is_crowded};
+ghost use Rattle.judgement.specs.Passes.{GivesId, IsLed, IsObjectStored, IsTargetStored, IsTouchApart, SomeSet};
+
+use crate::fact::KnownFact;
+use crate::facts::SetsOfUser;
+use crate::known::Known;
+use crate::stored::is_in;
+use trace_lines::Trace;
+use tuple_text::{SetRef, UserRef};
+use userset_index::{Alive, UsersetIndex};
+use version_chains::{MarkedSet, Usersets};
+
+/// Whether a touch is of a userset that is stored in a set and is of the object of another.
+fn is_of_object(trace: &Trace, at: u64, set: MarkedSet<'_>, other: SetRef<'_>, touch: usize) -> bool
+    ensures stored { result ≡ true
+        → IsObjectStored (store_at trace.now.commits at) (set_value set.entry.set) (set_value other.entry) }
+    ensures apart { result ≡ false
+        → IsTouchApart trace.now.commits at (set_value set.entry.set) (set_value other.entry) touch }
+{
+    let Some(touch) = trace.chains().touch(touch) else {
+        return false;
+    };
+    let UserRef::Set(stored) = touch.user.user else {
+        return false;
+    };
+    if stored.namespace != other.namespace || stored.id != other.id {
+        return false;
+    }
+    let stored = MarkedSet {
+        set: stored,
+        mark: touch.user.mark,
+    };
+    touch.set == set.set && trace.chains().has_set(set, stored, at)
+}
+
+/// Whether one of some touches is.
+fn is_one_of_object(
+    trace: &Trace,
+    at: u64,
+    set: MarkedSet<'_>,
+    other: SetRef<'_>,
+    touches: Alive<'_>,
+) -> bool
+    ensures stored { result ≡ true
+        → IsObjectStored (store_at trace.now.commits at) (set_value set.entry.set) (set_value other.entry) }
+    ensures apart { result ≡ false
+        → All (IsTouchApart trace.now.commits at (set_value set.entry.set) (set_value other.entry)) touches.entry }
+{
+    for touch in touches {
+        if is_of_object(trace, at, set, other, touch) {
+            return true;
+        }
+    }
+    false
+}
+
+/// Whether some userset that is stored in a crowded set has this target: the userset itself, or its object under a relation.
+fn is_target_stored(
+    trace: &Trace,
+    index: &UsersetIndex,
+    at: u64,
+    set: MarkedSet<'_>,
+    relation: Option<&str>,
+    target: MarkedSet<'_>,
+) -> bool
+    requires index { IsUsersetIndex trace.now.declarations trace.now.commits index.now }
+    requires crowded { (index.now.is_whole && is_crowded index.now.crowds (set_mark (set_value set.set))) ≡ true }
+    ensures { IsTrue result ↔ IsTargetStored (store_at trace.now.commits at) (set_value set.entry.set)
+        (option_map (λ s. s.now) relation.entry) (set_value target.entry.set) }
+{
+    match relation {
+        None => trace.chains().has_set(set, target, at),
+        Some(relation) => {
+            target.set.relation == relation
+                && is_one_of_object(
+                    trace,
+                    at,
+                    set,
+                    target.set,
+                    index.of_object(set, target.set, at),
+                )
+        }
+    }
+}
+
+/// Whether one of some usersets has a target that is known to hold a user, or one of some others is the target of what is stored in a
+/// crowded set. It goes over both lists side by side, so it takes no more steps than the shorter has items.
+fn leads_either<F: KnownFact>(
+    trace: &Trace,
+    index: &UsersetIndex,
+    at: u64,
+    known: &Known<F>,
+    set: MarkedSet<'_>,
+    relation: Option<&str>,
+    user: u64,
+    stored: Usersets<'_>,
+    targets: SetsOfUser<'_, F>,
+) -> bool
+    requires index { IsUsersetIndex trace.now.declarations trace.now.commits index.now }
+    requires crowded { (index.now.is_whole && is_crowded index.now.crowds (set_mark (set_value set.set))) ≡ true }
+    ensures leads { result ≡ true → SomeSet (GivesId known.now (option_map (λ s. s.now) relation.entry) user) stored.entry
+        ⊎ SomeSet (IsTargetStored (store_at trace.now.commits at) (set_value set.entry.set)
+        (option_map (λ s. s.now) relation.entry)) targets.entry }
+    ensures none { result ≡ false → (¬ SomeSet (GivesId known.now (option_map (λ s. s.now) relation.entry) user) stored.entry)
+        ⊎ (¬ SomeSet (IsTargetStored (store_at trace.now.commits at) (set_value set.entry.set)
+        (option_map (λ s. s.now) relation.entry)) targets.entry) }
+{
+    let mut targets = targets;
+    for one in stored {
+        if is_in(known, one, relation, user) {
+            return true;
+        }
+        match targets.next() {
+            Some(target) => {
+                if is_target_stored(trace, index, at, set, relation, target) {
+                    return true;
+                }
+            }
+            None => return false,
+        }
+    }
+    false
+}
+
+/// Whether some userset that is stored in a crowded set has a target that is known to hold a user.
+pub(crate) fn is_led_by_index<F: KnownFact>(
+    trace: &Trace,
+    index: &UsersetIndex,
+    at: u64,
+    known: &Known<F>,
+    set: MarkedSet<'_>,
+    relation: Option<&str>,
+    user: u64,
+) -> bool
+    requires index { IsUsersetIndex trace.now.declarations trace.now.commits index.now }
+    requires crowded { (index.now.is_whole && is_crowded index.now.crowds (set_mark (set_value set.set))) ≡ true }
+    ensures { IsTrue result
+        ↔ IsLed (store_at trace.now.commits at) known.now (set_value set.entry.set) (option_map (λ s. s.now) relation.entry) user }
+{
+    let stored = trace.chains().usersets(set, at);
+    leads_either(
+        trace,
+        index,
+        at,
+        known,
+        set,
+        relation,
+        user,
+        stored,
+        known.sets_of(user),
+    )
+}
