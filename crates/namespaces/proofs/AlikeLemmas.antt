@@ -1,10 +1,10 @@
 -- What children join to, where they are nested, repeated or alone.
 use Rattle.std.proofs.Common.{◌≡◌, Bool, true, false, ◌||◌, ◌&&◌, List, [], ◌∷◌, ◌++◌, refl, sym, ap, ◌∙◌, inl, inr, append_assoc, arith, get_or}
 use Rattle.std.proofs.lemmas.List.Folds.{list_any-append, list_all-append, list_any_at, list_all_at}
-use Rattle.std.specs.Prelude.{◌⊎◌, Contains, ◌<◌, ℕ, zero, suc, length, map, slice_get, Some}
+use Rattle.std.specs.Prelude.{Contains, ◌<◌, ℕ, zero, suc, length, map}
 use Rattle.std.specs.List.{list_any, list_all}
 use Rattle.namespaces.specs.Alike.{Leaves, gives, some_gives, each_gives, bars, each_bars, some_bars, IsAlike}
-use Rattle.namespaces.specs.Expression.{Expression, union, inter}
+use Rattle.namespaces.specs.Expression.{Expression}
 use Rattle.namespaces.specs.Joints.{joined, IsPut, JoinAlike}
 use Rattle.namespaces.specs.View.{children, expression_of}
 use Rattle.namespaces.specs.declared.plain.Joint.{Joint}

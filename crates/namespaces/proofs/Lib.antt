@@ -1,5 +1,6 @@
 pub mod Copies
 pub mod Declared
+pub mod Exits
 pub mod Fields
 pub mod Growth
 pub mod Indexes

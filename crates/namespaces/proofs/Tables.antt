@@ -1,5 +1,6 @@
 -- Tables of relations beside the relations that they show.
-use Rattle.std.proofs.Common.{◌≡◌, ℕ, ◌+◌, ◌<◌, Bool, true, false, ◌||◌, is_some, List, [], ◌∷◌, ◌++◌, length, get_or, drop, cond, Option, None, Some, Result, Ok, Err, String, Global, string_bytes, refl, sym, ap, ◌∙◌, append_assoc, append-nil, add-one}
+use Rattle.std.proofs.Common.{◌≡◌, ℕ, ◌+◌, ◌<◌, Bool, true, false, ◌||◌, is_some, option_map, List, [], ◌∷◌, ◌++◌, length, get_or, slice_get, drop, cond, Option, None, Some, Result, Ok, Err, String, Global, string_bytes, refl, sym, ap, ◌∙◌, append_assoc, append-nil, add-one}
+use Rattle.std.proofs.lemmas.Option.{slice_get-map}
 use Rattle.std.proofs.Math.Seq.{drop-cons}
 use Rattle.std.specs.Result.{OnErr}
 use Rattle.std.specs.Str.{bytes_eq}
@@ -11,6 +12,7 @@ use Rattle.namespaces.specs.Fault.{Fails}
 use Rattle.namespaces.specs.Declaration as declaration
 use Rattle.namespaces.specs.Adding.{has_repeats}
 use Rattle.namespaces.specs.Lookup.{relation_names}
+use Rattle.namespaces.specs.Kept.{has_one_name, keeps_name_at, has_one_stratum, keeps_stratum_at}
 use Rattle.namespaces.specs.Shown.{show_relation, show_relations}
 use Rattle.namespaces.specs.declared.relation.Relation.{Relation}
 use Rattle.namespaces.proofs.Names.{has_repeats-there, has_repeats-push}
@@ -26,7 +28,7 @@ is_text q k = bytes_eq q (string_bytes k)
 pub relations_step : (es : List Entry) (i : ℕ) (d : Entry) → i < length es → show_relations (drop i es) ≡ show_relation (get_or es i d) ∷ show_relations (drop (i + 1) es)
 relations_step es i d h = rw (drop-cons es i d h, add-one) refl
 
-show_relations-append : (es fs : List Entry) → show_relations (es ++ fs) ≡ show_relations es ++ show_relations fs
+pub show_relations-append : (es fs : List Entry) → show_relations (es ++ fs) ≡ show_relations es ++ show_relations fs
 show_relations-append [] fs = refl
 show_relations-append (e ∷ es) fs = ap (λ rs. show_relation e ∷ rs) (show_relations-append es fs)
 
@@ -104,3 +106,11 @@ carried RelationsChanged true r rs f h = cc
 carried RelationsChanged false r rs f h = cc
 carried StratumChanged true r rs f h = cc
 carried StratumChanged false r rs f h = cc
+
+-- ---- the relations at one place of two tables
+
+pub name_there : (old new : List Entry) (i : ℕ) (was now : Option Entry) → was ≡ slice_get old i → now ≡ slice_get new i → has_one_name (option_map show_relation was) (option_map show_relation now) ≡ keeps_name_at (show_relations old) (show_relations new) i
+name_there old new i was now e f = rw (slice_get-map show_relation old i, slice_get-map show_relation new i, ← e, ← f) refl
+
+pub stratum_there : (old new : List Entry) (i : ℕ) (was now : Option Entry) → was ≡ slice_get old i → now ≡ slice_get new i → has_one_stratum (option_map show_relation was) (option_map show_relation now) ≡ keeps_stratum_at (show_relations old) (show_relations new) i
+stratum_there old new i was now e f = rw (slice_get-map show_relation old i, slice_get-map show_relation new i, ← e, ← f) refl

@@ -1,7 +1,6 @@
 -- Rules that say the same, whatever their leaves give and bar. A leaf is `this`, a computed relation or a tupleset.
-use Rattle.std.specs.Prelude.{◌≡◌, Bool, true, false, ◌&&◌, ◌||◌, List, map, Option, None, Some, ⊤}
+use Rattle.std.specs.Prelude.{◌≡◌, Bool, true, false, ◌&&◌, ◌||◌, Option, None, Some, ⊤}
 use Rattle.namespaces.specs.Expression.{Expression, this, computed, tuple_to, union, inter, minus, Expressions, no_child, child}
-use Rattle.namespaces.specs.View.{children}
 
 -- which leaves give a fact, and which rule it out
 pub record Leaves : Type 0 where

@@ -5,7 +5,7 @@ ghost use Rattle.namespaces.specs.Alike.{IsAlike};
 ghost use Rattle.namespaces.specs.Joints.{joined, IsPut, JoinAlike};
 ghost use Rattle.namespaces.specs.View.{expression_of, expressions_of};
 
-use crate::rewrite::{Rewrite, copied};
+use crate::rewrite::{Rewrite, copied, copied_pair, minus};
 use std::alloc::{AllocError, Global};
 use std::collections::BTreeMap;
 
@@ -217,16 +217,13 @@ pub(crate) fn plain(alloc: Global, rewrite: &Rewrite) -> Result<Rewrite, AllocEr
     match rewrite {
         Rewrite::This => Ok(Rewrite::This),
         Rewrite::Computed(relation) => Ok(Rewrite::Computed(relation.clone()?)),
-        Rewrite::TupleTo { tupleset, computed } => Ok(Rewrite::TupleTo {
-            tupleset: tupleset.clone()?,
-            computed: computed.clone()?,
-        }),
+        Rewrite::TupleTo { tupleset, computed } => copied_pair(tupleset, computed),
         Rewrite::Union(children) => plain_joined(alloc, Joint::Union, children),
         Rewrite::Inter(children) => plain_joined(alloc, Joint::Inter, children),
         Rewrite::Minus(base, subtract) => {
             let base = plain(alloc, base)?;
             let subtract = plain(alloc, subtract)?;
-            Ok(Rewrite::Minus(Box::new(alloc, base)?, Box::new(alloc, subtract)?))
+            minus(alloc, base, subtract)
         }
     }
 }

@@ -5,6 +5,7 @@ ghost use Rattle.std.specs.Str.{bytes_eq};
 ghost use Rattle.serde_json.specs.View.{view, items_view};
 ghost use Rattle.serde_json.specs.Find.{get, as_array};
 ghost use Rattle.namespaces.specs.Fault.{Gives, needed};
+ghost use Rattle.refusals.specs.Refusals as steps;
 ghost use Rattle.namespaces.specs.Shape as shape;
 ghost use Rattle.namespaces.specs.Adding as adding;
 ghost use Rattle.namespaces.specs.Shown.{show_relation, show_relations};
@@ -14,7 +15,7 @@ ghost use Rattle.namespaces.specs.View.{expression_of, expressions_of};
 
 use crate::fault::RulesFault;
 use crate::relation::{Relation, relation_of};
-use crate::rewrite::Rewrite;
+use crate::rewrite::{Rewrite, minus};
 use indexmap::IndexMap;
 use serde_json::Value;
 use std::alloc::Global;
@@ -52,17 +53,24 @@ fn has(value: &Value, key: &str) -> bool
     value.get(key).is_some()
 }
 
+/// One if the value has the key.
+fn one_at(value: &Value, key: &str) -> u32
+    ensures { result ≡ shape.one_if (shape.has key.now (view value.now)) }
+{
+    u32::from(has(value, key))
+}
+
 /// How many of the six keys an expression has.
 #[tactic(auto, unfolding(crate::specs::Shape::forms_in))]
 fn count_forms(value: &Value) -> u32
     ensures { result ≡ shape.forms_in (view value.now) }
 {
-    u32::from(has(value, "this"))
-        + u32::from(has(value, "computed"))
-        + u32::from(has(value, "tuple_to"))
-        + u32::from(has(value, "union"))
-        + u32::from(has(value, "intersection"))
-        + u32::from(has(value, "exclusion"))
+    one_at(value, "this")
+        + one_at(value, "computed")
+        + one_at(value, "tuple_to")
+        + one_at(value, "union")
+        + one_at(value, "intersection")
+        + one_at(value, "exclusion")
 }
 
 fn tuple_to(alloc: Global, value: &Value) -> Result<Rewrite, RulesFault>
@@ -104,9 +112,17 @@ fn expression(alloc: Global, value: &Value) -> Result<Rewrite, RulesFault>
 fn exclusion(alloc: Global, value: &Value) -> Result<Rewrite, RulesFault>
     ensures { Gives expression_of result (shape.exclusion (view value.now)) }
 {
-    let base = expression(alloc, member(value, "base")?)?;
-    let subtract = expression(alloc, member(value, "subtract")?)?;
-    Ok(Rewrite::Minus(Box::new(alloc, base)?, Box::new(alloc, subtract)?))
+    let base = expression_at(alloc, value, "base")?;
+    let subtract = expression_at(alloc, value, "subtract")?;
+    Ok(minus(alloc, base, subtract)?)
+}
+
+/// The rule of the expression at a key.
+#[cycle(reading)]
+fn expression_at(alloc: Global, value: &Value, key: &str) -> Result<Rewrite, RulesFault>
+    ensures { Gives expression_of result (steps.◌>>=◌ (needed (get key.now (view value.now))) shape.expression) }
+{
+    expression(alloc, member(value, key)?)
 }
 
 /// The rules of a list of expressions.

@@ -1,5 +1,5 @@
 //! The rules for the members of a relation.
-ghost use Rattle.std.specs.Prelude.{◌≡◌, nat_lt};
+ghost use Rattle.std.specs.Prelude.{◌≡◌, nat_lt, string_bytes, IfOk};
 ghost use Rattle.std.specs.List.{list_all};
 ghost use Rattle.tuple_text.specs.Forms.{is_name};
 ghost use Rattle.namespaces.specs.Fault.{Gives};
@@ -7,7 +7,7 @@ ghost use Rattle.namespaces.specs.Expression as expression;
 ghost use Rattle.namespaces.specs.View.{expression_of, expressions_of};
 
 use crate::fault::RulesFault;
-use std::alloc::Global;
+use std::alloc::{AllocError, Global};
 use tuple_text::is_name;
 
 /// How many children a union or an intersection may have.
@@ -30,6 +30,23 @@ pub enum Rewrite {
     Minus(Box<Rewrite>, Box<Rewrite>),
 }
 
+/// A rule that follows a tupleset, of copies of its names.
+pub(crate) fn copied_pair(tupleset: &String, computed: &String) -> Result<Rewrite, AllocError>
+    ensures { IfOk result (λ r. expression_of r ≡ expression.tuple_to (string_bytes tupleset.now) (string_bytes computed.now)) }
+{
+    Ok(Rewrite::TupleTo {
+        tupleset: tupleset.clone()?,
+        computed: computed.clone()?,
+    })
+}
+
+/// The members of one rule that are not members of another.
+pub(crate) fn minus(alloc: Global, base: Rewrite, subtract: Rewrite) -> Result<Rewrite, AllocError>
+    ensures { IfOk result (λ r. expression_of r ≡ expression.minus (expression_of base) (expression_of subtract)) }
+{
+    Ok(Rewrite::Minus(Box::new(alloc, base)?, Box::new(alloc, subtract)?))
+}
+
 /// A copy of a rule.
 #[cycle(copied)]
 pub(crate) fn copied(alloc: Global, rewrite: &Rewrite) -> Result<Rewrite, RulesFault>
@@ -38,16 +55,13 @@ pub(crate) fn copied(alloc: Global, rewrite: &Rewrite) -> Result<Rewrite, RulesF
     match rewrite {
         Rewrite::This => Ok(Rewrite::This),
         Rewrite::Computed(relation) => Ok(Rewrite::Computed(relation.clone()?)),
-        Rewrite::TupleTo { tupleset, computed } => Ok(Rewrite::TupleTo {
-            tupleset: tupleset.clone()?,
-            computed: computed.clone()?,
-        }),
+        Rewrite::TupleTo { tupleset, computed } => Ok(copied_pair(tupleset, computed)?),
         Rewrite::Union(children) => Ok(Rewrite::Union(all_copied(alloc, children)?)),
         Rewrite::Inter(children) => Ok(Rewrite::Inter(all_copied(alloc, children)?)),
         Rewrite::Minus(base, subtract) => {
             let base = copied(alloc, base)?;
             let subtract = copied(alloc, subtract)?;
-            Ok(Rewrite::Minus(Box::new(alloc, base)?, Box::new(alloc, subtract)?))
+            Ok(minus(alloc, base, subtract)?)
         }
     }
 }

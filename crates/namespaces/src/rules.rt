@@ -1,5 +1,5 @@
 //! The declared namespaces, by name, by number and at a timestamp.
-ghost use Rattle.std.specs.Prelude.{◌≡◌, ℕ, ◌<◌, ◌≤◌, [], ◌∷◌, ◌++◌, length, option_map, slice_get, string_bytes, IfSome, OnOk, OnErr, IfErr};
+ghost use Rattle.std.specs.Prelude.{◌≡◌, ℕ, ◌<◌, ◌≤◌, [], ◌∷◌, ◌++◌, length, option_map, option_and_then, slice_get, string_bytes, IfSome, OnOk, OnErr, IfErr};
 ghost use Rattle.tuple_text.specs.Refs.{set_value};
 ghost use Rattle.namespaces.specs.Alike.{AreAlike};
 ghost use Rattle.namespaces.specs.Declaration.{declared};
@@ -171,7 +171,7 @@ impl Rules {
         let (_, revisions) = self.numbered(number.namespace)?;
         let index = number.relation.checked_sub(1)? as usize;
         let revision = revision_with(revisions.as_slice(), index, k)?;
-        let (_, relation) = self.relations_in(revision)?.get_index(index)?;
+        let (_, relation) = self.relation_in(revision, index)?;
         Some(&relation.rewrite)
     }
 
@@ -282,7 +282,15 @@ impl Rules {
         let (_, revisions) = self.numbered(number.namespace)?;
         let index = number.relation.checked_sub(1)?;
         let newest = revisions.last().copied()?;
-        self.relations_in(newest)?.get_index(index as usize)
+        self.relation_in(newest, index as usize)
+    }
+
+    /// The relation at a place of the declaration that a revision stands for.
+    fn relation_in(&self, revision: Revision, index: usize) -> Option<(&String, &Relation)>
+        ensures { option_map (λ p. show_relation (p.0.now, p.1.now)) result
+            ≡ option_and_then (λ rs. slice_get rs index) (option_map (λ d. d.relations) (slice_get self.now revision.line)) }
+    {
+        self.relations_in(revision)?.get_index(index)
     }
 
     /// The relations of the declaration that a revision stands for.

@@ -1,6 +1,7 @@
 //! Tables of relations, and the tests of a namespace that are made on one.
-ghost use Rattle.std.specs.Prelude.{◌≡◌, ◌∷◌, ◌++◌, [], if◌then◌else◌, is_some, false, string_bytes, OnOk};
+ghost use Rattle.std.specs.Prelude.{◌≡◌, ◌&&◌, not, ◌∷◌, ◌++◌, [], if◌then◌else◌, is_some, false, string_bytes, OnOk};
 ghost use Rattle.std.specs.List.{list_any, list_all};
+ghost use Rattle.tuple_text.specs.Forms.{is_name};
 ghost use Rattle.indexmap.specs.IndexMap.{get_by_text};
 ghost use Rattle.namespaces.specs.Adding as adding;
 ghost use Rattle.namespaces.specs.Changing as changing;
@@ -35,7 +36,6 @@ pub(crate) struct Namespace {
 
 /// The namespace of a draft, or the first fault that applies, where `repeated` says that the namespace may not be declared again, and
 /// `full` that there is no room for it.
-#[tactic(auto, unfolding(crate::specs::Adding::tested))]
 pub(crate) fn tested(
     alloc: Global,
     draft: Draft,
@@ -44,24 +44,46 @@ pub(crate) fn tested(
 ) -> Result<Namespace, RulesFault>
     ensures { Gives show_namespace result (adding.tested repeated full (show_draft draft)) }
 {
+    check_names(&draft, repeated)?;
     let Draft { name, relations } = draft;
-    if !is_name(name.as_str()) || !are_well_named(&relations) {
+    let relations = table_of(alloc, relations)?;
+    check_relations(full, &relations)?;
+    Ok(Namespace { name, relations })
+}
+
+/// Refuses names that are none, and then a namespace that may not be declared again.
+fn check_names(draft: &Draft, repeated: bool) -> Result<(), RulesFault>
+    ensures { Gives (λ u. u) result
+        (if not (is_name (string_bytes draft.now.name) && list_all adding.is_well_named (show_relations draft.now.relations.items))
+        then Err RulesFault.Name else (if repeated then Err RulesFault.RepeatedNamespace else Ok (tt {0}))) }
+{
+    if !is_name(draft.name.as_str()) || !are_well_named(&draft.relations) {
         return Err(RulesFault::Name);
     }
     if repeated {
         return Err(RulesFault::RepeatedNamespace);
     }
-    let relations = table_of(alloc, relations)?;
-    if !all_read_declared(&relations) {
+    Ok(())
+}
+
+/// Refuses relations that read what is not declared, nest too deep or are beyond a limit.
+fn check_relations(full: bool, relations: &IndexMap<String, Relation>) -> Result<(), RulesFault>
+    ensures { Gives (λ u. u) result
+        (if not (list_all (adding.reads_declared (show_relations relations.now.entries)) (show_relations relations.now.entries))
+        then Err RulesFault.UndeclaredRelation
+        else (if list_any adding.is_too_deep (show_relations relations.now.entries) then Err RulesFault.TooDeep
+        else (if adding.is_over_limits full (show_relations relations.now.entries) then Err RulesFault.TooMany else Ok (tt {0})))) }
+{
+    if !all_read_declared(relations) {
         return Err(RulesFault::UndeclaredRelation);
     }
-    if is_any_too_deep(&relations) {
+    if is_any_too_deep(relations) {
         return Err(RulesFault::TooDeep);
     }
-    if is_over_limits(full, &relations) {
+    if is_over_limits(full, relations) {
         return Err(RulesFault::TooMany);
     }
-    Ok(Namespace { name, relations })
+    Ok(())
 }
 
 /// A copy of a namespace.

@@ -1,11 +1,13 @@
 -- One more link, and one less.
-use Rattle.std.proofs.Common.{◌≡◌, ◌≢◌, ℕ, suc, ◌+◌, ◌-◌, ◌≤◌, Bool, true, false, cond, List, [], ◌∷◌, ◌++◌, length, map, take, refl, sym, ◌∙◌, ap, subst, Option, Some, ◌⊎◌, inl, inr, arith, nat_eq, None}
+use Rattle.std.proofs.Common.{◌≡◌, ◌≢◌, ℕ, zero, suc, Result, Ok, Err, ◌+◌, ◌-◌, ◌≤◌, Bool, true, false, cond, List, [], ◌∷◌, ◌++◌, length, map, nat_lt, take, refl, sym, ◌∙◌, ap, subst, Option, Some, ◌⊎◌, inl, inr, arith, nat_eq, None}
 use Rattle.std.specs.Prelude.{slice_get, option_map}
 use Rattle.std.proofs.lemmas.List.{append-nil, map-append}
-use Rattle.std.proofs.lemmas.Option.{slice_get_within, slice_get-map}
+use Rattle.std.specs.Result.{OnErr}
+use Rattle.std.proofs.lemmas.Option.{slice_get_within, slice_get_past, slice_get-map}
 use Rattle.std.proofs.lemmas.Bool.{eqb-true, eq-eqb}
-use Rattle.version_chains.specs.Placed.{last_place}
-use Rattle.version_chains.specs.Links.{AreLinked, IsPlaceOf, IsSet, longest, newest_of}
+use Rattle.std.proofs.lemmas.Bool.Decides.{nat_tests}
+use Rattle.version_chains.specs.Placed.{last_place, most}
+use Rattle.version_chains.specs.Links.{AreLinked, IsPlaceOf, IsSet, IsTable, has_mark, longest, newest_of}
 use Rattle.version_chains.specs.declared.places.Link.{Link}
 use Rattle.version_chains.specs.declared.table.Table.{Table}
 use Rattle.version_chains.proofs.PlacedLemmas.{at_last_place, length-more, slice_get-cases, slice_get-kept, slice_get-next, last_place-front, last_place-more, last_place-within, with_last}
@@ -137,3 +139,54 @@ module _ (links : List Link) (link : Link) (newest : Table) (are : AreLinked (li
       by_test mark false t =
           are.latest mark ∙ with_link links link mark
           ∙ ap (λ (b : Bool). cond b (suc (length links)) (last_place (nat_eq mark) (marks_of links) (length links))) t
+
+-- ---- the marks that callers see
+
+pub newest_shown : (links ls : List Link) (table : Table) (marks : List ℕ) (mark place : ℕ) → AreLinked links table → marks_of links ≡ marks → ls ≡ links → place ≡ newest_of ls table mark → place ≡ last_place (nat_eq mark) marks (length marks)
+newest_shown links ls table marks mark place are shown same is = is ∙ ap (λ (l : List Link). newest_of l table mark) same ∙ rw (← shown, length-marks links) (are.latest mark)
+
+pub older_shown : (links : List Link) (table : Table) (marks : List ℕ) (index : ℕ) (link : Link) → AreLinked links table → marks_of links ≡ marks → slice_get links index ≡ Some link
+    → (mark : ℕ) → slice_get marks index ≡ Some mark → link.older ≡ last_place (nat_eq mark) marks index
+older_shown links table marks index link are shown there mark is =
+    let here : slice_get marks index ≡ Some link.mark = rw (← shown, slice_get-map (λ (l : Link). l.mark) links index, there) refl in
+    let same : link.mark ≡ mark = let both = sym here ∙ is in cc in
+    rw (← shown, ← same) (are.earlier index link there)
+
+pub none_shown : (links ls : List Link) (marks : List ℕ) (index : ℕ) → marks_of links ≡ marks → ls ≡ links → false ≡ nat_lt index (length ls)
+    → (mark : ℕ) → slice_get marks index ≡ Some mark → 0 ≡ last_place (nat_eq mark) marks index
+none_shown links ls marks index shown same none mark is =
+    let past : length ls ≤ index = grind (arith, nat_tests) in
+    let within = slice_get_within marks index mark is in
+    absurd (omega (arith, within, past, ap length same, ap length shown, length-marks links))
+
+pub marks_shown : (links more : List Link) (link : Link) (marks : List ℕ) → marks_of links ≡ marks → more ≡ links ++ link ∷ [] → marks_of more ≡ marks ++ link.mark ∷ []
+marks_shown links more link marks shown is = rw (is, marks-more links link, shown) refl
+
+pub refused_shown : {T E : Type 0} (r : Result T E) (links ls : List Link) (marks : List ℕ) → marks_of links ≡ marks → ls ≡ links → OnErr r (marks_of ls ≡ marks)
+refused_shown (Ok x) links ls marks shown same = tt
+refused_shown (Err e) links ls marks shown same = rw (same, shown) refl
+
+-- ---- the links as a caller holds them, and a table in which the same is found
+
+pub same_links : (links ls : List Link) (table : Table) → ls ≡ links → AreLinked links table × (length links ≤ most) → AreLinked ls table × (length ls ≤ most)
+same_links links ls table same are = subst (λ (xs : List Link). AreLinked xs table × (length xs ≤ most)) (sym same) are
+
+pub other_table : (links ls : List Link) (old new : Table) → AreLinked links old × (length links ≤ most) → ls ≡ links → IsTable ls new → ((m : ℕ) → newest_of ls new m ≡ newest_of ls old m) → AreLinked links new × (length links ≤ most)
+other_table links ls old new are same table found = (
+  record {
+    probed = subst (λ (xs : List Link). IsTable xs new) same table;
+    earlier = are.0.earlier;
+    latest = λ m. subst (λ (xs : List Link). newest_of xs new m ≡ newest_of xs old m) same (found m) ∙ are.0.latest m;
+  },
+  are.1,
+)
+
+-- ---- the link at a place that is not 0
+
+pub link_there : (links : List Link) (place mark : ℕ) (link : Link) → (place ≡ 0 → ⊥) → slice_get links (place - 1) ≡ Some link → nat_eq link.mark mark ≡ has_mark links place mark
+link_there links zero mark link some there = absurd (some refl)
+link_there links (suc i) mark link some there = let less : suc i - 1 ≡ i = omega arith in let here : slice_get links i ≡ Some link = rw less at there in rw here refl
+
+pub no_link : (links : List Link) (place mark : ℕ) → (place ≡ 0 → ⊥) → false ≡ nat_lt (place - 1) (length links) → false ≡ has_mark links place mark
+no_link links zero mark some none = absurd (some refl)
+no_link links (suc i) mark some none = let past : length links ≤ i = grind (arith, nat_tests) in rw (slice_get_past links i past) refl

@@ -1,10 +1,12 @@
 -- Places in a list that grows.
-use Rattle.std.proofs.Common.{◌≡◌, ◌≢◌, ℕ, zero, suc, ◌+◌, ◌<◌, ◌≤◌, Bool, true, false, ◌&&◌, cond, List, [], ◌∷◌, ◌++◌, length, map, take, refl, sym, ◌∙◌, ap, subst, Option, None, Some, ◌||◌, ◌⊎◌, inl, inr, arith, get_or, leb}
+use Rattle.std.proofs.Common.{◌≡◌, ◌≢◌, is_some, nat_lt, Bor, ℕ, zero, suc, ◌+◌, ◌<◌, ◌≤◌, Bool, true, false, ◌&&◌, cond, List, [], ◌∷◌, ◌++◌, length, map, take, refl, sym, ◌∙◌, ap, subst, Option, None, Some, ◌||◌, ◌⊎◌, inl, inr, arith, get_or, leb}
 use Rattle.std.proofs.lemmas.Bool.{lt-leb}
 use Rattle.std.proofs.Math.Nat.{eq-or-lt_of_le}
 use Rattle.std.specs.Prelude.{slice_get, option_map, slice_set}
+use Rattle.std.specs.Option.{IfSome}
+use Rattle.std.proofs.lemmas.Bool.Decides.{nat_tests}
 use Rattle.std.specs.List.{list_any}
-use Rattle.std.proofs.lemmas.Option.{slice_get_within, slice_get-map, slice_get_read}
+use Rattle.std.proofs.lemmas.Option.{slice_get_within, slice_get_past, slice_get-map, slice_get_read}
 use Rattle.version_chains.specs.Placed.{passes, last_place, in_front, newest_first}
 
 pub and-left : (a b : Bool) → (a && b) ≡ true → a ≡ true
@@ -41,6 +43,11 @@ slice_get-kept xs ys i x e = slice_get-front xs ys i (slice_get_within xs i x e)
 -- an item that was read from a slice of the list
 pub read_item : {X : Type 0} (xs slice : List X) (i : ℕ) (x : X) → slice ≡ xs → i < length slice → x ≡ get_or slice i x → slice_get xs i ≡ Some x
 read_item xs slice i x same within is = subst (λ ys. slice_get ys i ≡ Some x) same (slice_get_read slice (length slice) i x refl within is)
+
+-- what `get` gave
+pub read_option : {X : Type 0} (xs : List X) (i : ℕ) (o : Option (Bor X)) → is_some o ≡ nat_lt i (length xs) → IfSome o (λ x. x.now ≡ get_or xs i x.now) → option_map (λ (x : Bor X). x.now) o ≡ slice_get xs i
+read_option xs i None within is = let past : length xs ≤ i = let no : false ≡ nat_lt i (length xs) = within in grind (arith, nat_tests) in sym (slice_get_past xs i past)
+read_option xs i (Some x) within is = let inside : i < length xs = let yes : true ≡ nat_lt i (length xs) = within in grind (arith, nat_tests) in sym (slice_get_read xs (length xs) i x.now refl inside is)
 
 -- an item of a list that is one longer
 pub slice_get-cases : {X : Type 0} (xs : List X) (y : X) (i : ℕ) (x : X) → slice_get (xs ++ y ∷ []) i ≡ Some x → (slice_get xs i ≡ Some x) ⊎ ((i ≡ length xs) × (y ≡ x))

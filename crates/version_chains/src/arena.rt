@@ -1,6 +1,6 @@
 //! The arena in which tuples and touches are kept.
 
-ghost use Rattle.std.specs.Prelude.{◌≡◌, ℕ, ◌<◌, ◌≤◌, ◌+◌, ◌∷◌, ◌++◌, [], Some, length, slice_get, IfOk, IfSome, OnOk, OnErr, MatchOption, false, true, None, option_map};
+ghost use Rattle.std.specs.Prelude.{◌≡◌, ℕ, ◌<◌, ◌≤◌, ◌+◌, ◌∷◌, ◌++◌, [], Some, length, slice_get, IfOk, IfSome, OnOk, OnErr, MatchOption, false, true, None, option_map, vec_len, vec_capacity};
 ghost use Rattle.tuple_text.specs.Order.{tuple_eq};
 ghost use Rattle.tuple_text.specs.Refs.{set_value, user_value};
 ghost use Rattle.tuple_text.specs.TupleRefs.{tuple_value};
@@ -60,6 +60,31 @@ fn names(tuple: &Tuple, set: SetRef<'_>, user: UserRef<'_>) -> bool
     ensures { result ≡ tuple_eq tuple.now (tuple_of (set_value set.entry) (user_value user.entry)) }
 {
     tuple.set() == set && tuple.user() == user
+}
+
+/// Adds a place with a mark to each of two lists. For want of memory nothing changes.
+fn push_both(named: &mut Places, held: &mut Places, name: u64, kind: u64) -> Result<(), AllocError>
+    ensures named { OnOk result (named.new ≡ named.old ++ name ∷ []) }
+    ensures held { OnOk result (held.new ≡ held.old ++ kind ∷ []) }
+    ensures named_kept { OnErr result (named.new ≡ named.old) }
+    ensures held_kept { OnErr result (held.new ≡ held.old) }
+{
+    named.push(name)?;
+    if let Err(fault) = held.push(kind) {
+        named.pop();
+        return Err(fault);
+    }
+    Ok(())
+}
+
+/// Adds a row for which there is room.
+fn push_row(rows: &mut Vec<Row>, row: Row)
+    requires { vec_len rows.old < vec_capacity rows.old }
+    ensures { rows.new.items ≡ rows.old.items ++ row ∷ [] }
+{
+    if rows.push(row).is_err() {
+        unreachable!();
+    }
 }
 
 impl Arena {
@@ -286,20 +311,15 @@ impl Arena {
         if number >= MOST_PLACES {
             return Err(AllocError);
         }
+        self.rows.reserve(1)?;
         let row = Row {
             tuple: tuple.to_tuple(*self.rows.allocator())?,
             user_mark: user.mark,
             latest: 0,
         };
-        self.rows.reserve(1)?;
-        self.named.push(tuple_mark(set, user))?;
-        if let Err(fault) = self.held.push(kind_mark(set, is_userset(user.user))) {
-            self.named.pop();
-            return Err(fault);
-        }
-        if self.rows.push(row).is_err() {
-            unreachable!();
-        }
+        let kind = kind_mark(set, is_userset(user.user));
+        push_both(&mut self.named, &mut self.held, tuple_mark(set, user), kind)?;
+        push_row(&mut self.rows, row);
         Ok(number)
     }
 

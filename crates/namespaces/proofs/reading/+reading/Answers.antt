@@ -5,14 +5,8 @@ use Rattle.namespaces.specs.Shape.{only_form}
 use Rattle.namespaces.proofs.Shapes.{expression-get, exclusion-get, below_get, below_member_of, below_array}
 use Rattle.namespaces.proofs.reading.+reading.Goals as goal
 
-pub exclusion-returns-in_err-member : goal.exclusion-returns-in_err-member
-exclusion-returns-in_err-member t c = rw (exclusion-get (view c.args.value.now)) (search (rules, the_lemmas))
-
 pub exclusion-returns-in_err-base : goal.exclusion-returns-in_err-base
 exclusion-returns-in_err-base t c = rw (exclusion-get (view c.args.value.now)) (search (rules, the_lemmas))
-
-pub exclusion-returns-in_err-member-2 : goal.exclusion-returns-in_err-member-2
-exclusion-returns-in_err-member-2 t c = rw (exclusion-get (view c.args.value.now)) (search (rules, the_lemmas))
 
 pub exclusion-returns-in_err-subtract : goal.exclusion-returns-in_err-subtract
 exclusion-returns-in_err-subtract t c = rw (exclusion-get (view c.args.value.now)) (search (rules, the_lemmas))
@@ -20,11 +14,8 @@ exclusion-returns-in_err-subtract t c = rw (exclusion-get (view c.args.value.now
 pub exclusion-returns : goal.exclusion-returns
 exclusion-returns t c = rw (exclusion-get (view c.args.value.now)) (search (rules, the_lemmas))
 
-pub exclusion-expression-requires : goal.exclusion-expression-requires
-exclusion-expression-requires t c = (omega (arith, below_member_of (codes "base") (view c.args.value.now) (view c.in_ok-member.field-0.now) c.in_ok-member.ensures), tt)
-
-pub exclusion-expression-requires-2 : goal.exclusion-expression-requires-2
-exclusion-expression-requires-2 t c = (omega (arith, below_member_of (codes "subtract") (view c.args.value.now) (view c.in_ok-member-2.field-0.now) c.in_ok-member-2.ensures), tt)
+pub expression_at-expression-requires : goal.expression_at-expression-requires
+expression_at-expression-requires t c = (omega (arith, below_member_of c.args.key.now (view c.args.value.now) (view c.in_ok-member.field-0.now) c.in_ok-member.ensures), tt)
 
 pub expression-returns-then-count_forms-ne1 : goal.expression-returns-then-count_forms-ne1
 unfolding only_form

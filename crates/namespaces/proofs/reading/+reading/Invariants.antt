@@ -1,4 +1,4 @@
-use Rattle.std.proofs.Common.{◌≡◌, map, drop}
+use Rattle.std.proofs.Common.{◌≡◌, ◌+◌, ◌*◌, map, drop}
 use Rattle.serde_json.specs.Data.{depth}
 use Rattle.serde_json.specs.View.{view, items_view}
 use Rattle.namespaces.specs.View.{expression_of}
@@ -6,15 +6,18 @@ use Rattle.namespaces.specs.Shape.{expressions}
 use Rattle.namespaces.proofs.Shapes.{after}
 use Rattle.namespaces.proofs.reading.+reading.Given as goal
 
--- each call is given a value that lies inside
+-- each call is given a value that lies inside, but for those of `expression_at` in `exclusion`
 abbrev pub decreases-expression : goal.decreases-expression
-decreases-expression l = depth (view l.value.now)
+decreases-expression l = 2 * depth (view l.value.now)
 
 abbrev pub decreases-exclusion : goal.decreases-exclusion
-decreases-exclusion l = depth (view l.value.now)
+decreases-exclusion l = 2 * depth (view l.value.now) + 1
+
+abbrev pub decreases-expression_at : goal.decreases-expression_at
+decreases-expression_at l = 2 * depth (view l.value.now)
 
 abbrev pub decreases-child_list : goal.decreases-child_list
-decreases-child_list l = depth (view l.value.now)
+decreases-child_list l = 2 * depth (view l.value.now)
 
 -- the rules read so far, and those of the values that are left
 abbrev pub invariant-child_list-loop-value : goal.invariant-child_list-loop-value

@@ -1,6 +1,4 @@
 use Rattle.std.proofs.Common.{refl, sym}
-use Rattle.std.proofs.lemmas.Option.{slice_get-map}
-use Rattle.namespaces.specs.Shown.{show_relation}
 use Rattle.namespaces.proofs.Numbers.{history-numbered}
 use Rattle.namespaces.proofs.Times.{revisions_grow}
 use Rattle.namespaces.proofs.rules.Rules.rule.Goals as goal
@@ -18,17 +16,6 @@ returns-in_err-revision c =
       ← c.in_err-revision.ensures,
     ) refl
 
-pub returns-in_err-relations_in : goal.returns-in_err-relations_in
-returns-in_err-relations_in c =
-    rw (
-      c.from_residual-in_err-relations_in.ensures,
-      history-numbered c.args.self.now c.args.number _ c.in_ok-index.field-0 c.args.k c.in_ok-revisions.ensures.well_formed (sym c.in_ok-revisions.ensures.name) c.in_ok-index.ensures.0 (sym c.in_ok-index.ensures.1),
-      ← c.in_ok-revisions.ensures.revisions,
-      ← c.as_slice.ensures.value,
-      ← c.in_ok-revision.ensures,
-      ← c.in_err-relations_in.ensures,
-    ) refl
-
 pub returns-in_err-relation : goal.returns-in_err-relation
 returns-in_err-relation c =
     rw (
@@ -37,9 +24,7 @@ returns-in_err-relation c =
       ← c.in_ok-revisions.ensures.revisions,
       ← c.as_slice.ensures.value,
       ← c.in_ok-revision.ensures,
-      ← c.in_ok-relations_in.ensures,
-      slice_get-map show_relation c.in_ok-relations_in.field-0.now.entries c.in_ok-index.field-0,
-      ← c.in_err-relation.ensures.entry,
+      ← c.in_err-relation.ensures,
     ) refl
 
 pub returns : goal.returns
@@ -49,7 +34,5 @@ returns c =
       ← c.in_ok-revisions.ensures.revisions,
       ← c.as_slice.ensures.value,
       ← c.in_ok-revision.ensures,
-      ← c.in_ok-relations_in.ensures,
-      slice_get-map show_relation c.in_ok-relations_in.field-0.now.entries c.in_ok-index.field-0,
-      ← c.in_ok-relation.ensures.entry,
+      ← c.in_ok-relation.ensures,
     ) refl
