@@ -15,3 +15,4 @@ pub mod Tuples
 pub mod Values
 pub mod VersionMarks
 pub mod Versions
+pub mod Said

@@ -1,9 +1,10 @@
 //! Lines that record a check, of content or not.
 
-ghost use Rattle.std.specs.Prelude.{◌≡◌, map, option_map};
+ghost use Rattle.std.specs.Prelude.{◌≡◌, ℕ, map, option_map};
 ghost use Rattle.serde_json.specs.Data.{Data};
 ghost use Rattle.json_lines.specs.Data.{value_data};
 ghost use Rattle.trace_lines.specs.Causes.{Gives};
+ghost use Rattle.trace_lines.specs.Said.{entry_said};
 ghost use Rattle.trace_lines.specs.Values.{entry_value};
 ghost use Rattle.trace_lines.specs.Traces.{entry_of};
 ghost use Rattle.trace_lines.specs.LineFields.{check_fields};
@@ -33,8 +34,40 @@ pub(crate) fn entry_of(
     entry_in(alloc, kind, line, before, found)
 }
 
-/// The check that fields record.
+/// What the fields of a check say.
+#[derive(Clone, Copy)]
+struct Said<'a> {
+    goal: &'a str,
+    snapshot: u64,
+    reply: bool,
+    zookie: Option<&'a str>,
+    version: Option<&'a str>,
+}
+
+/// What fields say, where each is of its shape.
 #[tactic(auto, unfolding(crate::specs::Traces::entry_of))]
+fn said_in<'a>(kind: EntryKind, fields: &[Option<JsonRef<'_, 'a>>]) -> Option<Said<'a>>
+    ensures { (d : Data) → map (option_map value_data) fields.now ≡ check_fields d → (line before : ℕ)
+        → entry_of kind line before d ≡ entry_said kind line before result }
+{
+    let [goal, snapshot, reply, zookie, version] = fields else {
+        return None;
+    };
+    let goal = text_of(goal.as_ref())?;
+    let snapshot = number_of(snapshot.as_ref())?;
+    let reply = flag_of(reply.as_ref())?;
+    let zookie = optional_text_of(zookie.as_ref())?;
+    let version = version_in(kind, reply, version.as_ref())?;
+    Some(Said {
+        goal,
+        snapshot,
+        reply,
+        zookie,
+        version,
+    })
+}
+
+/// The check that fields record.
 fn entry_in(
     alloc: Global,
     kind: EntryKind,
@@ -44,23 +77,16 @@ fn entry_in(
 ) -> Result<Entry, Cause>
     ensures { (d : Data) → map (option_map value_data) fields.now ≡ check_fields d → Gives entry_value result (entry_of kind line before d) }
 {
-    let [goal, snapshot, reply, zookie, version] = fields else {
-        return Err(Cause::Shape);
-    };
-    let text = text_of(goal.as_ref()).ok_or(Cause::Shape)?;
-    let snapshot = number_of(snapshot.as_ref()).ok_or(Cause::Shape)?;
-    let reply = flag_of(reply.as_ref()).ok_or(Cause::Shape)?;
-    let token = optional_text_of(zookie.as_ref()).ok_or(Cause::Shape)?;
-    let label = version_in(kind, reply, version.as_ref()).ok_or(Cause::Shape)?;
-    let goal = goal_of(alloc, text)?;
-    let zookie = token_of(token)?;
-    let version = label_of(alloc, label)?;
+    let said = said_in(kind, fields).ok_or(Cause::Shape)?;
+    let goal = goal_of(alloc, said.goal)?;
+    let zookie = token_of(said.zookie)?;
+    let version = label_of(alloc, said.version)?;
     Ok(Entry {
         kind,
         line,
         goal,
-        snapshot,
-        reply,
+        snapshot: said.snapshot,
+        reply: said.reply,
         zookie,
         version,
         before,

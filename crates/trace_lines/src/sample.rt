@@ -1,6 +1,6 @@
 //! Tuples that stand for all those ever added.
 
-ghost use Rattle.std.specs.Prelude.{◌≡◌, ◌≤◌, ◌∷◌, ◌++◌, [], Ok, length, take, true, OnOk};
+ghost use Rattle.std.specs.Prelude.{◌≡◌, ◌≤◌, ◌∷◌, ◌++◌, [], Ok, length, take, true, OnErr, OnOk};
 ghost use Rattle.tuple_text.specs.Refs.{user_value};
 ghost use Rattle.tuple_text.specs.TupleRefs.{tuple_value, tuple_values};
 ghost use Rattle.strata.specs.Edges.{first_broken, edges_of_tuples};
@@ -13,7 +13,7 @@ ghost use Rattle.trace_lines.specs.Tuples.{is_of_kind, is_user_of_kind, Represen
 use crate::cause::Cause;
 use crate::edge_index::EdgeIndex;
 use namespaces::{RelNo, Rules};
-use std::alloc::Global;
+use std::alloc::{AllocError, Global};
 use std::collections::BTreeMap;
 use std::marker::Model;
 use strata::{Edge, check_tuple, check_tuple_by, reads_tuplesets};
@@ -74,6 +74,36 @@ fn kind_number(rules: &Rules, set: SetRef<'_>, user: SetRef<'_>) -> u64 {
     }
 }
 
+/// Looks for the first broken edge of a tuple that is put behind others. The rules are walked over for that only where the index
+/// does not know.
+fn look(rules: &Rules, index: &mut EdgeIndex, tuples: &[Tuple], tuple: &Tuple) -> Result<(), Cause>
+    requires { IsIndex rules.now index.old tuples.now }
+    ensures answer { Gives (λ u. u) result (tuples_checked rules.now (tuple.now ∷ [])) }
+    ensures index { OnOk result (IsIndex rules.now index.new (tuples.now ++ tuple.now ∷ [])) }
+{
+    if !index.admit(rules, tuples, tuple)? {
+        index.give_up();
+        if let Err(edge) = check_tuple(rules, tuple) {
+            return Err(Cause::Strata(edge));
+        }
+    }
+    Ok(())
+}
+
+fn put(
+    tuples: &mut Vec<Tuple>,
+    places: &mut BTreeMap<u64, usize>,
+    kind: u64,
+    tuple: Tuple,
+) -> Result<(), AllocError>
+    ensures put { OnOk result (tuples.new.items ≡ tuples.old.items ++ tuple ∷ []) }
+    ensures kept { OnErr result (tuples.new.items ≡ tuples.old.items) }
+{
+    places.insert(kind, tuples.len())?;
+    tuples.push(tuple)?;
+    Ok(())
+}
+
 impl Sample {
     pub(crate) fn new(alloc: Global) -> Sample
         ensures { result ≡ [] }
@@ -116,8 +146,7 @@ impl Sample {
         }
     }
 
-    /// Takes one more tuple, or refuses the first of its edges that is broken. The rules are walked over for that only where
-    /// the index does not know.
+    /// Takes one more tuple, or refuses the first of its edges that is broken.
     fn admit(
         &mut self,
         rules: &Rules,
@@ -139,14 +168,8 @@ impl Sample {
             return Ok(());
         }
         let tuple = tuple.to_tuple(*self.tuples.allocator())?;
-        if !index.admit(rules, &self.tuples, &tuple)? {
-            index.give_up();
-            if let Err(edge) = check_tuple(rules, &tuple) {
-                return Err(Cause::Strata(edge));
-            }
-        }
-        self.places.insert(kind, self.tuples.len())?;
-        self.tuples.push(tuple)?;
+        look(rules, index, &self.tuples, &tuple)?;
+        put(&mut self.tuples, &mut self.places, kind, tuple)?;
         Ok(())
     }
 

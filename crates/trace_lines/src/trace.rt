@@ -47,7 +47,6 @@ use userset_index::UsersetIndex;
 use version_chains::{AppendFault, Chains};
 
 /// A trace: its namespaces, its commits with the lines that they stand on, and its entries.
-#[derive(Drop)]
 pub struct Trace {
     alloc: Global,
     rules: Rules,
@@ -83,6 +82,31 @@ impl Model for Trace {
     ghost invariant = { λ t. (t.chains.limit ≡ 2 ^ 32 - 1) × IsKept t.chains.commits t.commit_lines.items (shown t.recorded.items) (contents t.recorded.items) t.versions
         × IsOrderly t.rules t.chains.commits t.sample × IsIndex t.rules t.index t.sample
         × IsUsersetIndex t.rules t.chains.commits t.usersets };
+}
+
+// Written out, since one that is derived is a part of each function that lets a trace go, with all parts of the trace.
+impl Drop for Trace {
+    fn drop(self) {
+        let Trace {
+            alloc: _,
+            rules,
+            chains,
+            sample,
+            index,
+            usersets,
+            commit_lines,
+            recorded,
+            versions,
+        } = self;
+        drop(rules);
+        drop(chains);
+        drop(sample);
+        drop(index);
+        drop(usersets);
+        drop(commit_lines);
+        drop(recorded);
+        drop(versions);
+    }
 }
 
 /// Commits changes to the chains, and takes what they add into the sample and the index. The tuples that were there stay in front.

@@ -1,4 +1,5 @@
 use Rattle.std.proofs.Common.{◌≡◌, ℕ, true, false, Some, inl, inr, subst, rules, arith}
+use Rattle.std.proofs.lemmas.Result.{IfOk-from_err}
 use Rattle.namespaces.specs.Lookup.{relation_numbered}
 use Rattle.strata.specs.Edges.{places}
 use Rattle.trace_lines.specs.Reads.{relation_number}
@@ -28,3 +29,6 @@ returns c all =
           let below = number_below c.args.scope.rules.now c.args.number r x c.requires.scope.well_formed is in
           c.loop-relation.invariant.read r x (omega (arith, past, below)) is;
     }
+
+pub returns-in_err-take_relation : goal.returns-in_err-take_relation
+returns-in_err-take_relation c = IfOk-from_err _ _ c.from_residual.ensures.0

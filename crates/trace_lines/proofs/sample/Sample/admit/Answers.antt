@@ -1,4 +1,5 @@
 use Rattle.std.proofs.Common.{ap}
+use Rattle.std.proofs.lemmas.Result.{IfOk-from_err}
 use Rattle.tuple_text.specs.TupleRefs.{tuple_value}
 use Rattle.trace_lines.specs.Traces.{strata_cause}
 use Rattle.trace_lines.proofs.Sampling.{kind_unbroken, left_out}
@@ -11,3 +12,21 @@ returns-then-has-clause-answer c =
 pub returns-then-has-clause-taken : goal.returns-then-has-clause-taken
 returns-then-has-clause-taken c =
     left_out c.args.self.now (tuple_value c.args.tuple) (λ ds. kind_unbroken ds c.args.self.now (tuple_value c.args.tuple) (c.has.ensures c.if-has.true))
+
+pub returns-in_err-tuple-clause-taken : goal.returns-in_err-tuple-clause-taken
+returns-in_err-tuple-clause-taken c = IfOk-from_err _ _ c.from_residual.ensures.0
+
+pub returns-in_err-tuple-clause-index : goal.returns-in_err-tuple-clause-index
+returns-in_err-tuple-clause-index c = IfOk-from_err _ _ c.from_residual.ensures.0
+
+pub returns-in_err-look-clause-taken : goal.returns-in_err-look-clause-taken
+returns-in_err-look-clause-taken c = IfOk-from_err _ _ c.from_residual-in_err-look.ensures.0
+
+pub returns-in_err-look-clause-index : goal.returns-in_err-look-clause-index
+returns-in_err-look-clause-index c = IfOk-from_err _ _ c.from_residual-in_err-look.ensures.0
+
+pub returns-in_err-put-clause-taken : goal.returns-in_err-put-clause-taken
+returns-in_err-put-clause-taken c = IfOk-from_err _ _ c.from_residual-in_err-put.ensures.0
+
+pub returns-in_err-put-clause-index : goal.returns-in_err-put-clause-index
+returns-in_err-put-clause-index c = IfOk-from_err _ _ c.from_residual-in_err-put.ensures.0
