@@ -66,6 +66,17 @@ kept_empty versions none = record {
 }
 
 module _ (commits : List Commit) (lines : List ℕ) (es : List EntryValue) (contents : List (Option ℕ)) (versions : Versions) (is : IsKept commits lines es contents versions) where
+  -- versions of which nothing changed
+  pub still_kept : (now : Versions) → now.entries.items ≡ versions.entries.items → now.marks ≡ versions.marks → IsKept commits lines es contents now
+  still_kept now numbers marks = record {
+    counted = is.counted;
+    commits_rise = is.commits_rise;
+    entries_rise = is.entries_rise;
+    placed = is.placed;
+    issued = record { numbers = numbers ∙ is.issued.numbers; marks = marks ∙ is.issued.marks; once = is.issued.once };
+    named = is.named;
+  }
+
   pub kept_commit : (c : Commit) (n : ℕ) → after_last lines ≤ n → after_last (entry_lines es) ≤ n → IsKept (commits ++ c ∷ []) (lines ++ n ∷ []) es contents versions
   kept_commit c n behind below = record {
     counted = let a = length-append commits (c ∷ []) in let b = length-append lines (n ∷ []) in omega (arith, a, b, is.counted);

@@ -26,3 +26,6 @@ invariant_of-self-2 c =
       c.in-Ok.ensures.index,
       none_kept c.self.inside.rules _ c.give_up.new.self c.give_up.ensures,
     )
+
+pub invariant_of-self : goal.invariant_of-self
+invariant_of-self c = rw c.in_err-reserve.ensures.items c.self.invariant

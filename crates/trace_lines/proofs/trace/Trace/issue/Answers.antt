@@ -5,6 +5,7 @@ use Rattle.trace_lines.specs.Recorded.{shown}
 use Rattle.trace_lines.specs.Versions.{issuer}
 use Rattle.trace_lines.specs.declared.recorded.Recorded.{Recorded}
 use Rattle.trace_lines.proofs.Recording.{kept_content, not_there}
+use Rattle.trace_lines.proofs.Keeping.{still_kept}
 use Rattle.trace_lines.proofs.trace.Trace.issue.Goals as goal
 
 pub invariant_of-self-2 : goal.invariant_of-self-2
@@ -21,3 +22,15 @@ invariant_of-self-2 c =
       c.self.invariant.3,
       c.self.invariant.4,
     )
+
+pub invariant_of-self : goal.invariant_of-self
+invariant_of-self c = rw c.in_err-reserve.ensures.items c.self.invariant
+
+pub invariant_of-self-in_err-push : goal.invariant_of-self-in_err-push
+invariant_of-self-in_err-push c = rw c.in_ok-reserve.ensures.items (
+  c.self.invariant.0,
+  still_kept _ _ _ _ _ c.self.invariant.1 c.push-2.new.self c.in_err-push.ensures.same_entries c.in_err-push.ensures.same_marks,
+  c.self.invariant.2,
+  c.self.invariant.3,
+  c.self.invariant.4,
+)
