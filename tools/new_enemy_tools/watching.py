@@ -1,8 +1,10 @@
 """Runs a program, and says on a terminal how far it has come in what it reads. The program is looked at from outside, by /proc."""
+import fcntl
 import os
 import selectors
 import signal
 import subprocess
+import termios
 import time
 from typing import Any, NamedTuple, Optional
 
@@ -11,9 +13,14 @@ from new_enemy_tools.shown import plain
 # Before anything is said, and between two looks.
 FIRST = 2.0
 PAUSE = 0.2
+# Between two looks at whether the program waits for what is typed, until it does or something is said.
+SOON = 0.02
 # So many bytes before the place that is read are looked at, to see how long lines are.
 SAMPLE = 1 << 18
 READ_ONLY, ACCESS = os.O_RDONLY, 3
+# What /proc says of a process in the call read, on x86-64, for which the program is.
+CALL_READ = "0"
+WAITING = "waiting for a trace on standard input (end it with Ctrl-D; ./new_enemy --help tells more)"
 SIGNALS = (signal.SIGTERM, signal.SIGHUP, signal.SIGINT, signal.SIGQUIT)
 
 
@@ -52,9 +59,26 @@ def readings(process: int) -> list[Reading]:
 
 
 def bytes_read(process: int) -> int:
-    """How many bytes a process has read, also by pipes."""
+    """How many bytes a process has read, also by pipes. The system counts what was read to start it, some thousand bytes."""
     with open("/proc/%d/io" % process, encoding="ascii") as file:
         return int(dict(line.split(":", 1) for line in file)["rchar"])
+
+
+def typed_ahead() -> bool:
+    """Whether lines were typed that nobody has read, on the terminal that is standard input."""
+    return any(fcntl.ioctl(0, termios.FIONREAD, bytes(4)))
+
+
+def read_until_typed(process: int) -> Optional[int]:
+    """How many bytes a process has read that waits to read from the terminal that is standard input here. Nothing where it does not
+    wait for that, or where the system does not tell."""
+    try:
+        with open("/proc/%d/syscall" % process, encoding="ascii") as file:
+            words = file.read().split()
+        waits = words[0] == CALL_READ and os.stat("/proc/%d/fd/%d" % (process, int(words[1], 16))).st_rdev == os.fstat(0).st_rdev
+        return bytes_read(process) if waits else None
+    except (OSError, IndexError):
+        return None
 
 
 class Line:
@@ -80,6 +104,33 @@ class Line:
         return "%s, %s bytes read, %s" % ("reading" if self.count > count else "working", format(self.count, ","), seconds)
 
 
+class Typing:
+    """Whether a process waits for what is typed, and whether it was told that."""
+
+    def __init__(self) -> None:
+        self.is_typed = os.isatty(0)
+        self.is_told = self.is_typed and typed_ahead()
+        # What it had read when it first waited: that was read to start it.
+        self.to_start: Optional[int] = None
+        self.count: Optional[int] = None
+
+    def is_looked_for(self) -> bool:
+        """Whether it has to be seen soon how much was read before anything was typed."""
+        return self.is_typed and self.to_start is None
+
+    def look(self, process: int) -> bool:
+        """Whether it waits."""
+        self.count = read_until_typed(process) if self.is_typed else None
+        if self.to_start is None:
+            self.to_start = self.count
+        return self.count is not None
+
+    def tell(self, terminal: "Terminal") -> None:
+        """Says once of a process that waits that it does, where nothing was typed yet."""
+        if not self.is_told:
+            self.is_told = self.count != self.to_start or terminal.tell(WAITING)
+
+
 class Terminal:
     """A terminal's standard error, on which the line stands below what the program wrote."""
 
@@ -103,6 +154,12 @@ class Terminal:
             self.is_shown = True
             passed_on(self.number, b"\r" + plain(said)[:columns - 1].encode(errors="replace") + b"\x1b[K")
 
+    def tell(self, said: str) -> bool:
+        """Whether a line that stays was written, below which one may type."""
+        if not (self.is_free and self._is_in_front()):
+            return False
+        return passed_on(self.number, said.encode() + b"\n")
+
     def clear(self) -> None:
         if self.is_shown:
             self.is_shown = False
@@ -125,7 +182,7 @@ def passed_on(target: int, data: bytes) -> bool:
     return True
 
 
-def _relayed(program: "subprocess.Popen[bytes]", terminal: Terminal, first: float, pause: float) -> None:
+def _relayed(program: "subprocess.Popen[bytes]", terminal: Terminal, typing: Typing, first: float, pause: float) -> None:
     """Passes on what the program writes to terminals, until it has closed them, which it does at its end at the latest."""
     line, at = Line(program.pid), time.monotonic() + first
     with selectors.DefaultSelector() as selector:
@@ -133,14 +190,21 @@ def _relayed(program: "subprocess.Popen[bytes]", terminal: Terminal, first: floa
             if source is not None:
                 selector.register(source, selectors.EVENT_READ, target)
         while selector.get_map():
-            for key, _ in selector.select(max(0.0, at - time.monotonic())):
+            wait = at - time.monotonic()
+            for key, _ in selector.select(max(0.0, min(SOON, wait) if typing.is_looked_for() else wait)):
                 data = os.read(key.fd, 1 << 16)
                 if not data or not terminal.take(key.data, data):
                     selector.unregister(key.fileobj)
                     key.fileobj.close()  # type: ignore[union-attr]
+            waits = typing.look(program.pid)
             if time.monotonic() >= at:
                 at = time.monotonic() + pause
-                _show(terminal, line)
+                if waits:
+                    # A line that is drawn again and again would cover what is typed.
+                    terminal.clear()
+                    typing.tell(terminal)
+                else:
+                    _show(terminal, line)
     terminal.clear()
 
 
@@ -171,9 +235,10 @@ def watched(words: list[str], first: float = FIRST, pause: float = PAUSE) -> int
     early: list[int] = []
     _pass_on_signals(started, early)
     pipes = {number: subprocess.PIPE if os.isatty(number) else None for number in (1, 2)}
+    typing = Typing()
     with subprocess.Popen(words, stdout=pipes[1], stderr=pipes[2]) as program:
         started.append(program)
         for number in early:
             program.send_signal(number)
-        _relayed(program, Terminal(2), first, pause)
+        _relayed(program, Terminal(2), typing, first, pause)
     return program.returncode

@@ -6,6 +6,7 @@ import subprocess
 import sys
 import tarfile
 import tempfile
+import textwrap
 import unittest
 
 from new_enemy_tools import VERSION
@@ -279,3 +280,29 @@ class CLibrary(Case):
         self.assertIn("`%s`" % newest, read("docs", "INSTALLING.md"))
         with open(os.path.join(made().top, "dist", "PROVED"), encoding="utf-8") as file:
             self.assertIn("libc %s or newer" % newest, file.read())
+
+
+class Installing(Case):
+    """The commands of the page on installing that need neither root nor the kit, in one shell, from a clone on."""
+
+    def blocks(self) -> list[str]:
+        """The page's blocks of commands, without those of a package that root installs."""
+        found = re.findall(r"(?:^    .*\n)+", read("docs", "INSTALLING.md"), re.MULTILINE)
+        return [textwrap.dedent(block) for block in found if not block.startswith("    sudo ")]
+
+    def test_each_command(self) -> None:
+        making, unpacking, looking = self.blocks()
+        clone = self.path("clone")
+        done(["git", "clone", "-q", made().top, clone], self.room)
+        if not HAS_DEB:
+            making = making.replace("package ", "package --without-deb ")
+        if shutil.which("man") is None:
+            looking = looking.replace("man -l", "test -f")
+        said = done(["bash", "-ec", making + "cd ../packages\n" + unpacking + "echo ---\n" + looking + "complete -p new_enemy\n"], clone, MANPAGER="cat")
+        packed, shown = said.split("\n---\n")
+        self.assertIn("new_enemy-%s-x86_64-linux.tar.gz: OK\n" % VERSION, packed)
+        self.assertNotIn("FAILED", packed)
+        self.assertEqual(packed.splitlines()[-3:], ["entries 1", "findings 0", "verdict clean"])
+        self.assertRegex(shown, "(?m)^complete .* new_enemy$")
+        if shutil.which("man") is not None:
+            self.assertIn("new_enemy", shown.split("complete ")[0])

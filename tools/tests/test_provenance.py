@@ -11,10 +11,14 @@ CLEAN = "entries 1\nfindings 0\nverdict clean\n"
 PARTS = ("src", "specs", "proofs")
 # Two crates that the program stands on, itself among them, and one that it does not stand on: as many as the tests need.
 CRATES = ("new_enemy", "zookie", "tests_of_texts")
+VERSION = "rattle-kit-test logic 0123456789abcdef"
+OTHER_KIT = "rattle-kit-other logic 0123456789abcdef"
+OTHER_LOGIC = "rattle-kit-other logic fedcba9876543210"
 # A kit that takes a program made before for the one that it proves.
 KIT = """#!/bin/sh
 case $1 in
-    version) echo "rattle-kit-test" ;;
+    version) echo "$VERSION" ;;
+    ci) mkdir -p crates/new_enemy/out && cp "$PROGRAM" crates/new_enemy/out/new_enemy && sh -c "$MEANWHILE" && echo "5 passed, 0 failed" ;;
     run) sh -c "$PROVER" prover --crate-name zookie; mkdir -p out && cp "$PROGRAM" out/new_enemy && chmod +x out/new_enemy && sh -c "$MEANWHILE" && out/new_enemy ;;
 esac
 """
@@ -59,11 +63,19 @@ class Checkout(unittest.TestCase):
 
     def how(self, kit, meanwhile=":", **more):
         path = os.pathsep.join([os.path.dirname(os.path.join(self.room, "kit", "rt"))] * kit + ["/usr/bin", "/bin"])
-        return {"env": {"PATH": path, "PROGRAM": os.environ["NEW_ENEMY"], "MEANWHILE": meanwhile, "PROVER": ":", **more}, "capture_output": True,
+        return {"env": {"PATH": path, "PROGRAM": os.environ["NEW_ENEMY"], "MEANWHILE": meanwhile, "PROVER": ":", "VERSION": VERSION, **more}, "capture_output": True,
                 "text": True}
 
-    def shell(self, line, kit=False):
-        return subprocess.run(["bash", "-c", line], cwd=self.top, check=True, **self.how(kit))
+    def shell(self, line, kit=False, **more):
+        return subprocess.run(["bash", "-c", line], cwd=self.top, check=True, **self.how(kit, **more))
+
+    def built(self, by="./check", data=b"", **more):
+        """Puts the program where the gate builds it, with bytes behind it, and what it would write beside it."""
+        os.makedirs(self.path("crates", "new_enemy", "out"), exist_ok=True)
+        shutil.copy(os.environ["NEW_ENEMY"], self.path("crates", "new_enemy", "out", "new_enemy"))
+        with open(self.path("crates", "new_enemy", "out", "new_enemy"), "ab") as file:
+            file.write(data)
+        self.shell('. dist/provenance && write_proved crates/new_enemy/out "$(sources_sum .)" %s' % by, kit=True, **more)
 
     def run_command(self, *words, command=None, kit=False, meanwhile=":", **more):
         with open(os.path.join(EXAMPLES, "one_proved_check"), "rb") as given:
@@ -200,7 +212,7 @@ class Proving(Checkout):
         run = self.run_command(command=release, kit=True)
         self.assertEqual(run.returncode, 1)
         self.assertIn("it was built by ./new_enemy --prove", run.stderr)
-        self.shell('. dist/provenance && write_proved crates/new_enemy/out "$(sources_sum .)" ./check', kit=True)
+        self.built()
         run = self.run_command("--compare", command=release)
         self.assertEqual((run.returncode, run.stdout.splitlines()[-1]), (1, "0 passed, 1 failed"))
         self.assertEqual(self.run_command(command=release, kit=True).returncode, 0)
@@ -231,3 +243,140 @@ class Proving(Checkout):
         self.assertEqual(told(commit, sources, "9 passed, 0 failed").returncode, 0)
         with open(self.path("dist", "GATE"), encoding="utf-8") as file:
             self.assertIn("last 9 passed, 0 failed\n", file.read())
+
+
+class Compared(Checkout):
+    """What release --compare says where the gate has built a program of the sources that stand here."""
+
+    def assert_said(self, said, status=0):
+        run = self.run_command("--compare", command=self.path("tools", "dev", "release"))
+        last = "1 passed, 0 failed" if status == 0 else "0 passed, 1 failed"
+        self.assertEqual((run.returncode, run.stdout, run.stderr), (status, "%s\n%s\n" % (said, last), ""))
+
+    def assert_differs(self, why):
+        self.assert_said("dist/ does not hold the program that the gate built: " + why, 1)
+
+    def test_the_same_kit(self):
+        self.built()
+        self.assert_said("dist/ holds the program that the gate built")
+
+    def test_other_bytes_of_the_same_kit(self):
+        self.built(data=b"more")
+        self.assert_differs("run tools/dev/release, and commit dist/")
+
+    def test_another_proved_of_the_same_kit(self):
+        self.built()
+        change(self.path("dist", "PROVED"), b"# Of", b"# of")
+        self.assert_differs("run tools/dev/release, and commit dist/")
+
+    def test_another_kit(self):
+        """Bytes may differ, and are not asked for."""
+        said = "dist/ holds the program that the kit %s built of these sources. Here is %s: bytes are not compared" % (VERSION, OTHER_KIT)
+        self.built(data=b"more", VERSION=OTHER_KIT)
+        self.assert_said(said)
+        self.built(VERSION=OTHER_KIT)
+        self.assert_said(said + ", though they are equal")
+
+    def test_another_kit_and_another_program_than_proved_names(self):
+        self.built(VERSION=OTHER_KIT)
+        change(self.path("dist", "new_enemy"), b"verdict clean", b"verdict dirty")
+        self.assert_differs("the program is not the one that PROVED names")
+        os.remove(self.path("dist", "new_enemy"))
+        self.assert_differs("there is no program")
+
+    def test_another_kit_and_other_sources(self):
+        change(self.path("crates", "zookie", "src", "token.rt"), b"19", b"18")
+        self.built(VERSION=OTHER_KIT)
+        self.assert_differs("PROVED is of other sources than stand here")
+
+    def test_another_kit_and_no_gate(self):
+        self.shell('. dist/provenance && write_proved dist "$(sources_sum .)" "./new_enemy --prove"', kit=True)
+        self.built(VERSION=OTHER_KIT)
+        self.assert_differs("it was built by ./new_enemy --prove")
+        self.built(by="'./new_enemy --prove'", VERSION=OTHER_KIT)
+        self.assert_differs("it was built by ./new_enemy --prove")
+
+    def test_another_logic(self):
+        self.built(VERSION=OTHER_LOGIC)
+        self.assert_differs("PROVED names the kit %s, and here is %s, of another logic" % (VERSION, OTHER_LOGIC))
+
+    def test_no_proved(self):
+        self.built()
+        os.remove(self.path("dist", "PROVED"))
+        self.assert_differs("run tools/dev/release, and commit dist/")
+
+
+class Gate(Checkout):
+    """What ./check does with dist/, where all else is a stand-in that says what it was called with."""
+
+    STAND_INS = ("tools/dev/formatted", "rows/run", "tools/dev/test", "tools/dev/fuzz", "tools/dev/refuse_growth", "tools/dev/refuse_growth_of_calls")
+    # formatted, rt ci, release --compare, rows/run, test, fuzz, four kinds of calls, and the calls of tests.
+    ALL = 5 + 10
+
+    def setUp(self):
+        super().setUp()
+        shutil.copy(os.path.join(TOP, "check"), self.path("check"))
+        for name in self.STAND_INS:
+            write(self.path(name), '#!/bin/sh\necho "called $0 $*"\necho "1 passed, 0 failed"\n')
+            os.chmod(self.path(name), 0o755)
+        self.git("init", "-q")
+        self.git("add", "-A")
+        self.git("commit", "-q", "-m", "a commit")
+        self.commit = self.git("rev-parse", "HEAD").stdout.strip()
+
+    def git(self, *words):
+        return subprocess.run(["git", "-c", "user.name=a", "-c", "user.email=a@localhost", *words], cwd=self.top, check=True, **self.how(False))
+
+    def check(self, *words, **more):
+        """What ./check prints, where its last line is this one."""
+        return self.run_command(*words, command=self.path("check"), kit=True, **more)
+
+    def kept(self):
+        with open(self.path("crates", "new_enemy", "out", "GATE"), encoding="utf-8") as file:
+            return file.read()
+
+    def more_in_program(self):
+        """What makes the program that the gate builds another one than that of dist/."""
+        return "echo more >>crates/new_enemy/out/new_enemy"
+
+    def test_the_program_of_dist(self):
+        run = self.check()
+        self.assertEqual((run.returncode, run.stdout.splitlines()[-1]), (0, "%d passed, 0 failed" % self.ALL))
+        self.assertEqual(run.stdout.count("called rows/run"), 1)
+        self.assertIn("commit %s\n" % self.commit, self.kept())
+        self.assertNotIn("--release", self.kept())
+
+    def test_another_program(self):
+        run = self.check(meanwhile=self.more_in_program())
+        self.assertEqual((run.returncode, run.stdout.splitlines()[-1]), (1, "%d passed, 1 failed" % (self.ALL - 1)))
+        self.assertEqual(self.git("status", "--porcelain", "--untracked-files=no").stdout, "")
+
+    def test_another_program_that_is_taken(self):
+        run = self.check("--release", meanwhile=self.more_in_program())
+        self.assertEqual((run.returncode, run.stdout.splitlines()[-1]), (0, "%d passed, 0 failed" % (self.ALL + 1)))
+        self.assertIn("dist/ holds the program that the gate built\n", run.stdout)
+        self.assertEqual(self.git("status", "--porcelain", "--untracked-files=no").stdout, " M dist/PROVED\n M dist/new_enemy\n")
+        # The commit is the one that was checked, which holds the program before.
+        self.assertIn("commit %s\n" % self.commit, self.kept())
+        self.assertIn("\n# dist/new_enemy and dist/PROVED were taken from this run (--release). In that commit they are older.\n", self.kept())
+        self.assertEqual(self.run_command("--gate", command=self.path("tools", "dev", "release")).returncode, 0)
+
+    def test_nothing_is_taken_of_a_gate_that_fails(self):
+        run = self.check("--release", meanwhile=self.more_in_program() + "; false")
+        self.assertEqual(run.returncode, 1)
+        self.assertEqual(self.git("status", "--porcelain", "--untracked-files=no").stdout, "")
+        self.assertNotIn("--release", self.kept())
+
+    def test_another_kit(self):
+        """The worked cases run on the program of dist/ too."""
+        run = self.check(meanwhile=self.more_in_program(), VERSION=OTHER_KIT)
+        self.assertEqual((run.returncode, run.stdout.splitlines()[-1]), (0, "%d passed, 0 failed" % (self.ALL + 1)))
+        self.assertIn("called rows/run crates/new_enemy/out/new_enemy\n", run.stdout)
+        self.assertIn("called rows/run dist/new_enemy\n", run.stdout)
+        run = self.check("--release", meanwhile=self.more_in_program(), VERSION=OTHER_KIT)
+        self.assertEqual((run.returncode, run.stdout.count("called rows/run")), (0, 1))
+
+    def test_words_that_it_does_not_know(self):
+        for words in (("--fast",), ("--quick", "--release"), ("",)):
+            run = self.check(*words)
+            self.assertEqual((run.returncode, run.stdout, run.stderr), (3, "", "usage: check [--quick | --release]\n"))

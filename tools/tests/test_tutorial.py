@@ -86,6 +86,16 @@ class Stumbled(Walked):
         for file, why in ("service.txt", "Address already in use"), ("recorder.txt", "cannot listen at 127.0.0.1:%s" % self.ports["28190"]):
             self.assertRegex(said, "After 2 seconds %s has no (?s:.*)%s" % (file, why))
 
+    def test_starting_over(self) -> None:
+        """What was begun has ended, the clone is there, and the page can be begun again."""
+        [over] = re.findall(r"`(kill \$\(cat [^`]+)`", read(*PAGE))
+        pieces = [self.piece(word) for word in ("--version", "model.json", "wait_for()", "service.pid", "recorder.pid")]
+        said = self.said([*pieces, over, "wait", "ls ~", "ls ~/new_enemy", *pieces, "kill $(cat *.pid)", "wait"])
+        self.assertNotIn("After ", said)
+        self.assertEqual(said.count("new_enemy 0."), 2)
+        self.assertEqual(said.count("record: recording openfga at"), 2)
+        self.assertIn("new_enemy\nnew_enemy\ntools\n", said)
+
     def test_a_call_that_nobody_answers(self) -> None:
         self.assertIn("curl: (7)", self.said([self.piece("wait_for()"), self.piece('"deletes"').split("\nwait_for")[0]]))
 

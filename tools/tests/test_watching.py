@@ -6,11 +6,12 @@ import select
 import signal
 import subprocess
 import sys
+import time
 from typing import Optional
 from unittest import mock
 
-from new_enemy_tools.watching import Terminal
-from tests.support import NE, Case
+from new_enemy_tools.watching import WAITING, Terminal
+from tests.support import EXAMPLES, NE, Case
 from tests.test_provenance import Checkout
 
 # From the first moment on, and often.
@@ -83,7 +84,7 @@ class OnScreen(Case):
 
     def start(self, words: list[str], folder: str, **how: object) -> "subprocess.Popen[bytes]":
         """A process with standard error, and if nothing else is said output, on the screen."""
-        run = subprocess.Popen(words, cwd=folder, stdin=subprocess.DEVNULL, stderr=self.screen.child, **{"stdout": self.screen.child, **how})
+        run = subprocess.Popen(words, cwd=folder, stderr=self.screen.child, **{"stdin": subprocess.DEVNULL, "stdout": self.screen.child, **how})
         os.close(self.screen.child)
         self.addCleanup(run.wait, 60)
         return run
@@ -135,6 +136,45 @@ class Lines(OnScreen):
         self.go(self.path("second"))
         self.screen.wait_for(None)
         self.assertEqual((run.wait(60), self.screen.lines()), (0, [""]))
+
+
+class Typed(OnScreen):
+    """Standard input is the screen too, as where a user types the command alone."""
+
+    def type(self, text: str) -> None:
+        os.write(self.screen.parent, text.encode())
+
+    def test_nothing_was_typed_yet(self) -> None:
+        """It is said once, below it one may type, and nothing is drawn over that while the program waits."""
+        run = self.watch("read -r line\necho \"got $line\"\nread -r line\nread -r go <fifo\necho \"and $line\"", stdin=self.screen.child)
+        os.mkfifo(self.path("fifo"))
+        self.screen.wait_for(r"--help tells more\)\r\n")
+        self.type("one\n")
+        self.screen.wait_for("got one\r\n")
+        time.sleep(0.2)
+        self.type("two\n")
+        self.screen.wait_for(r"\r(working|reading), [0-9,]+ bytes read, \d+ s\x1b\[K")
+        self.go(self.path("fifo"))
+        self.screen.wait_for(None)
+        self.assertEqual((run.wait(60), self.screen.lines()), (0, [WAITING, "one", "got one", "two", "and two", ""]))
+        self.assertRegex(self.screen.written[:self.screen.written.index("two")], r"(got one\r\n|\r\x1b\[K)$")
+
+    def test_a_line_that_was_typed_before(self) -> None:
+        self.type("one\n")
+        run = self.watch("read -r line\necho \"got $line\"\nread -r line\n", stdin=self.screen.child)
+        self.screen.wait_for("got one\r\n")
+        time.sleep(0.2)
+        self.type("two\n")
+        self.screen.wait_for(None)
+        self.assertEqual((run.wait(60), self.screen.lines()), (0, ["one", "got one", "two", ""]))
+
+    def test_the_auditor(self) -> None:
+        run = self.start([sys.executable, "-c", AT_ONCE, os.environ["NEW_ENEMY"]], self.room, stdin=self.screen.child)
+        self.screen.wait_for(re.escape(WAITING))
+        with open(os.path.join(EXAMPLES, "one_proved_check"), encoding="utf-8") as file:
+            self.type(file.read() + "\x04")
+        self.screen.wait_for(None)
+        self.assertEqual((run.wait(60), self.screen.lines()[-4:]), (0, ["entries 1", "findings 0", "verdict clean", ""]))
 
 
 class Shown(OnScreen):

@@ -135,7 +135,7 @@ fn with_commands<'a>(alloc: Global, audit: Command<'a>) -> Result<Command<'a>, A
 {
     Command::new(alloc, "new_enemy")
         .bin_name("new_enemy")?
-        .version("0.2.0 (rattle-kit-13f)")
+        .version("0.2.0 (logic dac8208d650f15bf)")
         .about(
             "Audits recorded authorization decisions for ignored access changes and wrong replies",
         )

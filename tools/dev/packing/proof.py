@@ -29,9 +29,9 @@ How to check it again
 - The files: `sha256sum -c SHA256SUMS`{where}. That says that they are those of this package, and not who made it.
 - The program: clone the repository at the commit above. `./new_enemy --provenance` compares the checksum of all sources
   and that of dist/new_enemy with those above; `sha256sum dist/new_enemy` has to be that of the program here.
-- The proof: in that clone, with the kit named above, `./check`. It proves the sources from nothing, tries wrong bodies,
-  runs all tests, builds the program, and compares it with dist/new_enemy, byte for byte. docs/GATE.md says how long
-  that takes. Its last line is `N passed, M failed`, and M has to be 0.
+- The proof: in that clone, with a kit of the logic named above, `./check`. It proves the sources from nothing, tries wrong
+  bodies, runs all tests, and builds the program. With the very kit named above it compares it with dist/new_enemy, byte
+  for byte. docs/GATE.md says how long that takes. Its last line is `N passed, M failed`, and M has to be 0.
 - The package: in that clone, `tools/dev/package FOLDER` writes this package again, byte for byte.
 """
 NO_GATE = """the commit holds no record of the gate's last line (dist/GATE). dist/PROVED says that the

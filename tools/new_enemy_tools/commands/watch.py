@@ -1,8 +1,8 @@
 """Runs the auditor, and says on a terminal how far it has come: ne watch PROGRAM WORD ..
 
 From the third second on one line on standard error says how many bytes of which file are read, of how many, and about how many lines a
-second that is. Where standard error is no terminal, the program runs as if it had been called alone. Its answer and its status are the
-same either way.
+second that is. Where the program waits for what is typed, and nothing was, it says that. Where standard error is no terminal, the
+program runs as if it had been called alone. Its answer and its status are the same either way.
 """
 import argparse
 import os

@@ -103,6 +103,9 @@ class States:
         return bisect_right(self.revisions, at)
 
     def told(self) -> Iterator[str]:
-        if self.right or self.wrong:
-            yield "between two states %d: %d right at one of them, %d wrong at each (%d entries)" % (
-                self.right + self.wrong, self.right, self.wrong, self.entries)
+        """Of how many checks it is not known which state they were answered from."""
+        count = self.right + self.wrong
+        if count:
+            yield "of %s only two states are known between which the answer lies: %d right at a state there%s" % (
+                "1 check" if count == 1 else "%d checks" % count, self.right,
+                ", %d wrong at each state there (%d entries)" % (self.wrong, self.entries) if self.wrong else "")
