@@ -14,7 +14,7 @@ use Rattle.namespaces.proofs.Growth.{is_declared-names}
 use Rattle.namespaces.proofs.Names.{one_name}
 use Rattle.strata.proofs.Newest.{position_item, position_none}
 use Rattle.strata.specs.Meaning.{with_relation, IsStored}
-use Rattle.version_chains.specs.Commits.{Commit, Touch, changelog, store_at}
+use Rattle.version_chains.specs.Commits.{Commit, Touch, changelog, is_stored, store_at}
 use Rattle.version_chains.specs.Marks.{pair_mark, set_mark}
 use Rattle.version_chains.proofs.StoreLemmas.{store_at-iff}
 use Rattle.userset_index.specs.Index.{IndexValue, IsLastTouch, IsWhole, is_crowded, object_mark}
@@ -73,9 +73,14 @@ numbered ds at q r declared few = by_position (position (bytes_eq q) (namespace_
 
 -- ---- passes
 
--- the userset of a tuple
-pub set_of : (s g h : SetValue) (t : TupleValue) → t ≡ tuple_of s (Set g) → t.user ≡ Set h → g ≡ h
-set_of s g h t is user = let both : Set g ≡ Set h = sym (ap (λ (u : TupleValue). u.user) is) ∙ user in cc
+-- a stored userset whose tuple a touch has is stored as the touch says it
+pub stored_as_said : (commits : List Commit) (at : ℕ) (set g said : SetValue) (x y : Touch) → Some x ≡ Some y → x.tuple ≡ tuple_of set (Set g) → y.tuple.user ≡ Set said
+    → IsStored (store_at commits at) set (Set g) → is_stored commits at (tuple_of set (Set said)) ≡ true
+stored_as_said commits at set g said x y both same user there =
+    let is : x ≡ y = cc in
+    let users : Set g ≡ Set said = sym (ap (λ (t : TupleValue). t.user) same) ∙ ap (λ (z : Touch). z.tuple.user) is ∙ user in
+    let one : g ≡ said = cc in
+    ap (λ (z : SetValue). is_stored commits at (tuple_of set (Set z))) (sym one) ∙ (store_at-iff commits at (tuple_of set (Set g))).0 there
 
 module _ (ds : List Declaration) (commits : List Commit) (at : ℕ) (small : at < 2 ^ 64) (v : IndexValue) (is : IsWhole ds commits v) (set : SetValue) (crowded : is_crowded v.crowds (set_mark set) ≡ true) where
   -- the touch of a stored userset

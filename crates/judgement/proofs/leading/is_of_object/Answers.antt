@@ -1,13 +1,12 @@
 use Rattle.std.proofs.Common.{◌≡◌, ◌∙◌, true, false, Some, List, ap, sym, rules}
 use Rattle.std.specs.Prelude.{slice_get, option_map}
 use Rattle.tuple_text.specs.Refs.{set_value, user_value}
-use Rattle.tuple_text.specs.Sets.{SetValue}
 use Rattle.tuple_text.specs.Tuples.{tuple_of}
 use Rattle.tuple_text.specs.declared.users.User.TheVariants.{Set}
-use Rattle.version_chains.specs.Commits.{Commit, Touch, changelog, is_stored}
+use Rattle.version_chains.specs.Commits.{Commit, changelog, is_stored}
 use Rattle.version_chains.specs.Touches.{touch_value}
 use Rattle.version_chains.proofs.StoreLemmas.{store_at-iff}
-use Rattle.judgement.proofs.IndexLemmas.{set_of}
+use Rattle.judgement.proofs.IndexLemmas.{stored_as_said}
 use Rattle.judgement.proofs.leading.is_of_object.Goals as goal
 
 pub returns-then-eq-clause-stored : goal.returns-then-eq-clause-stored
@@ -22,11 +21,7 @@ returns-then-eq-clause-apart c gone x h here same stored _ =
     let commits = c.args.trace.now.commits in
     let set = set_value c.args.set.set in
     let both : Some x ≡ Some (touch_value c.in-Some.touch) = sym here ∙ ap (λ (cs : List Commit). slice_get (changelog cs) c.args.touch) (sym c.chains.ensures) ∙ sym c.touch.ensures.value ∙ ap (option_map touch_value) c.in-Some.is in
-    let is : x ≡ touch_value c.in-Some.touch = cc in
-    let user : x.tuple.user ≡ Set (set_value c.in-Set.stored) = ap (λ (y : Touch). y.tuple.user) is ∙ ap user_value c.in-Set.is in
-    let one : h ≡ set_value c.in-Set.stored = set_of set h (set_value c.in-Set.stored) x.tuple same user in
-    let there : is_stored commits c.args.at (tuple_of set (Set (set_value c.in-Set.stored))) ≡ true =
-    ap (λ (z : SetValue). is_stored commits c.args.at (tuple_of set (Set z))) (sym one) ∙ (store_at-iff commits c.args.at (tuple_of set (Set h))).0 stored in
+    let there = stored_as_said commits c.args.at set h (set_value c.in-Set.stored) x (touch_value c.in-Some.touch) both same (ap user_value c.in-Set.is) stored in
     let bad : false ≡ true =
     sym gone ∙ c.has_set.ensures ∙ ap (λ (cs : List Commit). is_stored cs c.args.at (tuple_of set (Set (set_value c.in-Set.stored)))) c.chains-then-eq.ensures ∙ there in
     cc
