@@ -11,12 +11,14 @@ use Rattle.namespaces.proofs.Shapes.{after}
 
 -- ---- the exit of a `?`
 
-pub exit_memory : {X Y : Type 0} (view : X → Y) (r : Result X RulesFault) (given : Result Y RulesFault) → IsErrAnd r (λ e. e ≡ OutOfMemory) → Gives view r given
+pub exit_memory : {X Y : Type 0} (view : X → Y) (r : Result X RulesFault) (given : Result Y RulesFault)
+    → IsErrAnd r (λ e. e ≡ OutOfMemory) → Gives view r given
 exit_memory view (Ok x) given memory = absurd memory
 exit_memory view (Err e) given memory = rw memory tt
 
 -- with the fault of the call
-pub exit_gives : {X Y : Type 0} (view : X → Y) (r : Result X RulesFault) (given : Result Y RulesFault) (e : RulesFault) → IsErrAnd r (λ x. x ≡ e) → Fails e given → Gives view r given
+pub exit_gives : {X Y : Type 0} (view : X → Y) (r : Result X RulesFault) (given : Result Y RulesFault) (e : RulesFault)
+    → IsErrAnd r (λ x. x ≡ e) → Fails e given → Gives view r given
 exit_gives view (Ok x) given e same fails = absurd same
 exit_gives view (Err x) given e same fails = rw same fails
 
@@ -25,10 +27,12 @@ unless_on true P Q f p = tt
 unless_on false P Q f p = f p
 
 -- a fault of one step is the fault of all
-pub fails_on : {A B : Type 0} (e : RulesFault) (step : Result A RulesFault) (all : Result B RulesFault) → (step ≡ Err e → all ≡ Err e) → Fails e step → Fails e all
+pub fails_on : {A B : Type 0} (e : RulesFault) (step : Result A RulesFault) (all : Result B RulesFault)
+    → (step ≡ Err e → all ≡ Err e) → Fails e step → Fails e all
 fails_on e step all f = unless_on (is_memory e) (step ≡ Err e) (all ≡ Err e) f
 
-pub first_fails : {A B : Type 0} (step : Result A RulesFault) (f : A → Result B RulesFault) (e : RulesFault) → Fails e step → Fails e (step >>= f)
+pub first_fails : {A B : Type 0} (step : Result A RulesFault) (f : A → Result B RulesFault) (e : RulesFault)
+    → Fails e step → Fails e (step >>= f)
 first_fails step f e = fails_on e step (step >>= f) (λ was. rw was refl)
 
 pub goes_on : {A B : Type 0} (step : Result A RulesFault) (f : A → Result B RulesFault) (x : A) → step ≡ Ok x → (step >>= f) ≡ f x

@@ -109,8 +109,11 @@ carried StratumChanged false r rs f h = cc
 
 -- ---- the relations at one place of two tables
 
-pub name_there : (old new : List Entry) (i : ℕ) (was now : Option Entry) → was ≡ slice_get old i → now ≡ slice_get new i → has_one_name (option_map show_relation was) (option_map show_relation now) ≡ keeps_name_at (show_relations old) (show_relations new) i
+pub name_there : (old new : List Entry) (i : ℕ) (was now : Option Entry) → was ≡ slice_get old i → now ≡ slice_get new i
+    → has_one_name (option_map show_relation was) (option_map show_relation now) ≡ keeps_name_at (show_relations old) (show_relations new) i
 name_there old new i was now e f = rw (slice_get-map show_relation old i, slice_get-map show_relation new i, ← e, ← f) refl
 
-pub stratum_there : (old new : List Entry) (i : ℕ) (was now : Option Entry) → was ≡ slice_get old i → now ≡ slice_get new i → has_one_stratum (option_map show_relation was) (option_map show_relation now) ≡ keeps_stratum_at (show_relations old) (show_relations new) i
+pub stratum_there : (old new : List Entry) (i : ℕ) (was now : Option Entry) → was ≡ slice_get old i
+    → now ≡ slice_get new i
+    → has_one_stratum (option_map show_relation was) (option_map show_relation now) ≡ keeps_stratum_at (show_relations old) (show_relations new) i
 stratum_there old new i was now e f = rw (slice_get-map show_relation old i, slice_get-map show_relation new i, ← e, ← f) refl

@@ -124,8 +124,9 @@ fn put(
     if stands(kept.as_slice(), places.get(&mark).copied(), &child) {
         return Ok(());
     }
-    let _ = places.insert(mark, kept.len())?;
+    let place = kept.len();
     kept.push(child)?;
+    let _ = places.insert(mark, place)?;
     Ok(())
 }
 
@@ -140,9 +141,7 @@ fn put_copies(
         (map expression_of kept.old.items ++ map expression_of children.now.items)) }
 {
     for child in children {
-        let Ok(copy) = copied(alloc, child) else {
-            return Err(AllocError);
-        };
+        let copy = copied(alloc, child)?;
         put(kept, places, copy)?;
     }
     Ok(())

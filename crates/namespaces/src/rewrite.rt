@@ -2,11 +2,9 @@
 ghost use Rattle.std.specs.Prelude.{◌≡◌, nat_lt, string_bytes, IfOk};
 ghost use Rattle.std.specs.List.{list_all};
 ghost use Rattle.tuple_text.specs.Forms.{is_name};
-ghost use Rattle.namespaces.specs.Fault.{Gives};
 ghost use Rattle.namespaces.specs.Expression as expression;
 ghost use Rattle.namespaces.specs.View.{expression_of, expressions_of};
 
-use crate::fault::RulesFault;
 use std::alloc::{AllocError, Global};
 use tuple_text::is_name;
 
@@ -49,26 +47,26 @@ pub(crate) fn minus(alloc: Global, base: Rewrite, subtract: Rewrite) -> Result<R
 
 /// A copy of a rule.
 #[cycle(copied)]
-pub(crate) fn copied(alloc: Global, rewrite: &Rewrite) -> Result<Rewrite, RulesFault>
-    ensures { Gives expression_of result (Ok (expression_of rewrite.now)) }
+pub(crate) fn copied(alloc: Global, rewrite: &Rewrite) -> Result<Rewrite, AllocError>
+    ensures { IfOk result (λ r. expression_of r ≡ expression_of rewrite.now) }
 {
     match rewrite {
         Rewrite::This => Ok(Rewrite::This),
         Rewrite::Computed(relation) => Ok(Rewrite::Computed(relation.clone()?)),
-        Rewrite::TupleTo { tupleset, computed } => Ok(copied_pair(tupleset, computed)?),
+        Rewrite::TupleTo { tupleset, computed } => copied_pair(tupleset, computed),
         Rewrite::Union(children) => Ok(Rewrite::Union(all_copied(alloc, children)?)),
         Rewrite::Inter(children) => Ok(Rewrite::Inter(all_copied(alloc, children)?)),
         Rewrite::Minus(base, subtract) => {
             let base = copied(alloc, base)?;
             let subtract = copied(alloc, subtract)?;
-            Ok(minus(alloc, base, subtract)?)
+            minus(alloc, base, subtract)
         }
     }
 }
 
 #[cycle(copied)]
-fn all_copied(alloc: Global, children: &Vec<Rewrite>) -> Result<Vec<Rewrite>, RulesFault>
-    ensures { Gives (λ v. expressions_of v.items) result (Ok (expressions_of children.now.items)) }
+fn all_copied(alloc: Global, children: &Vec<Rewrite>) -> Result<Vec<Rewrite>, AllocError>
+    ensures { IfOk result (λ v. expressions_of v.items ≡ expressions_of children.now.items) }
 {
     let mut copies = Vec::new(alloc);
     for child in children {

@@ -142,36 +142,46 @@ module _ (links : List Link) (link : Link) (newest : Table) (are : AreLinked (li
 
 -- ---- the marks that callers see
 
-pub newest_shown : (links ls : List Link) (table : Table) (marks : List ℕ) (mark place : ℕ) → AreLinked links table → marks_of links ≡ marks → ls ≡ links → place ≡ newest_of ls table mark → place ≡ last_place (nat_eq mark) marks (length marks)
-newest_shown links ls table marks mark place are shown same is = is ∙ ap (λ (l : List Link). newest_of l table mark) same ∙ rw (← shown, length-marks links) (are.latest mark)
+pub newest_shown : (links ls : List Link) (table : Table) (marks : List ℕ) (mark place : ℕ) → AreLinked links table
+    → marks_of links ≡ marks → ls ≡ links → place ≡ newest_of ls table mark
+    → place ≡ last_place (nat_eq mark) marks (length marks)
+newest_shown links ls table marks mark place are shown same is =
+    is ∙ ap (λ (l : List Link). newest_of l table mark) same ∙ rw (← shown, length-marks links) (are.latest mark)
 
-pub older_shown : (links : List Link) (table : Table) (marks : List ℕ) (index : ℕ) (link : Link) → AreLinked links table → marks_of links ≡ marks → slice_get links index ≡ Some link
+pub older_shown : (links : List Link) (table : Table) (marks : List ℕ) (index : ℕ) (link : Link) → AreLinked links table
+    → marks_of links ≡ marks → slice_get links index ≡ Some link
     → (mark : ℕ) → slice_get marks index ≡ Some mark → link.older ≡ last_place (nat_eq mark) marks index
 older_shown links table marks index link are shown there mark is =
-    let here : slice_get marks index ≡ Some link.mark = rw (← shown, slice_get-map (λ (l : Link). l.mark) links index, there) refl in
+    let here : slice_get marks index ≡ Some link.mark =
+    rw (← shown, slice_get-map (λ (l : Link). l.mark) links index, there) refl in
     let same : link.mark ≡ mark = let both = sym here ∙ is in cc in
     rw (← shown, ← same) (are.earlier index link there)
 
-pub none_shown : (links ls : List Link) (marks : List ℕ) (index : ℕ) → marks_of links ≡ marks → ls ≡ links → false ≡ nat_lt index (length ls)
+pub none_shown : (links ls : List Link) (marks : List ℕ) (index : ℕ) → marks_of links ≡ marks → ls ≡ links
+    → false ≡ nat_lt index (length ls)
     → (mark : ℕ) → slice_get marks index ≡ Some mark → 0 ≡ last_place (nat_eq mark) marks index
 none_shown links ls marks index shown same none mark is =
     let past : length ls ≤ index = grind (arith, nat_tests) in
     let within = slice_get_within marks index mark is in
     absurd (omega (arith, within, past, ap length same, ap length shown, length-marks links))
 
-pub marks_shown : (links more : List Link) (link : Link) (marks : List ℕ) → marks_of links ≡ marks → more ≡ links ++ link ∷ [] → marks_of more ≡ marks ++ link.mark ∷ []
+pub marks_shown : (links more : List Link) (link : Link) (marks : List ℕ) → marks_of links ≡ marks
+    → more ≡ links ++ link ∷ [] → marks_of more ≡ marks ++ link.mark ∷ []
 marks_shown links more link marks shown is = rw (is, marks-more links link, shown) refl
 
-pub refused_shown : {T E : Type 0} (r : Result T E) (links ls : List Link) (marks : List ℕ) → marks_of links ≡ marks → ls ≡ links → OnErr r (marks_of ls ≡ marks)
+pub refused_shown : {T E : Type 0} (r : Result T E) (links ls : List Link) (marks : List ℕ) → marks_of links ≡ marks
+    → ls ≡ links → OnErr r (marks_of ls ≡ marks)
 refused_shown (Ok x) links ls marks shown same = tt
 refused_shown (Err e) links ls marks shown same = rw (same, shown) refl
 
 -- ---- the links as a caller holds them, and a table in which the same is found
 
-pub same_links : (links ls : List Link) (table : Table) → ls ≡ links → AreLinked links table × (length links ≤ most) → AreLinked ls table × (length ls ≤ most)
+pub same_links : (links ls : List Link) (table : Table) → ls ≡ links → AreLinked links table × (length links ≤ most)
+    → AreLinked ls table × (length ls ≤ most)
 same_links links ls table same are = subst (λ (xs : List Link). AreLinked xs table × (length xs ≤ most)) (sym same) are
 
-pub other_table : (links ls : List Link) (old new : Table) → AreLinked links old × (length links ≤ most) → ls ≡ links → IsTable ls new → ((m : ℕ) → newest_of ls new m ≡ newest_of ls old m) → AreLinked links new × (length links ≤ most)
+pub other_table : (links ls : List Link) (old new : Table) → AreLinked links old × (length links ≤ most) → ls ≡ links
+    → IsTable ls new → ((m : ℕ) → newest_of ls new m ≡ newest_of ls old m) → AreLinked links new × (length links ≤ most)
 other_table links ls old new are same table found = (
   record {
     probed = subst (λ (xs : List Link). IsTable xs new) same table;
@@ -183,10 +193,17 @@ other_table links ls old new are same table found = (
 
 -- ---- the link at a place that is not 0
 
-pub link_there : (links : List Link) (place mark : ℕ) (link : Link) → (place ≡ 0 → ⊥) → slice_get links (place - 1) ≡ Some link → nat_eq link.mark mark ≡ has_mark links place mark
+pub link_there : (links : List Link) (place mark : ℕ) (link : Link) → (place ≡ 0 → ⊥)
+    → slice_get links (place - 1) ≡ Some link → nat_eq link.mark mark ≡ has_mark links place mark
 link_there links zero mark link some there = absurd (some refl)
-link_there links (suc i) mark link some there = let less : suc i - 1 ≡ i = omega arith in let here : slice_get links i ≡ Some link = rw less at there in rw here refl
+link_there links (suc i) mark link some there =
+    let less : suc i - 1 ≡ i = omega arith in
+    let here : slice_get links i ≡ Some link = rw less at there in
+    rw here refl
 
-pub no_link : (links : List Link) (place mark : ℕ) → (place ≡ 0 → ⊥) → false ≡ nat_lt (place - 1) (length links) → false ≡ has_mark links place mark
+pub no_link : (links : List Link) (place mark : ℕ) → (place ≡ 0 → ⊥) → false ≡ nat_lt (place - 1) (length links)
+    → false ≡ has_mark links place mark
 no_link links zero mark some none = absurd (some refl)
-no_link links (suc i) mark some none = let past : length links ≤ i = grind (arith, nat_tests) in rw (slice_get_past links i past) refl
+no_link links (suc i) mark some none =
+    let past : length links ≤ i = grind (arith, nat_tests) in
+    rw (slice_get_past links i past) refl

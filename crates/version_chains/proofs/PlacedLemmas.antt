@@ -45,9 +45,16 @@ pub read_item : {X : Type 0} (xs slice : List X) (i : ℕ) (x : X) → slice ≡
 read_item xs slice i x same within is = subst (λ ys. slice_get ys i ≡ Some x) same (slice_get_read slice (length slice) i x refl within is)
 
 -- what `get` gave
-pub read_option : {X : Type 0} (xs : List X) (i : ℕ) (o : Option (Bor X)) → is_some o ≡ nat_lt i (length xs) → IfSome o (λ x. x.now ≡ get_or xs i x.now) → option_map (λ (x : Bor X). x.now) o ≡ slice_get xs i
-read_option xs i None within is = let past : length xs ≤ i = let no : false ≡ nat_lt i (length xs) = within in grind (arith, nat_tests) in sym (slice_get_past xs i past)
-read_option xs i (Some x) within is = let inside : i < length xs = let yes : true ≡ nat_lt i (length xs) = within in grind (arith, nat_tests) in sym (slice_get_read xs (length xs) i x.now refl inside is)
+pub read_option : {X : Type 0} (xs : List X) (i : ℕ) (o : Option (Bor X)) → is_some o ≡ nat_lt i (length xs)
+    → IfSome o (λ x. x.now ≡ get_or xs i x.now) → option_map (λ (x : Bor X). x.now) o ≡ slice_get xs i
+read_option xs i None within is =
+    let no : false ≡ nat_lt i (length xs) = within in
+    let past : length xs ≤ i = grind (arith, nat_tests) in
+    sym (slice_get_past xs i past)
+read_option xs i (Some x) within is =
+    let yes : true ≡ nat_lt i (length xs) = within in
+    let inside : i < length xs = grind (arith, nat_tests) in
+    sym (slice_get_read xs (length xs) i x.now refl inside is)
 
 -- an item of a list that is one longer
 pub slice_get-cases : {X : Type 0} (xs : List X) (y : X) (i : ℕ) (x : X) → slice_get (xs ++ y ∷ []) i ≡ Some x → (slice_get xs i ≡ Some x) ⊎ ((i ≡ length xs) × (y ≡ x))

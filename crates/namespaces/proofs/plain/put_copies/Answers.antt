@@ -1,4 +1,4 @@
-use Rattle.std.proofs.Common.{◌≡◌, ◌∷◌, ◌+◌, ◌++◌, map, drop, add-one, refl}
+use Rattle.std.proofs.Common.{◌≡◌, ◌∷◌, ◌+◌, ◌++◌, map, drop, add-one, refl, sym}
 use Rattle.std.proofs.Math.Seq.{drop-cons}
 use Rattle.namespaces.specs.View.{expression_of}
 use Rattle.namespaces.proofs.AlikeLemmas.{joined_on, put_alike}
@@ -12,7 +12,6 @@ loop-child-preserved c =
     let old = map expression_of c.loop-child.kept.items in
     let new = map expression_of c.put.new.kept.items in
     let left : drop i es ≡ child ∷ drop (i + 1) es = rw (drop-cons es i child c.loop-child-test.true, add-one, ← c.child-item.is) refl in
-    let copied = c.in-Ok.ensures in
-    let same : expression_of child ≡ expression_of c.in-Ok.copy = cc in
+    let same : expression_of child ≡ expression_of c.in_ok-copy.copy = sym c.in_ok-copy.ensures in
     joined_on c.args.joint old new (map expression_of (drop (i + 1) es)) (map expression_of c.args.kept.now.items ++ map expression_of es) (expression_of child)
     (put_alike c.args.joint old new (expression_of child) (rw (← same) at c.in_ok-put.ensures)) (rw left at c.loop-child.invariant)

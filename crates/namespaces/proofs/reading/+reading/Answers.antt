@@ -15,7 +15,14 @@ pub exclusion-returns : goal.exclusion-returns
 exclusion-returns t c = rw (exclusion-get (view c.args.value.now)) (search (rules, the_lemmas))
 
 pub expression_at-expression-requires : goal.expression_at-expression-requires
-expression_at-expression-requires t c = (omega (arith, below_member_of c.args.key.now (view c.args.value.now) (view c.in_ok-member.field-0.now) c.in_ok-member.ensures), tt)
+expression_at-expression-requires t c = (
+  omega (
+    arith,
+    below_member_of c.args.key.now (view c.args.value.now) (view c.in_ok-member.field-0.now)
+        c.in_ok-member.ensures,
+  ),
+  tt,
+)
 
 pub expression-returns-then-count_forms-ne1 : goal.expression-returns-then-count_forms-ne1
 unfolding only_form

@@ -3,7 +3,8 @@ use Rattle.std.proofs.lemmas.Option.{slice_get-map}
 use Rattle.namespaces.specs.Shown.{show_relation}
 use Rattle.namespaces.proofs.rules.Rules.relation_in.Goals as goal
 
-mapped_twice : {A B C : Type 0} (f : A → B) (g : B → C) (o : Option A) → option_map (λ a. g (f a)) o ≡ option_map g (option_map f o)
+mapped_twice : {A B C : Type 0} (f : A → B) (g : B → C) (o : Option A)
+    → option_map (λ a. g (f a)) o ≡ option_map g (option_map f o)
 mapped_twice f g None = refl
 mapped_twice f g (Some a) = refl
 

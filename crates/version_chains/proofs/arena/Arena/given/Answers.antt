@@ -17,10 +17,15 @@ use Rattle.version_chains.proofs.PlacedLemmas.{read_item}
 use Rattle.version_chains.proofs.arena.Arena.given.Goals as goal
 use Rattle.version_chains.proofs.arena.Arena.given.Goals.{else-eq-via-then-eq+then-is_userset-usersets+else-is_live, else-eq-via-then-eq+else-is_userset-usersets, else-eq-via-else-eq}
 
-row_of : (rows : List Row) (tuples : List TupleValue) (i : ℕ) (row : Row) (t : TupleValue) → tuples_of rows ≡ tuples → slice_get rows i ≡ Some row → slice_get tuples i ≡ Some t → row.tuple ≡ t
-row_of rows tuples i row t shown at is = let there : slice_get tuples i ≡ Some row.tuple = rw (← shown) (item_of (λ r. r.tuple) rows i row at) in let same = sym there ∙ is in cc
+row_of : (rows : List Row) (tuples : List TupleValue) (i : ℕ) (row : Row) (t : TupleValue) → tuples_of rows ≡ tuples
+    → slice_get rows i ≡ Some row → slice_get tuples i ≡ Some t → row.tuple ≡ t
+row_of rows tuples i row t shown at is =
+    let there : slice_get tuples i ≡ Some row.tuple = rw (← shown) (item_of (λ r. r.tuple) rows i row at) in
+    let same = sym there ∙ is in
+    cc
 
-no_row : (rows slice : List Row) (tuples : List TupleValue) (i : ℕ) (t : TupleValue) → tuples_of rows ≡ tuples → slice ≡ rows → false ≡ nat_lt i (length slice) → slice_get tuples i ≡ Some t → ⊥
+no_row : (rows slice : List Row) (tuples : List TupleValue) (i : ℕ) (t : TupleValue) → tuples_of rows ≡ tuples
+    → slice ≡ rows → false ≡ nat_lt i (length slice) → slice_get tuples i ≡ Some t → ⊥
 no_row rows slice tuples i t shown same none is =
     let past : length slice ≤ i = grind (arith, nat_tests) in
     let within = slice_get_within tuples i t is in
@@ -41,31 +46,39 @@ third_false true true c h = h
 third_false true false c h = refl
 third_false false b c h = refl
 
-module _ (g : SetValue) (usersets : Bool) (t : TupleValue) (one : SetValue) (u : User) (set : one ≡ t.set) (user : u ≡ t.user) where
+module _ (g : SetValue) (usersets : Bool) (t : TupleValue) (one : SetValue) (u : User) (set : one ≡ t.set)
+    (user : u ≡ t.user) where
   same_set : (b r : Bool) → r ≡ set_eq one g → r ≡ b → set_eq t.set g ≡ b
   same_set b r is test = ap (λ (x : SetValue). set_eq x g) (sym set) ∙ sym is ∙ test
 
   same_kind : (b r : Bool) → r ≡ is_userset u → beq r usersets ≡ b → beq (is_userset t.user) usersets ≡ b
-  same_kind b r is test = ap (λ (x : User). beq (is_userset x) usersets) (sym user) ∙ ap (λ (x : Bool). beq x usersets) (sym is) ∙ test
+  same_kind b r is test =
+      ap (λ (x : User). beq (is_userset x) usersets) (sym user) ∙ ap (λ (x : Bool). beq x usersets) (sym is) ∙ test
 
 pub returns-in_err-row : goal.returns-in_err-row
-returns-in_err-row c = λ t is. absurd (no_row c.self.inside.rows.items c.deref.result.now c.args.self.now.tuples c.args.number t (ap (λ (h : Held). h.tuples) c.self.view_is) c.deref.ensures.value c.in_err-row.ensures.lookup.0 is)
+returns-in_err-row c =
+    λ t is. absurd (no_row c.self.inside.rows.items c.deref.result.now c.args.self.now.tuples c.args.number t
+    (ap (λ (h : Held). h.tuples) c.self.view_is) c.deref.ensures.value c.in_err-row.ensures.lookup.0 is)
 
 pub invariant_of-result : goal.invariant_of-result
 invariant_of-result c =
     let row = c.in_ok-row.row.now in
-    let at = read_item c.self.inside.rows.items c.deref.result.now c.args.number row c.deref.ensures.value c.in_ok-row.ensures.lookup.3.0 c.in_ok-row.ensures.lookup.1 in
+    let at = read_item c.self.inside.rows.items c.deref.result.now c.args.number row c.deref.ensures.value
+    c.in_ok-row.ensures.lookup.3.0 c.in_ok-row.ensures.lookup.1 in
     record { is_its_mark = c.self.invariant.1 c.args.number row at ∙ ap user_mark (sym c.user-user.ensures.parts) }
 
 pub returns-then-is_live : goal.returns-then-is_live
 returns-then-is_live c = λ t is.
     let row = c.in_ok-row.row.now in
-    let at = read_item c.self.inside.rows.items c.deref.result.now c.args.number row c.deref.ensures.value c.in_ok-row.ensures.lookup.3.0 c.in_ok-row.ensures.lookup.1 in
-    let same = row_of c.self.inside.rows.items c.args.self.now.tuples c.args.number row t (ap (λ (h : Held). h.tuples) c.self.view_is) at is in
+    let at = read_item c.self.inside.rows.items c.deref.result.now c.args.number row c.deref.ensures.value
+    c.in_ok-row.ensures.lookup.3.0 c.in_ok-row.ensures.lookup.1 in
+    let same = row_of c.self.inside.rows.items c.args.self.now.tuples c.args.number row t
+    (ap (λ (h : Held). h.tuples) c.self.view_is) at is in
     let set = c.set.ensures.parts ∙ ap (λ (x : TupleValue). x.set) same in
     let user = c.user-user.ensures.parts ∙ ap (λ (x : TupleValue). x.user) same in (
       all_true _ _ _ (same_set (set_value c.args.set) c.args.usersets t _ _ set user true _ c.eq.ensures c.if-eq.true)
-          (same_kind (set_value c.args.set) c.args.usersets t _ _ set user true _ c.is_userset.ensures c.if-is_userset-usersets.true)
+          (same_kind (set_value c.args.set) c.args.usersets t _ _ set user true _ c.is_userset.ensures
+          c.if-is_userset-usersets.true)
           (sym (c.is_live.ensures t is) ∙ c.if-is_live.true),
       user,
     )
@@ -73,12 +86,20 @@ returns-then-is_live c = λ t is.
 pub returns-else-eq : goal.returns-else-eq
 returns-else-eq c = λ t is.
     let row = c.in_ok-row.row.now in
-    let at = read_item c.self.inside.rows.items c.deref.result.now c.args.number row c.deref.ensures.value c.in_ok-row.ensures.lookup.3.0 c.in_ok-row.ensures.lookup.1 in
-    let same = row_of c.self.inside.rows.items c.args.self.now.tuples c.args.number row t (ap (λ (h : Held). h.tuples) c.self.view_is) at is in
+    let at = read_item c.self.inside.rows.items c.deref.result.now c.args.number row c.deref.ensures.value
+    c.in_ok-row.ensures.lookup.3.0 c.in_ok-row.ensures.lookup.1 in
+    let same = row_of c.self.inside.rows.items c.args.self.now.tuples c.args.number row t
+    (ap (λ (h : Held). h.tuples) c.self.view_is) at is in
     let set = c.set.ensures.parts ∙ ap (λ (x : TupleValue). x.set) same in
     let user = c.user-user.ensures.parts ∙ ap (λ (x : TupleValue). x.user) same in
     elim c.else-eq.branch [
-      | else-eq-via-then-eq+then-is_userset-usersets+else-is_live w ↦ third_false (set_eq t.set (set_value c.args.set)) (beq (is_userset t.user) c.args.usersets) _ (sym (w.is_live.ensures t is) ∙ w.if-is_live.false)
-      | else-eq-via-then-eq+else-is_userset-usersets w ↦ second_false (set_eq t.set (set_value c.args.set)) (beq (is_userset t.user) c.args.usersets) (is_stored_by c.args.self.now.touches c.args.at t) (same_kind (set_value c.args.set) c.args.usersets t _ _ set user false _ w.is_userset.ensures w.if-is_userset-usersets.false)
-      | else-eq-via-else-eq w ↦ first_false (set_eq t.set (set_value c.args.set)) (beq (is_userset t.user) c.args.usersets) (is_stored_by c.args.self.now.touches c.args.at t) (same_set (set_value c.args.set) c.args.usersets t _ _ set user false _ c.eq.ensures w.if-eq.false)
+      | else-eq-via-then-eq+then-is_userset-usersets+else-is_live w ↦ third_false (set_eq t.set (set_value c.args.set))
+          (beq (is_userset t.user) c.args.usersets) _ (sym (w.is_live.ensures t is) ∙ w.if-is_live.false)
+      | else-eq-via-then-eq+else-is_userset-usersets w ↦ second_false (set_eq t.set (set_value c.args.set))
+          (beq (is_userset t.user) c.args.usersets) (is_stored_by c.args.self.now.touches c.args.at t)
+          (same_kind (set_value c.args.set) c.args.usersets t _ _ set user false _ w.is_userset.ensures
+          w.if-is_userset-usersets.false)
+      | else-eq-via-else-eq w ↦ first_false (set_eq t.set (set_value c.args.set))
+          (beq (is_userset t.user) c.args.usersets) (is_stored_by c.args.self.now.touches c.args.at t)
+          (same_set (set_value c.args.set) c.args.usersets t _ _ set user false _ c.eq.ensures w.if-eq.false)
     ]

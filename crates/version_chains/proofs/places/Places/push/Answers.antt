@@ -16,7 +16,8 @@ invariant_of-self-2 c =
     let more = length-more links link in
     let few : length (links ++ link ∷ []) ≤ most = omega (arith, less, more) in
     let set_links : c.deref-2.result.now ≡ links = c.deref-2.ensures.value ∙ c.reserve.ensures.items in
-    let are = (other_table links c.deref.result.now c.self.inside.newest c.spread.new.self c.self.invariant (c.deref.ensures.value ∙ c.reserve.ensures.items) c.spread.ensures.table c.spread.ensures.same).0 in
+    let are = (other_table links c.deref.result.now c.self.inside.newest c.spread.new.self c.self.invariant
+    (c.deref.ensures.value ∙ c.reserve.ensures.items) c.spread.ensures.table c.spread.ensures.same).0 in
     let sets = subst
     (λ (xs : List Link). (more : List Link) → IsPlaceOf (xs ++ more) c.args.mark (c.len-2.result + 1) → IsSet xs (xs ++ more) c.spread.new.self c.set.new.self c.args.mark (c.len-2.result + 1))
     set_links c.in_ok-older.ensures.ok in
@@ -27,41 +28,62 @@ invariant_of-self-2 c =
     (more_links links c.spread.new.self c.set.new.self link are newest set, few)
 
 pub returns-clause-ok : goal.returns-clause-ok
-returns-clause-ok c = marks_shown c.self.inside.links.items c.push.new.self.items (record { mark = c.args.mark; older = c.in_ok-older.older }) c.args.self.now c.self.view_is (search rules)
+returns-clause-ok c =
+    marks_shown c.self.inside.links.items c.push.new.self.items
+    (record { mark = c.args.mark; older = c.in_ok-older.older }) c.args.self.now c.self.view_is (search rules)
 
 pub spread-requires-clause-newest : goal.spread-requires-clause-newest
-spread-requires-clause-newest c = (same_links c.self.inside.links.items c.deref.result.now c.self.inside.newest (c.deref.ensures.value ∙ c.reserve.ensures.items) c.self.invariant).0.latest
+spread-requires-clause-newest c =
+    (same_links c.self.inside.links.items c.deref.result.now c.self.inside.newest
+    (c.deref.ensures.value ∙ c.reserve.ensures.items) c.self.invariant).0.latest
 
 pub spread-requires-clause-table : goal.spread-requires-clause-table
-spread-requires-clause-table c = (same_links c.self.inside.links.items c.deref.result.now c.self.inside.newest (c.deref.ensures.value ∙ c.reserve.ensures.items) c.self.invariant).0.probed
+spread-requires-clause-table c =
+    (same_links c.self.inside.links.items c.deref.result.now c.self.inside.newest
+    (c.deref.ensures.value ∙ c.reserve.ensures.items) c.self.invariant).0.probed
 
 pub spread-requires-clause-few : goal.spread-requires-clause-few
-spread-requires-clause-few c = (same_links c.self.inside.links.items c.deref.result.now c.self.inside.newest (c.deref.ensures.value ∙ c.reserve.ensures.items) c.self.invariant).1
+spread-requires-clause-few c =
+    (same_links c.self.inside.links.items c.deref.result.now c.self.inside.newest
+    (c.deref.ensures.value ∙ c.reserve.ensures.items) c.self.invariant).1
 
 pub set-requires : goal.set-requires
-set-requires c = subst (λ (xs : List Link). IsTable xs c.spread.new.self) (c.deref.ensures.value ∙ sym c.deref-2.ensures.value) c.spread.ensures.table
+set-requires c =
+    subst (λ (xs : List Link). IsTable xs c.spread.new.self) (c.deref.ensures.value ∙ sym c.deref-2.ensures.value)
+    c.spread.ensures.table
 
 -- ---- where memory is refused
 
 pub invariant_of-self : goal.invariant_of-self
-invariant_of-self c = same_links c.self.inside.links.items c.reserve.new.self.items c.self.inside.newest c.reserve.ensures.items c.self.invariant
+invariant_of-self c =
+    same_links c.self.inside.links.items c.reserve.new.self.items c.self.inside.newest c.reserve.ensures.items
+    c.self.invariant
 
 pub invariant_of-self-in_err-spread : goal.invariant_of-self-in_err-spread
 invariant_of-self-in_err-spread c =
     same_links c.self.inside.links.items c.reserve.new.self.items c.spread.new.self c.reserve.ensures.items
-    (other_table c.self.inside.links.items c.deref.result.now c.self.inside.newest c.spread.new.self c.self.invariant (c.deref.ensures.value ∙ c.reserve.ensures.items) c.spread.ensures.table c.spread.ensures.same)
+    (other_table c.self.inside.links.items c.deref.result.now c.self.inside.newest c.spread.new.self c.self.invariant
+    (c.deref.ensures.value ∙ c.reserve.ensures.items) c.spread.ensures.table c.spread.ensures.same)
 
 pub invariant_of-self-in_err-older : goal.invariant_of-self-in_err-older
 invariant_of-self-in_err-older c =
-    let spread = other_table c.self.inside.links.items c.deref.result.now c.self.inside.newest c.spread.new.self c.self.invariant (c.deref.ensures.value ∙ c.reserve.ensures.items) c.spread.ensures.table c.spread.ensures.same in
+    let spread = other_table c.self.inside.links.items c.deref.result.now c.self.inside.newest c.spread.new.self
+    c.self.invariant (c.deref.ensures.value ∙ c.reserve.ensures.items) c.spread.ensures.table c.spread.ensures.same in
     same_links c.self.inside.links.items c.reserve.new.self.items c.set.new.self c.reserve.ensures.items
-    (other_table c.self.inside.links.items c.deref-2.result.now c.spread.new.self c.set.new.self spread (c.deref-2.ensures.value ∙ c.reserve.ensures.items) c.in_err-older.ensures.table c.in_err-older.ensures.err)
+    (other_table c.self.inside.links.items c.deref-2.result.now c.spread.new.self c.set.new.self spread
+    (c.deref-2.ensures.value ∙ c.reserve.ensures.items) c.in_err-older.ensures.table c.in_err-older.ensures.err)
 
 pub returns-in_err-reserve-clause-err : goal.returns-in_err-reserve-clause-err
-returns-in_err-reserve-clause-err c = refused_shown c.from_residual.result c.self.inside.links.items c.reserve.new.self.items c.args.self.now c.self.view_is c.reserve.ensures.items
+returns-in_err-reserve-clause-err c =
+    refused_shown c.from_residual.result c.self.inside.links.items c.reserve.new.self.items c.args.self.now
+    c.self.view_is c.reserve.ensures.items
 
 pub returns-in_err-spread-clause-err : goal.returns-in_err-spread-clause-err
-returns-in_err-spread-clause-err c = refused_shown c.from_residual-in_err-spread.result c.self.inside.links.items c.reserve.new.self.items c.args.self.now c.self.view_is c.reserve.ensures.items
+returns-in_err-spread-clause-err c =
+    refused_shown c.from_residual-in_err-spread.result c.self.inside.links.items c.reserve.new.self.items
+    c.args.self.now c.self.view_is c.reserve.ensures.items
 
 pub returns-in_err-older-clause-err : goal.returns-in_err-older-clause-err
-returns-in_err-older-clause-err c = refused_shown c.from_residual-in_err-older.result c.self.inside.links.items c.reserve.new.self.items c.args.self.now c.self.view_is c.reserve.ensures.items
+returns-in_err-older-clause-err c =
+    refused_shown c.from_residual-in_err-older.result c.self.inside.links.items c.reserve.new.self.items c.args.self.now
+    c.self.view_is c.reserve.ensures.items
