@@ -25,9 +25,12 @@ KIND is one of
   parents        as `stored`, through a tupleset
   lacking        the same, where the users' namespace is declared and lacks the relation
   led            usersets that are not declared, stored behind a group that is, and facts that hold through that group
+  led_through    the same through a tupleset
+  led_far        a user of many groups, and documents that each store the first of these behind many others
   wide_rule      a rule of many places in nested unions and intersections of two leaves, and records of many facts
   same_fact      the same, with one fact again and again
   wide_computed  a rule of many places that compute 250 other relations
+  wide_pairs     a rule of many intersections that differ, and all begin with one leaf
   ring           groups in a circle, and checks that each of many strangers is not in it: for `make`
   wide_make      a rule of many places that compute one relation, and objects in a chain of such rules: for `make`
   toggled        one tuple added and removed in every other commit, and checks at old snapshots
@@ -324,16 +327,46 @@ def churned(size):
     return given
 
 
+def led_by(given, group, goal):
+    """Facts that hold through one userset, which is stored before all others."""
+    user = 0
+    while not given.is_full():
+        users = range(user, user + 100)
+        given.commit([f"{group}@{one}" for one in users])
+        given.check(f"{goal}@{user}", True, [{"yes": f"{of}@{one}"} for one in users for of in (group, goal)])
+        user += 100
+    return given
+
+
 def led(size):
     given = grouped(size)
     given.commit(["doc:a#viewer@group:0#member"])
     barred(given, size // 3)
-    user = 0
+    return led_by(given, "group:0#member", "doc:a#viewer")
+
+
+def led_through(size):
+    given = parented(size, [{"name": "folder", "relations": [relation("viewer")]}])
+    k = 0
+    while given.bytes < size // 3:
+        given.commit([f"doc:a#parent@folder:{j}#..." for j in range(k, k + 100)])
+        k += 100
+    return led_by(given, "folder:0#viewer", "doc:a#viewer")
+
+
+def led_far(size):
+    """One user of many groups, all of whose facts are known, and of many documents that store many groups each."""
+    given = grouped(size)
+    groups = max(size // 400, 1)
+    given.commit([f"group:{k}#member@1" for k in range(groups)])
+    documents = max(size // 4000, 1)
+    for k in range(documents):
+        given.commit([f"doc:{k}#viewer@group:0#member"] + [f"doc:{k}#viewer@ghost:{j}#m" for j in range(40)])
+    known = [{"yes": f"group:{k}#member@1"} for k in range(groups)]
+    steps = [{"yes": f"doc:{k}#viewer@1"} for k in range(documents)]
+    given.check("doc:0#viewer@1", True, known + steps)
     while not given.is_full():
-        users = range(user, user + 100)
-        given.commit([f"group:0#member@{one}" for one in users])
-        given.check(f"doc:a#viewer@{user}", True, [{"yes": f"{of}@{one}"} for one in users for of in ("group:0#member", "doc:a#viewer")])
-        user += 100
+        given.check("doc:0#viewer@1", True, [{"yes": "group:0#member@1"}, {"yes": "doc:0#viewer@1"}])
     return given
 
 
@@ -405,6 +438,17 @@ def wide_computed(size):
         refused(given, [f"{goal}@{k}" for k in range(user, user + count) for goal in goals])
         user += count
     return given
+
+
+def wide_pairs(size):
+    """A rule of many intersections, no two alike, that all begin with one leaf."""
+    names = [f"r{k}" for k in range(250)]
+    pairs = [{"intersection": [THIS, {"computed": names[k // 250 % 250]}, {"computed": names[k % 250]}]} for k in range(62500)]
+    rule = nested(pairs[:min(size // 3, LINE * 8 // 10) // len(text(pairs[-1]))])
+    given = Input(size, [{"name": "doc", "relations": [*map(relation, names), relation("viewer", rule)]}])
+    given.bytes = len(given.lines[0])
+    given.commit(["doc:b#r0@1"])
+    return asked_of_many(given)
 
 
 def ring(size):
@@ -531,9 +575,12 @@ KINDS = {
     "parents": parents,
     "lacking": lacking,
     "led": led,
+    "led_through": led_through,
+    "led_far": led_far,
     "wide_rule": wide_rule,
     "same_fact": same_fact,
     "wide_computed": wide_computed,
+    "wide_pairs": wide_pairs,
     "ring": ring,
     "wide_make": wide_make,
     "toggled": toggled,
@@ -548,6 +595,9 @@ KINDS = {
     "versions": versions,
     "long_ids": long_ids,
 }
+
+# Those whose evidence the auditor makes: they have none.
+FOR_MAKE = ("ring", "wide_make")
 
 
 def main():
