@@ -596,6 +596,9 @@ KINDS = {
     "long_ids": long_ids,
 }
 
+# Those whose evidence the auditor makes: they have none.
+FOR_MAKE = ("ring", "wide_make")
+
 
 def main():
     kind, size = asked(__doc__, KINDS)

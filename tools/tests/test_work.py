@@ -1,0 +1,54 @@
+"""What tools/dev/work and bench/growth.py make of counts, with a stand-in of valgrind that counts as it is told."""
+import os
+import shutil
+import subprocess
+import sys
+import unittest
+
+from tests.support import TOP, Case
+
+COUNTS = '#!/bin/sh\nsize=$(wc -c)\necho "==1== Collected : $((%s))" >&2\n'
+REFUSES = '#!/bin/sh\necho "trace line 1: too long" >&2\nexit 2\n'
+
+
+class Counted(Case):
+    def run_with(self, valgrind: str, *words: str) -> "subprocess.CompletedProcess[str]":
+        os.makedirs(self.path("bin"), exist_ok=True)
+        with open(self.path("bin/valgrind"), "w", encoding="utf-8") as file:
+            file.write(valgrind)
+        os.chmod(self.path("bin/valgrind"), 0o755)
+        path = os.pathsep.join([self.path("bin"), os.environ["PATH"]])
+        return subprocess.run([sys.executable, *words], cwd=TOP, env={**os.environ, "PATH": path}, capture_output=True, text=True, timeout=60)
+
+    def work(self, counts: str, kind: str = "toggled") -> "tuple[int, list[str]]":
+        run = self.run_with(COUNTS % counts, os.path.join("tools", "dev", "work"), "program", kind)
+        self.assertEqual(run.stderr, "")
+        return run.returncode, run.stdout.splitlines()
+
+    def test_what_is_allowed(self) -> None:
+        self.assertEqual(self.work("size * 999"), (0, ["toggled: 0.10 MB 999 a byte, 0.40 MB 999 a byte", "1 passed, 0 failed"]))
+
+    def test_too_much(self) -> None:
+        said = "toggled: 0.10 MB 1,001 a byte, 0.40 MB 1,001 a byte (too much: more than 1,000 instructions a byte)"
+        self.assertEqual(self.work("size * 1001"), (1, [said, "0 passed, 1 failed"]))
+
+    def test_growth(self) -> None:
+        status, said = self.work("size * size / 1000")
+        self.assertEqual((status, said[-1]), (1, "0 passed, 1 failed"))
+        self.assertRegex(said[0], r"\(too much: [34]\.\d\d times as many a byte at the large size\)$")
+
+    def test_a_kind_of_the_table(self) -> None:
+        status, said = self.work("size * size", "led")
+        self.assertEqual((status, said[-1]), (0, "1 passed, 0 failed"))
+        self.assertRegex(said[0], r"^led: 0\.01 MB [\d,]+ a byte, 0\.04 MB [\d,]+ a byte \(allowed: ")
+
+    def test_growth_py(self) -> None:
+        words = (os.path.join("bench", "growth.py"), "--count", "program", "hostile", "0.1", "0.4", "toggled")
+        self.assertEqual(self.run_with(COUNTS % "size * 50", *words).stdout.splitlines()[-1][:16], "| `toggled` | 0.")
+        self.assertRegex(self.run_with(COUNTS % "size * 50", *words).stdout, r"\| 0\.1 \| 5\.0 \| 50 \| 0\.4 \| 20\.\d \| 50 \| 1\.00 \|\n$")
+        self.assertTrue(self.run_with(REFUSES, *words).stdout.endswith("| `toggled` | - | - | - | - | - | - | - |\n"))
+
+    @unittest.skipUnless(shutil.which("valgrind"), "valgrind is not installed")
+    def test_the_program(self) -> None:
+        run = subprocess.run([os.path.join(TOP, "tools", "dev", "work"), os.environ["NEW_ENEMY"], "alike"], capture_output=True, text=True, timeout=60)
+        self.assertEqual((run.returncode, run.stdout.splitlines()[-1], run.stderr), (0, "1 passed, 0 failed", ""))
