@@ -18,7 +18,7 @@ ghost use Rattle.audit.specs.declared.plain.AuditFault.TheVariants as faults;
 ghost use Rattle.audit.specs.declared.plain.Verdict.TheVariants.{Clean};
 
 use crate::plain::{AuditFault, Verdict};
-use crate::reading::{let_go, of_evidence, of_trace};
+use crate::reading::{of_evidence, of_trace};
 use crate::telling::tell_findings;
 use evidence_check::{Judged, judge_evidence_behind};
 use findings::findings_judged;
@@ -127,13 +127,13 @@ pub fn audit_joined<R: Source, W: Sink>(
     let judgements = match judgements_behind(alloc, rest, input, &trace) {
         Ok(judgements) => judgements,
         Err(fault) => {
-            let_go(trace);
+            drop(trace);
             return Err(fault);
         }
     };
     let found = findings_judged(alloc, &trace, &judgements);
     let entries = trace.len();
-    let_go(trace);
+    drop(trace);
     match found {
         Ok(findings) => tell_findings(alloc, &findings, entries, out),
         Err(_) => Err(AuditFault::OutOfMemory),

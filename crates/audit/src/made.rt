@@ -10,7 +10,7 @@ ghost use Rattle.audit.specs.History.{IsOfHistory};
 ghost use Rattle.audit.specs.Made.{IsMade, record_line, line_without, AreRecords, MakesRecords, BreaksMaking};
 
 use crate::plain::AuditFault;
-use crate::reading::{let_go, trace_from};
+use crate::reading::trace_from;
 use crate::telling::tell;
 use evidence_check::Steps;
 use evidence_maker::{Found, MakeFault, make_after};
@@ -121,7 +121,7 @@ pub fn make_records_listing<A: Source, W: Sink>(
         Err(fault) => return Err(fault),
     };
     let answer = tell_records(alloc, &trace, out);
-    let_go(trace);
+    drop(trace);
     answer
 }
 

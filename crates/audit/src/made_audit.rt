@@ -16,7 +16,7 @@ ghost use Rattle.audit.specs.declared.plain.AuditFault.TheVariants as faults;
 
 use crate::made::steps_for;
 use crate::plain::{AuditFault, Verdict};
-use crate::reading::{let_go, trace_from};
+use crate::reading::trace_from;
 use crate::shared::{Found, are_within_limits, gathered, is_any};
 use crate::telling::tell_findings;
 use audit_slices::{Blind, Board, Check, Free, Names, SliceReport, cut, run_pool};
@@ -157,7 +157,7 @@ fn audit_made_by<A: Source, W: Sink, R: Threads + Wait + Sync>(
     right_and_fresh_without_findings(&trace);
     let found = findings_made(rt, alloc, &trace, workers, size);
     let entries = trace.len();
-    let_go(trace);
+    drop(trace);
     match found {
         Ok(findings) => tell_findings(alloc, &findings, entries, out),
         Err(_) => Err(AuditFault::OutOfMemory),

@@ -12,7 +12,7 @@ ghost use Rattle.findings.specs.Headline.{IsRightAndFresh};
 ghost use Rattle.findings.specs.WrongReplies.{HasOnlyWrongRepliesNamed};
 
 use crate::finder::{Finder, OneThread};
-use crate::reading::{let_go, trace_from};
+use crate::reading::trace_from;
 use crate::telling::tell_findings;
 use evidence_check::{Evidence, EvidenceFault};
 use findings::findings_of;
@@ -108,7 +108,7 @@ pub(crate) fn audit_with<A: Source, B: Source, W: Sink, F: Finder<B>>(
     right_and_fresh_without_findings(&trace);
     let found = finder.findings(alloc, &trace, evidence);
     let entries = trace.len();
-    let_go(trace);
+    drop(trace);
     match found {
         Ok(findings) => tell_findings(alloc, &findings, entries, out),
         Err(fault) => Err(fault),

@@ -30,9 +30,6 @@ pub(crate) fn trace_from<R: Source>(alloc: Global, reader: &mut R) -> Result<Tra
     }
 }
 
-/// Lets go of a trace. Where it is dropped in place, each proof behind that goes through all parts of it.
-pub(crate) fn let_go(_trace: Trace) {}
-
 /// A fault of the trace, where want of memory is told as such.
 pub(crate) fn of_trace(fault: TraceFault) -> AuditFault
     ensures same { (f : TraceFault) → result ≡ faults.Trace f → f ≡ fault }

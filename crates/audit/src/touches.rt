@@ -8,7 +8,7 @@ ghost use Rattle.audit.specs.Devices.{reads, writes};
 ghost use Rattle.audit.specs.History.{touch_text, history_text, TellsHistory, BreaksHistory, IsOfHistory};
 
 use crate::plain::AuditFault;
-use crate::reading::{let_go, trace_from};
+use crate::reading::trace_from;
 use crate::telling::tell;
 use json_lines::{Sink, Source};
 use std::alloc::{AllocError, Global};
@@ -83,6 +83,6 @@ pub fn history<A: Source, W: Sink>(
         Err(fault) => return Err(fault),
     };
     let answer = tell_history(alloc, &trace, tuple, out);
-    let_go(trace);
+    drop(trace);
     answer
 }
