@@ -3,11 +3,13 @@
 Of the share of checks that ask of a document called `fixed`, which no later write touches, the reply is a wrong one; of those that
 ask of a document called `early`, the state before its last change is looked at, whatever the request demands. A check of the document
 `held` has no answer; a line on standard output says that it came. A list for the user `broken` breaks off behind its first object.
+The feed never shows a change of the document `hidden`, and a change of the document `slow`, with all behind it, half a second late.
 """
 import json
 import re
 import sys
 import threading
+import time
 import urllib.parse
 from datetime import datetime, timezone
 from random import Random
@@ -26,6 +28,7 @@ class OpenFga:
         self.faults, self.key = faults, key
         self.models = [{"id": "01HMODEL0000000000000000%02d" % 1, **model}]
         self.feed = []
+        self.written = []
         self.states = [frozenset()]
         self.lock = threading.Lock()
         self.random = Random(11)
@@ -55,11 +58,14 @@ class OpenFga:
             listed = [("WRITE", key) for key in body.get("writes", {}).get("tuple_keys", ())]
             listed += [("DELETE", key) for key in body.get("deletes", {}).get("tuple_keys", ())]
             keys = [(kind, (key["user"], key["relation"], key["object"])) for kind, key in listed]
-            if any((kind == "WRITE") == (key in state) for kind, key in keys):
+            idle = [(kind == "WRITE") == (key in state) for kind, key in keys]
+            if any(idle) and body.get("deletes", {}).get("on_missing") != "ignore":
                 handler.answer({"code": "write_failed_due_to_invalid_input", "message": "is there, or is not"}, 400)
                 return
+            keys, listed = ([one for one, is_idle in zip(given, idle) if not is_idle] for given in (keys, listed))
             for (kind, key), (_, given) in zip(keys, listed):
                 (state.add if kind == "WRITE" else state.discard)(key)
+                self.written.append(time.monotonic())
                 self.feed.append({"tuple_key": given, "operation": "TUPLE_OPERATION_" + kind, "timestamp": at})
                 # A write is whole: nobody sees a state within it.
                 self.states.append(None)
@@ -69,9 +75,16 @@ class OpenFga:
     def changes(self, handler, method, body, query):
         with self.lock:
             first = int(query.get("continuation_token") or 0)
-            page = self.feed[first:first + int(query.get("page_size", 50))]
-            token = str(first + len(page)) if page else query.get("continuation_token", "")
-        handler.answer({"changes": page, "continuation_token": token})
+            end = min(first + int(query.get("page_size", 50)), self.last_shown())
+            page, token = self.feed[first:end], str(end) if first < end else query.get("continuation_token", "")
+        shown = [one for one in page if one["tuple_key"]["object"] != "document:hidden"]
+        handler.answer({"changes": shown, "continuation_token": token})
+
+    def last_shown(self):
+        for place, (change, at) in enumerate(zip(self.feed, self.written)):
+            if change["tuple_key"]["object"] == "document:slow" and at > time.monotonic() - 0.5:
+                return place
+        return len(self.feed)
 
     def check(self, handler, method, body, query):
         key = body["tuple_key"]

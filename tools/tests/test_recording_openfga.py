@@ -141,3 +141,135 @@ class Cached(OpenFga):
 
     def test_where_the_newest_state_was_asked_for(self):
         self.assertEqual(self.found_with("--stale-by", "60", consistency=NEWEST), {"F10 wrong reply"})
+
+
+class Written(OpenFga):
+    """Writes that pass the recorder and are answered before a check is asked, which the changes show later."""
+
+    def begin(self, *words):
+        recorder = self.start_recorder(*words)
+        self.client = Client(self.port)
+        self.addCleanup(self.client.close)
+        return recorder
+
+    def viewer(self, thing, kind="writes", user=USERS[1], **more):
+        return self.call(self.client, "write", {kind: {"tuple_keys": [key(user, "viewer", thing)], **more}})[0]
+
+    def save(self, thing, version):
+        status, answer = self.check(self.client, USERS[0], "editor", thing, X_Content_Save=version)
+        self.assertEqual(status, 200)
+        return answer["allowed"]
+
+    def lows(self):
+        """Of each content check the lowest state that it may have seen, by its version."""
+        return {row["version"]: row["snapshot"] if "snapshot" in row else row["newest_between"][0] for row in self.of_kind("content")}
+
+    def removals(self):
+        """Of each tuple the last revision at which it was removed."""
+        return {tuple(row["remove"][0]): row["revision"] for row in self.of_kind("write") if "remove" in row}
+
+    def lost(self):
+        found = {}
+        for row in self.of_kind("gap"):
+            found[row["reason"]] = found.get(row["reason"], 0) + row.get("lost", 0)
+        found.pop("the log begins", None)
+        return found
+
+    def test_a_removal_right_before_a_save(self):
+        """What was answered before the check counts before it, however often a tuple comes and goes between two readings."""
+        self.start_service(MODEL)
+        self.prepare()
+        recorder = self.begin()
+        for number in range(44):
+            thing = DOCUMENTS[number % 6]
+            for kind in ["writes", "deletes"] * (1 + number % 3):
+                self.assertEqual(self.viewer(thing, kind), 200)
+            self.assertTrue(self.save(thing, "v%d" % number))
+        self.end(recorder)
+        lows, writes = self.lows(), [row for row in self.of_kind("write") if "base" not in row]
+        made = 0
+        for number in range(44):
+            made += 2 * (1 + number % 3)
+            self.assertEqual((lows["v%d" % number], "remove" in writes[made - 1]), (writes[made - 1]["revision"], True))
+        self.assertEqual(self.lost(), {})
+        self.import_log()
+        self.assertEqual(self.found(), {})
+
+    def test_a_stale_answer_right_behind_a_removal(self):
+        self.start_service(MODEL, "1", "planted")
+        recorder = self.begin()
+        self.write(self.client, key(USERS[0], "owner", EARLY[0]))
+        self.wait_for(lambda: len(self.of_kind("write")) == 2)
+        self.write(self.client, key(USERS[0], "owner", EARLY[0]), kind="deletes")
+        self.assertTrue(self.save(EARLY[0], "v"))
+        self.end(recorder)
+        self.import_log()
+        self.assertIn("F10 wrong reply", set().union(*self.found().values()))
+
+    def test_many_at_once(self):
+        """Clients that write and save at the same time; each save comes behind the removal of its client."""
+        self.start_service(MODEL)
+        self.prepare()
+        recorder = self.begin()
+
+        def work(client, random, number, turn):
+            user = "user:c%d.%d" % (number, turn)
+            for kind in "writes", "deletes":
+                self.assertEqual(self.write(client, key(user, "viewer", DOCUMENTS[0]), kind=kind)[0], 200)
+            self.check(client, USERS[0], "editor", DOCUMENTS[0], X_Content_Save=user)
+        self.run_clients(8, 25, work)
+        self.end(recorder)
+        lows, removals = self.lows(), {one[4]: revision for one, revision in self.removals().items()}
+        self.assertEqual(len(lows), 200)
+        self.assertEqual([user for user, low in lows.items() if low < removals[user[5:]]], [])
+        self.assertEqual(self.lost(), {})
+        self.import_log()
+        self.assertEqual(self.found(), {})
+
+    def test_writes_that_change_nothing(self):
+        """One that failed, and one that is no fault where there is nothing to remove: a later removal is none of theirs."""
+        self.start_service(MODEL)
+        self.prepare()
+        recorder = self.begin("--poll", "0.5")
+        self.viewer(DOCUMENTS[1])
+        self.wait_for(lambda: len(self.of_kind("write")) == 2)
+        self.assertEqual(self.viewer(DOCUMENTS[0], "deletes"), 400)
+        self.assertEqual(self.viewer(DOCUMENTS[0], "deletes", on_missing="ignore"), 200)
+        self.assertTrue(self.save(DOCUMENTS[0], "v"))
+        self.viewer(DOCUMENTS[0])
+        self.viewer(DOCUMENTS[0], "deletes")
+        self.end(recorder)
+        self.assertEqual((self.lows(), self.lost()), ({"v": self.of_kind("write")[1]["revision"]}, {}))
+
+    def test_a_change_that_is_shown_late(self):
+        self.start_service(MODEL)
+        recorder = self.begin()
+        self.write(self.client, key(USERS[0], "owner", "document:slow"))
+        self.viewer("document:slow")
+        self.viewer("document:slow", "deletes")
+        self.assertTrue(self.save("document:slow", "v"))
+        self.end(recorder)
+        self.assertEqual(self.lows(), {"v": self.removals()["document", "slow", "viewer", "user", "u1"]})
+        self.assertEqual(self.lost(), {})
+
+    def test_a_change_that_is_never_shown(self):
+        """The checks behind it are lost, until it is given up; and so they are at the end."""
+        self.start_service(MODEL)
+        self.prepare()
+        recorder = self.begin("--hold", "1")
+        self.viewer("document:hidden")
+        self.save(DOCUMENTS[0], "lost")
+        self.check(self.client, USERS[0], "viewer", DOCUMENTS[0])
+        self.wait_for(lambda: sum(self.lost().values()) == 2 and any("did not show" in one for one in self.lost()), lambda: self.get("said"))
+        self.viewer(DOCUMENTS[0])
+        self.viewer(DOCUMENTS[0], "deletes")
+        self.save(DOCUMENTS[0], "kept")
+        self.wait_for(lambda: "kept" in self.lows())
+        self.viewer("document:hidden", user=USERS[2])
+        self.save(DOCUMENTS[0], "last")
+        self.end(recorder)
+        self.assertEqual(self.lows(), {"kept": self.removals()["document", "d0", "viewer", "user", "u1"]})
+        self.assertEqual(sum(self.lost().values()), 3)
+        self.assertLessEqual(set(self.lost()), {
+            "a write was answered that the changes did not show within 1 seconds", "the changes were more than 1 seconds behind",
+            "the recorder ended before the changes that these needed: content checks"})

@@ -355,7 +355,7 @@ class Keeper:
         now = time.time_ns()
         before = now - int(self.settings.hold * 1e9)
         for number, since in list(self.saves_since.items()):
-            if since < time.monotonic_ns() - int(self.settings.hold * 1e9) and number in self.sequencer.saves:
+            if since < time.monotonic_ns() - int(self.settings.hold * 1e9) and number in self.asked:
                 self._let_go(number)
                 self.unheld.add(number)
         behind = "the changes were more than %g seconds behind" % self.settings.hold

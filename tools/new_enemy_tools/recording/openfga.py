@@ -2,13 +2,15 @@
 
 A revision is a number: that of a change in the feed, counted from the beginning of the log, or of a change of the model.
 OpenFGA does not say which state a reply was computed on. It lies between what was known when the check began and what
-ReadChanges gives after its end.
+ReadChanges gives after its end. Known is what had been read, and what writes had made that passed here and were answered. Their
+answers name no revision, so a check waits until ReadChanges has shown what they made.
 """
 import json
 import re
 import threading
 import time
 from bisect import bisect_right
+from collections import deque
 from functools import partial
 from typing import Any, Callable, NamedTuple, Optional, Union
 from urllib.parse import quote
@@ -35,6 +37,11 @@ PAGE = 100
 IDLE = 1.0
 # Of so many changes the times are remembered.
 TIMES = 100_000
+# Of so many changes it is remembered where they were, for writes whose answers come later.
+RECENT = 20_000
+# So many changes of writes may wait until they are shown.
+MADE = 40_000
+UNSHOWN = "a write was answered that the changes did not show within %g seconds"
 
 
 def call_of(method: str, path: str) -> Optional[str]:
@@ -65,14 +72,24 @@ class Changes(NamedTuple):
 
 
 class Waiting(NamedTuple):
-    """A call that waits for the round behind it."""
+    """A call that waits for the round behind it, and for all writes that were answered before `since`: it saw what was known then."""
 
     message: Ended
     answers: list[Answer]
-    low: int
+    since: int
     newest: bool
     token: Optional[int]
     model: Optional[str]
+
+
+class Made(NamedTuple):
+    """A change that a write made and the feed has yet to show: a tuple and whether it is there now; None is never shown. The write was
+    asked and answered at times of the clock of all processes, and answered at a time."""
+
+    change: Optional[tuple[Relationship, bool]]
+    asked: int
+    answered: int
+    at: int
 
 
 class Model(NamedTuple):
@@ -100,6 +117,12 @@ class OpenFga:
         self.old: list[Waiting] = []
         self.muddled: list[tuple[int, int]] = []
         self.history = Known()
+        # what writes made, by the times of their answers; the last changes, and of each where it stands that no write is known to
+        # have made; and up to where they are forgotten
+        self.made: deque[Made] = deque()
+        self.recent: deque[tuple[tuple[Relationship, bool], int]] = deque()
+        self.shown: dict[tuple[Relationship, bool], list[int]] = {}
+        self.forgotten = 0
         # of each change its time, or the latest before it, and its revision
         self.times: list[int] = []
         self.places: list[int] = []
@@ -116,7 +139,9 @@ class OpenFga:
             self.kicked.wait(IDLE)
             self.kicked.clear()
             put(Round())
-            put(Changes(time.monotonic_ns(), *self._read()))
+            changes, rules = self._read()
+            # What was read is known from now on, and may be newer than the beginning of the reading.
+            put(Changes(time.monotonic_ns(), changes, rules))
             time.sleep(self.settings.poll)
 
     def _begin(self, left: Optional[Left], put: Callable[[Any], None]) -> None:
@@ -129,7 +154,7 @@ class OpenFga:
             refuse_unread(*model)
         except Unread as fault:
             raise FeedFault(str(fault)) from None
-        put(Base(left, changes, self.cursor, *model))
+        put(Base(left, changes, self.cursor, *model, time.monotonic_ns()))
 
     def _read(self) -> tuple[list[Change], Optional[tuple[Optional[ServiceRules], Refusals]]]:
         """All changes that there are, and the model where it is another; only then the next reading goes on behind them."""
@@ -196,7 +221,7 @@ class OpenFga:
                 lines.append(rules.data if rules.revision == self.revision else ruled(
                     base.rules, base.refusals, self.revision, False).data)
         self.models = [Model(rules.id or "", self.revision)]
-        self.history, self.began = Known(self.revision), time.monotonic_ns()
+        self.history, self.began = Known(self.revision), base.received
         keeper.sequencer.reached = self.revision
         place = Place(base.cursor, self.revision, rules.hash)
         keeper.begin_log(Begun(lines, not base.changes, place))
@@ -213,6 +238,8 @@ class OpenFga:
         before = self.revision
         for change in message.changes:
             keeper.put_commit(self._commit(change, message.received))
+            self.recent.append(((change.given, change.live), self.revision))
+            self.shown.setdefault((change.given, change.live), []).append(self.revision)
         if message.rules is not None:
             self._take_rules(*message.rules, message.received, keeper)
             if message.changes:
@@ -223,9 +250,22 @@ class OpenFga:
             for listed in self.times, self.places:
                 del listed[:max(0, len(listed) - TIMES)]
         keeper.sequencer.reached = self.revision
+        self._settle()
+        self._give_up(message.received - int(self.settings.hold * 1e9), keeper)
         waiting, self.old = self.old, []
         for one in waiting:
-            keeper.tried(one.message, partial(self._put, one, keeper))
+            if self.made and self.made[0].answered <= one.since:
+                self.old.append(one)
+                self.kicked.set()
+            else:
+                keeper.tried(one.message, partial(self._put, one, keeper))
+        while len(self.recent) > RECENT and not self.made:
+            change, self.forgotten = self.recent.popleft()
+            shown = self.shown.get(change, [])
+            if shown[:1] == [self.forgotten]:
+                del shown[0]
+            if not shown:
+                self.shown.pop(change, None)
 
     def _take_rules(self, rules: Optional[ServiceRules], refusals: Refusals, received: int, keeper: Keeper) -> None:
         try:
@@ -239,6 +279,50 @@ class OpenFga:
         self.takes.add(found.rules)
         self.models.append(Model(found.id or "", self.revision))
         keeper.put_commit(Commit(self.revision, found.data, received, None, found.hash))
+
+    # Writes
+
+    def _note(self, message: Ended) -> None:
+        """What a write made that has its answer. Where it is no fault that a tuple is there, or is not, it may have made nothing."""
+        asked = message.clock - (message.at - message.begun)
+        if message.request is None or message.status >= 300 or asked < self.began:
+            return
+        request = json.loads(message.request)
+        for part, otherwise, live in ("writes", "on_duplicate", True), ("deletes", "on_missing", False):
+            given = get(request, part)
+            for one in get(given, "tuple_keys") or [] if (get(given, otherwise) or "error") == "error" else []:
+                if len(self.made) < MADE:
+                    self.made.append(Made((relationship_of(one), live), asked, message.clock, message.at))
+                else:
+                    self.made[-1] = Made(None, asked, message.clock, message.at)
+        self._settle()
+
+    def _settle(self) -> None:
+        """What the feed has shown of what writes made was known when they were answered.
+
+        A write made a change behind what was known when it was asked. Of those that are the same, each write in the order of the
+        answers takes the first that is left: the last that some writes made is this one, or one after it.
+        """
+        while self.made:
+            first = self.made[0]
+            known = self.history.at(first.asked)
+            shown = self.shown.get(first.change, []) if first.change and known >= self.forgotten else []
+            place = bisect_right(shown, known)
+            if place == len(shown):
+                return
+            self.history.add(first.answered, shown.pop(place))
+            self.made.popleft()
+
+    def _give_up(self, before: int, keeper: Keeper) -> None:
+        """What was made before a time and is not shown yet is waited for no longer; the calls that need it are lost."""
+        while self.made and self.made[0].answered < before:
+            first = self.made.popleft()
+            lost = [one for one in self.new + self.old if one.since >= first.answered]
+            self.new, self.old = ([one for one in listed if one.since < first.answered] for listed in (self.new, self.old))
+            for one in lost:
+                keeper.forget(one.message.number)
+            keeper.lose(UNSHOWN % self.settings.hold, first.at, sum(len(one.answers) for one in lost))
+            self._settle()
 
     # Calls
 
@@ -258,8 +342,11 @@ class OpenFga:
 
     def end(self, message: Ended, asked: Asked, keeper: Keeper) -> None:
         self.kicked.set()
-        if message.call in ("write", "rules") or "/stores/%s/" % self.store not in message.path:
+        is_ours = "/stores/%s/" % self.store in message.path
+        if message.call in ("write", "rules") or not is_ours:
             keeper.forget(message.number)
+            if message.call == "write" and is_ours and keeper.is_ready:
+                self._note(message)
             return
         request, response = json.loads(message.request or b""), body_of(message)
         if message.call == "stream":
@@ -269,16 +356,16 @@ class OpenFga:
             keeper.forget(message.number)
             return
         newest = message.save is not None or get(request, "consistency") == "HIGHER_CONSISTENCY"
-        low = asked.known if newest or not self.settings.stale else self._stale(asked.clock)
+        since = asked.clock if newest else self._stale(asked.clock)
         token = None if message.token is None or newest and message.save is None else self._place_of(message.token)
-        self.new.append(Waiting(message, answers, low, newest, token, get(request, "authorization_model_id") or None))
+        self.new.append(Waiting(message, answers, since, newest, token, get(request, "authorization_model_id") or None))
 
     def _stale(self, clock: int) -> int:
-        """The oldest that a check may have seen that does not ask for the newest state."""
+        """When that was known which a check has seen at least that does not ask for the newest state."""
         since = clock - int(self.settings.stale * 1e9)
-        if since < self.began and not self.is_from_empty:
+        if self.settings.stale and since < self.began and not self.is_from_empty:
             raise Bad("a check may have seen a state from before the log")
-        return self.history.at(since)
+        return since
 
     def _place_of(self, token: str) -> int:
         """The last change at or before a time."""
@@ -310,15 +397,16 @@ class OpenFga:
 
     def _span(self, one: Waiting, high: int) -> Union[str, tuple[int, int]]:
         """From where to where a check may have looked; or why that can't be said."""
-        if any(one.low < end and high > start for start, end in self.muddled):
+        low = self.history.at(one.since)
+        if any(low < end and high > start for start, end in self.muddled):
             return "the model and tuples changed at once"
         for model, behind in zip(self.models, [*self.models[1:], None]):
-            start, end = max(one.low, model.start), high if behind is None else min(high, behind.start - 1)
+            start, end = max(low, model.start), high if behind is None else min(high, behind.start - 1)
             if start <= end and model.id is None:
                 return "a model that can't be read"
             if start <= end and model.id == one.model:
                 return start, end
-        return (one.low, high) if one.model is None else "a check by another model than the latest"
+        return (low, high) if one.model is None else "a check by another model than the latest"
 
 
 class Base(NamedTuple):
@@ -329,6 +417,7 @@ class Base(NamedTuple):
     cursor: Optional[str]
     rules: Optional[ServiceRules]
     refusals: Refusals
+    received: int
 
 
 def _model(data: bytes) -> Optional[tuple[Optional[ServiceRules], Refusals]]:
