@@ -27,6 +27,7 @@ KIND is one of
   led            usersets that are not declared, stored behind a group that is, and facts that hold through that group
   led_through    the same through a tupleset
   led_far        a user of many groups, and documents that each store the first of these behind many others
+  led_again      a user of many groups, and a document that stores the first of these behind many others, asked for again and again
   wide_rule      a rule of many places in nested unions and intersections of two leaves, and records of many facts
   same_fact      the same, with one fact again and again
   wide_computed  a rule of many places that compute 250 other relations
@@ -370,6 +371,19 @@ def led_far(size):
     return given
 
 
+def led_again(size):
+    """One record: what is known of a user, and then one fact many times, which the first known fact and the first stored userset show."""
+    given = grouped(size)
+    groups = size // 150
+    given.commit(["doc:a#viewer@group:0#member"])
+    barred(given, size // 3)
+    given.commit([f"group:{k}#member@1" for k in range(groups)])
+    known = [{"yes": f"group:{k}#member@1"} for k in range(groups)]
+    times = min(max((min(size, LINE) - given.bytes) // 26 - groups, 10), 30000)
+    given.check("doc:a#viewer@1", True, known + [{"yes": "doc:a#viewer@1"}] * times)
+    return given
+
+
 def parented(size, namespaces):
     """Documents that are viewed through what stands in their tupleset."""
     through = {"tuple_to": {"tupleset": "parent", "computed": "viewer"}}
@@ -577,6 +591,7 @@ KINDS = {
     "led": led,
     "led_through": led_through,
     "led_far": led_far,
+    "led_again": led_again,
     "wide_rule": wide_rule,
     "same_fact": same_fact,
     "wide_computed": wide_computed,
