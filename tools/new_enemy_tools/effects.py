@@ -12,6 +12,7 @@ from typing import Iterable, NamedTuple, Optional
 
 from new_enemy_tools.findings import Finding
 from new_enemy_tools.kept import Entry
+from new_enemy_tools.looked import Looked
 from new_enemy_tools.meaning import Outgrown, Settled
 from new_enemy_tools.order import Window, ignored
 from new_enemy_tools.reach import Reach
@@ -112,11 +113,17 @@ class Sums(NamedTuple):
     undecided: int
     harmless: int
 
-    def __str__(self) -> str:
-        said = "%d %s wrong, %d stale %s that let someone in, %d that kept someone out, " % (
-            self.wrong, "reply" if self.wrong == 1 else "replies", self.let_in,
-            "answer" if self.let_in == 1 else "answers", self.kept_out)
-        return said + ("%d undecided, " % self.undecided if self.undecided else "") + "%d harmless" % self.harmless
+    def has_stale_count(self, looked: Looked) -> bool:
+        """Whether a count of stale answers says something: where none could be looked for, none is no answer."""
+        return self.let_in + self.kept_out > 0 or not looked.is_none
+
+    def said(self, looked: Looked) -> str:
+        stale = "stale answers to checks not looked for" if not self.has_stale_count(looked) else (
+            "%d stale %s that let someone in, %d that kept someone out" % (
+                self.let_in, "answer" if self.let_in == 1 else "answers", self.kept_out))
+        said = "%d %s wrong, %s, " % (self.wrong, "reply" if self.wrong == 1 else "replies", stale)
+        said += ("%d undecided, " % self.undecided if self.undecided else "") + "%d harmless" % self.harmless
+        return said + ("; " + looked.counted if looked.counted else "")
 
 
 def sums_of(told: Iterable[Told]) -> Sums:

@@ -58,9 +58,10 @@ def keyed_row_of(telling: Telling, told: Told) -> Row:
 
 def sums_row(telling: Telling) -> Row:
     report = telling.report
-    return {"sums": {**telling.sums._asdict(), "text": telling.said}, "entries": report.entries,
-            "findings": len(report.findings), "told": len(telling.told), "ignored": len(telling.ignored),
-            "known": len(telling.known), "verdict": report.verdict, "named": telling.names.ids is not None}
+    return _present({"sums": {**telling.sums._asdict(), "text": telling.said}, "entries": report.entries,
+                     "findings": len(report.findings), "told": len(telling.told), "ignored": len(telling.ignored),
+                     "known": len(telling.known), "verdict": report.verdict, "named": telling.names.ids is not None,
+                     **telling.looked._asdict(), "note": telling.looked.note})
 
 
 _json = json.JSONEncoder(ensure_ascii=False, separators=(",", ":")).encode
@@ -136,6 +137,8 @@ def sentence(row: Row) -> str:
 
 def text(telling: Telling) -> Iterator[str]:
     yield telling.said
+    if telling.looked.note:
+        yield telling.looked.note
     for told in telling.told:
         yield plain("line %d: %s" % (told.finding.line, sentence(row_of(telling, told))))
 
@@ -149,7 +152,8 @@ def junit(telling: Telling) -> Iterator[str]:
     yield '<?xml version="1.0" encoding="UTF-8"?>'
     yield '<testsuites><testsuite name="new_enemy" tests="%d" failures="%d" errors="0" skipped="%d">' % (
         len(telling.report.findings) + len(trace.entries) - len(found), len(telling.told), len(skipped))
-    yield '<properties><property name="sums" value=%s/></properties>' % _attribute(telling.said)
+    note = "" if telling.looked.note is None else '<property name="note" value=%s/>' % _attribute(telling.looked.note)
+    yield '<properties><property name="sums" value=%s/>%s</properties>' % (_attribute(telling.said), note)
     for told in telling.told:
         row = row_of(telling, told)
         yield "%s><failure type=%s message=%s>%s</failure></testcase>" % (
@@ -188,7 +192,8 @@ def _xml(text: str) -> str:
 
 def annotations(telling: Telling) -> Iterator[str]:
     """Workflow commands, as GitHub's and Gitea's runners read them."""
-    yield "::notice title=new_enemy::%s" % _data(telling.said)
+    for said in filter(None, (telling.said, telling.looked.note)):
+        yield "::notice title=new_enemy::%s" % _data(said)
     for told in telling.told:
         row, place = row_of(telling, told), place_of(telling, told.entry)
         title = "%s %s, effect %s" % (row["finding"], row["text"], row["effect"])

@@ -98,11 +98,17 @@ class Writer:
         yield '<p>Verdict <span class="verdict %s">%s</span> of %s in <code>%s</code>, with %s.</p>' % (
             report.verdict, report.verdict, _counted(report.entries, "entry", "entries"), markup(self.telling.path),
             _counted(len(report.findings), "finding", "findings"))
-        yield '<p id="said">%s.</p><ul class="sums">' % markup(self.telling.said)
-        for count, mark, words in ((sums.wrong, "wrong", "reply wrong" if sums.wrong == 1 else "replies wrong"), (sums.let_in, "changed", "stale, let someone in"),
-                                   (sums.kept_out, "changed", "stale, kept someone out"),
+        yield '<p id="said">%s.</p>' % markup(self.telling.said)
+        if self.telling.looked.note:
+            yield '<p id="note">%s</p>' % markup(self.telling.looked.note)
+        yield '<ul class="sums">'
+        has_stale = sums.has_stale_count(self.telling.looked)
+        for count, mark, words in ((sums.wrong, "wrong", "reply wrong" if sums.wrong == 1 else "replies wrong"),
+                                   (sums.let_in if has_stale else None, "changed", "stale, let someone in"),
+                                   (sums.kept_out if has_stale else None, "changed", "stale, kept someone out"),
                                    (sums.undecided, "undecided", "undecided"), (sums.harmless, "none", "harmless")):
-            yield '<li><strong%s>%s</strong> %s</li>' % (' class="%s"' % mark if count else "", format(count, ","), words)
+            yield '<li><strong%s>%s</strong> %s</li>' % (
+                ' class="%s"' % mark if count else "", "not looked for:" if count is None else format(count, ","), words)
         yield "</ul>"
         if len(self.pages) > 1:
             yield '<p class="soft">Page %d of %d: findings %s to %s of %s, the worst first.</p>' % (

@@ -70,8 +70,8 @@ def sarif(telling: Telling) -> Iterator[str]:
     """What is ignored stands there as suppressed; what is known from a baseline does not."""
     driver = {"name": "new_enemy", "rules": _rules()}
     yield '{"$schema":%s,"version":"2.1.0","runs":[{"tool":{"driver":%s},' % (_json(SCHEMA), _json(driver))
-    note = {"level": "note", "message": {"text": telling.said}}
-    yield '"invocations":[{"executionSuccessful":true,"toolExecutionNotifications":[%s]}],' % _json(note)
+    notes = [{"level": "note", "message": {"text": said}} for said in (telling.said, telling.looked.note) if said]
+    yield '"invocations":[{"executionSuccessful":true,"toolExecutionNotifications":%s}],' % _json(notes)
     yield '"properties":%s,"results":[' % _json(sums_row(telling))
     listed: list[tuple[Told, Optional[Ignored]]] = [(told, None) for told in telling.told] + list(telling.ignored)
     for number, (told, ignored) in enumerate(listed, 1):

@@ -8,6 +8,7 @@ from new_enemy_tools.effects import Effects, Sums, Told, by_effect, sums_of
 from new_enemy_tools.findings import ON_TOKENS, Finding, Report, ReportFault
 from new_enemy_tools.ignoring import Row
 from new_enemy_tools.kept import Entry
+from new_enemy_tools.looked import Looked
 from new_enemy_tools.names import Names
 from new_enemy_tools.order import order_findings
 from new_enemy_tools.trace import Trace
@@ -29,13 +30,14 @@ class Telling(NamedTuple):
     path: str
     report: Report
     sums: Sums
+    looked: Looked
 
     @property
     def said(self) -> str:
         """The sums as a sentence, with what is not told."""
         left = [("%d ignored", len(self.ignored)), ("%d known from the baseline", len(self.known))]
         not_told = ", ".join(words % count for words, count in left if count)
-        return str(self.sums) + ("; not told: " + not_told if not_told else "")
+        return self.sums.said(self.looked) + ("; not told: " + not_told if not_told else "")
 
 
 def _entry_of(number: int, finding: Finding, trace: Trace) -> Entry:
@@ -88,13 +90,13 @@ def parts_of(told: Told, names: Names) -> dict[str, str]:
             **names.question(told.entry.goal)._asdict()}
 
 
-def telling_of(told: list[Told], trace: Trace, names: Names, path: str, report: Report,
+def telling_of(told: list[Told], trace: Trace, names: Names, path: str, report: Report, looked: Looked,
                out: Optional[LeftOut] = None) -> Telling:
     """Each finding is told, ignored, or known from the baseline; a key that stands there once is known once."""
     rows = [] if out is None else [row for row in out.rows if row.until >= out.today]
     left = Counter() if out is None else Counter(out.baseline)
     if not rows and not left:
-        return Telling(told, [], [], trace, names, path, report, sums_of(told))
+        return Telling(told, [], [], trace, names, path, report, sums_of(told), looked)
     said: list[Told] = []
     ignored: list[tuple[Told, Row]] = []
     known: list[Told] = []
@@ -108,7 +110,7 @@ def telling_of(told: list[Told], trace: Trace, names: Names, path: str, report: 
             known.append(one)
         else:
             said.append(one)
-    return Telling(said, ignored, known, trace, names, path, report, sums_of(said))
+    return Telling(said, ignored, known, trace, names, path, report, sums_of(said), looked)
 
 
 def warnings_of(telling: Telling, out: LeftOut) -> list[str]:

@@ -67,6 +67,7 @@ class Days(DayCase):
             "line 9: F10 wrong reply (two:2)", "entries 3", "findings 4", "verdict dirty"])
         rows = self.rows("days/day000002/report.jsonl")
         self.assertEqual(rows[0]["sums"]["wrong"], 2)
+        self.assertEqual([rows[0][key] for key in ("entries", "checks", "with_version", "with_token")], [3, 3, 1, 0])
         self.assertEqual([(row["line"], row["finding"], row["effect"], row["file"], row["file_line"]) for row in rows[1:]], [
             (6, "F10", "wrong", "one", 5), (9, "F10", "wrong", "two", 2), (6, "F4", "changed", "one", 5), (9, "F2", "none", "two", 2)])
         self.assertEqual(rows[1]["named"], "doc:1#reader@user:anne")
@@ -153,6 +154,23 @@ class Days(DayCase):
         os.remove(self.path("days/day000003/told"))
         told = "day: day 3 was audited by a run that was broken off; its report:\n"
         self.assertEqual(self.day("log"), (1, third.stdout, told + third.stderr))
+
+    def test_what_nobody_looked_for(self):
+        """The count of stale answers says of how many checks of that day; one that is held over counts with the day that tells it."""
+        goal, gone = rel("1", "viewer", "anne"), rel("1", "viewer", "bob")
+        days = {"none": [RULES, write(1, goal), content(1, "v1", goal=goal, token=1), check(1, goal=gone), check(9, goal=goal, version="v1", token=9)],
+                "some": [write(9), check(1, goal=gone, version="v1", token=1), check(9, goal=goal), check(9, goal=goal), write(10), check(20, goal=goal)]}
+        said = []
+        for number, (name, log) in enumerate(days.items(), 1):
+            self.put(name, log)
+            self.assertEqual(self.day(name).returncode, 1)
+            sums = self.rows("days/day%06d/report.jsonl" % number)[0]
+            said.append((sums["sums"]["text"], sums["note"].partition(":")[0].partition(",")[0]))
+        self.assertEqual(said, [
+            ("1 reply wrong, stale answers to checks not looked for, 0 harmless; of 1 check none names a content version, none carries a token",
+             "Stale answers to checks were not looked for"),
+            ("1 reply wrong, 0 stale answers that let someone in, 0 that kept someone out, 1 harmless; of 4 checks 2 name a content version, "
+             "2 carry a token", "On checks that name no content version")])
 
     def test_files_of_a_recorder(self):
         """Each day gets all files that there are; those of days before are left out, and one that is still written."""

@@ -228,7 +228,8 @@ class Stories(Audited):
         values = BOB + [check(20, 9, True, version="v2"), check(20, 4, False, version="v2"), check(21, 9, False, version="v2"),
                         check(20, 12, False, version="v2"), check(21, 12, True)]
         sums, *rows = self.told(values, self.audit(values))
-        self.assertEqual(sums["sums"]["text"], "1 reply wrong, 1 stale answer that let someone in, 0 that kept someone out, 3 harmless")
+        self.assertEqual(sums["sums"]["text"], "1 reply wrong, 1 stale answer that let someone in, 0 that kept someone out, 3 harmless; "
+                         "of 5 checks 4 name a content version, none carries a token")
         self.assertEqual([(row["line"], row["finding"], row["effect"], row.get("outcome"), row.get("seen")) for row in rows], [
             (9, "F10", "wrong", "let in", None), (5, "F2", "changed", "let in", 12), (6, "F2", "possible", None, 12),
             (7, "F2", "none", None, 12), (8, "F2", "none", None, 12)])
@@ -236,21 +237,23 @@ class Stories(Audited):
     def test_kept_out(self):
         values = BOB[:2] + [check(20, 2, False, zookie=zookie_text(7)), check(30, 2, False, zookie=zookie_text(7))]
         sums, *rows = self.told(values, self.audit(values))
-        self.assertEqual(sums["sums"]["text"], "0 replies wrong, 0 stale answers that let someone in, 1 that kept someone out, 1 harmless")
+        self.assertEqual(sums["sums"]["text"], "0 replies wrong, 0 stale answers that let someone in, 1 that kept someone out, 1 harmless; "
+                         "of 2 checks none names a content version, 2 carry a token")
         self.assertEqual([row.get("outcome") for row in rows], ["kept out", None])
 
     def test_wrong_and_stale_counts_once(self):
         """A reply that no state explains is wrong, and its stale snapshot does not count again."""
         values = BOB[:3] + [check(21, 7, True, zookie=zookie_text(10))]
         sums, *rows = self.told(values, self.audit(values))
-        self.assertEqual(sums["sums"]["text"], "1 reply wrong, 0 stale answers that let someone in, 0 that kept someone out, 0 harmless")
+        self.assertEqual(sums["sums"]["text"], "1 reply wrong, 0 stale answers that let someone in, 0 that kept someone out, 0 harmless; "
+                         "of 1 check none names a content version, 1 carries a token")
         self.assertEqual([(row["finding"], row["effect"]) for row in rows], [("F10", "wrong"), ("F1", "none")])
 
     def test_without_evidence(self):
         values = BOB + [check(20, 12, False)]
         sums, _ = self.told(values, "line 5: F7 no evidence\nentries 2\nfindings 1\nverdict dirty\n")
-        self.assertEqual(sums["sums"]["text"], "0 replies wrong, 0 stale answers that let someone in, 0 that kept someone out, "
-                         "1 undecided, 0 harmless")
+        self.assertEqual(sums["sums"]["text"], "0 replies wrong, stale answers to checks not looked for, 1 undecided, 0 harmless; "
+                         "of 1 check none names a content version, none carries a token")
 
     def test_a_report_of_another_trace(self):
         self.put("trace.jsonl", BOB + [check(20, 12, False)])

@@ -194,7 +194,8 @@ class Findings(Case):
             run = self.run_tool("make-evidence", "trace")
             self.assertEqual((run.returncode, run.stdout.count("\n"), run.stderr), (0, 1, "gave up 2\n"))
             lines = self.run_tool("report", "--form", "text", "trace", "report").stdout.splitlines()
-            self.assertEqual(lines[0], "1 reply wrong, 0 stale answers that let someone in, 1 that kept someone out, 1 undecided, 0 harmless")
+            self.assertEqual(lines[0], "1 reply wrong, 0 stale answers that let someone in, 1 that kept someone out, 1 undecided, 0 harmless; "
+                             "of 3 checks none names a content version, 2 carry a token")
             self.assertIn("No more is told: %s." % told, self.run_tool("report", "--form", "html", "trace", "report").stdout)
 
     def test_many_lines(self):

@@ -5,7 +5,7 @@ from collections import Counter
 from datetime import date, timedelta
 
 from tests.support import EXAMPLES, Case
-from tests.test_report import FOUND, SUMS
+from tests.test_report import FOUND, NOTE, SUMS
 
 SOON = (date.today() + timedelta(days=2)).isoformat()
 TODAY = date.today().isoformat()
@@ -42,7 +42,7 @@ class Sarif(Pipelines):
         run, = log["runs"]
         rules = run["tool"]["driver"]["rules"]
         self.assertEqual([rule["id"] for rule in rules], ["F%d" % number for number in range(1, 11)])
-        self.assertEqual(run["invocations"][0]["toolExecutionNotifications"][0]["message"]["text"], SUMS)
+        self.assertEqual([one["message"]["text"] for one in run["invocations"][0]["toolExecutionNotifications"]], [SUMS, NOTE])
         self.assertTrue(run["invocations"][0]["executionSuccessful"])
         self.assertEqual(len(run["results"]), 10)
         for result in run["results"]:
@@ -83,7 +83,8 @@ class Baselines(Pipelines):
             sums, *told = self.rows("--baseline", form)
             self.assertEqual([row["finding"] for row in told], ["F3", "F8", "F6"])
             self.assertEqual((sums["told"], sums["known"], sums["findings"]), (3, 7, 10))
-            self.assertTrue(sums["sums"]["text"].endswith(" 1 undecided, 1 harmless; not told: 7 known from the baseline"))
+            self.assertTrue(sums["sums"]["text"].endswith(
+                " 1 undecided, 1 harmless; of 8 checks 2 name a content version, 2 carry a token; not told: 7 known from the baseline"))
         log = json.loads(self.report("--baseline", "jsonl", "--form", "sarif"))
         self.assertEqual(len(log["runs"][0]["results"]), 3)
         self.assertEqual(self.report("--baseline", "jsonl", "--form", "junit").count("<skipped message=\"known from the baseline\"/>"), 7)

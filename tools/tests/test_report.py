@@ -2,7 +2,10 @@
 import json
 import os
 import xml.etree.ElementTree
+from collections import Counter
+from random import Random
 
+from new_enemy_tools.looked import _by_bytes, looked_in
 from tests.support import EXAMPLES, Case
 
 FOUND = """line 5: F1 stale
@@ -19,7 +22,11 @@ entries 11
 findings 10
 verdict dirty
 """
-SUMS = "1 reply wrong, 2 stale answers that let someone in, 0 that kept someone out, 3 undecided, 4 harmless"
+SUMS = "1 reply wrong, 2 stale answers that let someone in, 0 that kept someone out, 3 undecided, 4 harmless; of 8 checks 2 name a content version, 2 carry a token"
+DO = ("The application has to name the version on each check that shows content: in the header X-Content-Version, where the recorder writes "
+      "the log (docs/RECORDING.md), or as `version` in a log of your own (docs/IMPORTING.md).")
+NOTE = ("On checks that name no content version, stale answers about new content were not looked for. Answers older than a token were, where "
+        "they carry one. " + DO)
 
 
 class Reports(Case):
@@ -37,7 +44,7 @@ class Reports(Case):
         sums, *rows = [json.loads(line) for line in run.stdout.splitlines()]
         self.assertEqual(sums, {"sums": {"wrong": 1, "let_in": 2, "kept_out": 0, "undecided": 3, "harmless": 4, "text": SUMS},
                                 "entries": 11, "findings": 10, "told": 10, "ignored": 0, "known": 0, "verdict": "dirty",
-                                "named": False})
+                                "named": False, "checks": 8, "with_version": 2, "with_token": 2, "note": NOTE})
         self.assertEqual([(row["finding"], row["effect"], row["severity"]) for row in rows], [
             ("F10", "wrong", "error"), ("F1", "changed", "error"), ("F3", "changed", "error"), ("F7", "undecided", "warning"),
             ("F8", "undecided", "warning"), ("F9", "undecided", "warning"), ("F2", "none", "note"), ("F4", "none", "note"),
@@ -53,16 +60,16 @@ class Reports(Case):
 
     def test_text(self):
         lines = self.report("--form", "text").stdout.splitlines()
-        self.assertEqual(lines[0], SUMS)
-        self.assertEqual(lines[2], "line 5: F1 stale: check of doc:a#viewer@1 at snapshot 5 replied true, token of 7, "
+        self.assertEqual(lines[:2], [SUMS, NOTE])
+        self.assertEqual(lines[3], "line 5: F1 stale: check of doc:a#viewer@1 at snapshot 5 replied true, token of 7, "
                          "effect changed: someone was let in")
-        self.assertEqual(len(lines), 11)
+        self.assertEqual(len(lines), 12)
 
     def test_junit(self):
         run = self.report("--form", "junit")
         suite = xml.etree.ElementTree.fromstring(run.stdout)[0]
         self.assertEqual((suite.get("tests"), suite.get("failures"), len(suite)), ("11", "10", 12))
-        self.assertEqual(suite[0][0].get("value"), SUMS)
+        self.assertEqual([(one.get("name"), one.get("value")) for one in suite[0]], [("sums", SUMS), ("note", NOTE)])
         self.assertEqual(suite[2].get("name"), "line 5: doc:a#viewer@1")
         self.assertEqual((suite[2].get("file"), suite[2].get("line")), ("trace.jsonl", "5"))
         self.assertEqual(suite[2].find("failure").get("message"), "F1 stale, effect changed")
@@ -72,10 +79,10 @@ class Reports(Case):
 
     def test_annotations(self):
         lines = self.report("--form", "annotations").stdout.splitlines()
-        self.assertEqual(lines[0], "::notice title=new_enemy::" + SUMS)
-        self.assertEqual(lines[8], "::notice file=trace.jsonl,line=8,title=F4 open snapshot%2C effect none::F4 open snapshot: check "
+        self.assertEqual(lines[:2], ["::notice title=new_enemy::" + SUMS, "::notice title=new_enemy::" + NOTE])
+        self.assertEqual(lines[9], "::notice file=trace.jsonl,line=8,title=F4 open snapshot%2C effect none::F4 open snapshot: check "
                          "of doc:a#viewer@1 at snapshot 9 replied false, see line 9, effect none")
-        self.assertEqual([line.split()[0] for line in lines], ["::notice"] + ["::error"] * 3 + ["::warning"] * 3 + ["::notice"] * 4)
+        self.assertEqual([line.split()[0] for line in lines], ["::notice"] * 2 + ["::error"] * 3 + ["::warning"] * 3 + ["::notice"] * 4)
 
     def test_the_place_in_the_log(self):
         self.put("trace.jsonl", self.get("trace.jsonl").replace('"snapshot":5,"reply":true,"zookie":"z1-0000000000000007"',
@@ -95,8 +102,10 @@ class Reports(Case):
     def test_clean(self):
         self.put("trace.jsonl", "")
         run = self.report(text="entries 0\nfindings 0\nverdict clean\n")
-        self.assertEqual((run.returncode, json.loads(run.stdout)["sums"]["text"]), (
-            0, "0 replies wrong, 0 stale answers that let someone in, 0 that kept someone out, 0 harmless"))
+        sums = json.loads(run.stdout)
+        self.assertEqual((run.returncode, sums["sums"]["text"], sums["checks"]), (
+            0, "0 replies wrong, 0 stale answers that let someone in, 0 that kept someone out, 0 harmless", 0))
+        self.assertNotIn("note", sums)
 
     def test_reports_that_are_not_whole(self):
         lines = FOUND.splitlines()
@@ -122,3 +131,92 @@ class Reports(Case):
         self.put("trace.jsonl", "{}\n")
         run = self.report()
         self.assertEqual((run.returncode, run.stderr.splitlines()[0]), (2, "trace line 1: unknown kind"))
+
+
+RULES = {"kind": "namespace", "name": "doc", "relations": [{"name": "viewer"}, {"name": "editor"}]}
+SAVED = {"kind": "content", "goal": "doc:a#editor@1", "snapshot": 0, "reply": True, "version": "v", "zookie": "z1-" + 16 * "0"}
+FOUR = "0 replies wrong, 0 stale answers that let someone in, 0 that kept someone out, 0 harmless"
+
+
+def asked(**more):
+    return {"kind": "check", "goal": "doc:a#viewer@1", "snapshot": 0, "reply": False, **more}
+
+
+class WhatNobodyLookedFor(Case):
+    """A count of no stale answers says of how many checks somebody could look for them."""
+
+    def sums(self, *entries, spaces=(",", ":")):
+        self.put("trace.jsonl", "".join(json.dumps(one, separators=spaces) + "\n" for one in (RULES, *entries)))
+        run = self.run_tool("report", "trace.jsonl", "-", stdin="entries %d\nfindings 0\nverdict clean\n" % len(entries))
+        self.assertEqual((run.returncode, run.stderr), (0, ""))
+        return json.loads(run.stdout)
+
+    def test_no_version_and_no_token(self):
+        sums = self.sums(SAVED, asked(), asked())
+        self.assertEqual(sums["sums"], {"wrong": 0, "let_in": 0, "kept_out": 0, "undecided": 0, "harmless": 0, "text": "0 replies wrong, stale "
+                         "answers to checks not looked for, 0 harmless; of 2 checks none names a content version, none carries a token"})
+        self.assertEqual(sums["note"], "Stale answers to checks were not looked for: no check names the content version that it shows, and none "
+                         "carries a token. " + DO)
+
+    def test_tokens_alone(self):
+        sums = self.sums(SAVED, asked(), asked(zookie=SAVED["zookie"]))
+        self.assertEqual(sums["sums"]["text"], FOUR + "; of 2 checks none names a content version, 1 carries a token")
+        self.assertEqual(sums["note"], "Stale answers about new content were not looked for: no check names the content version that it shows. "
+                         "Answers older than a token were, on checks that carry one. " + DO)
+
+    def test_some_versions(self):
+        sums = self.sums(SAVED, asked(), asked(), asked(version="v", zookie=SAVED["zookie"]))
+        self.assertEqual((sums["sums"]["text"], sums["note"]), (FOUR + "; of 3 checks 1 names a content version, 1 carries a token", NOTE))
+
+    def test_all_versions(self):
+        for sums in self.sums(SAVED, asked(version="v", zookie=SAVED["zookie"])), self.sums(SAVED):
+            self.assertEqual((sums["sums"]["text"], "note" in sums), (FOUR, False))
+
+    def test_stale_answers_that_were_found_all_the_same(self):
+        """A content check that was answered before the latest commit counts, and the sums say so."""
+        self.put("trace.jsonl", [RULES, {"kind": "commit", "at": 5, "add": ["doc:a#editor@1"]}, {"kind": "commit", "at": 7, "remove": ["doc:a#editor@1"]},
+                                 {**SAVED, "snapshot": 5, "zookie": "z1-%016x" % 5}, asked(snapshot=7)])
+        run = self.run_tool("report", "--form", "text", "trace.jsonl", "-", stdin="line 4: F3 not latest, see line 3\nentries 2\nfindings 1\nverdict dirty\n")
+        self.assertEqual(run.stdout.splitlines()[0], "0 replies wrong, 1 stale answer that let someone in, 0 that kept someone out, 0 harmless; of 1 "
+                         "check none names a content version, none carries a token")
+
+    def test_lines_of_any_form(self):
+        """Counts of bytes are those of a reader of JSON."""
+        entries = [SAVED, asked(version="v"), asked(zookie=SAVED["zookie"], version="v"), asked(zookie=None, version=None), asked()]
+        wanted = {"checks": 4, "with_version": 2, "with_token": 1}
+        for more, spaces in (({}, (",", ":")), ({}, (", ", ": ")), ({"from": "\"version\":\"\n"}, (",", ":")), ({"from": "version"}, (",", ":"))):
+            for some in (entries, [{key: value for key, value in one.items() if value is not None} for one in entries]):
+                sums = self.sums(*({**one, **more} for one in some), spaces=spaces)
+                self.assertEqual({key: sums[key] for key in wanted}, wanted, (more, spaces))
+
+    def test_random_lines(self):
+        """The same, of lines of which some have escapes, spaces, values that are names of keys, or are broken."""
+        random, ways = Random("what nobody looked for"), Counter()
+        values = {"goal": ["doc:a#b@1", "version"], "zookie": ["z", None, "version"], "version": ["v", None, "zookie", "kind"],
+                  "from": ["a", "\\", '"version":"', "kind"]}
+        for _ in range(2000):
+            rows, lines = [], []
+            for _ in range(random.randrange(6)):
+                row = {"kind": random.choice(["check", "check", "content", "commit", "namespace"])}
+                named = [key for key in values if random.random() < 0.5 and (row["kind"] in ("check", "content") or key == "from")]
+                row.update((key, random.choice(values[key])) for key in named)
+                lines.append(json.dumps(row, separators=random.choice([(",", ":"), (",", ":"), (", ", ": ")])))
+                rows.append(row)
+            if random.random() < 0.2:
+                lines.append(random.choice(["", "{", "[1]", '{"kind":1}']))
+            checks = [row for row in rows if row["kind"] == "check"]
+            wanted = (len(checks), *(sum(row.get(key) is not None for row in checks) for key in ("version", "zookie")))
+            data = "\n".join(lines).encode() + random.choice([b"", b"\n"])
+            self.assertEqual(looked_in(data), wanted, data)
+            ways[_by_bytes(data) is None] += 1
+        self.assertGreater(min(ways[True], ways[False]), 200)
+
+    def test_a_page(self):
+        self.sums(asked())
+        page = self.run_tool("report", "--form", "html", "trace.jsonl", "-", stdin="entries 1\nfindings 0\nverdict clean\n").stdout
+        self.assertIn("<li><strong>not looked for:</strong> stale, let someone in</li>", page)
+        self.assertIn('<p id="note">Stale answers to checks were not looked for: no check names', page)
+        self.sums(asked(version="v"))
+        page = self.run_tool("report", "--form", "html", "trace.jsonl", "-", stdin="line 2: F6 unknown version\nentries 1\nfindings 1\nverdict dirty\n").stdout
+        self.assertIn("<li><strong>0</strong> stale, let someone in</li>", page)
+        self.assertNotIn('id="note"', page)

@@ -23,6 +23,7 @@ from new_enemy_tools.findings import read_report
 from new_enemy_tools.forms import FORMS
 from new_enemy_tools.ids import gaps_in
 from new_enemy_tools.ignoring import read_rows
+from new_enemy_tools.looked import looked_in
 from new_enemy_tools.names import Names
 from new_enemy_tools.progress import Progress
 from new_enemy_tools.quick import OtherForm
@@ -102,7 +103,7 @@ class Teller:
             self.report = report_text(given.report)
         report = read_report(self.report)
         told = told_of(trace, report, self.progress.steps("looked at %s findings"))
-        telling = telling_of(told, trace, Names(ids), given.trace, report, out)
+        telling = telling_of(told, trace, Names(ids), given.trace, report, looked_in(self.data), out)
         gaps = gaps_in(self.data)
         warnings = ["the log of this trace has gaps (%d): what was asked in them is not in this report" % gaps] if gaps else []
         return Told(telling, warnings + warnings_of(telling, out), [] if given.form == "html" else list(form_of(given.form)(telling)))

@@ -6,7 +6,9 @@ from new_enemy_tools.faults import ToolFault
 from new_enemy_tools.findings import ON_TOKENS, Report
 from new_enemy_tools.forms import FORMS
 from new_enemy_tools.ids import Ids
+from new_enemy_tools.looked import Looked, looked_in
 from new_enemy_tools.names import Names
+from new_enemy_tools.parting.blocks import Blocks
 from new_enemy_tools.quick import OtherForm
 from new_enemy_tools.telling import telling_of, told_of
 from new_enemy_tools.trace import Trace
@@ -60,6 +62,15 @@ def _lines(carried: list[Row], kinds: str, own: list[Row]) -> list[Numbered]:
     return [(row.line, row.raw) for row in carried if row.kind in kinds] + [(row.line, row.raw) for row in own]
 
 
+def looked_at(found: Audited, own: Own) -> Looked:
+    """Of the entries that are told with a window: its own and those that were held over, but for those that are held over now."""
+    looked = looked_in(b"\n".join([row.raw for row in found.carried if row.kind == "h"]))
+    with own.open() as file:
+        for block in Blocks(file):
+            looked = looked.plus(looked_in(block))
+    return looked.plus(looked_in(b"\n".join([row.raw for row in found.carry.rows if row.kind == "h"])), -1)
+
+
 def json_rows(found: Audited, own: Own, ids: Optional[Ids]) -> list[str]:
     """The report of a window as rows of JSON."""
     lines = lines_for(found, own)
@@ -72,5 +83,5 @@ def json_rows(found: Audited, own: Own, ids: Optional[Ids]) -> list[str]:
 def _rows(trace: Trace, found: Audited, own: Own, ids: Optional[Ids]) -> list[str]:
     told = found.told
     report = Report(told.findings, len(trace.entries), told.verdict)
-    telling = telling_of(told_of(trace, report), trace, Names(ids), own.path, report)
+    telling = telling_of(told_of(trace, report), trace, Names(ids), own.path, report, looked_at(found, own))
     return list(FORMS["jsonl"](telling._replace(report=report._replace(entries=told.entries))))
