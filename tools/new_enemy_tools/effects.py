@@ -1,7 +1,7 @@
 """Whether a finding mattered: what the commits that an entry ignored do to its answer.
 
 The effect of a finding on tokens is one of
-  none      no ignored commit touches what the goal leads to
+  none      no ignored commit bears on the question: it touches nothing that the goal leads to
   possible  some does, and the reply is the answer at the newest state that had to be seen
   changed   some does, and the reply is not the answer there
 A wrong reply is `wrong`; what lacks good evidence, or whose goal leads to too much to be looked at, is `undecided`. The answers are the
@@ -23,6 +23,11 @@ from new_enemy_tools.trace import Trace
 # The worst first.
 EFFECTS = ("wrong", "changed", "undecided", "possible", "none")
 RANKS = {word: rank for rank, word in enumerate(EFFECTS)}
+MEANT = {"wrong": "the reply is wrong at its own snapshot",
+         "changed": "the answer that had to be seen is another",
+         "undecided": "nothing was shown of the reply",
+         "possible": "an ignored commit bears on the question, and the answer is the same",
+         "none": "no ignored commit bears on the question"}
 SEVERITIES = {"wrong": "error", "changed": "error", "undecided": "warning", "possible": "warning", "none": "note"}
 UNDECIDED = ("F7", "F8", "F9")
 

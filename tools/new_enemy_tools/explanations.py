@@ -16,6 +16,10 @@ from new_enemy_tools.trace import Trace
 SHOWN = 10
 # How many commits are looked at, at most, for one after which a reply was right.
 LOOKED = 1_000
+# What the commits are that a finding is of.
+COMMITS = {"F1": "Commits that the token demands and the snapshot does not have", "F2": "Commits that the check had to demand and did not",
+           "F3": "Commits before it that it did not look at", "F4": "Commits on later lines that its snapshot takes in",
+           "F6": "Commits between its snapshot and that one"}
 # What is said of a userset without grounds.
 BARE = {"above": ", as above", "long": ", and so on", "": ", which is not declared at the snapshot"}
 
@@ -114,7 +118,7 @@ class Explainer:
         elif ground.empty is not None:
             yield "%snothing is stored in %s%s" % (indent, self.names.userset(ground.empty), away)
         elif ground.why is not None:
-            by = ", by %s, added by %s" % (self.names.tuple(ground.stored), self._line_at(ground.since)) \
+            by = ", by %s, added %s" % (self.names.tuple(ground.stored), self._at(ground.since)) \
                 if ground.stored is not None and ground.since is not None else ""
             yield from self._told_reason(ground.why, depth, by + away)
 
@@ -122,12 +126,12 @@ class Explainer:
         if ground.touch is None:
             return "not stored"
         at, is_live = ground.touch
-        return "%s by %s" % ("stored, added" if is_live else "not stored, removed", self._line_at(at))
+        return "%s %s" % ("stored, added" if is_live else "not stored, removed", self._at(at))
 
-    def _line_at(self, at: int) -> str:
+    def _at(self, at: int) -> str:
         commit = commit_at(self.trace, at)
         assert commit is not None
-        return "line %d at %d%s" % (commit.line, at, " (%s)" % commit.source if commit.source else "")
+        return "at %d (line %d%s)" % (at, commit.line, ", " + commit.source if commit.source else "")
 
     # The findings
 
@@ -139,41 +143,45 @@ class Explainer:
             return
         if finding == "F2":
             at = zookie_at(entry)
-            demanded = Window(-1 if at is None else at, max(window.high, self.trace.entries[related or 0].snapshot))
-        yield from self._commits(entry, demanded or window, window)
+            demanded = Window(-1 if at is None else at, self.trace.entries[related or 0].snapshot)
+        yield from self._commits(entry, COMMITS[finding], demanded or window, window)
         yield from self._effect(entry, finding, window)
 
     def _first(self, entry: Entry, finding: str, related: Optional[int], window: Window) -> str:
+        at = zookie_at(entry)
         if finding == "F1":
-            return "The token demands everything up to %d, and the snapshot is %d." % (window.high, entry.snapshot)
+            return "The token demands all commits up to %d, and the service looked at those up to %d, its snapshot." % (window.high, entry.snapshot)
         if finding == "F2":
-            at = zookie_at(entry)
-            return "The version was issued at snapshot %d, and the check's token demands %s." % (
-                self.trace.entries[related or 0].snapshot, "nothing" if at is None else "no more than %d" % at)
+            issued = self.trace.entries[related or 0].snapshot
+            return "Version %s was issued at snapshot %d, so the check had to demand all commits up to %d. %s" % (
+                self.names.version(entry.version or ""), issued, issued,
+                "It carries no token, and so demands none." if at is None else "Its token demands those up to %d." % at)
         if finding == "F3":
-            return "The latest commit before it is at %d, and the content check was evaluated at %d." % (window.high, entry.snapshot)
+            return "A content check has to look at the newest state. The last commit before it is at %d, and it looked at %d, its snapshot." % (
+                window.high, entry.snapshot)
         if finding == "F4":
-            return "Its snapshot %d takes in commits that stand behind it." % entry.snapshot
+            return "Its snapshot %d takes in commits that stand on later lines, as if they had been there already." % entry.snapshot
         if finding == "F5":
-            return "The content check was evaluated at %d, and the token that was stored with the version is %s." % (
-                entry.snapshot, entry.zookie or "not there")
+            return "The content check looked at %d, so its token has to be of %d. %s" % (
+                entry.snapshot, entry.snapshot, "No token was stored with the version." if at is None else
+                "The token that was stored with the version is %s, of %d." % (entry.zookie, at))
         return self._unknown_version(entry)
 
     def _unknown_version(self, entry: Entry) -> str:
         goal = entry.goal.set
         later = self.trace.line_that_issues(goal, entry.version or "")
-        return "No earlier line issues version %s for %s:%s%s. What it had to see is no newer than the last commit before it." % (
+        return "No earlier line issues version %s for %s:%s%s. So it is not known what the check had to see: at most the last commit before it." % (
             entry.version, goal.namespace, goal.id, "; line %d does, behind it" % later if later else "")
 
     def _wrong(self, entry: Entry, judgement: Optional[Judgement]) -> Iterator[str]:
         """The latest snapshot at which the reply was right, and the commit after it."""
         if judgement is None:
-            yield "F10 wrong reply, where the evidence settles the goal"
+            yield "F10 wrong reply, as this tool finds without evidence"
         elif judgement.finding == "F10 wrong reply":
             yield judgement.finding
         else:
             yield "The reply is wrong, which the evidence does not show"
-        yield "By the rules the goal %s at snapshot %d." % ("does not hold" if entry.reply else "holds", entry.snapshot)
+        yield "By the rules the right reply at snapshot %d is %s." % (entry.snapshot, str(not entry.reply).lower())
         turn = turn_of(self.trace, self.effects, entry)
         if turn is None:
             yield "The reply was right at no snapshot that was looked at."
@@ -193,63 +201,64 @@ class Explainer:
 
     def _told(self, commit: Commit, reach: Reach) -> str:
         if commit.changes is not None:
-            return "line %d at %d: new rules of namespace %s" % (commit.line, commit.at, commit.changes)
+            return "%s: new rules of namespace %s" % (self._at(commit.at), commit.changes)
         touched = [("adds", one) for one in commit.add] + [("removes", one) for one in commit.remove]
         touched.sort(key=lambda one: not reach.bears(one[1]))
         said = ", ".join("%s %s" % (verb, self.names.tuple(one)) for verb, one in touched[:SHOWN])
         more = ", and %d more" % (len(touched) - SHOWN) if len(touched) > SHOWN else ""
-        return "line %d at %d%s: %s%s" % (commit.line, commit.at, " (%s)" % commit.source if commit.source else "",
-                                          said or "nothing", more)
+        return "%s: %s%s" % (self._at(commit.at), said or "nothing", more)
 
-    def _commits(self, entry: Entry, demanded: Window, window: Window) -> Iterator[str]:
+    def _commits(self, entry: Entry, head: str, demanded: Window, window: Window) -> Iterator[str]:
         """The commits that had to be seen, those first that touch what the goal leads to."""
         between = self.trace.commits.during(*demanded)
         if not between:
-            yield "No commit lies between."
+            yield head + ": none."
             return
         reach = Reach(self.trace, entry.goal, Window(min(demanded.low, window.low), max(demanded.high, window.high)))
         low, high = demanded
         touching = [at for at in reach.touching() if low < at <= high]
-        yield "Commits between: %d, of which %d touch what the goal leads to." % (len(between), len(touching))
+        yield "%s: %d, of which %s on the question." % (
+            head, len(between), "%d bear" % len(touching) if len(touching) > 1 else "%s bears" % (len(touching) or "none"))
         bearing = set(touching)
         others = (at for at in (self.trace.commits.ats[place] for place in between) if at not in bearing)
-        for mark, listed, count in (("touches", iter(touching), len(touching)), ("other", others, len(between) - len(touching))):
+        for mark, listed, count in (("bears on it", iter(touching), len(touching)), ("other", others, len(between) - len(touching))):
             for at in _first_of(listed, SHOWN):
                 commit = commit_at(self.trace, at)
                 assert commit is not None
-                yield "  %s, %s: %s" % (mark, self._where(entry, commit), self._told(commit, reach))
+                yield "  %s, %s, %s" % (mark, self._where(entry, commit), self._told(commit, reach))
             if count > SHOWN:
                 yield "  %s: %d more" % (mark, count - SHOWN)
 
     @staticmethod
     def _where(entry: Entry, commit: Commit) -> str:
         if commit.at > entry.snapshot:
-            return "above the snapshot"
-        return "within the snapshot" + (", behind the line" if commit.line > entry.line else "")
+            return "after the snapshot"
+        return "within the snapshot" + (", on a later line" if commit.line > entry.line else "")
 
     def _effect(self, entry: Entry, finding: str, window: Window) -> Iterator[str]:
         """What the ignored commits do to the answer, and whether they were seen after all."""
-        which = "behind the line" if finding == "F4" else "above the snapshot"
+        which = "on later lines" if finding == "F4" else "after the snapshot"
         if not self.trace.commits.during(*window):
-            yield "Effect none: its snapshot takes them all in."
+            yield "Effect none: its snapshot takes in all that it had to see."
             return
         effect = self.effects.of(entry, finding).word
         if effect == "none":
-            yield "Effect none: no commit %s touches what the goal leads to." % which
+            yield "Effect none: no commit %s bears on the question." % which
             return
         was_right = self.effects.holds(entry.goal, window.low) == entry.reply
         if effect == "possible":
             yield ("Effect possible: the reply is right with the commits %s and without them; it does not show whether they were seen."
                    if was_right else "Effect possible: the reply is right only with the commits %s; they were seen after all.") % which
         elif was_right:
-            yield "Effect changed: the reply is right only without the commits %s; they were not seen, and %s." % (
+            yield "Effect changed: the reply is right without the commits %s, and wrong with them. They were not seen, and %s." % (
                 which, "someone was let in" if entry.reply else "someone was kept out")
         else:
             yield "Effect changed: the reply is wrong with the commits %s and without them." % which
         if effect == "changed":
-            yield "At %d, the newest state that had to be seen:" % window.high
             settled = Settled(self.trace.rules, self.trace.store, entry.goal, window.high)
-            yield from self._told_reason(Reasons(settled, entry.goal.set).of_goal(), 1, "")
+            reason = Reasons(settled, entry.goal.set).of_goal()
+            yield "At %d, the newest state that had to be seen, the user is %s:" % (window.high, "allowed" if reason.holds else "denied")
+            yield from self._told_reason(reason, 1, "")
 
 
 def _first_of(listed: Iterator[int], most: int) -> Iterator[int]:

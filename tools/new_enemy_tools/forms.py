@@ -5,7 +5,7 @@ from typing import Callable, Iterator, NamedTuple, Optional
 
 from new_enemy_tools import texts
 from new_enemy_tools.baseline import asked_of, key_of, key_with
-from new_enemy_tools.effects import Told
+from new_enemy_tools.effects import MEANT, Told
 from new_enemy_tools.kept import Entry
 from new_enemy_tools.shown import plain
 from new_enemy_tools.telling import Telling
@@ -132,7 +132,7 @@ def sentence(row: Row) -> str:
     for key, words in (("zookie_at", "token of %s"), ("version", "version %s"), ("related", "see line %s"),
                        ("step", "step %s"), ("from", "from %s"), ("effect", "effect %s")):
         said += ", " + words % row[key] if key in row else ""
-    return said + (": someone was %s" % row["outcome"] if "outcome" in row else "")
+    return said + ": " + ("someone was %s" % row["outcome"] if "outcome" in row else MEANT[str(row["effect"])])
 
 
 def text(telling: Telling) -> Iterator[str]:

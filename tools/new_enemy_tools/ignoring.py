@@ -78,7 +78,7 @@ def _row(place: str, line: str) -> Row:
             raise IgnoreFault("%s: `%s` is %r, which no finding has" % (place, name, given))
     until = _day(value.get("until"))
     if "reason" not in value or until is None:
-        raise IgnoreFault("%s: a row has a `reason`, and a day `until` which it holds, as \"2027-01-31\"" % place)
+        raise IgnoreFault("%s: a row needs a `reason`, and a day `until` which it holds, as \"2027-01-31\"" % place)
     matched = {name: given for name, given in value.items() if name not in ("reason", "until")}
     if not matched:
         raise IgnoreFault("%s: a row says what it hides, by one of %s" % (place, ", ".join([*EXACT, *PATTERNS])))

@@ -19,7 +19,7 @@ class Judgement(NamedTuple):
 
 def judge(trace: Trace, entry: Entry, steps: Optional[list[Object]]) -> Judgement:
     if steps is None:
-        return Judgement("F7 no evidence", "No record names the line.")
+        return Judgement("F7 no evidence", "The evidence has no record of this line.")
     known: dict[int, Known] = {}
     for number, step in enumerate(steps, 1):
         facts = [texts.parse_fact(fact) for fact in ([step["yes"]] if "yes" in step else step["no"])]
@@ -36,7 +36,7 @@ def judge(trace: Trace, entry: Entry, steps: Optional[list[Object]]) -> Judgemen
     goal = known.get(_user_of(entry))
     answer = None if goal is None else goal.known.get(entry.goal.set)
     if answer is None:
-        return Judgement("F9 silent evidence", "The steps are accepted, and the goal is in none of them.")
+        return Judgement("F9 silent evidence", "The steps are accepted, and none of them answers the question itself.")
     return Judgement(None if answer == entry.reply else "F10 wrong reply", "", goal)
 
 
@@ -65,5 +65,6 @@ def _take(known: Known, sets: list[Userset], is_yes: bool) -> Optional[Userset]:
 def _why(known: Known, of: Userset) -> str:
     if not known.is_declared(of):
         return "its relation is not declared at the snapshot."
-    said = {True: "its rule is established.", False: "its rule is refuted.", None: "its rule hangs on what no step before shows."}
+    said = {True: "its rule holds, by what is stored and the steps before.", False: "its rule does not hold, by what is stored and the steps before.",
+            None: "its rule hangs on what no step before shows."}
     return said[known.of_rule(of)]

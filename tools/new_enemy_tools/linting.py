@@ -116,7 +116,7 @@ def odd_goals(trace: Trace) -> Iterator[Odd]:
         if of not in told and not any(Userset(of.namespace, of.id, name) in touched
                                       for name in reads.of(of.namespace, of.relation)):
             told.add(of)
-            yield Odd(entry.line, "no commit touches what %s reads" % (of,))
+            yield Odd(entry.line, "nobody ever was in %s: no commit touches what its rule reads" % (of,))
 
 
 def odd_relations(trace: Trace, declared: dict[Name, int]) -> Iterator[Odd]:

@@ -7,7 +7,7 @@ import hashlib
 import os
 from typing import Callable, Iterator, NamedTuple, Optional
 
-from new_enemy_tools.effects import EFFECTS, Told
+from new_enemy_tools.effects import EFFECTS, MEANT, Told
 from new_enemy_tools.findings import FORMS
 from new_enemy_tools.forms import place_of
 from new_enemy_tools.meaning import Outgrown
@@ -20,11 +20,6 @@ PAGE = 1_000
 # So many stories are open from the start.
 OPEN = 10
 HERE = os.path.dirname(os.path.abspath(__file__))
-MEANT = {"wrong": "the reply is wrong at its own snapshot",
-         "changed": "the answer that had to be seen is another",
-         "undecided": "nothing was shown of the reply",
-         "possible": "an ignored commit touches it, and the answer is the same",
-         "none": "no ignored commit touches it"}
 COLUMNS = ("Effect", "Finding", "Where", "Question", "User", "Snapshot", "Reply", "Had to see", "Version")
 
 

@@ -158,7 +158,7 @@ class Teller:
                 self.names.version(entry.version or ""))
         hidden = 0 if window.high <= window.low else len(Reach(self.trace, entry.goal, window).touching()) - COMMITS
         if hidden > 0:
-            yield "%d more ignored commits touch what the question leads to; the last %d are shown." % (hidden, COMMITS)
+            yield "%d more ignored commits bear on the question; the last %d are shown." % (hidden, COMMITS)
 
 
 def _times(reason: Reason, found: set[int]) -> None:

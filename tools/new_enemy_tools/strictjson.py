@@ -78,7 +78,7 @@ def value_of(raw: bytes) -> object:
     except UnicodeDecodeError as fault:
         raise NotJson("the bytes are no UTF-8 at byte %d" % fault.start) from None
     except json.JSONDecodeError as fault:
-        raise NotJson("%s at character %d" % (fault.msg, fault.pos)) from None
+        raise NotJson("%s at character %d" % (fault.msg.removesuffix(" starting at"), fault.pos)) from None
     return value
 
 

@@ -66,59 +66,78 @@ class Findings(Case):
         found, why = self.explained(9, *rows)
         self.assertEqual(found, [
             "F2 old token, see line 8",
-            "The version was issued at snapshot 5, and the check's token demands no more than 1.",
-            "Commits between: 4, of which 2 touch what the goal leads to.",
-            "  touches, within the snapshot: line 5 at 3: adds doc:1#banned@group:g#member",
-            "  touches, above the snapshot: line 6 at 4: adds group:g#member@7, adds group:g#member@8",
-            "  other, within the snapshot: line 4 at 2: adds doc:9#viewer@7",
-            "  other, above the snapshot: line 7 at 5: adds doc:1#banned@8",
-            "Effect changed: the reply is right only without the commits above the snapshot; they were not seen, and someone was let in.",
-            "At 5, the newest state that had to be seen:",
+            "Version v was issued at snapshot 5, so the check had to demand all commits up to 5. Its token demands those up to 1.",
+            "Commits that the check had to demand and did not: 4, of which 2 bear on the question.",
+            "  bears on it, within the snapshot, at 3 (line 5): adds doc:1#banned@group:g#member",
+            "  bears on it, after the snapshot, at 4 (line 6): adds group:g#member@7, adds group:g#member@8",
+            "  other, within the snapshot, at 2 (line 4): adds doc:9#viewer@7",
+            "  other, after the snapshot, at 5 (line 7): adds doc:1#banned@8",
+            "Effect changed: the reply is right without the commits after the snapshot, and wrong with them. They were not seen, and someone was let in.",
+            "At 5, the newest state that had to be seen, the user is denied:",
             "  not in doc:1#viewer",
             "    in doc:1#banned, which takes it away",
-            "      in group:g#member, by doc:1#banned@group:g#member, added by line 5 at 3",
-            "        group:g#member@7 is stored, added by line 6 at 4"])
+            "      in group:g#member, by doc:1#banned@group:g#member, added at 3 (line 5)",
+            "        group:g#member@7 is stored, added at 4 (line 6)"])
         self.assertEqual(why, [
-            "Why allowed:", "  in doc:1#viewer", "    doc:1#viewer@7 is stored, added by line 3 at 1",
+            "Why allowed:", "  in doc:1#viewer", "    doc:1#viewer@7 is stored, added at 1 (line 3)",
             "    not in doc:1#banned, which would take it away", "      doc:1#banned@7 is not stored",
-            "      not in group:g#member, by doc:1#banned@group:g#member, added by line 5 at 3",
+            "      not in group:g#member, by doc:1#banned@group:g#member, added at 3 (line 5)",
             "        group:g#member@7 is not stored"])
         found, why = self.explained(10, *rows)
-        self.assertEqual(found[-1], "Effect none: its snapshot takes them all in.")
+        self.assertEqual(found[-1], "Effect none: its snapshot takes in all that it had to see.")
         self.assertEqual(why[:3], ["Why denied:", "  not in doc:1#viewer", "    in doc:1#banned, which takes it away"])
+
+    def test_an_old_token_of_a_snapshot_that_is_new_enough(self):
+        """What had to be demanded ends where the version was issued, and not at the snapshot."""
+        rows = [commit(1, "doc:1#viewer@7"), commit(2, "doc:9#viewer@7"), entry("content", 2, True, "doc:1#viewer@7", version="v", zookie=token(2)),
+                commit(3, "doc:1#viewer@8"), entry("check", 3, True, version="v"), entry("check", 3, True, version="v", zookie=token(1))]
+        self.assertEqual(self.explained(7, *rows)[0], [
+            "F2 old token, see line 5",
+            "Version v was issued at snapshot 2, so the check had to demand all commits up to 2. It carries no token, and so demands none.",
+            "Commits that the check had to demand and did not: 2, of which 1 bears on the question.",
+            "  bears on it, within the snapshot, at 1 (line 3): adds doc:1#viewer@7",
+            "  other, within the snapshot, at 2 (line 4): adds doc:9#viewer@7",
+            "Effect none: its snapshot takes in all that it had to see."])
+        self.assertEqual(self.explained(8, *rows)[0][2:4], ["Commits that the check had to demand and did not: 1, of which none bears on the question.",
+                                                            "  other, within the snapshot, at 2 (line 4): adds doc:9#viewer@7"])
+
+    def test_a_wrong_token(self):
+        rows = [commit(4, "doc:1#viewer@7"), entry("content", 4, True, version="v", zookie=token(3))]
+        self.assertEqual(self.explained(4, *rows)[0][1], "The content check looked at 4, so its token has to be of 4. The token that was stored with "
+                         "the version is %s, of 3." % token(3))
 
     def test_not_latest(self):
         rows = [commit(1, "doc:1#viewer@7"), commit(3, remove=["doc:1#viewer@7"]),
                 entry("content", 2, True, version="v", zookie=token(2)), entry("content", 1, False)]
         self.assertEqual(self.explained(5, *rows)[0][:5], [
-            "F3 not latest, see line 4", "The latest commit before it is at 3, and the content check was evaluated at 2.",
-            "Commits between: 1, of which 1 touch what the goal leads to.",
-            "  touches, above the snapshot: line 4 at 3: removes doc:1#viewer@7",
-            "Effect changed: the reply is right only without the commits above the snapshot; they were not seen, and someone was let in."])
+            "F3 not latest, see line 4", "A content check has to look at the newest state. The last commit before it is at 3, and it looked at 2, its snapshot.",
+            "Commits before it that it did not look at: 1, of which 1 bears on the question.",
+            "  bears on it, after the snapshot, at 3 (line 4): removes doc:1#viewer@7",
+            "Effect changed: the reply is right without the commits after the snapshot, and wrong with them. They were not seen, and someone was let in."])
         later = self.explained(6, *rows)[0]
-        self.assertEqual(later[4], "Effect possible: the reply is right only with the commits above the snapshot; they were seen after all.")
-        self.assertEqual(later[6], "F10 wrong reply, where the evidence settles the goal")
+        self.assertEqual(later[4], "Effect possible: the reply is right only with the commits after the snapshot; they were seen after all.")
+        self.assertEqual(later[6], "F10 wrong reply, as this tool finds without evidence")
 
     def test_an_open_snapshot(self):
         rows = [commit(1, "doc:1#viewer@7"), entry("check", 5, False), entry("check", 5, True), entry("check", 9, False),
                 commit(4, remove=["doc:1#viewer@7"]), commit(5)]
         self.assertEqual(self.explained(4, *rows)[0], [
-            "F4 open snapshot, see line 7", "Its snapshot 5 takes in commits that stand behind it.",
-            "Commits between: 2, of which 1 touch what the goal leads to.",
-            "  touches, within the snapshot, behind the line: line 7 at 4: removes doc:1#viewer@7",
-            "  other, within the snapshot, behind the line: line 8 at 5: nothing",
-            "Effect possible: the reply is right only with the commits behind the line; they were seen after all."])
-        self.assertEqual(self.explained(5, *rows)[0][5], "Effect changed: the reply is right only without the commits behind the "
-                         "line; they were not seen, and someone was let in.")
+            "F4 open snapshot, see line 7", "Its snapshot 5 takes in commits that stand on later lines, as if they had been there already.",
+            "Commits on later lines that its snapshot takes in: 2, of which 1 bears on the question.",
+            "  bears on it, within the snapshot, on a later line, at 4 (line 7): removes doc:1#viewer@7",
+            "  other, within the snapshot, on a later line, at 5 (line 8): nothing",
+            "Effect possible: the reply is right only with the commits on later lines; they were seen after all."])
+        self.assertEqual(self.explained(5, *rows)[0][5], "Effect changed: the reply is right without the commits on "
+                         "later lines, and wrong with them. They were not seen, and someone was let in.")
 
     def test_no_effect(self):
         rows = [commit(1, "doc:1#viewer@7"), commit(2, "doc:2#viewer@7"), commit(3, "doc:1#viewer@8"), commit(4, "doc:1#viewer@7"),
                 entry("check", 1, True, zookie=token(3)), entry("check", 1, True, zookie=token(4)),
                 entry("check", 1, False, "doc:1#viewer@9", zookie=token(4))]
-        self.assertEqual(self.explained(7, *rows)[0][-1], "Effect none: no commit above the snapshot touches what the goal leads to.")
-        self.assertEqual(self.explained(8, *rows)[0][-1], "Effect possible: the reply is right with the commits above the snapshot and "
+        self.assertEqual(self.explained(7, *rows)[0][-1], "Effect none: no commit after the snapshot bears on the question.")
+        self.assertEqual(self.explained(8, *rows)[0][-1], "Effect possible: the reply is right with the commits after the snapshot and "
                          "without them; it does not show whether they were seen.")
-        self.assertEqual(self.explained(9, *rows)[0][2], "Commits between: 3, of which 0 touch what the goal leads to.")
+        self.assertEqual(self.explained(9, *rows)[0][2], "Commits that the token demands and the snapshot does not have: 3, of which none bears on the question.")
 
     def test_a_wrong_reply(self):
         rows = [commit(1, "doc:1#parent@doc:2#..."), commit(2, "doc:2#viewer@7"), commit(3, "doc:5#viewer@7"),
@@ -126,20 +145,20 @@ class Findings(Case):
                 entry("check", 1, True), entry("check", 9, True, "doc:1#viewer@9")]
         found, why = self.explained(8, *rows)
         self.assertEqual(found, [
-            "F10 wrong reply, where the evidence settles the goal", "By the rules the goal does not hold at snapshot 9.",
+            "F10 wrong reply, as this tool finds without evidence", "By the rules the right reply at snapshot 9 is false.",
             "The latest snapshot at which the reply was right is 3; the commit after it:",
-            "  line 6 at 4: adds doc:2#banned@7"])
+            "  at 4 (line 6): adds doc:2#banned@7"])
         self.assertEqual(why, [
             "Why it should be denied:", "  not in doc:1#viewer", "    doc:1#viewer@7 is not stored",
-            "    not in doc:2#viewer, by doc:1#parent@doc:2#..., added by line 3 at 1",
-            "      in doc:2#banned, which takes it away", "        doc:2#banned@7 is stored, added by line 6 at 4"])
+            "    not in doc:2#viewer, by doc:1#parent@doc:2#..., added at 1 (line 3)",
+            "      in doc:2#banned, which takes it away", "        doc:2#banned@7 is stored, added at 4 (line 6)"])
         found, why = self.explained(9, *rows)
         self.assertEqual(found[2:], ["The latest snapshot at which the reply was right is 1; the commit after it:",
-                                     "  line 4 at 2: adds doc:2#viewer@7"])
+                                     "  at 2 (line 4): adds doc:2#viewer@7"])
         self.assertEqual(why[:4], ["Why it should be allowed:", "  in doc:1#viewer", "    in doc:2#viewer, by doc:1#parent@doc:2#..., "
-                                   "added by line 3 at 1", "      doc:2#viewer@7 is stored, added by line 4 at 2"])
+                                   "added at 1 (line 3)", "      doc:2#viewer@7 is stored, added at 2 (line 4)"])
         self.assertEqual(self.explained(10, *rows)[0][-2:], ["The reply was right at no snapshot up to its own; it is right from "
-                                                             "2 on, by the commit", "  line 4 at 2: adds doc:2#viewer@7"])
+                                                             "2 on, by the commit", "  at 2 (line 4): adds doc:2#viewer@7"])
         self.assertEqual(self.explained(11, *rows)[0][-1], "The reply was right at no snapshot that was looked at.")
 
     def test_new_rules_as_a_commit(self):
@@ -147,7 +166,7 @@ class Findings(Case):
             {"name": "member", "rewrite": {"computed": "owner"}}, {"name": "owner"}]}
         rows = [commit(1, "group:g#member@7"), change, entry("check", 2, True, "group:g#member@7")]
         found, why = self.explained(5, *rows)
-        self.assertEqual(found[-1], "  line 4 at 2: new rules of namespace group")
+        self.assertEqual(found[-1], "  at 2 (line 4): new rules of namespace group")
         self.assertEqual(why, ["Why it should be denied:", "  not in group:g#member", "    not in group:g#owner",
                                "      group:g#owner@7 is not stored"])
 
@@ -157,11 +176,11 @@ class Findings(Case):
                 entry("check", 2, False, "group:a#member@7"), entry("check", 2, False, "doc:1#banned@7"), entry("check", 2, False)]
         self.assertEqual(self.explained(5, *rows)[1], [
             "Why denied:", "  not in group:a#member", "    group:a#member@7 is not stored",
-            "    not in group:b#member, by group:a#member@group:b#member, added by line 3 at 1",
+            "    not in group:b#member, by group:a#member@group:b#member, added at 1 (line 3)",
             "      group:b#member@7 is not stored",
-            "      not in group:a#member, by group:b#member@group:a#member, added by line 3 at 1, as above",
-            "      not in group:c#..., by group:b#member@group:c#..., added by line 3 at 1, which is not declared at the snapshot"])
-        self.assertEqual(self.explained(6, *rows)[1][-1], "    doc:1#banned@7 is not stored, removed by line 4 at 2")
+            "      not in group:a#member, by group:b#member@group:a#member, added at 1 (line 3), as above",
+            "      not in group:c#..., by group:b#member@group:c#..., added at 1 (line 3), which is not declared at the snapshot"])
+        self.assertEqual(self.explained(6, *rows)[1][-1], "    doc:1#banned@7 is not stored, removed at 2 (line 4)")
         self.assertEqual(self.explained(7, *rows)[1], ["Why denied:", "  not in doc:1#viewer", "    doc:1#viewer@7 is not stored",
                                                        "    nothing is stored in doc:1#parent"])
 
@@ -211,11 +230,11 @@ class Findings(Case):
     def test_tokens_and_versions(self):
         rows = [commit(1, "doc:1#viewer@7"), commit(4), entry("check", 1, True, zookie=token(4)),
                 entry("check", 4, True, version="v"), entry("content", 4, True, version="v"), entry("check", 4, True)]
-        self.assertEqual(self.explained(5, *rows)[0][1], "The token demands everything up to 4, and the snapshot is 1.")
+        self.assertEqual(self.explained(5, *rows)[0][1], "The token demands all commits up to 4, and the service looked at those up to 1, its snapshot.")
         self.assertEqual(self.explained(6, *rows)[0][1], "No earlier line issues version v for doc:1; line 7 does, behind it. "
-                         "What it had to see is no newer than the last commit before it.")
-        self.assertEqual(self.explained(7, *rows)[0][1], "The content check was evaluated at 4, and the token that was stored with "
-                         "the version is not there.")
+                         "So it is not known what the check had to see: at most the last commit before it.")
+        self.assertEqual(self.explained(7, *rows)[0][1], "The content check looked at 4, so its token has to be of 4. No token was stored with the "
+                         "version.")
         self.put("trace", NAMESPACES + rows)
         said = self.run_tool("explain", "trace", "8").stdout
         self.assertIn("By the rules the reply is right, and its token and snapshot are in order.\n\nWhy allowed:", said)
@@ -224,8 +243,8 @@ class Findings(Case):
     def test_names(self):
         self.put("ids.jsonl", '{"kind":"user","type":"user","id":"anne","number":1}\n')
         said = self.explained(4, commit(1, "doc:1#viewer@1"), entry("check", 1, False, "doc:1#viewer@1"), words=("--ids", "ids.jsonl"))
-        self.assertEqual(said[0][-1], "  line 3 at 1: adds doc:1#viewer@user:anne")
-        self.assertEqual(said[1][2], "    doc:1#viewer@user:anne is stored, added by line 3 at 1")
+        self.assertEqual(said[0][-1], "  at 1 (line 3): adds doc:1#viewer@user:anne")
+        self.assertEqual(said[1][2], "    doc:1#viewer@user:anne is stored, added at 1 (line 3)")
 
     def test_lines_that_are_no_entries(self):
         self.put("trace", NAMESPACES)
@@ -272,13 +291,14 @@ class Evidence(Case):
         for group in "ab":
             self.put("evidence", '{"line":4,"steps":[%s,{"yes":"group:%s#member@7"},{"yes":"doc:1#viewer@7"}]}\n' % (no, group))
             said = self.run_tool("explain", "--evidence", "evidence", "trace", "4").stdout
-            self.assertIn("    in group:%s#member, by doc:1#viewer@group:%s#member, added by line 3 at 1" % (group, group), said)
+            self.assertIn("    in group:%s#member, by doc:1#viewer@group:%s#member, added at 1 (line 3)" % (group, group), said)
             self.assertEqual(said.count("in group"), 1)
 
     def test_refused_evidence(self):
         self.put("trace", NAMESPACES + [commit(1, "doc:1#viewer@7"), entry("check", 1, True), entry("check", 1, True)])
         for row, told in (('{"line":4,"steps":[{}]}', "evidence line 1: unknown step\n  step 1 has neither yes nor no\n"),
                           ("{", "evidence line 1: not JSON\n  Expecting property name enclosed in double quotes at character 1\n"),
+                          ('{"line":4,"steps', "evidence line 1: not JSON\n  Unterminated string at character 10\n"),
                           ('{"line":4,"steps":7}', "evidence line 1: wrong shape\n  `steps` is no list\n")):
             self.put("evidence", row + "\n")
             run = self.run_tool("explain", "--evidence", "evidence", "trace", "4")

@@ -126,7 +126,7 @@ class GoingOn(CoreCase):
         status, said = self.run_import("events", "--go-on", "left", "--state", "state", "--trace", "next", "log")
         self.assertEqual((status, said), (2, "log:2: it was evaluated at a state of the days before that is not kept any more\nrefused 1\n"))
         self.put("log", [between(check(0, True, goal), 20, 30, False), between(check(0, False, goal), 20, 30, False)])
-        self.assertIn("of 2 checks only two states are known between which the answer lies: 1 right at a state there, 1 wrong at each state there (2 entries)",
+        self.assertIn("2 checks may have looked at any state between two that are known: 1 right at one of them, 1 wrong at each of them (2 entries)",
                       self.imported("events", "--go-on", "left", "--state", "state", "--trace", "next", "log"))
 
     def test_spicedb(self):

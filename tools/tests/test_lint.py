@@ -81,7 +81,7 @@ class Lint(Case):
             'line 3: unknown key "Remove" of a commit; is "remove" meant? (on 2 lines)',
             'line 6: no line issues version "V-2" of doc:1; line 5 issues "v2"',
             'line 7: unknown key "verison" of a check; is "version" meant?',
-            "line 7: no commit touches what doc:2#reader reads"]))
+            "line 7: nobody ever was in doc:2#reader: no commit touches what its rule reads"]))
 
     def test_empty(self):
         self.assertEqual(self.lint(), (1, ["the trace is empty"]))

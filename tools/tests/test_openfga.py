@@ -246,7 +246,7 @@ class Places(Case):
         self.assertEqual(self.audit(log), ["line 7: F10 wrong reply", "line 8: F10 wrong reply", "entries 4", "findings 2",
                                            "verdict dirty"])
         self.assertEqual(self.said[:2], ["commits 3, checks 3, content checks 0",
-                                         "of 3 checks only two states are known between which the answer lies: 2 right at a state there, 1 wrong at each state there (2 entries)"])
+                                         "3 checks may have looked at any state between two that are known: 2 right at one of them, 1 wrong at each of them (2 entries)"])
 
     def test_a_state_without_another_finding_is_taken(self):
         """The token demands place 2, and a reply of place 2 or 3 is right; the content's token is that of place 2."""

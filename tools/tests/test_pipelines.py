@@ -189,8 +189,8 @@ class Ignored(Pipelines):
                           ({"effect": "harmless"}, "`effect` is 'harmless', which no finding has"),
                           ({"key": "x"}, "`key` is 'x', which no finding has"), ({"object": 7}, "`object` is no text"),
                           ({"object": "a", "reason": ""}, "`reason` is no text"),
-                          ({"object": "a", "until": "2027-13-01"}, "a row has a `reason`, and a day `until` which it holds, as \"2027-01-31\""),
-                          ({"object": "a", "until": "20270101"}, "a row has a `reason`, and a day `until` which it holds, as \"2027-01-31\""),
+                          ({"object": "a", "until": "2027-13-01"}, "a row needs a `reason`, and a day `until` which it holds, as \"2027-01-31\""),
+                          ({"object": "a", "until": "20270101"}, "a row needs a `reason`, and a day `until` which it holds, as \"2027-01-31\""),
                           ({}, "a row says what it hides, by one of %s" % keys), ("text", "no object")):
             self.ignore({"finding": "F2"}, row)
             self.assertEqual(self.report("--ignore", "ignore.jsonl", status=2, said="ignore.jsonl:2: %s\n" % said), "")

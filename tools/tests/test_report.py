@@ -81,7 +81,7 @@ class Reports(Case):
         lines = self.report("--form", "annotations").stdout.splitlines()
         self.assertEqual(lines[:2], ["::notice title=new_enemy::" + SUMS, "::notice title=new_enemy::" + NOTE])
         self.assertEqual(lines[9], "::notice file=trace.jsonl,line=8,title=F4 open snapshot%2C effect none::F4 open snapshot: check "
-                         "of doc:a#viewer@1 at snapshot 9 replied false, see line 9, effect none")
+                         "of doc:a#viewer@1 at snapshot 9 replied false, see line 9, effect none: no ignored commit bears on the question")
         self.assertEqual([line.split()[0] for line in lines], ["::notice"] * 2 + ["::error"] * 3 + ["::warning"] * 3 + ["::notice"] * 4)
 
     def test_the_place_in_the_log(self):

@@ -106,6 +106,6 @@ class States:
         """Of how many checks it is not known which state they were answered from."""
         count = self.right + self.wrong
         if count:
-            yield "of %s only two states are known between which the answer lies: %d right at a state there%s" % (
+            yield "%s may have looked at any state between two that are known: %d right at one of them%s" % (
                 "1 check" if count == 1 else "%d checks" % count, self.right,
-                ", %d wrong at each state there (%d entries)" % (self.wrong, self.entries) if self.wrong else "")
+                ", %d wrong at each of them (%d entries)" % (self.wrong, self.entries) if self.wrong else "")
