@@ -1,7 +1,9 @@
 """How much later answers come through tools/record: recording_latency.py [SECONDS [RATE]]
 
 A service that answers every check at once, and a client that asks so many checks a second over 16 connections, each at its time
-whether or not others have their answer. It asks the service and the recorder by turns, a second each, and prints both.
+whether or not others have their answer. It asks the service and the recorder by turns, a second each, and prints both; also what a check
+costs in processor time (the recorder's two processes together, and beside them the service, which is asked twice as often), and its bytes
+in the log.
 """
 import asyncio
 import json
@@ -84,6 +86,12 @@ async def load(port, times, seconds, rate, first):
         one.transport.close()
 
 
+def processor(process):
+    """Waits for a process; the processor time of it and of those that it waited for, in seconds."""
+    _, _, used = os.wait4(process.pid, 0)
+    return used.ru_utime + used.ru_stime
+
+
 def shown(times):
     listed = sorted(times)
     return "p50 %.2f ms, p99 %.2f ms" % tuple(1000 * listed[int(len(listed) * part)] for part in (0.5, 0.99))
@@ -106,15 +114,18 @@ def main(words):
                 for one in times:
                     asyncio.run(load(one, times[one], 1, rate, turn * rate))
             recorder.terminate()
-            recorder.wait()
+            used = processor(recorder)
             with open(os.path.join(room, "log", "000001.jsonl"), encoding="utf-8") as file:
-                recorded = sum('"event":"check"' in line for line in file)
+                recorded = [len(line) for line in file if '"event":"check"' in line]
         finally:
-            service.kill()
+            service.terminate()
+            service_used = processor(service)
             recorder.kill()
+    asked = len(times[port + 1])
     print("the service alone: %s" % shown(times[port]))
     print("through the recorder: %s" % shown(times[port + 1]))
-    print("asked %d, recorded %d" % (len(times[port + 1]), recorded))
+    print("asked %d, recorded %d, of %d bytes each" % (asked, len(recorded), sum(recorded) / len(recorded)))
+    print("processor time of a check: the service %.2f ms, the recorder %.2f ms" % (1000 * service_used / (len(times[port]) + asked), 1000 * used / asked))
 
 
 if __name__ == "__main__":

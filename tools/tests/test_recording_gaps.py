@@ -204,6 +204,21 @@ class Full(Failing):
         self.import_log()
         self.assertEqual(self.found(), {}, self.said_of_audit)
 
+    def test_a_log_that_cannot_be_ended(self):
+        """A recorder that ends while the log can't be written says so by its status, and the next one closes the file with a gap."""
+        self.start_service()
+        recorder = self.start_recorder()
+        resource.prlimit(keeper_of(recorder), resource.RLIMIT_FSIZE, (20_000, resource.RLIM_INFINITY))
+        self.run_clients(4, 50, self.work)
+        self.wait_for(lambda: "cannot write the log: File too large" in self.get("said"))
+        self.end(recorder, 5)
+        self.assertIn("cannot end the log: File too large", self.get("said"))
+        self.assertEqual(set(self.passed), {200})
+        self.end(self.start_recorder())
+        self.assertEqual([row["reason"] for row in self.of_kind("gap")], ["the log begins", "the recorder was killed", "the recorder did not run"])
+        self.assertIn("the log has gaps", self.import_log())
+        self.assert_once()
+
     def test_a_folder_that_is_none(self):
         self.start_service()
         self.put("log", "")

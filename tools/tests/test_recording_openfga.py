@@ -1,10 +1,16 @@
 """tools/record in front of a stand-in of OpenFGA: what it records is imported and audited."""
 import json
 import os
+import re
+import shutil
+import stat
+import subprocess
+import sys
 
+from tests.documents import read
 from tests.recorded import Client, Recorded, counted
 from tests.stand_in_openfga import STORE
-from tests.support import EXAMPLES
+from tests.support import EXAMPLES, TOOLS, Case
 
 MODEL = os.path.join(EXAMPLES, "openfga", "model.json")
 NEWEST = "HIGHER_CONSISTENCY"
@@ -273,3 +279,72 @@ class Written(OpenFga):
         self.assertLessEqual(set(self.lost()), {
             "a write was answered that the changes did not show within 1 seconds", "the changes were more than 1 seconds behind",
             "the recorder ended before the changes that these needed: content checks"})
+
+
+class WhoMayRead(OpenFga):
+    """What docs/RECORDING.md says of what a log holds, and of how files are made."""
+
+    def record(self, *bodies, **headers):
+        self.start_service(MODEL)
+        self.prepare()
+        recorder = self.start_recorder()
+        client = Client(self.port)
+        self.write(client, key("user:bob", "viewer", "document:plan"))
+        self.check(client, USERS[0], "editor", DOCUMENTS[0], X_Content_Save="v1")
+        for body in bodies:
+            self.assertEqual(self.call(client, "check", {"tuple_key": key("user:bob", "viewer", "document:plan"), **body}, **headers)[0], 200)
+        client.close()
+        self.end(recorder)
+
+    def modes(self, folder):
+        return {os.path.join(place, name): oct(stat.S_IMODE(os.stat(os.path.join(place, name)).st_mode))
+                for place, folders, files in os.walk(self.path(folder)) for name in [*folders, *files]}
+
+    def umask(self, mask):
+        self.addCleanup(os.umask, os.umask(mask))
+
+    def test_how_files_are_made(self):
+        """Those of the log are closed to others; what is made of them is as the umask says."""
+        self.umask(0o022)
+        self.record({})
+        self.assertEqual(self.modes("log"), {self.path("log/" + name): "0o600" for name in ("000001.jsonl", "lock")})
+        self.assertEqual(stat.S_IMODE(os.stat(self.path("log")).st_mode), 0o755)
+        for mask, of_files, of_folders in (0o022, "0o644", "0o755"), (0o077, "0o600", "0o700"):
+            self.umask(mask)
+            self.import_log()
+            made = [oct(stat.S_IMODE(os.stat(self.path(name)).st_mode)) for name in ("trace.jsonl", "ids.jsonl")]
+            self.assertEqual(made, [of_files] * 2)
+            run = self.run_tool("day", "--program", os.environ["NEW_ENEMY"], "days", "events", *self.files())
+            self.assertIn(run.returncode, (0, 1), run.stderr)
+            modes = self.modes("days")
+            self.assertEqual(modes.pop(self.path("days/day000001")), of_folders)
+            self.assertEqual(set(modes.values()), {of_files}, modes)
+            for name in "trace.jsonl", "ids.jsonl":
+                os.remove(self.path(name))
+            shutil.rmtree(self.path("days"))
+
+    def test_what_stands_in_it(self):
+        """No line has a key that the page does not name; and contexts, contextual tuples and other headers are not there."""
+        other = {"tuple_keys": [key("user:nobody-may-find", "viewer", "document:nobody-may-find")]}
+        self.record({}, {"contextual_tuples": other}, {"context": {"address": "nobody-may-find"}}, Cookie="nobody-may-find", Forwarded="nobody-may-find",
+                    X_Content_Version="v1")
+        self.assertNotIn("nobody-may-find", "".join(self.get(name) for name in self.files()))
+        named = {}
+        for row in re.findall(r"(?m)^\| (`.*) \|$", read("docs", "RECORDING.md").split("## What the log holds")[1].split("\n## ")[0]):
+            events, keys = row.split(" | ")
+            for event in re.findall("`([a-z]+)`", events):
+                named[event] = set(re.findall("`([a-z0-9_]+)`", keys))
+        found = {}
+        for row in self.events():
+            found.setdefault(row["event"], set()).update(set(row) - {"event"})
+        self.assertEqual(set(found), set(named))
+        for event, keys in found.items():
+            self.assertLessEqual(keys, named[event], event)
+
+
+class Cost(Case):
+    def test_what_is_measured(self):
+        run = subprocess.run([sys.executable, os.path.join(TOOLS, "tests", "recording_latency.py"), "1", "30"], capture_output=True, text=True, timeout=100)
+        times = r"p50 [0-9.]+ ms, p99 [0-9.]+ ms\n"
+        self.assertRegex(run.stdout, r"^the service alone: %sthrough the recorder: %sasked 30, recorded 30, of 1\d\d bytes each\n"
+                         r"processor time of a check: the service [0-9.]+ ms, the recorder [0-9.]+ ms\n$" % (times, times), run.stderr)
