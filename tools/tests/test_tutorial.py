@@ -16,6 +16,11 @@ def cron_line() -> str:
     return str(block)
 
 
+def starting_over() -> str:
+    [over] = re.findall(r"`(for number in \$\(cat [^`]+)`", read(*PAGE))
+    return str(over)
+
+
 class Walked(Shown):
     """A reader's home with a clone, and the page's shell."""
 
@@ -37,6 +42,17 @@ class Tutorial(Walked):
         self.assertEqual(self.get("days", "day000001", "report.txt").splitlines()[-1], "verdict dirty")
         self.assertIn("cannot show F1 stale", self.get("days", "day000001", "import.txt"))
         self.from_cron()
+        self.a_second_walk()
+
+    def a_second_walk(self) -> None:
+        """Nothing that ended has left its number, and what starts over has nothing to say."""
+        audits = os.path.join(self.room, "audits")
+        self.assertEqual([name for name in os.listdir(audits) if name.endswith(".pid")], [])
+        bash = Bash(self.room)
+        self.addCleanup(bash.end)
+        self.assertEqual(bash.printed(starting_over()), "")
+        self.assertFalse(os.path.exists(audits))
+        self.assertEqual(os.listdir(self.room), ["new_enemy"])
 
     def from_cron(self) -> None:
         """The line for cron, with no more than cron gives: it finds the folder, the tools and the days, and no new file."""
@@ -88,9 +104,8 @@ class Stumbled(Walked):
 
     def test_starting_over(self) -> None:
         """What was begun has ended, the clone is there, and the page can be begun again."""
-        [over] = re.findall(r"`(kill \$\(cat [^`]+)`", read(*PAGE))
         pieces = [self.piece(word) for word in ("--version", "model.json", "wait_for()", "service.pid", "recorder.pid")]
-        said = self.said([*pieces, over, "wait", "ls ~", "ls ~/new_enemy", *pieces, "kill $(cat *.pid)", "wait"])
+        said = self.said([*pieces, starting_over(), "wait", "ls ~", "ls ~/new_enemy", *pieces, "kill $(cat *.pid)", "wait"])
         self.assertNotIn("After ", said)
         self.assertEqual(said.count("new_enemy 0."), 2)
         self.assertEqual(said.count("record: recording openfga at"), 2)
