@@ -12,7 +12,8 @@ import sys
 import time
 from random import Random
 
-from tests.support import NE, TOP, Case
+from tests.documents import Shown, read
+from tests.support import EXAMPLES, NE, TOP, Case
 from tests.test_core import check, content, rel, write
 from tests.test_going_on import RULES, between, chained, events_of
 from tests.test_windows import Told
@@ -292,6 +293,31 @@ class Refused(DayCase):
         for words in (["days"], ["days", "events"], ["days", "events", "--trace", "x", "two"], ["days", "events", "--go-on=x", "two"],
                       ["days", "trace", "one", "two"], ["--at-least", "-1", "days", "events", "two"], ["--jobs", "0", "days", "events", "two"]):
             self.refused("usage: ne ", *words, status=3)
+
+
+class FromCron(Shown):
+    """The line for cron of docs/DAILY.md, with no more than cron gives."""
+
+    def run_line(self, *exchanged):
+        [line] = re.findall(r"(?m)^    15 0 \* \* \* (.*)$", read("docs", "DAILY.md"))
+        for old, new in (("/srv/audits", self.room), ("mail-the-duty", "echo the duty"), *exchanged):
+            self.assertEqual(line.count(old), 1)
+            line = line.replace(old, new)
+        run = subprocess.run(["/bin/sh", "-c", line], env={"HOME": self.room, "PATH": os.path.dirname(sys.executable) + ":/usr/bin:/bin"},
+                             capture_output=True, text=True, timeout=60)
+        return run.stdout, run.stderr
+
+    def test_the_line(self):
+        self.link(self.room, "tools")
+        self.assertEqual(self.run_line(), ("the duty\n", "day: log/*.jsonl: No such file or directory\n"))
+        os.mkdir(os.path.join(self.room, "log"))
+        shutil.copy(os.path.join(EXAMPLES, "events", "log.jsonl"), os.path.join(self.room, "log"))
+        out, err = self.run_line()
+        self.assertEqual((out, err.splitlines()[-1]), (
+            "the duty\n", "day: the day has 3 checks and content checks, and at least 1000 are wanted (--at-least)"))
+        self.assertEqual(os.listdir(os.path.join(self.room, "days")), ["lock"])
+        self.assertEqual(self.run_line(("1000", "3"))[0], "entries 2\nheld over 1\nfindings 0\nverdict clean\n")
+        self.assertEqual(self.run_line(("1000", "3"))[0], "the duty\n")
 
 
 class Kills(DayCase):
