@@ -1,17 +1,16 @@
 -- Judging by the evidence behind the marker of joined input.
-use Rattle.std.proofs.Common.{◌≡◌, ◌≢◌, ◌||◌, ℕ, ◌≤◌, true, List, [], length, Result, Ok, Err, refl, ap, sym, subst}
+use Rattle.std.proofs.Common.{◌≡◌, ◌≢◌, ◌||◌, ℕ, ◌≤◌, true, List, length, Result, Ok, Err, refl, subst}
 use Rattle.std.specs.Prelude.{IfErr}
 use Rattle.std.specs.declared.vec.Vec.{Vec}
 use Rattle.std.specs.declared.alloc.Global.{Global}
 use Rattle.json_lines.specs.Joined.{IsTaken}
 use Rattle.json_lines.specs.Reading as reading
 use Rattle.json_lines.specs.Reading.{cause_of, read_all, IsOfLine, IsOfSomeLine}
-use Rattle.json_lines.specs.declared.lines.InputFault.TheVariants as input
 use Rattle.json_lines.specs.declared.reading.LineFault.{LineFault}
 use Rattle.json_lines.proofs.ReadFaults.{of_line_alone, refused_in_words}
 use Rattle.trace_lines.specs.Values.{TraceValue}
 use Rattle.evidence_check.specs.Causes.{of_input, is_memory, is_read}
-use Rattle.evidence_check.specs.Judging.{AreJudged, GivesJudged, no_judgements}
+use Rattle.evidence_check.specs.Judging.{GivesJudged, no_judgements}
 use Rattle.evidence_check.specs.Reading.{evidence_of}
 use Rattle.evidence_check.specs.Records.{Judgements}
 use Rattle.evidence_check.specs.declared.cause.EvidenceCause.{EvidenceCause}

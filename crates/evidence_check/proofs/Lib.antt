@@ -1,4 +1,5 @@
 pub mod BehindLemmas
+pub mod Growing
 pub mod JudgedLemmas
 pub mod Judgements
 pub mod LineCauses

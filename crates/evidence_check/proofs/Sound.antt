@@ -16,7 +16,7 @@ use Rattle.evidence_check.specs.Accepted.{IsProved, IsDisproved, with_no, IsAcce
 use Rattle.evidence_check.specs.Steps.{StepValue, yes_step, no_step}
 
 -- what holds of each fact of a list holds of one that it contains
-each_contained : (P : FactValue → Type 0) (fs : List FactValue) → AllByRecursion P fs → (f : FactValue) → Contains fs f → P f
+pub each_contained : (P : FactValue → Type 0) (fs : List FactValue) → AllByRecursion P fs → (f : FactValue) → Contains fs f → P f
 each_contained P [] h f c = absurd (not_in_nil f c)
 each_contained P (x ∷ xs) h f c = by_cases (λ k. each_contained P xs h.1 f k) (Contains-cons_cases x xs f c)
   where

@@ -3,6 +3,7 @@ pub mod Causes
 pub mod Decided
 pub mod EvidenceCode
 pub mod Evidences
+pub mod Growing
 pub mod Judged
 pub mod Judging
 pub mod Laws

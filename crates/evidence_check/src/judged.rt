@@ -1,9 +1,10 @@
 //! Judging entries.
 
-ghost use Rattle.std.specs.Prelude.{◌≡◌, ◌<◌, ◌↔◌, None, Some, IsTrue, IfOk, OnOk, length, slice_get, option_map, map};
+ghost use Rattle.std.specs.Prelude.{◌≡◌, ◌<◌, ◌↔◌, ◌∷◌, [], List, None, Some, IsTrue, true, IfOk, OnOk, length, slice_get, option_map, map};
 ghost use Rattle.std.specs.List.{AllByRecursion};
 ghost use Rattle.tuple_text.specs.FactRefs.{fact_value};
 ghost use Rattle.tuple_text.specs.Refs.{set_value};
+ghost use Rattle.tuple_text.specs.Tuples.{FactValue};
 ghost use Rattle.namespaces.specs.Lookup.{rule_at};
 ghost use Rattle.namespaces.specs.View.{expression_of};
 ghost use Rattle.evidence_check.specs.Rules.{IsPlainRuleOf};
@@ -11,6 +12,7 @@ ghost use Rattle.version_chains.specs.Commits.{store_at};
 ghost use Rattle.judgement.specs.Facts.{marked_fact};
 ghost use Rattle.trace_lines.specs.Values.{EntryValue, entry_value};
 ghost use Rattle.evidence_check.specs.Accepted.{IsProved, IsDisproved, with_no, after_step, after_steps, nothing_known};
+ghost use Rattle.evidence_check.specs.Growing.{AreFresh, IsBorneOut};
 ghost use Rattle.evidence_check.specs.Evidences.{evidence_value, steps_of};
 ghost use Rattle.evidence_check.specs.Judged.{is_accepted, first_bad, by_reply, by_goal, judged};
 ghost use Rattle.evidence_check.specs.Members.{IsRight, IsWrong};
@@ -119,80 +121,99 @@ fn are_disproved(
     true
 }
 
-/// Puts the facts with the marks of their usersets, each of which is made once, in the place of what was there.
-fn mark_each<'a>(marked: &mut Vec<MarkedFact<'a>>, facts: &[FactRef<'a>]) -> Result<(), AllocError>
-    ensures { OnOk result (map marked_fact marked.new.items ≡ map fact_value facts.now) }
-{
-    marked.clear();
-    marked.reserve(facts.len())?;
-    for fact in facts {
-        marked.push(MarkedFact::of(*fact))?;
-    }
-    Ok(())
-}
-
-/// From now on none of the facts is known to hold.
-fn add_each_no<'a>(
+/// From now on the fact is known not to hold. Where that was not known so before, the fact is put behind those in `fresh`.
+fn deny<'a>(
     known: &mut Known<MarkedFact<'a>>,
-    facts: &[MarkedFact<'a>],
+    fresh: &mut Vec<MarkedFact<'a>>,
+    fact: MarkedFact<'a>,
 ) -> Result<(), AllocError>
-    ensures { OnOk result (known.new ≡ with_no known.old (map marked_fact facts.now)) }
+    ensures known { OnOk result (known.new ≡ with_no known.old (marked_fact fact.entry ∷ [])) }
+    ensures fresh { OnOk result ((before : List FactValue) →
+        AreFresh before known.old.no (map marked_fact fresh.old.items) →
+        AreFresh before known.new.no (map marked_fact fresh.new.items)) }
 {
+    if !known.no_marked(fact.set, fact.user) {
+        fresh.push(fact)?;
+    }
+    known.add_no(fact)?;
+    Ok(())
+}
+
+/// From now on none of the facts is known to hold. Those that were not known so before are put, each once, in the place of what
+/// was in `fresh`.
+fn deny_each<'a>(
+    known: &mut Known<MarkedFact<'a>>,
+    fresh: &mut Vec<MarkedFact<'a>>,
+    facts: &[FactRef<'a>],
+) -> Result<(), AllocError>
+    ensures known { OnOk result (known.new ≡ with_no known.old (map fact_value facts.now)) }
+    ensures fresh { OnOk result (AreFresh known.old.no known.new.no (map marked_fact fresh.new.items)) }
+{
+    fresh.clear();
     for fact in facts {
-        known.add_no(*fact)?;
+        deny(known, fresh, MarkedFact::of(*fact))?;
     }
     Ok(())
 }
 
-/// Whether a step that says a fact is accepted. From now on the fact is known to hold.
+/// Whether a step that says a fact is accepted. From now on the fact is known to hold. A fact that is known already is not judged
+/// again: what is known bears it out.
 fn take_yes<'a>(
     trace: &Trace,
     at: u64,
     known: &mut Known<MarkedFact<'a>>,
     fact: MarkedFact<'a>,
 ) -> Result<bool, AllocError>
+    requires { IsBorneOut (rule_at trace.now.declarations at) (store_at trace.now.commits at) known.old }
     ensures accepted { IfOk result (λ r. r
         ≡ is_accepted (rule_at trace.now.declarations at) (store_at trace.now.commits at) known.old (yes_step (marked_fact fact.entry))) }
     ensures known { OnOk result (known.new ≡ after_step known.old (yes_step (marked_fact fact.entry))) }
+    ensures borne { IfOk result (λ r. r ≡ true
+        → IsBorneOut (rule_at trace.now.declarations at) (store_at trace.now.commits at) known.new) }
 {
-    let proved = is_given(trace, at, known, fact);
+    let proved = known.yes_marked(fact.set, fact.user) || is_given(trace, at, known, fact);
     known.add_yes(fact)?;
     Ok(proved)
 }
 
-/// Whether a step that denies facts is accepted. From now on they are known not to hold.
+/// Whether a step that denies facts is accepted. From now on they are known not to hold. Only those that were not known so before
+/// are judged; they are left in `fresh`.
 fn take_no<'a>(
     trace: &Trace,
     at: u64,
     known: &mut Known<MarkedFact<'a>>,
-    facts: &[MarkedFact<'a>],
+    fresh: &mut Vec<MarkedFact<'a>>,
+    facts: &[FactRef<'a>],
 ) -> Result<bool, AllocError>
+    requires { IsBorneOut (rule_at trace.now.declarations at) (store_at trace.now.commits at) known.old }
     ensures accepted { IfOk result (λ r. r
-        ≡ is_accepted (rule_at trace.now.declarations at) (store_at trace.now.commits at) known.old (no_step (map marked_fact facts.now))) }
-    ensures known { OnOk result (known.new ≡ after_step known.old (no_step (map marked_fact facts.now))) }
+        ≡ is_accepted (rule_at trace.now.declarations at) (store_at trace.now.commits at) known.old (no_step (map fact_value facts.now))) }
+    ensures known { OnOk result (known.new ≡ after_step known.old (no_step (map fact_value facts.now))) }
+    ensures borne { IfOk result (λ r. r ≡ true
+        → IsBorneOut (rule_at trace.now.declarations at) (store_at trace.now.commits at) known.new) }
 {
-    add_each_no(known, facts)?;
-    Ok(are_disproved(trace, at, known, facts))
+    deny_each(known, fresh, facts)?;
+    Ok(are_disproved(trace, at, known, fresh))
 }
 
-/// Whether a step is accepted. From now on its facts are known. The facts that it denies are marked in `marked`.
+/// Whether a step is accepted. From now on its facts are known. `fresh` is room for the facts that it denies.
 fn take_step<'a>(
     trace: &Trace,
     at: u64,
     known: &mut Known<MarkedFact<'a>>,
-    marked: &mut Vec<MarkedFact<'a>>,
+    fresh: &mut Vec<MarkedFact<'a>>,
     step: &StepRef<'a>,
 ) -> Result<bool, AllocError>
+    requires { IsBorneOut (rule_at trace.now.declarations at) (store_at trace.now.commits at) known.old }
     ensures accepted { IfOk result (λ r. r
         ≡ is_accepted (rule_at trace.now.declarations at) (store_at trace.now.commits at) known.old (borrowed_step step.now)) }
     ensures known { OnOk result (known.new ≡ after_step known.old (borrowed_step step.now)) }
+    ensures borne { IfOk result (λ r. r ≡ true
+        → IsBorneOut (rule_at trace.now.declarations at) (store_at trace.now.commits at) known.new) }
 {
     match step {
         StepRef::Yes(fact) => take_yes(trace, at, known, MarkedFact::of(*fact)),
-        StepRef::No(facts) => {
-            mark_each(marked, facts)?;
-            take_no(trace, at, known, marked)
-        }
+        StepRef::No(facts) => take_no(trace, at, known, fresh, facts),
     }
 }
 
@@ -204,13 +225,14 @@ fn first_bad<'a>(
     known: &mut Known<MarkedFact<'a>>,
     steps: &[StepRef<'a>],
 ) -> Result<Option<u64>, AllocError>
+    requires { IsBorneOut (rule_at trace.now.declarations at) (store_at trace.now.commits at) known.old }
     ensures first { IfOk result (λ r. r
         ≡ first_bad (rule_at trace.now.declarations at) (store_at trace.now.commits at) known.old 1 (borrowed_steps steps.now)) }
     ensures known { IfOk result (λ r. r ≡ None → known.new ≡ after_steps known.old (borrowed_steps steps.now)) }
 {
-    let mut marked = Vec::new(alloc);
+    let mut fresh = Vec::new(alloc);
     for k in 0..steps.len() {
-        if !take_step(trace, at, known, &mut marked, &steps[k])? {
+        if !take_step(trace, at, known, &mut fresh, &steps[k])? {
             return Ok(Some(k as u64 + 1));
         }
     }

@@ -7,9 +7,8 @@ use Rattle.strata.specs.Meaning.{with_relation, same_user}
 use Rattle.strata.specs.Strata.{EachPremise, EachPremises}
 use Rattle.strata.proofs.Premises.{each_premise-map}
 use Rattle.judgement.specs.Judgement.{KnownValue, IsOut, Established, SomeEstablished, EachEstablished, Refuted, EachRefuted, SomeRefuted}
-use Rattle.evidence_check.specs.Accepted.{IsProved}
-use Rattle.evidence_maker.specs.Settled.{IsSettled, KeepsYes, KeepsNo, KeepsBoth, Grows}
-use Rattle.goal_cone.proofs.PremiseLemmas.{each_premise-all}
+use Rattle.evidence_check.specs.Growing.{KeepsYes, KeepsNo, KeepsBoth, Grows}
+use Rattle.evidence_maker.specs.Settled.{IsSettled}
 
 module _ (rules : Lookup) (store : List TupleValue) (old new : KnownValue) where
   out_kept : (p : FactValue) → KeepsNo old new p → IsOut rules old p → IsOut rules new p
@@ -71,15 +70,3 @@ module _ (rules : Lookup) (store : List TupleValue) (old new : KnownValue) where
   pub settled_kept : Grows old new → (f : FactValue) → IsSettled rules old f → IsSettled rules new f
   settled_kept grows f (inl y) = inl ((grows f).0 y)
   settled_kept grows f (inr o) = inr (out_kept f (grows f).1 o)
-
-  pub established_grows : Grows old new → (f : FactValue) (e : Expression) → Established rules store old f e → Established rules store new f e
-  established_grows grows f e =
-      established_kept f e (each_premise-all store (KeepsYes old new) (KeepsBoth old new) f e (λ p. (grows p).0) grows)
-
-  pub refuted_grows : Grows old new → (f : FactValue) (e : Expression) → Refuted rules store old f e → Refuted rules store new f e
-  refuted_grows grows f e =
-      refuted_kept f e (each_premise-all store (KeepsNo old new) (KeepsBoth old new) f e (λ p. (grows p).1) grows)
-
-  -- a fact that is proved stays proved
-  pub proved_grows : Grows old new → (f : FactValue) → IsProved rules store old f → IsProved rules store new f
-  proved_grows grows f d = (d.0, d.1, established_grows grows f d.0.expression d.2)

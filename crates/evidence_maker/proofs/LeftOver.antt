@@ -9,20 +9,14 @@ use Rattle.strata.proofs.Lists.{Contains-here, Contains-there}
 use Rattle.strata.proofs.Premises.{each_premise-map}
 use Rattle.judgement.specs.Judgement.{KnownValue, Established, Refuted}
 use Rattle.evidence_check.specs.Accepted.{with_no, IsDisproved, IsAccepted}
+use Rattle.evidence_check.specs.Growing.{KeepsYes, KeepsBoth}
 use Rattle.evidence_check.specs.Steps.{no_step}
+use Rattle.evidence_check.proofs.Growing.{all_of_contained, with_no-grows}
 use Rattle.evidence_maker.specs.Own.{HasOwnRelations}
-use Rattle.evidence_maker.specs.Settled.{IsSettled, KeepsYes, KeepsBoth, Grows}
+use Rattle.evidence_maker.specs.Settled.{IsSettled}
 use Rattle.evidence_maker.specs.Saturation.{IsLeftOver}
 use Rattle.evidence_maker.proofs.Kept.{established_kept, settled_kept}
 use Rattle.evidence_maker.proofs.Settling.{settling}
-
--- what holds of each fact that a list contains holds of all
-pub all_of_contained : (P : FactValue → Type 0) (fs : List FactValue) → ((f : FactValue) → Contains fs f → P f) → AllByRecursion P fs
-all_of_contained P [] h = tt
-all_of_contained P (x ∷ xs) h = (h x (Contains-here x xs), all_of_contained P xs (λ y c. h y (Contains-there x xs y c)))
-
-pub with_no-grows : (known : KnownValue) (fs : List FactValue) → Grows known (with_no known fs)
-with_no-grows known fs f = (λ y. y, λ c. Contains-append_left known.no fs f c)
 
 module _ (rules : Lookup) (store : List TupleValue) (known : KnownValue) (R : List FactValue)
     (own : HasOwnRelations rules) (left : IsLeftOver rules store known R) where

@@ -9,6 +9,7 @@ use Rattle.strata.specs.Strata.{IsAtMost, HasValidStrata}
 use Rattle.strata.proofs.Lists.{Contains-cons_cases, not_in_nil}
 use Rattle.judgement.specs.Judgement.{KnownValue}
 use Rattle.evidence_check.specs.Accepted.{nothing_known, after_steps, with_yes, with_no, IsProved}
+use Rattle.evidence_check.specs.Growing.{Grows}
 use Rattle.evidence_check.specs.Steps.{StepValue, yes_step, no_step, step_value, step_values}
 use Rattle.evidence_check.specs.declared.step.Step.{Step}
 use Rattle.goal_cone.specs.Cone.{HasItsPremises, AreDistinct}
@@ -16,7 +17,7 @@ use Rattle.goal_cone.proofs.Weights.{AreDistinct-append}
 use Rattle.evidence_maker.specs.Own.{HasOwnRelations}
 use Rattle.evidence_maker.specs.Making.{IsMaking, IsKnown, AreThose, HasStratum, IsSifted, HasLeft, AreLeft, IsMade}
 use Rattle.evidence_maker.specs.Saturation.{AreUnsettled}
-use Rattle.evidence_maker.specs.Settled.{IsSettled, Grows}
+use Rattle.evidence_maker.specs.Settled.{IsSettled}
 use Rattle.evidence_maker.proofs.Saturated.{start_law, yes_kept, no_kept, after_steps-push}
 use Rattle.evidence_maker.proofs.Sparing.{sparing_push}
 

@@ -12,12 +12,13 @@ use Rattle.judgement.specs.Decided.{same_facts, dec_undeclared}
 use Rattle.evidence_check.specs.Accepted.{nothing_known, with_yes, with_no, after_step, after_steps, IsAccepted, AreAccepted, IsProved}
 use Rattle.evidence_check.specs.Decided.{dec_accepted}
 use Rattle.evidence_check.specs.Steps.{StepValue, yes_step, no_step}
+use Rattle.evidence_check.proofs.Growing.{with_yes-grows, with_no-grows}
 use Rattle.goal_cone.specs.Cone.{IsMet, HasItsPremises}
 use Rattle.evidence_maker.specs.Own.{HasOwnRelations}
-use Rattle.evidence_maker.specs.Settled.{IsSettled, Grows}
+use Rattle.evidence_maker.specs.Settled.{IsSettled}
 use Rattle.evidence_maker.specs.Saturation.{IsLeftOver, AreUnsettled, IsSaturating, HasEvidence}
 use Rattle.evidence_maker.proofs.Kept.{settled_kept}
-use Rattle.evidence_maker.proofs.LeftOver.{left_over_law, with_no-grows}
+use Rattle.evidence_maker.proofs.LeftOver.{left_over_law}
 
 -- ---- one more step
 
@@ -29,9 +30,6 @@ accepted-push : (rules : Lookup) (store : List TupleValue) (ss : List StepValue)
     → AreAccepted rules store known ss → IsAccepted rules store (after_steps known ss) s → AreAccepted rules store known (ss ++ s ∷ [])
 accepted-push rules store [] known s before last = (last, tt)
 accepted-push rules store (t ∷ ts) known s before last = (before.0, accepted-push rules store ts (after_step known t) s before.1 last)
-
-pub with_yes-grows : (known : KnownValue) (f : FactValue) → Grows known (with_yes known f)
-with_yes-grows known f g = (λ y. Contains-append_left known.yes (f ∷ []) g y, λ c. c)
 
 -- ---- what can be decided
 

@@ -4,10 +4,11 @@ use Rattle.tuple_text.specs.Tuples.{TupleValue, FactValue}
 use Rattle.namespaces.specs.Lookup.{Rule, Lookup, rule_of}
 use Rattle.judgement.specs.Judgement.{KnownValue}
 use Rattle.evidence_check.specs.Accepted.{nothing_known, after_steps, AreAccepted, IsProved}
+use Rattle.evidence_check.specs.Growing.{Grows}
 use Rattle.evidence_check.specs.Steps.{StepValue}
 use Rattle.goal_cone.specs.Cone.{AreDistinct}
 use Rattle.evidence_maker.specs.Saturation.{IsSaturating, IsSparing}
-use Rattle.evidence_maker.specs.Settled.{IsSettled, Grows}
+use Rattle.evidence_maker.specs.Settled.{IsSettled}
 
 -- the steps so far settle the facts of C below the stratum k, and what is known is what they made known
 pub record IsMaking (rules : Lookup) (store : List TupleValue) (C : List FactValue) (k : ℕ) (known : KnownValue) (steps : List StepValue) : Type 0 where

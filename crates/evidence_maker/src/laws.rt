@@ -9,11 +9,12 @@ ghost use Rattle.namespaces.specs.WellFormed.{IsWellFormed};
 ghost use Rattle.strata.specs.Strata.{EachPremise, HasValidStrata};
 ghost use Rattle.judgement.specs.Judgement.{KnownValue, Established, Refuted};
 ghost use Rattle.evidence_check.specs.Accepted.{IsAccepted, IsProved};
+ghost use Rattle.evidence_check.specs.Growing.{Grows};
 ghost use Rattle.evidence_check.specs.Steps.{no_step};
 ghost use Rattle.goal_cone.specs.Cone.{HasItsPremises};
 ghost use Rattle.evidence_maker.specs.Own.{OwnDeclared, HasOwnRelations};
 ghost use Rattle.evidence_maker.specs.Saturation.{IsLeftOver, HasEvidence};
-ghost use Rattle.evidence_maker.specs.Settled.{IsSettled, Grows};
+ghost use Rattle.evidence_maker.specs.Settled.{IsSettled};
 
 /// Where each premise is settled, an expression is established or refuted.
 pub fn decided()

@@ -4,12 +4,12 @@ ghost use Rattle.std.specs.Prelude.{◌≡◌, ◌+◌, ◌∷◌, ◌++◌, [],
 ghost use Rattle.tuple_text.specs.Tuples.{FactValue};
 ghost use Rattle.namespaces.specs.Lookup.{rule_at};
 ghost use Rattle.version_chains.specs.Commits.{store_at};
+ghost use Rattle.evidence_check.specs.Growing.{Grows};
 ghost use Rattle.evidence_check.specs.Accepted.{IsProved, with_no};
 ghost use Rattle.evidence_check.specs.Steps.{step_values};
 ghost use Rattle.goal_cone.specs.Cone.{HasItsPremises, AreDistinct};
 ghost use Rattle.evidence_maker.specs.Making.{IsMaking, IsKnown, IsSifted, AreLeft, IsMade};
 ghost use Rattle.evidence_maker.specs.Saturation.{AreUnsettled};
-ghost use Rattle.evidence_maker.specs.Settled.{Grows};
 
 use crate::gates::Gates;
 use crate::layers::{layer_of, strata_of, top_of, well_formed};

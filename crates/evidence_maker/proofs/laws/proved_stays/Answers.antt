@@ -1,5 +1,5 @@
-use Rattle.evidence_maker.proofs.Kept.{proved_grows}
+use Rattle.evidence_check.proofs.Growing.{proved_grows}
 use Rattle.evidence_maker.proofs.laws.proved_stays.Goals as goal
 
 pub returns : goal.returns
-returns c = proved_grows
+returns c rules store old new grows = proved_grows rules store old new grows

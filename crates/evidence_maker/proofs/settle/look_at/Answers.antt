@@ -6,7 +6,7 @@ use Rattle.evidence_check.specs.Accepted.{with_yes}
 use Rattle.evidence_check.specs.Steps.{yes_step, step_values}
 use Rattle.evidence_maker.specs.Making.{IsKnown}
 use Rattle.evidence_maker.proofs.MakingLemmas.{making_yes, step_values-push}
-use Rattle.evidence_maker.proofs.Saturated.{with_yes-grows}
+use Rattle.evidence_check.proofs.Growing.{with_yes-grows}
 use Rattle.evidence_maker.proofs.settle.look_at.Goals as goal
 
 pub returns-clause-kept : goal.returns-clause-kept
