@@ -5,8 +5,10 @@
 //! them, and each of its facts lies in every list that does.
 //!
 //! Callers may rely on this: [`explore`] answers the cone, each fact once, and refuses only a goal for which every such list of
-//! facts has more than [`MAX_USERSETS`] facts or reads more than [`MAX_LINKS`] stored usersets. It recurs over rules alone, never over
-//! facts; its memory is that of the cone, and a look-up among facts goes by comparisons.
+//! facts has more than [`MAX_USERSETS`] facts or reads more than [`MAX_LINKS`] stored usersets.
+//!
+//! What a call costs is no promise. It recurs over rules alone, never over facts; its memory is that of the cone, and a look-up among
+//! facts goes by their marks.
 //!
 //! ```text
 //! let cone = explore(alloc, trace, entry.snapshot, &entry.goal)?;

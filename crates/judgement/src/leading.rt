@@ -52,6 +52,7 @@ fn is_one_of_object(
     ensures apart { result ≡ false
         → All (IsTouchApart trace.now.commits at (set_value set.entry.set) (set_value other.entry)) touches.entry }
 {
+    // It ends at the first that is stored. Those before it share the mark of the set and the object by chance.
     for touch in touches {
         if is_of_object(trace, at, set, other, touch) {
             return true;

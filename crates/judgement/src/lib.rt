@@ -6,10 +6,11 @@
 //!
 //! Callers may rely on this: both answers are those relations, exactly, for all six forms of a rule; neither searches, nor looks into
 //! another relation's rule; neither takes memory. A userset that is undeclared at the timestamp counts as refuted where it is stored, in a
-//! tupleset too, and a user id in a tupleset contributes nobody. A look-up among known facts goes by their marks, so that a choice
-//! of texts makes it no slower than the logarithm of their number, as long as few texts have one mark. What is stored in a userset with
-//! many usersets is passed over by the trace's index of them, so that those that are dead or undeclared then cost nothing; and whether
-//! one of them leads to a known fact takes no more steps than the user has known facts.
+//! tupleset too, and a user id in a tupleset contributes nobody.
+//!
+//! What a call costs is no promise. A look-up among known facts goes by their marks. What is stored in a userset with many usersets is
+//! passed over by the trace's index of them, so that those that are dead or undeclared then are not looked at; and whether one of them
+//! leads to a known fact is found from the shorter of two lists, the stored usersets and the user's known facts.
 //!
 //! ```text
 //! known.add_yes(fact)?;

@@ -8,8 +8,10 @@
 //! Callers may rely on this: a value is accepted, or refused with the first fault that applies, exactly as the definitions over its JSON
 //! data say, want of memory apart; after a refusal the rules hold what they held before; every look-up answers by the list. `IsWellFormed`,
 //! a clause of `namespace` and `relation`, says what holds of that list at any time: names that are distinct, the limits, and that a later
-//! declaration of a namespace begins with the relations of the earlier ones, each with its stratum. A look-up takes no memory, and none
-//! goes through the declarations one by one. A table has 256 names at most, so the choice of names cannot make it slow.
+//! declaration of a namespace begins with the relations of the earlier ones, each with its stratum.
+//!
+//! What a call costs is no promise. A look-up takes no memory, and none goes through the declarations one by one. A table has 256 names
+//! at most, so the choice of names cannot make it slow.
 //!
 //! ```text
 //! rules.add(&value)?;
