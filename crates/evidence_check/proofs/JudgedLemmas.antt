@@ -5,9 +5,10 @@ use Rattle.std.proofs.lemmas.Map.Views.{Contains-from_any, list_any-from_Contain
 use Rattle.tuple_text.specs.Tuples.{TupleValue, FactValue}
 use Rattle.tuple_text.specs.OrderLaws.{fact_equiv}
 use Rattle.tuple_text.proofs.ValueLemmas.{fact_eq-same}
-use Rattle.namespaces.specs.Alike.{IsAlike, AreAlike}
+use Rattle.namespaces.specs.Alike.{IsAlike}
 use Rattle.namespaces.specs.Expression.{Expression}
 use Rattle.namespaces.specs.Lookup.{Rule, Lookup, rule_at, rule_of}
+use Rattle.namespaces.specs.Plain.{ArePlain}
 use Rattle.version_chains.specs.Commits.{store_at}
 use Rattle.strata.proofs.Rounds.{stable_law, closed_law}
 use Rattle.trace_lines.specs.Values.{TraceValue, EntryValue}
@@ -64,23 +65,23 @@ alike_back : (a b : Expression) → IsAlike a b → IsAlike b a
 alike_back a b alike = record { gives_alike = λ l. sym (alike.gives_alike l); bars_alike = λ l. sym (alike.bars_alike l) }
 
 pub by_rule : (o : Option Rule) (x : Expression) (P : Expression → Type 0) → ((a b : Expression) → IsAlike a b → P a → P b)
-    → AreAlike (Some x) (option_map (λ (r : Rule). r.expression) o) → (P x ↔ ((r : Rule) × (o ≡ Some r) × P r.expression))
-by_rule None x P carry alike = absurd alike
-by_rule (Some s) x P carry alike = (
-  λ p. (s, refl, carry x s.expression alike p),
+    → ArePlain (Some x) (option_map (λ (r : Rule). r.expression) o) → (P x ↔ ((r : Rule) × (o ≡ Some r) × P r.expression))
+by_rule None x P carry plain = absurd plain
+by_rule (Some s) x P carry plain = (
+  λ p. (s, refl, carry x s.expression plain.alike p),
   λ t. let rule : s ≡ t.0 = (let h : Some s ≡ Some t.0 = t.1 in cc) in
-      carry s.expression x (alike_back x s.expression alike) (subst P (sym (ap (λ (r : Rule). r.expression) rule)) t.2),
+      carry s.expression x (alike_back x s.expression plain.alike) (subst P (sym (ap (λ (r : Rule). r.expression) rule)) t.2),
 )
 
-pub no_rule : (o : Option Rule) → AreAlike None (option_map (λ (r : Rule). r.expression) o) → o ≡ None
+pub no_rule : (o : Option Rule) → ArePlain None (option_map (λ (r : Rule). r.expression) o) → o ≡ None
 no_rule None e = refl
 no_rule (Some r) e = absurd e
 
 pub disproved_by_rule : (rules : Lookup) (store : List TupleValue) (known : KnownValue) (f : FactValue) (x : Expression)
-    → AreAlike (Some x) (option_map (λ (r : Rule). r.expression) (rule_of rules f.set)) → (Refuted rules store known f x ↔ IsDisproved rules store known f)
-disproved_by_rule rules store known f x alike =
-    let rule = by_rule (rule_of rules f.set) x (λ e. Refuted rules store known f e) (alike_refuted rules store known f) alike in
-    (λ h. inr (rule.0 h), λ s. elim s [ inl none ↦ absurd (subst (λ (o : Option Rule). AreAlike (Some x) (option_map (λ (r : Rule). r.expression) o)) none alike) | inr t ↦ rule.1 t ])
+    → ArePlain (Some x) (option_map (λ (r : Rule). r.expression) (rule_of rules f.set)) → (Refuted rules store known f x ↔ IsDisproved rules store known f)
+disproved_by_rule rules store known f x plain =
+    let rule = by_rule (rule_of rules f.set) x (λ e. Refuted rules store known f e) (alike_refuted rules store known f) plain in
+    (λ h. inr (rule.0 h), λ s. elim s [ inl none ↦ absurd (subst (λ (o : Option Rule). ArePlain (Some x) (option_map (λ (r : Rule). r.expression) o)) none plain) | inr t ↦ rule.1 t ])
 
 -- ---- what is known of the goal
 

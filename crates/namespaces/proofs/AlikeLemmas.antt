@@ -4,12 +4,16 @@ use Rattle.std.proofs.lemmas.List.Folds.{list_any-append, list_all-append, list_
 use Rattle.std.specs.Prelude.{Contains, ◌<◌, ℕ, zero, suc, length, map}
 use Rattle.std.specs.List.{list_any, list_all}
 use Rattle.namespaces.specs.Alike.{Leaves, gives, some_gives, each_gives, bars, each_bars, some_bars, IsAlike}
-use Rattle.namespaces.specs.Expression.{Expression}
-use Rattle.namespaces.specs.Joints.{joined, IsPut, JoinAlike}
+use Rattle.namespaces.specs.Expression.{Expression, minus}
+use Rattle.namespaces.specs.Joints.{joined, IsPut}
 use Rattle.namespaces.specs.View.{children, expression_of}
 use Rattle.namespaces.specs.declared.plain.Joint.{Joint}
 use Rattle.namespaces.specs.declared.rewrite.Rewrite.{Rewrite}
 use Rattle.namespaces.proofs.Names.{by_bool}
+
+-- some children join to what others join to
+abbrev pub JoinAlike : Joint → List Expression → List Expression → Type 0
+JoinAlike joint es fs = IsAlike (joined joint es) (joined joint fs)
 
 -- ---- children as tests of a list
 
@@ -60,7 +64,7 @@ tests_of Joint.Inter es fs a = λ l. record {
 
 -- ---- one child more
 
-or_none : (a : Bool) → (a || false) ≡ a
+pub or_none : (a : Bool) → (a || false) ≡ a
 or_none true = refl
 or_none false = refl
 
@@ -82,8 +86,14 @@ all_again f es e (k, within, is) = by_bool (f e)
 same_again : (some each : Expression → Bool) (es : List Expression) (e : Expression) → Contains es e → SameTests some each es (es ++ e ∷ [])
 same_again some each es e there = record { any = any_again some es e there; all = all_again each es e there }
 
-alike_itself : (e : Expression) → IsAlike e e
+pub alike_itself : (e : Expression) → IsAlike e e
 alike_itself e = record { gives_alike = λ _. refl; bars_alike = λ _. refl }
+
+pub minus_alike : (a b c d : Expression) → IsAlike a b → IsAlike c d → IsAlike (minus a c) (minus b d)
+minus_alike a b c d p q = record {
+  gives_alike = λ l. rw (p.gives_alike l, q.bars_alike l) refl;
+  bars_alike = λ l. rw (p.bars_alike l, q.gives_alike l) refl;
+}
 
 pub put_alike : (j : Joint) (old new : List Expression) (e : Expression) → IsPut old new e → JoinAlike j new (old ++ e ∷ [])
 put_alike j old new e (inl is) = rw is (alike_itself (joined j (old ++ e ∷ [])))

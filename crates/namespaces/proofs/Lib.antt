@@ -14,3 +14,5 @@ pub mod Tables
 pub mod Times
 pub mod Walks
 pub mod AlikeLemmas
+pub mod PlainLemmas
+pub mod ThinnedLemmas

@@ -11,6 +11,7 @@ pub mod Index
 pub mod Joints
 pub mod Kept
 pub mod Lookup
+pub mod Plain
 pub mod Shape
 pub mod Shown
 pub mod View

@@ -1,8 +1,8 @@
 //! Rules in a plain form, which say what is nested or repeated without need once.
 
 ghost use Rattle.std.specs.Prelude.{◌≡◌, ◌∷◌, ◌++◌, [], map, true, Contains, IfOk, IfSome, OnOk};
-ghost use Rattle.namespaces.specs.Alike.{IsAlike};
-ghost use Rattle.namespaces.specs.Joints.{joined, IsPut, JoinAlike};
+ghost use Rattle.namespaces.specs.Joints.{joined, IsPut, JoinPlain};
+ghost use Rattle.namespaces.specs.Plain.{IsPlainOf};
 ghost use Rattle.namespaces.specs.View.{expression_of, expressions_of};
 
 use crate::rewrite::{Rewrite, copied, copied_pair, minus};
@@ -137,7 +137,7 @@ fn put_copies(
     places: &mut BTreeMap<u64, usize>,
     children: &Vec<Rewrite>,
 ) -> Result<(), AllocError>
-    ensures { OnOk result (JoinAlike joint (map expression_of kept.new.items)
+    ensures { OnOk result (JoinPlain joint (map expression_of kept.new.items)
         (map expression_of kept.old.items ++ map expression_of children.now.items)) }
 {
     for child in children {
@@ -171,7 +171,7 @@ fn put_child(
     places: &mut BTreeMap<u64, usize>,
     child: Rewrite,
 ) -> Result<(), AllocError>
-    ensures { OnOk result (JoinAlike joint (map expression_of kept.new.items)
+    ensures { OnOk result (JoinPlain joint (map expression_of kept.new.items)
         (map expression_of kept.old.items ++ expression_of child ∷ [])) }
 {
     match nested(joint, &child) {
@@ -182,7 +182,7 @@ fn put_child(
 
 /// Children joined, or the only one.
 fn closed(joint: Joint, mut kept: Vec<Rewrite>) -> Rewrite
-    ensures { IsAlike (expression_of result) (joined joint (map expression_of kept.items)) }
+    ensures { IsPlainOf (expression_of result) (joined joint (map expression_of kept.items)) }
 {
     if kept.len() == 1 {
         if let Some(only) = kept.pop() {
@@ -197,7 +197,7 @@ fn closed(joint: Joint, mut kept: Vec<Rewrite>) -> Rewrite
 
 #[cycle(plain)]
 fn plain_joined(alloc: Global, joint: Joint, children: &Vec<Rewrite>) -> Result<Rewrite, AllocError>
-    ensures { IfOk result (λ r. IsAlike (expression_of r) (joined joint (map expression_of children.now.items))) }
+    ensures { IfOk result (λ r. IsPlainOf (expression_of r) (joined joint (map expression_of children.now.items))) }
 {
     let mut kept = Vec::new(alloc);
     let mut places = BTreeMap::new(alloc);
@@ -211,7 +211,7 @@ fn plain_joined(alloc: Global, joint: Joint, children: &Vec<Rewrite>) -> Result<
 /// child stands alone. Each place is looked at once for each level above it, of which a rule that is declared has at most 32.
 #[cycle(plain)]
 pub(crate) fn plain(alloc: Global, rewrite: &Rewrite) -> Result<Rewrite, AllocError>
-    ensures { IfOk result (λ r. IsAlike (expression_of r) (expression_of rewrite.now)) }
+    ensures { IfOk result (λ r. IsPlainOf (expression_of r) (expression_of rewrite.now)) }
 {
     match rewrite {
         Rewrite::This => Ok(Rewrite::This),

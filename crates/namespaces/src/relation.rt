@@ -1,8 +1,8 @@
 //! Relations, with their rules in two forms.
 ghost use Rattle.std.specs.Prelude.{◌≡◌, ℕ, Ok};
-ghost use Rattle.namespaces.specs.Alike.{Leaves, gives, bars};
 ghost use Rattle.namespaces.specs.Expression.{Expression};
 ghost use Rattle.namespaces.specs.Fault.{Gives};
+ghost use Rattle.namespaces.specs.Plain.{IsPlainOf};
 ghost use Rattle.namespaces.specs.View.{expression_of};
 
 use crate::fault::RulesFault;
@@ -16,8 +16,7 @@ pub(crate) struct Relation {
     pub(crate) stratum: u8,
     pub(crate) rewrite: Rewrite,
     pub(crate) plain: Rewrite,
-    ghost gives_alike: { (l : Leaves) → gives l (expression_of plain) ≡ gives l (expression_of rewrite) },
-    ghost bars_alike: { (l : Leaves) → bars l (expression_of plain) ≡ bars l (expression_of rewrite) },
+    ghost plain_of: { IsPlainOf (expression_of plain) (expression_of rewrite) },
 }
 
 /// A relation of a stratum and a rule.

@@ -1,9 +1,9 @@
 //! The declared namespaces, by name, by number and at a timestamp.
 ghost use Rattle.std.specs.Prelude.{◌≡◌, ℕ, ◌<◌, ◌≤◌, [], ◌∷◌, ◌++◌, length, option_map, option_and_then, slice_get, string_bytes, IfSome, OnOk, OnErr, IfErr};
 ghost use Rattle.tuple_text.specs.Refs.{set_value};
-ghost use Rattle.namespaces.specs.Alike.{AreAlike};
 ghost use Rattle.namespaces.specs.Declaration.{declared};
 ghost use Rattle.namespaces.specs.Lookup.{rule_of, rule_at, relation_of, relation_count, relations_of, number_of, place_of, namespace_names, namespace_numbered, relation_numbered, history_numbered};
+ghost use Rattle.namespaces.specs.Plain.{ArePlain};
 ghost use Rattle.namespaces.specs.View.{expression_of};
 ghost use Rattle.namespaces.specs.WellFormed.{IsWellFormed};
 
@@ -153,10 +153,11 @@ impl Rules {
         Some(&relation.rewrite)
     }
 
-    /// A plain form of the rule that `body` gives: it gives and rules out what that rule does, whatever its leaves do, and has neither a
-    /// union in a union, nor an intersection in an intersection, nor the same child twice. `None` where `body` has none.
+    /// A plain form of the rule that `body` gives: it gives and rules out what that rule does, whatever its leaves do;
+    /// it has the leaves of that rule, none at more places; and it has neither a union in a union, nor an intersection
+    /// in an intersection, nor the same child twice. `None` where `body` has none.
     pub fn plain_body(&self, set: SetRef<'_>, at: u64) -> Option<&Rewrite>
-        ensures { AreAlike (option_map (λ r. expression_of r.now) result)
+        ensures { ArePlain (option_map (λ r. expression_of r.now) result)
             (option_map (λ r. r.expression) (rule_of (rule_at self.now at) (set_value set.entry))) }
     {
         let relation = self.declared_at(set, at)?;

@@ -1,7 +1,12 @@
-use Rattle.std.proofs.Common.{◌≡◌, ◌∷◌, ◌+◌, map, drop, add-one, refl}
+use Rattle.std.proofs.Common.{rules, ◌≡◌, [], ◌∷◌, ◌+◌, map, drop, add-one, refl}
 use Rattle.std.proofs.Math.Seq.{drop-cons}
+use Rattle.std.proofs.lemmas.List.{append-nil, drop_all}
+use Rattle.std.proofs.lemmas.Result.{IfOk-weaker}
+use Rattle.namespaces.specs.Expression.{minus}
+use Rattle.namespaces.specs.Joints.{joined, JoinPlain}
 use Rattle.namespaces.specs.View.{expression_of}
-use Rattle.namespaces.proofs.AlikeLemmas.{joined_on_alike}
+use Rattle.namespaces.specs.declared.rewrite.Rewrite.{the_lemmas}
+use Rattle.namespaces.proofs.PlainLemmas.{joined_on_plain, plain_minus, plain_then}
 use Rattle.namespaces.proofs.plain.+plain.Goals as goal
 
 pub plain_joined-loop-child-preserved : goal.plain_joined-loop-child-preserved
@@ -10,5 +15,23 @@ plain_joined-loop-child-preserved t c =
     let i = c.loop-child.child-index in
     let child = c.child-item.result in
     let left : drop i es ≡ child ∷ drop (i + 1) es = rw (drop-cons es i child c.loop-child-test.true, add-one, ← c.child-item.is) refl in
-    joined_on_alike c.args.joint (map expression_of c.loop-child.kept.items) (map expression_of c.put_child.new.kept.items) (map expression_of (drop (i + 1) es))
+    joined_on_plain c.args.joint (map expression_of c.loop-child.kept.items) (map expression_of c.put_child.new.kept.items) (map expression_of (drop (i + 1) es))
     (map expression_of es) (expression_of child) (expression_of c.in_ok-plain.field-0) c.in_ok-plain.ensures c.in_ok-put_child.ensures (rw left at c.loop-child.invariant)
+
+pub plain_joined-returns : goal.plain_joined-returns
+plain_joined-returns t c =
+    let es = c.deref-child-items.result.now in
+    let kept = map expression_of c.loop-child.kept.items in
+    let none : drop c.loop-child.child-index es ≡ [] = drop_all c.loop-child.child-index es c.loop-child-test.false in
+    let all : JoinPlain c.args.joint kept (map expression_of es) = rw (none, append-nil kept) at c.loop-child.invariant in
+    rw (← c.deref-child-items.ensures.value) (plain_then (expression_of c.closed.result) (joined c.args.joint kept) (joined c.args.joint (map expression_of es)) c.closed.ensures all)
+
+pub plain-returns-in_ok-subtract-in-Minus : goal.plain-returns-in_ok-subtract-in-Minus
+plain-returns-in_ok-subtract-in-Minus t c =
+    let base = expression_of c.deref.result.now in
+    let subtract = expression_of c.deref-in-Minus.result.now in
+    let parts : expression_of c.args.rewrite.now ≡ minus base subtract = rw c.in-Minus.is (search (rules, the_lemmas)) in
+    IfOk-weaker c.minus.result _ _
+    (λ r same. plain_minus (expression_of r) (expression_of c.args.rewrite.now) (expression_of c.in_ok-base-in-Minus.base) base
+    (expression_of c.in_ok-subtract-in-Minus.subtract) subtract same parts c.in_ok-base-in-Minus.ensures c.in_ok-subtract-in-Minus.ensures)
+    c.minus.ensures
