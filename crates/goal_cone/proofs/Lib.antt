@@ -1,4 +1,5 @@
 pub mod Exploring
+pub mod LeafLemmas
 pub mod PremiseLemmas
 pub mod Searching
 pub mod SeenLemmas

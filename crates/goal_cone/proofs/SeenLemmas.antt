@@ -13,6 +13,7 @@ use Rattle.tuple_text.specs.Tuples.{TupleValue, FactValue, fact_of}
 use Rattle.tuple_text.specs.Grammar.{IsFact}
 use Rattle.namespaces.specs.Expression.{Expression}
 use Rattle.namespaces.specs.Lookup.{Rule, Lookup, rule_of}
+use Rattle.namespaces.specs.Plain.{ArePlain}
 use Rattle.judgement.specs.Judgement.{IsUndeclared}
 use Rattle.strata.proofs.Lists.{not_in_nil, Contains-cons_cases}
 use Rattle.goal_cone.specs.Bounds.{links, links_by, links_of}
@@ -20,6 +21,7 @@ use Rattle.goal_cone.specs.Cone.{IsMet, IsNeeded}
 use Rattle.goal_cone.specs.Pass.{IsRead, IsUnderWay}
 use Rattle.goal_cone.specs.Premises.{Reads}
 use Rattle.goal_cone.specs.Seen.{Sees, IsStuck}
+use Rattle.goal_cone.proofs.LeafLemmas.{plain_reads, reads_plain, plain_links}
 use Rattle.goal_cone.proofs.Weights.{AreDistinct-append, no_longer}
 
 module _ (rules : Lookup) where
@@ -205,21 +207,24 @@ second_stuck most_facts most_links rules store T S old now had room a b le seen 
 
 -- ---- the rule of a fact, where it is found
 
-pub read_by : (rules : Lookup) (store : List TupleValue) (f : FactValue) (x : Expression) → Some x ≡ option_map (λ (r : Rule). r.expression) (rule_of rules f.set)
+-- in its plain form
+abbrev pub IsPlainRule : Lookup → SetValue → Option Expression → Type 0
+IsPlainRule rules g e = ArePlain e (option_map (λ (r : Rule). r.expression) (rule_of rules g))
+
+pub read_by : (rules : Lookup) (store : List TupleValue) (f : FactValue) (x : Expression) → IsPlainRule rules f.set (Some x)
     → ((p : FactValue) → Reads store f x p → IsRead rules store f p) × ((p : FactValue) → IsRead rules store f p → Reads store f x p)
-    × (links_of rules store f ≡ links store f.set x)
+    × (links store f.set x ≤ links_of rules store f)
 read_by rules store f x found = by_rule (rule_of rules f.set) refl found
   where
-    by_rule : (o : Option Rule) → rule_of rules f.set ≡ o → Some x ≡ option_map (λ (r : Rule). r.expression) o
+    by_rule : (o : Option Rule) → rule_of rules f.set ≡ o → ArePlain (Some x) (option_map (λ (r : Rule). r.expression) o)
         → ((p : FactValue) → Reads store f x p → IsRead rules store f p) × ((p : FactValue) → IsRead rules store f p → Reads store f x p)
-        × (links_by store f.set (rule_of rules f.set) ≡ links store f.set x)
-    by_rule None e h = absurd (cc)
-    by_rule (Some r) e h =
-        let same : x ≡ r.expression = cc in (
-          λ p reads. (r, e, subst (λ (y : Expression). Reads store f y p) same reads),
-          λ p t. (
-              let one : r ≡ t.0 = (let d : Some r ≡ Some t.0 = sym e ∙ t.1 in cc) in
-              let to : t.0.expression ≡ x = ap (λ (q : Rule). q.expression) (sym one) ∙ sym same in
-              subst (λ (y : Expression). Reads store f y p) to t.2),
-          ap (λ (o : Option Rule). links_by store f.set o) e ∙ ap (λ (y : Expression). links store f.set y) (sym same),
-        )
+        × (links store f.set x ≤ links_by store f.set (rule_of rules f.set))
+    by_rule None e plain = absurd plain
+    by_rule (Some r) e plain = (
+      λ p reads. (r, e, plain_reads store f p x r.expression plain reads),
+      λ p t. (
+          let one : r ≡ t.0 = (let d : Some r ≡ Some t.0 = sym e ∙ t.1 in cc) in
+          reads_plain store f p x r.expression plain (subst (λ (q : Rule). Reads store f q.expression p) (sym one) t.2)),
+      (let few : links store f.set x ≤ links store f.set r.expression = plain_links store f.set x r.expression plain in
+          rw e few),
+    )

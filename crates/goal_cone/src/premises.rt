@@ -203,7 +203,7 @@ fn see_children(
     Ok(())
 }
 
-/// Sees what a fact's rule reads.
+/// Sees what a fact's rule reads, by its plain form, in which a leaf stands at no more places.
 pub(crate) fn see_read(
     alloc: Global,
     trace: &Trace,
@@ -219,7 +219,7 @@ pub(crate) fn see_read(
         ⊎ IsStuck MAX_USERSETS MAX_LINKS (rule_at trace.now.declarations at) (store_at trace.now.commits at)
         (IsRead (rule_at trace.now.declarations at) (store_at trace.now.commits at) fact.now) seen.old }
 {
-    match trace.rules().body(fact.set(), at) {
+    match trace.rules().plain_body(fact.set(), at) {
         Some(rule) => see_premises(alloc, rule, fact.set(), fact.user(), trace, at, seen, room),
         None => Ok(()),
     }
