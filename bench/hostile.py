@@ -32,6 +32,8 @@ KIND is one of
   same_fact      the same, with one fact again and again
   wide_computed  a rule of many places that compute 250 other relations
   wide_pairs     a rule of many intersections that differ, and all begin with one leaf
+  wide_leaves    the same, and they end with it: before it stand two of 250 computed relations, which nothing is known of
+  wide_through   a rule of many relations through one tupleset, in which three usersets are stored
   ring           groups in a circle, and checks that each of many strangers is not in it: for `make`
   wide_make      a rule of many places that compute one relation, and objects in a chain of such rules: for `make`
   toggled        one tuple added and removed in every other commit, and checks at old snapshots
@@ -454,14 +456,31 @@ def wide_computed(size):
     return given
 
 
-def wide_pairs(size):
-    """A rule of many intersections, no two alike, that all begin with one leaf."""
+def wide_intersections(size, leaves):
+    """A rule of many intersections, no two alike, of the leaves that two of 250 relations make."""
     names = [f"r{k}" for k in range(250)]
-    pairs = [{"intersection": [THIS, {"computed": names[k // 250 % 250]}, {"computed": names[k % 250]}]} for k in range(62500)]
+    pairs = [{"intersection": leaves({"computed": names[k // 250 % 250]}, {"computed": names[k % 250]})} for k in range(62500)]
     rule = nested(pairs[:min(size // 3, LINE * 8 // 10) // len(text(pairs[-1]))])
     given = Input(size, [{"name": "doc", "relations": [*map(relation, names), relation("viewer", rule)]}])
     given.bytes = len(given.lines[0])
     given.commit(["doc:b#r0@1"])
+    return asked_of_many(given)
+
+
+def wide_pairs(size):
+    return wide_intersections(size, lambda one, other: [THIS, one, other])
+
+
+def wide_leaves(size):
+    return wide_intersections(size, lambda one, other: [one, other, THIS])
+
+
+def wide_through(size):
+    count = min(size // 3, LINE * 8 // 10) // 52
+    rule = nested([{"tuple_to": {"tupleset": "parent", "computed": "c%x" % k}} for k in range(count)])
+    given = Input(size, [{"name": "doc", "relations": [relation("parent"), relation("viewer", rule)]}])
+    given.bytes = len(given.lines[0])
+    given.commit([f"doc:a#parent@doc:p{k}#parent" for k in range(3)])
     return asked_of_many(given)
 
 
@@ -596,6 +615,8 @@ KINDS = {
     "same_fact": same_fact,
     "wide_computed": wide_computed,
     "wide_pairs": wide_pairs,
+    "wide_leaves": wide_leaves,
+    "wide_through": wide_through,
     "ring": ring,
     "wide_make": wide_make,
     "toggled": toggled,

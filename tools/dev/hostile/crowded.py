@@ -95,7 +95,7 @@ class CrowdedTrace:
 
 
 def spoiled_steps(random: Random, steps: List[Dict[str, Any]]) -> None:
-    """Leaves out a step or a fact, turns a step round, puts one twice, or changes their order."""
+    """Leaves out a step or a fact, turns a step round, puts a step or a fact twice, or changes their order."""
     if not steps:
         return
     place, pick = random.randrange(len(steps)), random.random()
@@ -106,8 +106,10 @@ def spoiled_steps(random: Random, steps: List[Dict[str, Any]]) -> None:
         steps.pop(place)
     elif pick < 0.55:
         steps[place] = {"yes": random.choice(facts)} if facts else {"no": [steps[place].get("yes", "doc:0#viewer@1")]}
-    elif pick < 0.75:
+    elif pick < 0.7:
         random.shuffle(steps)
+    elif pick < 0.85 and facts:
+        facts.insert(random.randrange(len(facts) + 1), random.choice([fact for step in steps for fact in step.get("no", [])]))
     else:
         steps.insert(random.randrange(len(steps) + 1), steps[place])
 
