@@ -81,7 +81,7 @@ devices_of_evidence faults.Limits trace evidence out of at = absurd of
 devices_of_evidence faults.Joined trace evidence out of at = absurd of
 devices_of_evidence faults.Input trace evidence out of at = absurd of
 
--- writing fails by the writer, and else for want of memory
+-- writing fails by the writer, and else where memory runs out
 pub devices_of_writing : {V : Type 0} (r : Result V AuditFault) (trace evidence out : Type 0) → IfErr r (λ e. (e ≡ faults.OutOfMemory) ⊎ IsWrite e) → IfErr r (λ e. IsWrite e → out)
     → IfErr r (IsOfDevices ⊥ trace evidence out)
 devices_of_writing (Ok v) trace evidence out of at = tt
@@ -137,7 +137,7 @@ answered_clean v fs is h =
     let clean : v ≡ Clean = cc in
     no_findings fs (sym is ∙ clean)
 
--- want of memory alone was told
+-- out of memory alone was told
 pub out_of_memory : {A : Type 0} (P : AuditFault → Type 0) → P faults.OutOfMemory → (r : Result A AuditFault) → IsErrAnd r (λ e. e ≡ faults.OutOfMemory) → IfErr r P
 out_of_memory P p (Ok a) h = tt
 out_of_memory P p (Err e) h = subst P (sym h) p

@@ -92,7 +92,7 @@ IsOfNoDevice (faults.Write n) = ⊥
 IsOfNoDevice faults.Input = ⊥
 IsOfNoDevice _ = ⊤
 
--- ---- which faults there are: want of memory is told as such, whatever it stopped
+-- ---- which faults there are: out of memory is told as such, whatever it stopped
 
 abbrev pub IsOfTrace : AuditFault → Type 0
 IsOfTrace (faults.Trace f) = f.cause ≢ causes.OutOfMemory

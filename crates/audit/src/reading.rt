@@ -30,7 +30,7 @@ pub(crate) fn trace_from<R: Source>(alloc: Global, reader: &mut R) -> Result<Tra
     }
 }
 
-/// A fault of the trace, where want of memory is told as such.
+/// A fault of the trace, where out of memory is told as such.
 pub(crate) fn of_trace(fault: TraceFault) -> AuditFault
     ensures same { (f : TraceFault) → result ≡ faults.Trace f → f ≡ fault }
     ensures device { IsOfNoDevice result → fault.cause ≢ causes.Read }
@@ -42,7 +42,7 @@ pub(crate) fn of_trace(fault: TraceFault) -> AuditFault
     }
 }
 
-/// A fault of the evidence, where want of memory is told as such.
+/// A fault of the evidence, where out of memory is told as such.
 pub(crate) fn of_evidence(fault: EvidenceFault) -> AuditFault
     ensures same { (f : EvidenceFault) → result ≡ faults.Evidence f → f ≡ fault }
     ensures device { IsOfNoDevice result → fault.cause ≢ evidence_causes.Read }

@@ -45,14 +45,14 @@ pub struct Board<X, N: Names<X>> {
 }
 
 impl<X: Drop, N: Names<X>> Board<X, N> {
-    /// An empty board. Refused for want of memory.
+    /// An empty board. Refused where memory runs out.
     pub fn new(alloc: Global) -> Result<Board<X, N>, AllocError> {
         Ok(Board {
             alerts: Vec::with_rule(alloc, Tag::empty())?,
         })
     }
 
-    /// Puts up an alert, which has to be true. It comes back for want of memory.
+    /// Puts up an alert, which has to be true. It comes back where memory runs out.
     pub fn post<R: Wait>(&self, rt: &R, alert: Alert<X>) -> Result<Posted<X, N>, Alert<X>>
         requires { IsTrueAlert N.gives N.alerts alert }
         ensures posted { IfOk result (λ p. IsPostedOn self.now p × (posted_alert p ≡ alert)) }
@@ -127,7 +127,7 @@ impl<X, N: Names<X>> Watch<X, N> for Blind {
 pub(crate) trait Desk<X, N: Names<X>> {
     fn is_there(&self) -> bool;
 
-    // Puts up an alert, or drops it for want of memory.
+    // Puts up an alert, or drops it where memory runs out.
     fn put<R: Wait>(&self, rt: &R, alert: Alert<X>)
         requires { IsTrueAlert N.gives N.alerts alert };
 

@@ -20,7 +20,7 @@ pub trait Check {
     // Whether a report raises an alert.
     ghost raises: { Self → Self.Report → Bool };
 
-    /// A report of the entry. Refused for want of memory alone.
+    /// A report of the entry. Refused only where memory runs out.
     fn check(&self, entry: usize) -> Result<Self::Report, AllocError>
         requires { entry < entries self.now }
         ensures { IfOk result (gives self.now entry) };

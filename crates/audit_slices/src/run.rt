@@ -152,7 +152,7 @@ fn drain<X: Drop, C: Check<Report = X>, R: Wait>(
 
 /// A report for each entry of the slices of one `cut`, in their order, by 1 to 16 workers with a lane for each. Worker 0 is the
 /// calling thread: after each of its slices and after the join it shows the watch the alerts that are new on the board.
-/// An alert that finds no memory is dropped. Refused for want of memory, whatever the others did, where a slice could
+/// An alert that finds no memory is dropped. Refused where memory runs out, whatever the others did, where a slice could
 /// not be checked.
 pub fn run_pool<
     X: Send + Sync + Copy,

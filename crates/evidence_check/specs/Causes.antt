@@ -25,6 +25,6 @@ abbrev pub is_read : EvidenceCause → Bool
 is_read causes.Read = true
 is_read _ = false
 
--- what a function answered, as `view` sees it, is what reading gives, want of memory apart
+-- what a function answered, as `view` sees it, is what reading gives, running out of memory apart
 abbrev pub Gives : {X Y : Type 0} → (X → Y) → Result X EvidenceCause → Result Y EvidenceCause → Type 0
 Gives view result read = refusals.Gives is_memory view result read

@@ -52,7 +52,7 @@ pub fn found_where(trace: &Trace, i: usize, judged: Judged) -> [Option<What>; 7]
     ]
 }
 
-/// What is found on entry `i`, from 0: on its tokens, and by what its evidence says. It is refused for want of memory alone.
+/// What is found on entry `i`, from 0: on its tokens, and by what its evidence says. It is refused only where memory runs out.
 pub fn found_on(
     trace: &Trace,
     evidence: &Evidence,
@@ -65,7 +65,7 @@ pub fn found_on(
     Ok(found_where(trace, i, judged))
 }
 
-/// Appends a finding on this line for each thing that was found, in their order. For want of memory the findings stay as they were.
+/// Appends a finding on this line for each thing that was found, in their order. Where memory runs out, the findings stay as they were.
 pub fn push_found(
     line: u64,
     found: &[Option<What>],
@@ -83,7 +83,7 @@ pub fn push_found(
     Ok(())
 }
 
-/// The findings on each entry, in line order and by their numbers. It is refused for want of memory alone.
+/// The findings on each entry, in line order and by their numbers. It is refused only where memory runs out.
 pub fn findings_of(
     alloc: Global,
     trace: &Trace,
@@ -109,7 +109,7 @@ fn judged_at(judgements: &[Judged], i: usize) -> Judged
 }
 
 /// The findings on each entry, in line order and by their numbers, where each entry is judged so. One beyond the judgements counts as
-/// `Missing`. It is refused for want of memory alone.
+/// `Missing`. It is refused only where memory runs out.
 pub fn findings_judged(
     alloc: Global,
     trace: &Trace,
@@ -160,7 +160,7 @@ fn verdict_line(findings: &[Finding]) -> &str
     }
 }
 
-/// The text of the report on a trace with so many entries. It is refused for want of memory alone.
+/// The text of the report on a trace with so many entries. It is refused only where memory runs out.
 pub fn report_of(alloc: Global, findings: &[Finding], entries: usize) -> Result<String, AllocError>
     ensures { IfOk result (λ s. string_bytes s ≡ report_text findings.now entries) }
 {

@@ -41,7 +41,7 @@ impl Seen {
         }
     }
 
-    /// Adds a fact. For want of memory the facts stay as they were.
+    /// Adds a fact. Where memory runs out, the facts stay as they were.
     pub(crate) fn add(&mut self, fact: Fact) -> Result<(), AllocError>
         ensures ok { OnOk result (self.new ≡ self.old ++ fact ∷ []) }
         ensures err { OnErr result (self.new ≡ self.old) }

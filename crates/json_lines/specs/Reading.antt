@@ -61,7 +61,7 @@ IsReadFault e = e.stop ≡ Input Read
 abbrev pub IsOfSomeLine : {S C : Type 0} → (ℕ → S → List ℕ → Result S C) → LineFault C → Type 0
 IsOfSomeLine {S} {C} taken e = (c : C) → e.stop ≡ Line c → (n : ℕ) × (s : S) × (line : List ℕ) × (taken n s line ≡ Err c)
 
--- a line was refused for what it says or how long it is, and not for what the reader did or for want of memory
+-- a line was refused for what it says or how long it is, and not for what the reader did or for lack of memory
 abbrev pub IsOfLine : {C : Type 0} → Stop C → Type 0
 IsOfLine (Line c) = ⊤
 IsOfLine (Input TooLong) = ⊤

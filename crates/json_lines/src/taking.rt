@@ -30,7 +30,7 @@ pub trait LineCause: Drop {
     fn not_json() -> Self
         ensures { result ≡ not_json };
 
-    /// Whether it is want of memory.
+    /// Whether it is out of memory.
     fn is_memory(&self) -> bool
         ensures { result ≡ is_memory self.now };
 }

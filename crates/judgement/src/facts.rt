@@ -145,7 +145,7 @@ impl<F: KnownFact> Facts<F> {
         })
     }
 
-    /// Finds all facts by their marks and their users from now on. There is room for as many marks as for facts. For want of memory nothing
+    /// Finds all facts by their marks and their users from now on. There is room for as many marks as for facts. Where memory runs out, nothing
     /// changes.
     fn mark(&mut self) -> Result<(), AllocError>
         ensures same { self.new ≡ self.old }
@@ -160,7 +160,7 @@ impl<F: KnownFact> Facts<F> {
         Ok(())
     }
 
-    /// Adds a fact. For want of memory the facts stay as they were.
+    /// Adds a fact. Where memory runs out, the facts stay as they were.
     pub(crate) fn add(&mut self, fact: F) -> Result<(), AllocError>
         ensures ok { OnOk result (self.new ≡ self.old ++ F.fact fact ∷ []) }
         ensures err { OnErr result (self.new ≡ self.old) }

@@ -54,7 +54,7 @@ impl<F: KnownFact> Known<F> {
         })
     }
 
-    /// From now on the fact is known to hold. For want of memory it is dropped, and what is known stays.
+    /// From now on the fact is known to hold. Where memory runs out, it is dropped, and what is known stays.
     pub fn add_yes(&mut self, fact: F) -> Result<(), AllocError>
         ensures ok { OnOk result (self.new ≡ record self.old { yes = self.old.yes ++ F.fact fact ∷ [] }) }
         ensures err { OnErr result (self.new ≡ self.old) }
@@ -62,7 +62,7 @@ impl<F: KnownFact> Known<F> {
         self.yes.add(fact)
     }
 
-    /// From now on the fact is known not to hold. For want of memory it is dropped, and what is known stays.
+    /// From now on the fact is known not to hold. Where memory runs out, it is dropped, and what is known stays.
     pub fn add_no(&mut self, fact: F) -> Result<(), AllocError>
         ensures ok { OnOk result (self.new ≡ record self.old { no = self.old.no ++ F.fact fact ∷ [] }) }
         ensures err { OnErr result (self.new ≡ self.old) }

@@ -6,7 +6,7 @@
 //! A [`Rewrite`] is seen as the `Expression` that the meaning of the rules is defined over.
 //!
 //! Callers may rely on this: a value is accepted, or refused with the first fault that applies, exactly as the definitions over its JSON
-//! data say, want of memory apart; after a refusal the rules hold what they held before; every look-up answers by the list. `IsWellFormed`,
+//! data say, running out of memory apart; after a refusal the rules hold what they held before; every look-up answers by the list. `IsWellFormed`,
 //! a clause of `namespace` and `relation`, says what holds of that list at any time: names that are distinct, the limits, and that a later
 //! declaration of a namespace begins with the relations of the earlier ones, each with its stratum.
 //!

@@ -19,7 +19,7 @@ use Rattle.new_enemy.specs.Run.{IsStatus, SayNoAudit, IsRefused}
 use Rattle.audit.specs.declared.plain.AuditFault.{AuditFault}
 use Rattle.audit.specs.declared.plain.AuditFault.TheVariants as faults
 
--- a fault that is neither the reader's nor want of memory is that of the bytes
+-- a fault that is neither the reader's nor out of memory is that of the bytes
 pub said_by_trace : (c : Cause) (f : TraceFault) (read : Result TraceValue TraceFault) → c ≢ causes.Read → c ≢ causes.OutOfMemory → FailsBy c f read → read ≡ Err f
 said_by_trace causes.Read f read n m h = absurd (n refl)
 said_by_trace causes.OutOfMemory f read n m h = absurd (m refl)

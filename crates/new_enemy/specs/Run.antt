@@ -17,7 +17,7 @@ use Rattle.audit.specs.declared.plain.Verdict.TheVariants.{Clean, Dirty}
 use Rattle.audit.specs.declared.plain.AuditFault.{AuditFault}
 use Rattle.audit.specs.declared.plain.AuditFault.TheVariants as faults
 
--- the exit status of a fault: 2 for refused input, 3 for limits, 4 for want of memory, 5 for a device that failed
+-- the exit status of a fault: 2 for refused input, 3 for limits, 4 for out of memory, 5 for a device that failed
 abbrev pub IsStatus : AuditFault → ℕ → Type 0
 IsStatus (faults.Trace f) s = ((f.cause ≡ causes.Read) × (s ≡ 5)) ⊎ ((f.cause ≢ causes.Read) × (s ≡ 2))
 IsStatus (faults.Evidence f) s = ((f.cause ≡ evidence_causes.Read) × (s ≡ 5)) ⊎ ((f.cause ≢ evidence_causes.Read) × (s ≡ 2))

@@ -172,7 +172,7 @@ fn history_in_path<W: Sink, E: Sink, P: Files>(
 }
 
 /// Runs the program on the words after its name, and answers its exit status and what it read: 0 for clean, for evidence that is made, for a
-/// history that is told and for help that went out, 1 for dirty, 2 for refused input, 3 for usage, 4 for want of memory, 5 for a device that failed
+/// history that is told and for help that went out, 1 for dirty, 2 for refused input, 3 for usage, 4 for out of memory, 5 for a device that failed
 /// and a file that could not be opened.
 ///
 /// Without words it audits joined input. A report, evidence, a history or the text of help goes to `out`; a fault is told to `err` in one line, and a

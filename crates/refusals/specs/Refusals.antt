@@ -16,7 +16,7 @@ abbrev pub Unless : Bool → Type 0 → Type 0
 Unless true P = ⊤
 Unless false P = P
 
--- a refusal that was answered is the one that the specification gives, unless it is open, as want of memory is
+-- a refusal that was answered is the one that the specification gives, unless it is open, as out of memory is
 abbrev pub Fails : {Y E : Type 0} → (E → Bool) → E → Result Y E → Type 0
 Fails is_open e given = Unless (is_open e) (given ≡ Err e)
 

@@ -1,4 +1,4 @@
--- How an opening is refused: for no lane, for more lanes than workers or more than 16 workers, or else for want of memory.
+-- How an opening is refused: for no lane, for more lanes than workers or more than 16 workers, or else where memory runs out.
 use Rattle.std.specs.Prelude.{◌≡◌, ◌⊎◌, ℕ, ◌<◌, ◌≤◌}
 use Rattle.slice_core.specs.declared.opening.OpenCause.{OpenCause}
 use Rattle.slice_core.specs.declared.opening.OpenCause.TheVariants.{NoLane, TooManyLanes, OutOfMemory}

@@ -43,7 +43,7 @@ impl Core {
     ghost use Rattle.slice_core.specs.Places.{after, moved, start_state};
 
     /// Slice number k stands in lane k modulo `lanes`, and every hand is empty. Refused for no lane, for more lanes
-    /// than workers, for more than 16 workers, and for want of memory.
+    /// than workers, for more than 16 workers, and where memory runs out.
     pub fn start(
         alloc: Global,
         slices: usize,

@@ -15,7 +15,7 @@ pub enum OpenCause {
     OutOfMemory,
 }
 
-/// Why so many lanes for so many workers are refused, unless for want of memory.
+/// Why so many lanes for so many workers are refused, unless memory runs out.
 pub fn refusal(lanes: usize, workers: usize) -> Option<OpenCause>
     ensures some { IfSome result (Refuses lanes workers) }
     ensures none { IfNone result (IsAllowed lanes workers) }

@@ -48,7 +48,7 @@ impl Yard {
     /// number, modulo `lanes`, upwards and round, without its own.
     ///
     /// Slice number k stands at place k. Refused for no lane, for more lanes than workers, for more than 16 workers,
-    /// and for want of memory: the slices come back.
+    /// and where memory runs out: the slices come back.
     pub fn open(
         alloc: Global,
         slices: Vec<Slice>,

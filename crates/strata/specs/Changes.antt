@@ -13,7 +13,7 @@ pub record IsDeclaredAgain (before after : List Declaration) (q : List ℕ) (has
   pub named : last.name ≡ q
   pub count : has_more ≡ false → relation_count q after ≡ relation_count q before
 
--- the first broken edge is answered, or that there is none, or want of memory
+-- the first broken edge is answered, or that there is none, or out of memory
 abbrev pub Answers : Result (Unit {0}) ChangeFault → Result (Unit {0}) Edge → Type 0
 Answers (Ok u) checked = checked ≡ Ok u
 Answers (Err (Strata e)) checked = checked ≡ Err e

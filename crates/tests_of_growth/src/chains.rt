@@ -21,7 +21,7 @@ fn counts(chains: &Chains) -> (usize, usize) {
     (chains.commits().len(), users)
 }
 
-/// What is answered to a commit, which is made once more where want of memory left the chains as they were.
+/// What is answered to a commit, which is made once more where running out of memory left the chains as they were.
 fn answer(
     chains: &mut Chains,
     at: u64,

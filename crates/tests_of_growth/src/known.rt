@@ -16,7 +16,7 @@ fn is_known(known: &Known<Fact>) -> (bool, bool) {
     (known.yes(VIEWER, 7), known.no(VIEWER, 8))
 }
 
-/// Whether the fact is known in the end, where want of memory leaves what was known.
+/// Whether the fact is known in the end, where running out of memory leaves what was known.
 fn is_added(known: &mut Known<Fact>, fact: Fact, again: Fact) -> bool {
     let before = is_known(known);
     known.add_yes(fact).is_ok() || is_known(known) == before && known.add_yes(again).is_ok()

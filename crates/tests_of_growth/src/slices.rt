@@ -67,7 +67,7 @@ fn slices(alloc: Global) -> Result<Vec<Slice>, AllocError>
     }
 }
 
-/// Whether a yard opens in the end, where want of memory gives all slices back in order.
+/// Whether a yard opens in the end, where running out of memory gives all slices back in order.
 fn opens(alloc: Global, slices: Vec<Slice>) -> bool
     requires { IsNumbered slices.items }
 {
@@ -85,7 +85,7 @@ fn is_report(report: &SliceReport<usize>, number: usize) -> bool {
     report.number() == number && report.reports() == [number].as_slice()
 }
 
-/// Whether the slice is checked in the end, where want of memory gives it back.
+/// Whether the slice is checked in the end, where running out of memory gives it back.
 fn is_checked(alloc: Global, slice: Slice) -> bool
     requires { IsWithin 1000 slice }
 {
@@ -117,7 +117,7 @@ fn board(alloc: Global) -> Result<Board<usize, Numbered>, AllocError> {
     }
 }
 
-/// Whether an alert is posted in the end, where want of memory gives it back.
+/// Whether an alert is posted in the end, where running out of memory gives it back.
 fn is_posted<R: Wait>(rt: &R, board: &Board<usize, Numbered>) -> bool {
     let alert = Alert {
         entry: 4,

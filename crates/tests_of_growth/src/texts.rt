@@ -7,7 +7,7 @@ use tuple_text::{
     write_tuple,
 };
 
-/// The tuple of a text, which is read once more for want of memory.
+/// The tuple of a text, which is read once more where memory runs out.
 pub(crate) fn tuple(alloc: Global, text: &str) -> Result<Tuple, TupleFault> {
     match parse_tuple(alloc, text) {
         Err(TupleFault::OutOfMemory) => parse_tuple(alloc, text),
@@ -51,7 +51,7 @@ pub(crate) fn string_of_x(alloc: Global) -> Result<String, Fail> {
     }
 }
 
-/// Whether the tuple is written behind what the string holds, which want of memory leaves as it was.
+/// Whether the tuple is written behind what the string holds, which running out of memory leaves as it was.
 fn is_tuple_written(tuple: &Tuple, out: &mut String, text: &str) -> bool {
     let written = write_tuple(tuple, out).is_ok()
         || out.as_str() == "x" && write_tuple(tuple, out).is_ok();

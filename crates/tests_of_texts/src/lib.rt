@@ -1,5 +1,5 @@
 //! Tests of `tuple_text` and `zookie`, by public calls alone: what is written is what was read, values made of parts are those that
-//! are read, tuples are in order, and what a fault for want of memory says. What is refused, where and with which text is shown by
+//! are read, tuples are in order, and what a fault says that is out of memory. What is refused, where and with which text is shown by
 //! rows of the program.
 #![tactic(auto)]
 

@@ -39,10 +39,10 @@ abbrev pub is_read : Cause → Bool
 is_read causes.Read = true
 is_read _ = false
 
--- a cause that was answered is the one that reading gives, want of memory apart
+-- a cause that was answered is the one that reading gives, running out of memory apart
 abbrev pub Fails : {Y : Type 0} → Cause → Result Y Cause → Type 0
 Fails e read = refusals.Fails is_memory e read
 
--- what a function answered, as `view` sees it, is what reading gives, want of memory apart
+-- what a function answered, as `view` sees it, is what reading gives, running out of memory apart
 abbrev pub Gives : {X Y : Type 0} → (X → Y) → Result X Cause → Result Y Cause → Type 0
 Gives view result read = refusals.Gives is_memory view result read

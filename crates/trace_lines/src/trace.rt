@@ -300,7 +300,7 @@ impl Trace {
         if let Some(last) = self.not_before(at) {
             return Err(late_change(&self.rules, last, value));
         }
-        // A commit without a touch that is later than all others is refused for want of memory alone.
+        // A commit without a touch that is later than all others is refused only where memory runs out.
         if self.append(line, at, &[], &[]).is_err() {
             return Err(Cause::OutOfMemory);
         }

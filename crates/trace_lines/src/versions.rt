@@ -74,7 +74,7 @@ impl Versions {
         None
     }
 
-    /// Adds the version that the entry of this number issues. For want of memory nothing changes.
+    /// Adds the version that the entry of this number issues. Where memory runs out, nothing changes.
     pub(crate) fn push(&mut self, version: VersionRef<'_>, number: usize) -> Result<(), AllocError>
         ensures entries { OnOk result (self.new.entries.items ≡ self.old.entries.items ++ number ∷ []) }
         ensures marks { OnOk result (self.new.marks ≡ self.old.marks ++ version_mark (version_value version.entry) ∷ []) }

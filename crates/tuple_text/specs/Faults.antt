@@ -11,11 +11,11 @@ is_memory (Relation at) = false
 is_memory (User at) = false
 is_memory OutOfMemory = true
 
--- a fault that was answered is the one that reading gives, want of memory apart
+-- a fault that was answered is the one that reading gives, running out of memory apart
 abbrev pub Fails : {Y : Type 0} → TupleFault → Result Y TupleFault → Type 0
 Fails e read = refusals.Fails is_memory e read
 
--- what a function answered, as `view` sees it, is what reading gives, want of memory apart
+-- what a function answered, as `view` sees it, is what reading gives, running out of memory apart
 abbrev pub Gives : {X Y : Type 0} → (X → Y) → Result X TupleFault → Result Y TupleFault → Type 0
 Gives view result read = refusals.Gives is_memory view result read
 

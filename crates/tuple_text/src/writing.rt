@@ -20,7 +20,7 @@ fn push_set(set: SetRef<'_>, out: &mut String) -> Result<(), AllocError>
     out.push_str(set.relation)
 }
 
-/// Appends the text of a tuple. For want of memory the string stays as it was.
+/// Appends the text of a tuple. Where memory runs out, the string stays as it was.
 pub fn write_tuple(tuple: &Tuple, out: &mut String) -> Result<(), AllocError>
     ensures { string_bytes out.new ≡ (if is_ok result then string_bytes out.old ++ tuple_text tuple.now else string_bytes out.old) }
 {
@@ -34,7 +34,7 @@ pub fn write_tuple(tuple: &Tuple, out: &mut String) -> Result<(), AllocError>
     out.push_str(text.as_str())
 }
 
-/// Appends the text of a fact. For want of memory the string stays as it was.
+/// Appends the text of a fact. Where memory runs out, the string stays as it was.
 pub fn write_fact(fact: &Fact, out: &mut String) -> Result<(), AllocError>
     ensures { string_bytes out.new ≡ (if is_ok result then string_bytes out.old ++ fact_text fact.now else string_bytes out.old) }
 {

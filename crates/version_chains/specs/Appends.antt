@@ -47,6 +47,6 @@ abbrev pub appended : Changes → ℕ → List TupleValue → List TupleValue �
 appended old at adds removes =
     record { limit = old.limit; commits = old.commits ++ record { at = at; adds = adds; removes = removes } ∷ [] }
 
--- the fault that applies, or want of memory
+-- the fault that applies, or out of memory
 abbrev pub IsRefusal : Option AppendFault → AppendFault → Type 0
 IsRefusal fault e = (e ≡ OutOfMemory) ⊎ (fault ≡ Some e)

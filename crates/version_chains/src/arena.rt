@@ -62,7 +62,7 @@ fn names(tuple: &Tuple, set: SetRef<'_>, user: UserRef<'_>) -> bool
     tuple.set() == set && tuple.user() == user
 }
 
-/// Adds a place with a mark to each of two lists. For want of memory nothing changes.
+/// Adds a place with a mark to each of two lists. Where memory runs out, nothing changes.
 fn push_both(named: &mut Places, held: &mut Places, name: u64, kind: u64) -> Result<(), AllocError>
     ensures named { OnOk result (named.new ≡ named.old ++ name ∷ []) }
     ensures held { OnOk result (held.new ≡ held.old ++ kind ∷ []) }

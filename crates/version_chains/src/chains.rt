@@ -159,7 +159,7 @@ impl Chains {
         ensures ok { OnOk result (append_fault self.old at adds.now removes.now ≡ None) }
         ensures appends { OnOk result (self.new ≡ appended self.old at adds.now removes.now) }
 
-        // want of memory may come before any other refusal
+        // running out of memory may come before any other refusal
         ensures refused { IfErr result (IsRefusal (append_fault self.old at adds.now removes.now)) }
         ensures unchanged { OnErr result (self.new ≡ self.old) }
     {
@@ -177,7 +177,7 @@ impl Chains {
     ) -> Result<(), AppendFault>
         ensures ok { OnOk result (append_fault self.old at (tuple_values adds.now) (tuple_values removes.now) ≡ None) }
         ensures appends { OnOk result (self.new ≡ appended self.old at (tuple_values adds.now) (tuple_values removes.now)) }
-        // want of memory may come before any other refusal
+        // running out of memory may come before any other refusal
         ensures refused { IfErr result (IsRefusal (append_fault self.old at (tuple_values adds.now) (tuple_values removes.now))) }
         ensures unchanged { OnErr result (self.new ≡ self.old) }
     {

@@ -6,7 +6,7 @@ ghost use Rattle.version_chains.specs.declared.fault.AppendFault.TheVariants.{Ou
 use std::alloc::{AllocError, AllocFailed};
 use thiserror::Error;
 
-/// Why a commit is refused. Of the faults that apply the first in this order is answered, but a want of memory
+/// Why a commit is refused. Of the faults that apply the first in this order is answered, but running out of memory
 /// may be answered in place of any.
 #[derive(Clone, Copy, Debug, PartialEq, Eq, Error)]
 pub enum AppendFault {

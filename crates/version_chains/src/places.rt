@@ -81,7 +81,7 @@ impl Places {
         }
     }
 
-    /// Adds a place with the mark. For want of memory nothing changes.
+    /// Adds a place with the mark. Where memory runs out, nothing changes.
     pub fn push(&mut self, mark: u64) -> Result<(), AllocError>
         ensures ok { OnOk result (self.new ≡ self.old ++ mark ∷ []) }
         ensures err { OnErr result (self.new ≡ self.old) }

@@ -5,7 +5,7 @@ from typing import Iterator
 
 from packing.shapes import Shape
 
-STATUSES = (("0", "clean, or done"), ("1", "dirty"), ("2", "input refused"), ("3", "usage"), ("4", "want of memory"), ("5", "a device failed"))
+STATUSES = (("0", "clean, or done"), ("1", "dirty"), ("2", "input refused"), ("3", "usage"), ("4", "out of memory"), ("5", "a device failed"))
 STATUSES_OF_TOOLS = (("0", "done"), ("1", "what was looked for was found, as the command says"), ("2", "input refused"), ("3", "usage"),
                      ("5", "a file, a program or the network failed"))
 STANDARD_INPUT = ("Joined input is a trace, a line that is --- and nothing else, and evidence. A trace or evidence that comes by a pipe is the "

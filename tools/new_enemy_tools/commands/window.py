@@ -8,7 +8,7 @@ TRACE has the lines of a window alone; with --whole it is the whole log, which h
 Without OLD the window is the beginning of the log. EVIDENCE names the lines of the whole log; without it the program makes evidence.
 
 The status is 0 where nothing was found, 1 where something was, 6 where nothing was found and not every entry was audited, and 2 where
-a file is refused; a fault of usage has 3, want of memory 4, and a file that cannot be read or written 5. A state is written where the
+a file is refused; a fault of usage has 3, out of memory 4, and a file that cannot be read or written 5. A state is written where the
 status is 0, 1 or 6.
 """
 import gc
