@@ -53,16 +53,6 @@ IsNoTrace trace = OfEveryInput trace SayNoTrace
 abbrev pub IsNoAudit : {F : Type 0} → Counted F → Counted F → Type 0
 IsNoAudit trace evidence = OfEveryInput trace (λ a. OfEveryInput evidence (λ b. SayNoAudit a b))
 
--- what holds of a run by what it read: joined input, the files of an audit, the file of one that made its evidence, the file that evidence was made
--- for, the file of a history, or no file
-abbrev pub OfRun : {F : Type 0} → Ran F → Type 0 → (Counted F → Counted F → Type 0) → (alone made told : Counted F → Type 0) → Type 0 → Type 0
-OfRun ran.Joined joined audited alone made told nothing = joined
-OfRun (ran.Audited trace evidence) joined audited alone made told nothing = audited trace evidence
-OfRun (ran.AuditedAlone trace) joined audited alone made told nothing = alone trace
-OfRun (ran.Made trace) joined audited alone made told nothing = made trace
-OfRun (ran.Told trace) joined audited alone made told nothing = told trace
-OfRun ran.Nothing joined audited alone made told nothing = nothing
-
 -- how often the files of a run failed
 abbrev pub file_failures : {F : Type 0} → Ran F → ℕ
 file_failures ran.Joined = 0

@@ -1,3 +1,4 @@
 pub mod Files
+pub mod Outcomes
 pub mod Run
 pub mod Words

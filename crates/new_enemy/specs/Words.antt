@@ -1,6 +1,10 @@
 -- Which words ask for which run.
-use Rattle.std.specs.Prelude.{◌≡◌, ◌⊎◌, ℕ, true, List, [], ◌∷◌, Option, Some, None, codes, slice_get, ⊤}
+use Rattle.std.specs.Prelude.{◌≡◌, ◌⊎◌, ℕ, true, List, [], ◌∷◌, Option, Some, None, Ok, Err, codes, slice_get, ⊤}
+use Rattle.tuple_text.specs.Reading.{tuple_at}
+use Rattle.tuple_text.specs.Tuples.{TupleValue}
+use Rattle.tuple_text.specs.declared.fault.TupleFault.{TupleFault}
 use Rattle.command_line.specs.Asked.{is_plain_word}
+use Rattle.new_enemy.specs.Files.{IsToldHistory}
 use Rattle.new_enemy.specs.declared.run.Ran.{Ran}
 use Rattle.new_enemy.specs.declared.run.Ran.TheVariants as ran
 
@@ -26,11 +30,13 @@ RanMake status (ran.Made trace) = ⊤
 RanMake status ran.Nothing = IsHindered status
 RanMake status _ = ⊥
 
--- a tuple's history was told, or its text is none of a tuple
-abbrev pub RanHistory : {F : Type 0} → ℕ → Ran F → Type 0
-RanHistory status (ran.Told trace) = ⊤
-RanHistory status ran.Nothing = (status ≡ 2) ⊎ IsHindered status
-RanHistory status _ = ⊥
+-- the history went out of the tuple that has this text, where the status is 0; or it is the text of no tuple
+abbrev pub RanHistory : {F : Type 0} → (text old new : List ℕ) → ℕ → Ran F → Type 0
+RanHistory text old new status (ran.Told trace) =
+    status ≡ 0 → (tuple : TupleValue) × (tuple_at text ≡ Ok tuple) × IsToldHistory tuple trace old new
+RanHistory text old new status ran.Nothing =
+    ((status ≡ 2) × (f : TupleFault) × (tuple_at text ≡ Err f)) ⊎ IsHindered status
+RanHistory text old new status _ = ⊥
 
 -- the run is of the command that the word names, and of joined input where there is no word
 abbrev pub IsOfCommand : {F : Type 0} → Option (List ℕ) → Ran F → Type 0
@@ -41,14 +47,14 @@ IsOfCommand word (ran.Made trace) = word ≡ Some (codes "make")
 IsOfCommand word (ran.Told trace) = word ≡ Some (codes "history")
 IsOfCommand word ran.Nothing = ⊤
 
--- The run is what its words ask for. A plain word does not begin with a hyphen.
-pub record IsAsked {F : Type 0} (words : List (List ℕ)) (status : ℕ) (run : Ran F) : Type 0 where
+-- The run is what its words ask for: a writer took `new` in all, of which it had `old` before. A plain word does not begin with a hyphen.
+pub record IsAsked {F : Type 0} (words : List (List ℕ)) (old new : List ℕ) (status : ℕ) (run : Ran F) : Type 0 where
   pub audit : (t e : List ℕ) → words ≡ codes "audit" ∷ t ∷ e ∷ [] → is_plain_word t ≡ true → is_plain_word e ≡ true
       → RanAudit status run
   pub audit_made : (t : List ℕ) → words ≡ codes "audit" ∷ t ∷ codes "--make" ∷ [] → is_plain_word t ≡ true
       → RanAuditAlone status run
   pub make : (t : List ℕ) → words ≡ codes "make" ∷ t ∷ [] → is_plain_word t ≡ true → RanMake status run
   pub history : (t u : List ℕ) → words ≡ codes "history" ∷ t ∷ u ∷ [] → is_plain_word t ≡ true → is_plain_word u ≡ true
-      → RanHistory status run
+      → RanHistory u old new status run
   -- of all words whatever
   pub first : IsOfCommand (slice_get words 0) run

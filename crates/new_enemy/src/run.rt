@@ -1,21 +1,19 @@
 //! The program, over any runtime, reader and writers.
 
-ghost use Rattle.std.specs.Prelude.{◌≡◌, ◌≢◌, ◌↔◌, ◌+◌, ◌<◌, ◌≤◌, ◌⊎◌, [], length, map, Ok, Err, None, false, ⊤, IfSome, string_bytes};
+ghost use Rattle.std.specs.Prelude.{◌≡◌, ◌≢◌, ◌↔◌, ◌+◌, ◌<◌, ◌≤◌, ◌⊎◌, [], length, map, None, Some, false, codes, IfSome, string_bytes};
 ghost use Rattle.json_lines.specs.Devices.{moved_by, failures_of, stops_of};
 ghost use Rattle.json_lines.specs.Given.{OfBytes, OfWhole, OfInput, AreNext, StandBehind};
 ghost use Rattle.json_lines.specs.declared.lines.TheConstants.{CHUNK};
 ghost use Rattle.json_lines.specs.declared.reading.TheConstants.{MAX_INPUT};
-ghost use Rattle.tuple_text.specs.Reading.{tuple_at};
-ghost use Rattle.tuple_text.specs.Tuples.{TupleValue};
-ghost use Rattle.tuple_text.specs.declared.fault.TupleFault.{TupleFault};
 ghost use Rattle.audit.specs.Audit.{Audits};
 ghost use Rattle.audit.specs.Devices.{HasRisen};
 ghost use Rattle.audit.specs.Shared.{are_within_limits};
 ghost use Rattle.findings.specs.Headline.{IsTraceRightAndFresh};
 ghost use Rattle.audit.specs.Joined.{OfParts};
-ghost use Rattle.new_enemy.specs.Files.{IsCleanAudit, IsDirtyAudit, IsCleanAuditMade, IsDirtyAuditMade, IsMadeEvidence, IsToldHistory, IsNoTrace, IsNoAudit, OfRun, OfFiles, file_failures};
+ghost use Rattle.new_enemy.specs.Files.{OfFiles, file_failures};
+ghost use Rattle.new_enemy.specs.Outcomes.{HasSucceeded, HasFoundDirty, HasRefused, HasReadNothing};
 ghost use Rattle.new_enemy.specs.Run.{IsRefused, OfEveryInput, IsCleanRun, IsDirtyRun};
-ghost use Rattle.new_enemy.specs.Words.{IsAsked, RanAudit, RanAuditAlone, RanMake, RanHistory};
+ghost use Rattle.new_enemy.specs.Words.{IsAsked, IsOfCommand, RanAudit, RanAuditAlone, RanMake, RanHistory};
 ghost use Rattle.new_enemy.specs.declared.run.Ran.TheVariants as ran;
 ghost use Rattle.audit.specs.declared.plain.Verdict.TheVariants.{Clean, Dirty};
 
@@ -70,17 +68,15 @@ fn audit_paths<W: Sink, E: Sink, P: Files + Threads + Wait + Sync>(
     out: &mut W,
     err: &mut E,
 ) -> (u8, Ran<P::File>)
-    ensures clean { result.0 ≡ 0 → OfRun result.1 ⊥ (λ t e. IsCleanAudit t e (W.taken out.old) (W.taken out.new))
-        (λ t. IsCleanAuditMade t (W.taken out.old) (W.taken out.new)) (λ t. ⊥) (λ t. ⊥) ⊥ }
-    ensures dirty { result.0 ≡ 1 → OfRun result.1 ⊥ (λ t e. IsDirtyAudit t e (W.taken out.old) (W.taken out.new))
-        (λ t. IsDirtyAuditMade t (W.taken out.old) (W.taken out.new)) (λ t. ⊥) (λ t. ⊥) ⊥ }
-    ensures files { OfRun result.1 ⊥ (λ t e. ⊤) (λ t. ⊤) (λ t. ⊥) (λ t. ⊥) ⊤ }
+    ensures clean { result.0 ≡ 0 → HasSucceeded ⊥ (W.taken out.old) (W.taken out.new) result.1 }
+    ensures dirty { result.0 ≡ 1 → HasFoundDirty ⊥ (W.taken out.old) (W.taken out.new) result.1 }
+    ensures command { IsOfCommand (Some (codes "audit")) result.1 }
     ensures ran { IfSome paths.entry.1 (λ _. RanAudit result.0 result.1) }
     ensures ran_alone { paths.entry.1 ≡ None → RanAuditAlone result.0 result.1 }
     ensures flushed { result.0 ≤ 1 → W.flushes out.new ≡ W.flushes out.old + 1 }
     ensures limits { result.0 ≡ 3 → are_within_limits sharing.workers sharing.slice ≡ false }
-    ensures unread { result.0 ≡ 3 → OfRun result.1 ⊥ (λ t e. (moved_by t ≡ []) × (moved_by e ≡ [])) (λ t. moved_by t ≡ []) (λ t. ⊥) (λ t. ⊥) ⊥ }
-    ensures refused { result.0 ≡ 2 → OfRun result.1 ⊥ (λ t e. IsNoAudit t e) (λ t. IsNoTrace t) (λ t. ⊥) (λ t. ⊥) ⊥ }
+    ensures unread { result.0 ≡ 3 → HasReadNothing result.1 }
+    ensures refused { result.0 ≡ 2 → HasRefused ⊥ result.1 }
     ensures device { result.0 ≡ 5 → result.1 ≢ ran.Nothing → (0 < file_failures result.1) ⊎ (HasRisen (W.failures out.old) (W.failures out.new) ⊎ HasRisen (W.idle out.old) (W.idle out.new)) }
     ensures kept { result.0 ≢ 5 → (file_failures result.1 ≡ 0) × (W.failures out.new ≡ W.failures out.old) }
     ensures unwritten { 2 ≤ result.0 → result.0 ≤ 4 → W.taken out.new ≡ W.taken out.old }
@@ -112,11 +108,10 @@ fn make_for_path<W: Sink, E: Sink, P: Files>(
     out: &mut W,
     err: &mut E,
 ) -> (u8, Ran<P::File>)
-    ensures made { result.0 ≡ 0 → OfRun result.1 ⊥ (λ t e. ⊥) (λ t. ⊥) (λ t. IsMadeEvidence t (W.taken out.old) (W.taken out.new)) (λ t. ⊥) ⊥ }
-    ensures files { OfRun result.1 ⊥ (λ t e. ⊥) (λ t. ⊥) (λ t. ⊤) (λ t. ⊥) ⊤ }
+    ensures made { result.0 ≡ 0 → HasSucceeded ⊥ (W.taken out.old) (W.taken out.new) result.1 }
     ensures ran { RanMake result.0 result.1 }
     ensures flushed { result.0 ≤ 1 → W.flushes out.new ≡ W.flushes out.old + 1 }
-    ensures refused { result.0 ≡ 2 → OfRun result.1 ⊥ (λ t e. ⊥) (λ t. ⊥) (λ t. IsNoTrace t) (λ t. ⊥) ⊥ }
+    ensures refused { result.0 ≡ 2 → HasRefused ⊥ result.1 }
     ensures device { result.0 ≡ 5 → result.1 ≢ ran.Nothing → (0 < file_failures result.1) ⊎ (HasRisen (W.failures out.old) (W.failures out.new) ⊎ HasRisen (W.idle out.old) (W.idle out.new)) }
     ensures kept { result.0 ≢ 5 → (file_failures result.1 ≡ 0) × (W.failures out.new ≡ W.failures out.old) }
     ensures unwritten { 2 ≤ result.0 → result.0 ≤ 4 → W.taken out.new ≡ W.taken out.old }
@@ -140,12 +135,9 @@ fn history_in_path<W: Sink, E: Sink, P: Files>(
     out: &mut W,
     err: &mut E,
 ) -> (u8, Ran<P::File>)
-    ensures told { result.0 ≡ 0 → OfRun result.1 ⊥ (λ t e. ⊥) (λ t. ⊥) (λ t. ⊥)
-        (λ t. (v : TupleValue) × (tuple_at tuple.now ≡ Ok v) × IsToldHistory v t (W.taken out.old) (W.taken out.new)) ⊥ }
-    ensures files { OfRun result.1 ⊥ (λ t e. ⊥) (λ t. ⊥) (λ t. ⊥) (λ t. ⊤) ⊤ }
-    ensures ran { RanHistory result.0 result.1 }
+    ensures ran { RanHistory tuple.now (W.taken out.old) (W.taken out.new) result.0 result.1 }
     ensures flushed { result.0 ≤ 1 → W.flushes out.new ≡ W.flushes out.old + 1 }
-    ensures refused { result.0 ≡ 2 → OfRun result.1 ⊥ (λ t e. ⊥) (λ t. ⊥) (λ t. ⊥) (λ t. IsNoTrace t) ((f : TupleFault) × (tuple_at tuple.now ≡ Err f)) }
+    ensures refused { result.0 ≡ 2 → HasRefused ⊥ result.1 }
     ensures device { result.0 ≡ 5 → result.1 ≢ ran.Nothing → (0 < file_failures result.1) ⊎ (HasRisen (W.failures out.old) (W.failures out.new) ⊎ HasRisen (W.idle out.old) (W.idle out.new)) }
     ensures kept { result.0 ≢ 5 → (file_failures result.1 ≡ 0) × (W.failures out.new ≡ W.failures out.old) }
     ensures unwritten { 2 ≤ result.0 → result.0 ≤ 4 → W.taken out.new ≡ W.taken out.old }
@@ -187,23 +179,19 @@ pub fn run_words<R: Source, W: Sink, E: Sink, P: Files + Threads + Wait + Sync>(
 ) -> (u8, Ran<P::File>)
     ensures joined { result.1 ≡ ran.Joined ↔ words.now ≡ [] }
     // Words that name an audit are run as one, and so on: status 0 where nothing was read is help alone.
-    ensures asked { IsAsked (map string_bytes words.now) result.0 result.1 }
+    ensures asked { IsAsked (map string_bytes words.now) (W.taken out.old) (W.taken out.new) result.0 result.1 }
     // The report on all that was read went out, its verdict is clean, and the trace is right and fresh.
-    ensures clean { result.0 ≡ 0 → OfRun result.1
+    ensures clean { result.0 ≡ 0 → HasSucceeded
         (OfWhole R.given R.ends input.old input.new (OfParts (λ a b. Audits a b (W.taken out.old) (W.taken out.new) Clean))
         × OfWhole R.given R.ends input.old input.new (OfParts (λ a b. IsTraceRightAndFresh a)))
-        (λ t e. IsCleanAudit t e (W.taken out.old) (W.taken out.new))
-        (λ t. IsCleanAuditMade t (W.taken out.old) (W.taken out.new))
-        (λ t. IsMadeEvidence t (W.taken out.old) (W.taken out.new))
-        (λ t. (tuple : TupleValue) × IsToldHistory tuple t (W.taken out.old) (W.taken out.new)) ⊤ }
-    ensures dirty { result.0 ≡ 1 → OfRun result.1
+        (W.taken out.old) (W.taken out.new) result.1 }
+    ensures dirty { result.0 ≡ 1 → HasFoundDirty
         (OfWhole R.given R.ends input.old input.new (OfParts (λ a b. Audits a b (W.taken out.old) (W.taken out.new) Dirty)))
-        (λ t e. IsDirtyAudit t e (W.taken out.old) (W.taken out.new)) (λ t. IsDirtyAuditMade t (W.taken out.old) (W.taken out.new)) (λ t. ⊥) (λ t. ⊥) ⊥ }
+        (W.taken out.old) (W.taken out.new) result.1 }
     ensures flushed { result.0 ≤ 1 → W.flushes out.new ≡ W.flushes out.old + 1 }
     // Of every input that begins with the bytes that came.
-    ensures refused { result.0 ≡ 2 → OfRun result.1 (OfInput R.given R.ends input.old input.new IsRefused)
-        (λ t e. IsNoAudit t e) (λ t. IsNoTrace t) (λ t. IsNoTrace t) (λ t. IsNoTrace t) ⊤ }
-    ensures used { result.0 ≡ 3 → OfRun result.1 ⊥ (λ t e. (moved_by t ≡ []) × (moved_by e ≡ [])) (λ t. moved_by t ≡ []) (λ t. ⊥) (λ t. ⊥) ⊤ }
+    ensures refused { result.0 ≡ 2 → HasRefused (OfInput R.given R.ends input.old input.new IsRefused) result.1 }
+    ensures used { result.0 ≡ 3 → HasReadNothing result.1 }
     ensures device { result.0 ≡ 5 → result.1 ≢ ran.Nothing → (HasRisen (R.failures input.old) (R.failures input.new) ⊎ (0 < file_failures result.1))
         ⊎ (HasRisen (W.failures out.old) (W.failures out.new) ⊎ HasRisen (W.idle out.old) (W.idle out.new)) }
     // Any other status comes only where no device failed.
@@ -278,17 +266,13 @@ pub fn run_on<R: Read, W: Write, E: Write, P: Files + Threads + Wait + Sync>(
 ) -> (u8, Ran<P::File>, (Counted<R>, Counted<W>, Counted<E>))
     ensures joined { result.1 ≡ ran.Joined ↔ words.now ≡ [] }
     // Words that name an audit are run as one, and so on: status 0 where nothing was read is help alone.
-    ensures asked { IsAsked (map string_bytes words.now) result.0 result.1 }
+    ensures asked { IsAsked (map string_bytes words.now) [] (moved_by result.2.1) result.0 result.1 }
     // All that was read, to its end, is a trace and evidence for it, all that was written is the report on them, and the trace is right
     // and fresh.
-    ensures clean { result.0 ≡ 0 → OfRun result.1 (IsCleanRun result.2.0 result.2.1) (λ t e. IsCleanAudit t e [] (moved_by result.2.1))
-        (λ t. IsCleanAuditMade t [] (moved_by result.2.1))
-        (λ t. IsMadeEvidence t [] (moved_by result.2.1)) (λ t. (tuple : TupleValue) × IsToldHistory tuple t [] (moved_by result.2.1)) ⊤ }
-    ensures dirty { result.0 ≡ 1 → OfRun result.1 (IsDirtyRun result.2.0 result.2.1) (λ t e. IsDirtyAudit t e [] (moved_by result.2.1))
-        (λ t. IsDirtyAuditMade t [] (moved_by result.2.1)) (λ t. ⊥) (λ t. ⊥) ⊥ }
-    ensures refused { result.0 ≡ 2 → OfRun result.1 (OfEveryInput result.2.0 IsRefused)
-        (λ t e. IsNoAudit t e) (λ t. IsNoTrace t) (λ t. IsNoTrace t) (λ t. IsNoTrace t) ⊤ }
-    ensures used { result.0 ≡ 3 → OfRun result.1 ⊥ (λ t e. (moved_by t ≡ []) × (moved_by e ≡ [])) (λ t. moved_by t ≡ []) (λ t. ⊥) (λ t. ⊥) ⊤ }
+    ensures clean { result.0 ≡ 0 → HasSucceeded (IsCleanRun result.2.0 result.2.1) [] (moved_by result.2.1) result.1 }
+    ensures dirty { result.0 ≡ 1 → HasFoundDirty (IsDirtyRun result.2.0 result.2.1) [] (moved_by result.2.1) result.1 }
+    ensures refused { result.0 ≡ 2 → HasRefused (OfEveryInput result.2.0 IsRefused) result.1 }
+    ensures used { result.0 ≡ 3 → HasReadNothing result.1 }
     ensures device { result.0 ≡ 5 → result.1 ≢ ran.Nothing → 0 < (failures_of result.2.0 + file_failures result.1) + (failures_of result.2.1 + stops_of result.2.1) }
     ensures kept { result.0 ≢ 5 → (failures_of result.2.0 ≡ 0) × (file_failures result.1 ≡ 0) × (failures_of result.2.1 ≡ 0) }
     ensures unread { result.1 ≢ ran.Joined → (moved_by result.2.0 ≡ []) × (failures_of result.2.0 ≡ 0) }
