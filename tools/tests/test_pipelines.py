@@ -2,14 +2,22 @@
 import json
 import os
 from collections import Counter
-from datetime import date, timedelta
+from datetime import date
+from unittest import mock
 
+from new_enemy_tools.commands import report
 from tests.support import EXAMPLES, Case
 from tests.test_report import FOUND, NOTE, SUMS
 
-SOON = (date.today() + timedelta(days=2)).isoformat()
-TODAY = date.today().isoformat()
-PAST = (date.today() - timedelta(days=1)).isoformat()
+PAST, TODAY, SOON = "2026-02-28", "2026-03-01", "2026-03-03"
+
+
+class Today(date):
+    """The day on which these tests run, at whatever time they do."""
+
+    @classmethod
+    def today(cls) -> date:
+        return date.fromisoformat(TODAY)
 
 
 class Pipelines(Case):
@@ -138,6 +146,12 @@ class Baselines(Pipelines):
 
 
 class Ignored(Pipelines):
+    def setUp(self) -> None:
+        super().setUp()
+        today = mock.patch.object(report, "date", Today)
+        today.start()
+        self.addCleanup(today.stop)
+
     def ignore(self, *rows: object) -> None:
         self.put("ignore.jsonl", [row if isinstance(row, str) else {"reason": "known", "until": SOON, **row} for row in rows])
 
