@@ -1,0 +1,94 @@
+"""A copy of the repository, in which the edits of a crate are tried."""
+import os
+import shutil
+import subprocess
+
+from edits.texts import apply, edit_of, groups_of
+from edits.verdicts import REFUSED, UNREAD, UNTOLD, verdicts
+
+PARTS = ("src", "specs", "proofs")
+
+
+def copied(top, room):
+    """Copies what a check of the crates reads."""
+    for name in ("crates.txt", "HANDLES"):
+        shutil.copy(os.path.join(top, name), room)
+    for crate in os.listdir(os.path.join(top, "crates")):
+        for part in PARTS:
+            whole = os.path.join(top, "crates", crate, part)
+            if os.path.isdir(whole):
+                shutil.copytree(whole, os.path.join(room, "crates", crate, part))
+
+
+class Trial:
+    """The edits of one crate, in a copy of the repository in the folder `room`."""
+
+    def __init__(self, top, room, name, folders, jobs):
+        self.name, self.jobs = name, jobs
+        self.crate, self.copy = os.path.join(top, "crates", name), os.path.join(room, "crates", name)
+        self.kept, self.seed = os.path.join(self.copy, "out", "incremental"), os.path.join(room, "seed-" + name)
+        paths = [os.path.join(self.crate, it, edit) for it in folders if os.path.isdir(os.path.join(self.crate, it))
+                 for edit in sorted(os.listdir(os.path.join(self.crate, it))) if edit.endswith(".edit")]
+        self.edits = [edit_of(it, self.crate) for it in paths]
+
+    def run(self, *words):
+        how = {"cwd": self.copy, "stdout": subprocess.PIPE, "stderr": subprocess.STDOUT, "errors": "replace", "text": True}
+        run = subprocess.run(["rt", *words], **how)
+        return run.returncode, run.stdout
+
+    def begin(self):
+        """Proves the crate as it stands, and keeps that for each check to begin with. What is said where it is not proved."""
+        status, said = self.run("check", *self.jobs)
+        if status:
+            return said
+        shutil.copytree(self.kept, self.seed)
+        return ""
+
+    def check(self, edits):
+        """A word for each of these edits by its path, and the line that it goes by."""
+        shutil.rmtree(self.kept)
+        shutil.copytree(self.seed, self.kept)
+        self.put_back()
+        apply(edits, self.copy)
+        found = verdicts(edits, self.run("check", *self.jobs)[1])
+        self.put_back()
+        others = [it for it in edits if found[it.path][0] == UNTOLD]
+        if others and len(others) < len(edits) and any(word == UNREAD for word, _ in found.values()):
+            found.update(self.check(others))
+        return found
+
+    def put_back(self):
+        for part in PARTS:
+            if os.path.isdir(os.path.join(self.crate, part)):
+                shutil.rmtree(os.path.join(self.copy, part))
+                shutil.copytree(os.path.join(self.crate, part), os.path.join(self.copy, part))
+
+    def alone(self, edits):
+        """The same by `rt must-fail`, which tries each edit by itself."""
+        folder = os.path.join(self.copy, "must-fail")
+        os.makedirs(folder)
+        for edit in edits:
+            shutil.copy(edit.path, folder)
+        said = self.run("must-fail", self.name)[1].split("\n")
+        shutil.rmtree(folder)
+        return {edit.path: word_of(said, "must-fail %s/%s.edit: " % (self.name, edit.name)) for edit in edits}
+
+    def results(self, is_alone):
+        """Gives each edit with a word and the line that it goes by."""
+        good = [it for it in self.edits if not it.fault]
+        found = {it.path: (UNREAD, it.fault) for it in self.edits if it.fault}
+        for group in [] if is_alone else groups_of(good):
+            found.update(self.check(group))
+        left = [it for it in good if found.get(it.path, (UNTOLD, ""))[0] == UNTOLD]
+        if left:
+            found.update(self.alone(left))
+        return [(it, *found[it.path]) for it in self.edits]
+
+
+def word_of(said, label):
+    """What `rt must-fail` came to for the edit that this label names."""
+    line = next((it.partition(label)[2] for it in said if label in it), "")
+    if not line:
+        return UNTOLD, ""
+    word, _, rest = line.partition(": ")
+    return (REFUSED, rest) if word.startswith("refused") else (word, rest)

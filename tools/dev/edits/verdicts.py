@@ -1,0 +1,69 @@
+"""What a check with several edits says of each."""
+import re
+
+REFUSED, PROVED, UNREAD, UNTOLD = "refused", "NOT REFUSED", "BAD EDIT", "not told"
+
+# A place of src, and what is said of it.
+PLACE = re.compile(r"(?:note: )?(?:\./)?(src/\S+?):(\d+):\d+: (.*)")
+# A function's own file of proofs, and what is wrong there.
+PROOF = re.compile(r"(?:\./)?proofs/(?:(\S+)/)?(\w+)/\w+\.antt:\d+:\d+: error: (.*)")
+# A function with no file of proofs, some of whose own goals are left. What it only calls stands in other words.
+LEFT = re.compile(r"fn \S+: no proof: expected answers in (?:\./)?proofs/(?:(\S+)/)?(\w+)/\w+\.antt; `search` did not prove (.*)")
+# Where a file of proofs names what is gone, the refusal shows nothing of a contract.
+NAMES = re.compile(r"has no field|is not in scope|has no `|was not admitted|is no name")
+CODE = re.compile(r"error\[[\w-]+\]")
+ENDS = re.compile(r"^(?:logic=|rattle: no verdict)", re.M)
+
+
+def module_of(file):
+    """The folder of proofs that goes with a file: of src/a/b.rt it is a/b, of the root file none."""
+    inner = file[len("src/"): -len(".rt")]
+    return "" if inner in ("lib", "main") else inner
+
+
+def stands_at(function, line):
+    """Whether the line refuses a goal of this function."""
+    place = PLACE.match(line)
+    if place:
+        return place[1] == function.file and function.first <= int(place[2]) <= function.last and "it is not proved" in place[3]
+    proof = LEFT.match(line) or PROOF.match(line)
+    if not proof or proof.re is PROOF and NAMES.search(proof[3]):
+        return False
+    module, folder = module_of(function.file), proof[1] or ""
+    return proof[2] == function.name and (not module or folder == module or folder.startswith(module + "/"))
+
+
+def is_refusal(line):
+    """Whether the line refuses a goal of some function."""
+    place, proof = PLACE.match(line), PROOF.match(line)
+    return bool(place and "it is not proved" in place[3] or LEFT.match(line) or proof and not NAMES.search(proof[3]))
+
+
+def refusal_of(edit, lines, is_alone):
+    """The first line that refuses a goal of a function that the edit changes; of any function where it is alone."""
+    wanted = is_refusal if is_alone else lambda line: any(stands_at(it, line) for it in edit.functions)
+    return next((line for line in lines if wanted(line)), "")
+
+
+def unread(edits, lines):
+    """What the compiler says of edits that are no code, by their paths."""
+    found = {}
+    for before, line in zip([""] + lines, lines):
+        place = re.search(r"(src/\S+?):(\d+):\d+", line)
+        if place and CODE.search(before + line):
+            for edit in edits:
+                if edit.file == place[1] and int(place[2]) in edit.places:
+                    found.setdefault(edit.path, (before + " " + line).strip())
+    return found
+
+
+def verdicts(edits, text):
+    """A word for each edit by its path, and the line that it goes by."""
+    lines = text.split("\n")
+    if not ENDS.search(text):
+        faults = unread(edits, lines)
+        return {it.path: (UNREAD, faults[it.path]) if it.path in faults else (UNTOLD, "") for it in edits}
+    if re.search(r"^logic=proved", text, re.M):
+        return {it.path: (PROVED, "") for it in edits}
+    found = {it.path: refusal_of(it, lines, len(edits) == 1) for it in edits}
+    return {path: (REFUSED, line) if line else (UNTOLD, "") for path, line in found.items()}

@@ -1,0 +1,141 @@
+"""What tools/dev/more_edits makes of edits and of what the prover says, with a stand-in of `rt`."""
+import os
+import shutil
+import subprocess
+import sys
+
+from edits.texts import apply, edit_of, groups_of
+from edits.verdicts import PROVED, REFUSED, UNREAD, UNTOLD, verdicts
+from tests.support import DEV, Case
+
+SOURCE = """//! Two lists.
+
+const MOST: usize = 4;
+
+impl Lists {
+    pub fn done(&self) -> &[u64]
+        ensures { result.now ≡ self.now.done }
+    {
+        self.done.as_slice()
+    }
+
+    pub fn lost(&self) -> &[u64]
+        ensures { result.now ≡ self.now.lost }
+    {
+        self.lost.as_slice()
+    }
+}
+
+/// Half of a number.
+fn half(n: u64) -> u64
+    ensures { result ≡ n / 2 }
+{
+    n / 2
+}
+"""
+EDITS = {
+    "done_is_lost": ("self.done.as_slice()", "self.lost.as_slice()"),
+    "done_is_nothing": ("self.done.as_slice()", "&[]"),
+    "half_is_all": ("    n / 2", "    n"),
+    "lost_is_done": ("self.lost.as_slice()", "self.done.as_slice()"),
+    "one_more": ("usize = 4;", "usize = 5;"),
+}
+LEFT = "note: src/lists.rt:6:5: it is not proved that what the function ensures holds when it returns (`returns`)\n"
+NOT_PROVED = "logic=not-proved\n"
+# It proves the crate as it stands, leaves `half` without a verdict, and refuses all else.
+RT = """#!/bin/sh
+case "$1" in
+must-fail) for it in must-fail/*.edit; do echo "rt: must-fail low/$(basename "$it"): refused, as it must be: a goal"; done; exit 0 ;;
+esac
+mkdir -p out/incremental; cmp -s src/lists.rt "$ASIS" && { echo logic=proved; exit 0; }
+grep -n 'self.lost.as_slice\\|&\\[\\]' src/lists.rt | sed -n 's/^9:.*/note: src\\/lists.rt:6:5: it is not proved that it returns so/p'
+grep -n 'self.done.as_slice' src/lists.rt | sed -n 's/^15:.*/.\\/proofs\\/lists\\/Lists\\/lost\\/Answers.antt:3:1: error: `returns`: no/p'
+echo logic=not-proved; exit 1
+"""
+
+
+class Edits(Case):
+    def crate(self, **edits):
+        self.put("crates/low/src/lists.rt", SOURCE)
+        for name, (old, new) in (edits or EDITS).items():
+            self.put("crates/low/more-edits/%s.edit" % name, "file: src/lists.rt\nold: %s\nnew: %s\n" % (old, new))
+        folder = self.path("crates/low")
+        edits = os.path.join(folder, "more-edits")
+        return [edit_of(os.path.join(edits, it), folder) for it in sorted(os.listdir(edits))]
+
+    def put(self, name, content):
+        os.makedirs(os.path.dirname(self.path(name)), exist_ok=True)
+        with open(self.path(name), "w", encoding="utf-8") as file:
+            file.write(content)
+
+    def test_functions(self):
+        found = {it.name: [(of.name, of.first, of.last) for of in it.functions] for it in self.crate()}
+        self.assertEqual(found["lost_is_done"], [("lost", 12, 16)])
+        self.assertEqual(found["half_is_all"], [("half", 20, 24)])
+        self.assertEqual(found["one_more"], [])
+
+    def test_groups(self):
+        groups = [[it.name for it in group] for group in groups_of(self.crate())]
+        self.assertEqual(groups, [["done_is_lost", "half_is_all", "lost_is_done"], ["done_is_nothing"], ["one_more"]])
+
+    def test_edits_that_make_each_others_old_text(self):
+        edits = [it for it in self.crate() if it.name in ("done_is_lost", "lost_is_done")]
+        apply(edits, self.path("crates/low"))
+        with open(self.path("crates/low/src/lists.rt"), encoding="utf-8") as file:
+            lines = file.read().split("\n")
+        self.assertEqual((lines[8].strip(), lines[14].strip()), ("self.lost.as_slice()", "self.done.as_slice()"))
+
+    def test_an_old_text_that_stands_twice(self):
+        edit, = self.crate(twice=("as_slice()", "len()"))
+        self.assertEqual(edit.fault, "an old text stands 2 times in src/lists.rt")
+
+    def word(self, said, *names):
+        edits = [it for it in self.crate() if it.name in names]
+        return [verdicts(edits, said)[it.path][0] for it in edits]
+
+    def test_refused_by_a_goal_of_its_own(self):
+        self.assertEqual(self.word(LEFT + NOT_PROVED, "done_is_lost", "lost_is_done"), [REFUSED, UNTOLD])
+        answers = "./proofs/lists/half/Answers.antt:3:9: error: `returns`: the two types differ\n"
+        self.assertEqual(self.word(answers + NOT_PROVED, "done_is_lost", "half_is_all"), [UNTOLD, REFUSED])
+        bare = ("fn low::lists::half: no proof: expected answers in ./proofs/lists/half/Answers.antt; "
+                "`search` did not prove `returns`\n")
+        self.assertEqual(self.word(bare + NOT_PROVED, "half_is_all", "lost_is_done"), [REFUSED, UNTOLD])
+
+    def test_what_only_calls_shows_nothing(self):
+        calls = "fn low::lists::half: no proof: it calls `low::lists::Lists::done`, which is not proved\n"
+        self.assertEqual(self.word(LEFT + calls + NOT_PROVED, "done_is_lost", "half_is_all"), [REFUSED, UNTOLD])
+
+    def test_names_that_are_gone_show_nothing(self):
+        gone = "./proofs/lists/half/Answers.antt:3:9: error: `returns`: `c.count` is not in scope\n"
+        self.assertEqual(self.word(gone + NOT_PROVED, "half_is_all"), [UNTOLD])
+
+    def test_no_code(self):
+        said = "error[type-mismatch]: expected u64\n  --> src/lists.rt:23:5\n"
+        self.assertEqual(self.word(said, "done_is_lost", "half_is_all"), [UNTOLD, UNREAD])
+
+    def test_still_proved(self):
+        self.assertEqual(self.word("logic=proved functions=3\n", "half_is_all"), [PROVED])
+
+    def test_no_verdict(self):
+        self.assertEqual(self.word("rattle: no verdict: antt ran out of steps\n", "half_is_all"), [UNTOLD])
+
+    def test_the_command(self):
+        self.crate()
+        self.put("crates.txt", "low:\n")
+        self.put("HANDLES", "Handles allowed: none.\n")
+        self.put("as-is", SOURCE)
+        self.put("bin/rt", RT)
+        os.chmod(self.path("bin/rt"), 0o755)
+        shutil.copytree(os.path.join(DEV, "edits"), self.path("tools/dev/edits"))
+        shutil.copy(os.path.join(DEV, "more_edits"), self.path("tools/dev"))
+        os.symlink(os.path.join(os.path.dirname(DEV), "new_enemy_tools"), self.path("tools/new_enemy_tools"))
+        path = os.pathsep.join([self.path("bin"), os.environ["PATH"]])
+        run = subprocess.run([sys.executable, self.path("tools/dev/more_edits"), "low"], capture_output=True, text=True, timeout=60,
+                             env={**os.environ, "PATH": path, "ASIS": self.path("as-is")})
+        self.assertEqual(run.stderr, "")
+        lines = run.stdout.splitlines()
+        self.assertEqual(lines[0], "low/done_is_lost: refused: note: src/lists.rt:6:5: it is not proved that it returns so")
+        self.assertEqual(lines[3], "low/lost_is_done: refused: ./proofs/lists/Lists/lost/Answers.antt:3:1: error: `returns`: no")
+        alone = [it for it in lines if it.endswith("refused: a goal")]
+        self.assertEqual(alone, ["low/half_is_all: refused: a goal", "low/one_more: refused: a goal"])
+        self.assertEqual((run.returncode, lines[-1]), (0, "5 refused, 0 not"))
