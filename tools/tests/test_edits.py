@@ -32,11 +32,23 @@ fn half(n: u64) -> u64
 {
     n / 2
 }
+
+#[cycle(parity)]
+fn is_even(n: u64) -> bool {
+    n == 0 || is_odd(n - 1)
+}
+
+#[cycle(parity)]
+fn is_odd(n: u64) -> bool {
+    n > 0 && is_even(n - 1)
+}
 """
 EDITS = {
     "done_is_lost": ("self.done.as_slice()", "self.lost.as_slice()"),
     "done_is_nothing": ("self.done.as_slice()", "&[]"),
+    "even_is_odd": ("n == 0", "n > 0"),
     "half_is_all": ("    n / 2", "    n"),
+    "odd_is_none": ("n > 0 &&", "n > n &&"),
     "lost_is_done": ("self.lost.as_slice()", "self.done.as_slice()"),
     "one_more": ("usize = 4;", "usize = 5;"),
 }
@@ -76,7 +88,8 @@ class Edits(Case):
 
     def test_groups(self):
         groups = [[it.name for it in group] for group in groups_of(self.crate())]
-        self.assertEqual(groups, [["done_is_lost", "half_is_all", "lost_is_done"], ["done_is_nothing"], ["one_more"]])
+        first = ["done_is_lost", "even_is_odd", "half_is_all", "lost_is_done"]
+        self.assertEqual(groups, [first, ["done_is_nothing", "odd_is_none"], ["one_more"]])
 
     def test_edits_that_make_each_others_old_text(self):
         edits = [it for it in self.crate() if it.name in ("done_is_lost", "lost_is_done")]
@@ -100,6 +113,10 @@ class Edits(Case):
         bare = ("fn low::lists::half: no proof: expected answers in ./proofs/lists/half/Answers.antt; "
                 "`search` did not prove `returns`\n")
         self.assertEqual(self.word(bare + NOT_PROVED, "half_is_all", "lost_is_done"), [REFUSED, UNTOLD])
+
+    def test_refused_with_its_cycle(self):
+        answers = "./proofs/lists/+parity/Answers.antt:3:9: error: `returns`: the two types differ\n"
+        self.assertEqual(self.word(answers + NOT_PROVED, "even_is_odd", "half_is_all"), [REFUSED, UNTOLD])
 
     def test_what_only_calls_shows_nothing(self):
         calls = "fn low::lists::half: no proof: it calls `low::lists::Lists::done`, which is not proved\n"
@@ -130,12 +147,17 @@ class Edits(Case):
         shutil.copy(os.path.join(DEV, "more_edits"), self.path("tools/dev"))
         os.symlink(os.path.join(os.path.dirname(DEV), "new_enemy_tools"), self.path("tools/new_enemy_tools"))
         path = os.pathsep.join([self.path("bin"), os.environ["PATH"]])
-        run = subprocess.run([sys.executable, self.path("tools/dev/more_edits"), "low"], capture_output=True, text=True, timeout=60,
-                             env={**os.environ, "PATH": path, "ASIS": self.path("as-is")})
+        how = {"env": {**os.environ, "PATH": path, "ASIS": self.path("as-is")}, "capture_output": True, "text": True, "timeout": 60}
+        more_edits = [sys.executable, self.path("tools/dev/more_edits")]
+        run = subprocess.run([*more_edits, "low"], **how)
         self.assertEqual(run.stderr, "")
         lines = run.stdout.splitlines()
         self.assertEqual(lines[0], "low/done_is_lost: refused: note: src/lists.rt:6:5: it is not proved that it returns so")
-        self.assertEqual(lines[3], "low/lost_is_done: refused: ./proofs/lists/Lists/lost/Answers.antt:3:1: error: `returns`: no")
-        alone = [it for it in lines if it.endswith("refused: a goal")]
-        self.assertEqual(alone, ["low/half_is_all: refused: a goal", "low/one_more: refused: a goal"])
-        self.assertEqual((run.returncode, lines[-1]), (0, "5 refused, 0 not"))
+        self.assertEqual(lines[4], "low/lost_is_done: refused: ./proofs/lists/Lists/lost/Answers.antt:3:1: error: `returns`: no")
+        alone = [it.partition(": ")[0] for it in lines if it.endswith(": refused: a goal")]
+        self.assertEqual(alone, ["low/even_is_odd", "low/half_is_all", "low/odd_is_none", "low/one_more"])
+        self.assertEqual((run.returncode, lines[-1]), (0, "7 refused, 0 not"))
+        run = subprocess.run([*more_edits, "low/done_is_lost"], **how)
+        self.assertEqual((run.returncode, run.stdout.splitlines()[0], run.stdout.splitlines()[-1]), (0, lines[0], "1 refused, 0 not"))
+        run = subprocess.run([*more_edits, "low/done_is_gone"], **how)
+        self.assertEqual((run.returncode, run.stderr.splitlines()[-1]), (3, "more_edits: no such edits: low/done_is_gone"))

@@ -4,14 +4,18 @@ import re
 from dataclasses import dataclass, field
 
 FUNCTION = re.compile(r"^( *)(?:pub(?:\([a-z]+\))? )?(?:const |unsafe )*fn (\w+)", re.M)
+CYCLE = re.compile(r"#\[cycle\((\w+)\)\]")
 
 
 @dataclass
 class Function:
-    """A function of a file of `src`: its name, and the lines from its head to its closing brace."""
+    """A function of a file of `src`: its name, that of its proof, and the lines from its head to its closing brace.
+
+    Functions that call one another have one proof, by the name of their cycle."""
 
     file: str
     name: str
+    proof: str
     first: int
     last: int
 
@@ -43,7 +47,9 @@ def functions_of(file, text):
     for head in FUNCTION.finditer(text):
         end = re.compile("^%s}" % head[1], re.M).search(text, head.end())
         last = text.count("\n", 0, end.end() if end else len(text)) + 1
-        found.append(Function(file, head[2], text.count("\n", 0, head.start()) + 1, last))
+        # its attributes stand behind the last empty line
+        cycle = CYCLE.search(text, text.rfind("\n\n", 0, head.start()) + 1, head.start())
+        found.append(Function(file, head[2], cycle[1] if cycle else head[2], text.count("\n", 0, head.start()) + 1, last))
     return found
 
 
@@ -112,4 +118,5 @@ def groups_of(edits):
 
 
 def changed_by(edit):
-    return {(it.file, it.first) for it in edit.functions}
+    """What is proved of the functions that the edit changes, each by itself or by its cycle."""
+    return {(it.file, it.first if it.proof == it.name else it.proof) for it in edit.functions}

@@ -23,22 +23,23 @@ def copied(top, room):
 class Trial:
     """The edits of one crate, in a copy of the repository in the folder `room`."""
 
-    def __init__(self, top, room, name, folders, jobs):
+    def __init__(self, top, room, name, paths, jobs):
         self.name, self.jobs = name, jobs
         self.crate, self.copy = os.path.join(top, "crates", name), os.path.join(room, "crates", name)
         self.kept, self.seed = os.path.join(self.copy, "out", "incremental"), os.path.join(room, "seed-" + name)
-        paths = [os.path.join(self.crate, it, edit) for it in folders if os.path.isdir(os.path.join(self.crate, it))
-                 for edit in sorted(os.listdir(os.path.join(self.crate, it))) if edit.endswith(".edit")]
         self.edits = [edit_of(it, self.crate) for it in paths]
 
     def run(self, *words):
         how = {"cwd": self.copy, "stdout": subprocess.PIPE, "stderr": subprocess.STDOUT, "errors": "replace", "text": True}
-        run = subprocess.run(["rt", *words], **how)
+        run = subprocess.run(["rt", *words], env={**os.environ, **({"RT_JOBS": self.jobs} if self.jobs else {})}, **how)
         return run.returncode, run.stdout
+
+    def checked(self):
+        return self.run("check", *(["--jobs", self.jobs] if self.jobs else []))
 
     def begin(self):
         """Proves the crate as it stands, and keeps that for each check to begin with. What is said where it is not proved."""
-        status, said = self.run("check", *self.jobs)
+        status, said = self.checked()
         if status:
             return said
         shutil.copytree(self.kept, self.seed)
@@ -50,7 +51,7 @@ class Trial:
         shutil.copytree(self.seed, self.kept)
         self.put_back()
         apply(edits, self.copy)
-        found = verdicts(edits, self.run("check", *self.jobs)[1])
+        found = verdicts(edits, self.checked()[1])
         self.put_back()
         others = [it for it in edits if found[it.path][0] == UNTOLD]
         if others and len(others) < len(edits) and any(word == UNREAD for word, _ in found.values()):

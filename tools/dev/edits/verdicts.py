@@ -6,11 +6,11 @@ REFUSED, PROVED, UNREAD, UNTOLD = "refused", "NOT REFUSED", "BAD EDIT", "not tol
 # A place of src, and what is said of it.
 PLACE = re.compile(r"(?:note: )?(?:\./)?(src/\S+?):(\d+):\d+: (.*)")
 # A function's own file of proofs, and what is wrong there.
-PROOF = re.compile(r"(?:\./)?proofs/(?:(\S+)/)?(\w+)/\w+\.antt:\d+:\d+: error: (.*)")
+PROOF = re.compile(r"(?:\./)?proofs/(?:(\S+)/)?\+?(\w+)/\w+\.antt:\d+:\d+: error: (.*)")
 # A function with no file of proofs, some of whose own goals are left. What it only calls stands in other words.
-LEFT = re.compile(r"fn \S+: no proof: expected answers in (?:\./)?proofs/(?:(\S+)/)?(\w+)/\w+\.antt; `search` did not prove (.*)")
+LEFT = re.compile(r"fn \S+: no proof: expected answers in (?:\./)?proofs/(?:(\S+)/)?\+?(\w+)/\w+\.antt; `search` did not prove (.*)")
 # Where a file of proofs names what is gone, the refusal shows nothing of a contract.
-NAMES = re.compile(r"has no field|is not in scope|has no `|was not admitted|is no name")
+NAMES = re.compile(r"has no field|is not in scope|has no `|was not admitted|is no name|\(nearest: ")
 CODE = re.compile(r"error\[[\w-]+\]")
 ENDS = re.compile(r"^(?:logic=|rattle: no verdict)", re.M)
 
@@ -30,7 +30,7 @@ def stands_at(function, line):
     if not proof or proof.re is PROOF and NAMES.search(proof[3]):
         return False
     module, folder = module_of(function.file), proof[1] or ""
-    return proof[2] == function.name and (not module or folder == module or folder.startswith(module + "/"))
+    return proof[2] == function.proof and (not module or folder == module or folder.startswith(module + "/"))
 
 
 def is_refusal(line):
@@ -40,9 +40,10 @@ def is_refusal(line):
 
 
 def refusal_of(edit, lines, is_alone):
-    """The first line that refuses a goal of a function that the edit changes; of any function where it is alone."""
+    """A line that refuses a goal of a function that the edit changes, or of any where it is alone; better one of a goal that is left."""
     wanted = is_refusal if is_alone else lambda line: any(stands_at(it, line) for it in edit.functions)
-    return next((line for line in lines if wanted(line)), "")
+    found = [line for line in lines if wanted(line)]
+    return next((line for line in found if not PROOF.match(line)), found[0] if found else "")
 
 
 def unread(edits, lines):
