@@ -57,7 +57,7 @@ NOT_PROVED = "logic=not-proved\n"
 # It proves the crate as it stands, leaves `half` without a verdict, and refuses all else.
 RT = """#!/bin/sh
 case "$1" in
-must-fail) for it in must-fail/*.edit; do echo "rt: must-fail low/$(basename "$it"): refused, as it must be: a goal"; done; exit 0 ;;
+must-fail) for it in must-fail/*.edit; do echo "rt: must-fail low/$(basename "$it"): refused, as it must be$NAMED: a goal"; done; exit 0 ;;
 esac
 mkdir -p out/incremental; cmp -s src/lists.rt "$ASIS" && { echo logic=proved; exit 0; }
 grep -n 'self.lost.as_slice\\|&\\[\\]' src/lists.rt | sed -n 's/^9:.*/note: src\\/lists.rt:6:5: it is not proved that it returns so/p'
@@ -159,5 +159,8 @@ class Edits(Case):
         self.assertEqual((run.returncode, lines[-1]), (0, "7 refused, 0 not"))
         run = subprocess.run([*more_edits, "low/done_is_lost"], **how)
         self.assertEqual((run.returncode, run.stdout.splitlines()[0], run.stdout.splitlines()[-1]), (0, lines[0], "1 refused, 0 not"))
+        how["env"]["NAMED"] = " (only because a proof file names what the edit took away)"
+        run = subprocess.run([*more_edits, "low/one_more"], **how)
+        self.assertEqual((run.returncode, run.stdout.splitlines()[0]), (1, "low/one_more: REFUSED FOR A NAME: a goal"))
         run = subprocess.run([*more_edits, "low/done_is_gone"], **how)
         self.assertEqual((run.returncode, run.stderr.splitlines()[-1]), (3, "more_edits: no such edits: low/done_is_gone"))

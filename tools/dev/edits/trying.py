@@ -4,7 +4,7 @@ import shutil
 import subprocess
 
 from edits.texts import apply, edit_of, groups_of
-from edits.verdicts import REFUSED, UNREAD, UNTOLD, verdicts
+from edits.verdicts import NAMED, REFUSED, UNREAD, UNTOLD, verdicts
 
 PARTS = ("src", "specs", "proofs")
 
@@ -89,7 +89,7 @@ class Trial:
 def word_of(said, label):
     """What `rt must-fail` came to for the edit that this label names."""
     line = next((it.partition(label)[2] for it in said if label in it), "")
-    if not line:
-        return UNTOLD, ""
     word, _, rest = line.partition(": ")
-    return (REFUSED, rest) if word.startswith("refused") else (word, rest)
+    if not word.startswith("refused"):
+        return word or UNTOLD, rest
+    return (NAMED if "only because a proof file names" in line else REFUSED), rest

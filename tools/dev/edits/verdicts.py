@@ -2,6 +2,8 @@
 import re
 
 REFUSED, PROVED, UNREAD, UNTOLD = "refused", "NOT REFUSED", "BAD EDIT", "not told"
+# A file of proofs names what the edit took away, and nothing else refuses it.
+NAMED = "REFUSED FOR A NAME"
 
 # A place of src, and what is said of it.
 PLACE = re.compile(r"(?:note: )?(?:\./)?(src/\S+?):(\d+):\d+: (.*)")
