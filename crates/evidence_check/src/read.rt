@@ -2,6 +2,7 @@
 
 ghost use Rattle.std.specs.Prelude.{◌≡◌, ◌≢◌, ◌+◌, ◌≤◌, length, true, false, Err, IfErr, OnOk};
 ghost use Rattle.json_lines.specs.Given.{OfBytes, OfInput, AreNext};
+ghost use Rattle.json_lines.specs.Reading.{parts};
 ghost use Rattle.json_lines.specs.declared.lines.TheConstants.{CHUNK};
 ghost use Rattle.json_lines.specs.declared.reading.TheConstants.{MAX_INPUT};
 ghost use Rattle.evidence_check.specs.Evidences.{evidence_value};
@@ -33,6 +34,8 @@ pub fn read_evidence<R: Source>(
     // Also of a reader that never ends.
     ensures most { OfBytes R.given reader.old reader.new (λ came. length came ≤ MAX_INPUT + CHUNK) }
     ensures known { AreNext R.given R.ends R.remaining reader.old reader.new }
+    // Also where memory ran out: a line is one of those that came.
+    ensures line { IfErr result (λ e. OfBytes R.given reader.old reader.new (λ came. e.line ≤ length (parts came))) }
     // A reader's failure is told, and nothing else is called one.
     ensures counted { IfErr result (λ e. e.cause ≡ Read → R.failures reader.new ≡ R.failures reader.old + 1) }
     ensures kept { OnOk result (R.failures reader.new ≡ R.failures reader.old) }
@@ -71,6 +74,8 @@ pub fn judge_evidence<R: Source>(
     // Also of a reader that never ends.
     ensures most { OfBytes R.given reader.old reader.new (λ came. length came ≤ MAX_INPUT + CHUNK) }
     ensures known { AreNext R.given R.ends R.remaining reader.old reader.new }
+    // Also where memory ran out: a line is one of those that came.
+    ensures line { IfErr result (λ e. OfBytes R.given reader.old reader.new (λ came. e.line ≤ length (parts came))) }
     // A reader's failure is told, and nothing else is called one.
     ensures counted { IfErr result (λ e. e.cause ≡ Read → R.failures reader.new ≡ R.failures reader.old + 1) }
     ensures kept { OnOk result (R.failures reader.new ≡ R.failures reader.old) }

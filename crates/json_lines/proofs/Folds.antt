@@ -73,9 +73,10 @@ module _ {S C : Type 0} (taken : ℕ → S → List ℕ → Result S C) (start :
   -- the bytes so far say nothing more than the state does
   pub record GoesFrom (n room : ℕ) (s : S) (used : List ℕ) : Type 0 where
     pub same : (whole : Bool) (ys : List ℕ) → read_from taken whole 1 (2 ^ 30) start (parts (used ++ ys)) ≡ read_from taken whole n room s (parts ys)
+    pub counted : (ys : List ℕ) → length (parts (used ++ ys)) + 1 ≡ n + length (parts ys)
 
   pub goes_first : GoesFrom 1 (2 ^ 30) start []
-  goes_first = record { same = λ whole ys. refl }
+  goes_first = record { same = λ whole ys. refl; counted = λ ys. omega arith }
 
   abbrev stopped : ℕ → Stop C → Result S (LineFault C)
   stopped n stop = Err (record { line = n; stop = stop })
@@ -108,7 +109,20 @@ module _ {S C : Type 0} (taken : ℕ → S → List ℕ → Result S C) (start :
         ∙ from.same whole ((line ++ line_ending true) ++ ys)
         ∙ reads_line whole n room s line true ys h (λ no. cc)
         ∙ rw (w, and_false (not whole), e) refl;
+    counted = λ ys.
+        let all = ap (λ (l : List ℕ). length (parts l)) (append_assoc used (line ++ line_ending true) ys) in
+        let behind = ap length (parts_of_line line true ys h (λ no. cc)) in
+        omega (arith, all, behind, from.counted ((line ++ line_ending true) ++ ys));
   }
+
+  -- the next line is one of those that came
+  pub line_came : {R : Type 0} (given : R → List ℕ) (old new : R) (n room : ℕ) (s : S) (used bytes : List ℕ) → GoesFrom n room s used → given new ≡ (given old ++ used) ++ bytes
+      → OfBytes given old new (λ came. n ≤ length (parts came))
+  line_came given old new n room s used bytes from is = (
+    used ++ bytes,
+    is ∙ append_assoc (given old) used bytes,
+    let some = length-slice_split (λ b. eqb b 10) bytes in omega (arith, from.counted bytes, some),
+  )
 
   module _ {R : Type 0} (given : R → List ℕ) (ends : R → ℕ) (old new : R) where
     -- what every input says that the reader may have: it goes on with this line

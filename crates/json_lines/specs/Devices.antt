@@ -1,6 +1,6 @@
 -- What a clause reads of the devices of this crate.
 use Rattle.std.specs.Prelude.{ℕ, List, Option, Some}
-use Rattle.json_lines.specs.History.{moved_so_far, failures_so_far, stops_so_far, flushes_so_far}
+use Rattle.json_lines.specs.History.{moved_so_far, failures_so_far, stops_so_far, flushes_so_far, since_so_far}
 use Rattle.json_lines.specs.declared.devices.Counted.{Counted}
 use Rattle.json_lines.specs.declared.devices.Failing.{Failing}
 use Rattle.json_lines.specs.declared.held.Held.{Held}
@@ -23,6 +23,10 @@ stops_of c = stops_so_far c.history
 -- how often a flush was asked for
 abbrev pub flushes_of : {X : Type 0} → Counted X → ℕ
 flushes_of c = flushes_so_far c.history
+
+-- how many calls came behind the last one that failed or moved no byte of a buffer that has some
+abbrev pub since_of : {X : Type 0} → Counted X → ℕ
+since_of c = since_so_far c.history
 
 -- the bytes in memory that are left
 abbrev pub held_bytes : Held → List ℕ

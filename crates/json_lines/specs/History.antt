@@ -16,3 +16,7 @@ stops_so_far h = length h.stopped.numbers
 -- how often a flush was asked for
 abbrev pub flushes_so_far : History → ℕ
 flushes_so_far h = length h.flushed.numbers
+
+-- how many calls came behind the last one that failed or moved no byte of a buffer that has some
+abbrev pub since_so_far : History → ℕ
+since_so_far h = length h.since.numbers

@@ -1,7 +1,7 @@
 //! Readers and writers round others: one with its history, and one that fails, for tests.
 
 ghost use Rattle.std.specs.Prelude.{◌≡◌, ◌≤◌, ◌<◌, [], false};
-ghost use Rattle.json_lines.specs.Devices.{counted_inner, moved_by, failures_of, stops_of, flushes_of, failing_inner};
+ghost use Rattle.json_lines.specs.Devices.{counted_inner, moved_by, failures_of, stops_of, flushes_of, since_of, failing_inner};
 
 use crate::history::History;
 use crate::source::{Sink, Source};
@@ -23,6 +23,7 @@ impl<X> Counted<X> {
         ensures failures { failures_of result ≡ 0 }
         ensures stops { stops_of result ≡ 0 }
         ensures flushes { flushes_of result ≡ 0 }
+        ensures since { since_of result ≡ 0 }
     {
         Counted {
             inner,
@@ -80,6 +81,8 @@ impl<W: Write> Sink for Counted<W> {
     ghost idle = { stops_of };
 
     ghost flushes = { flushes_of };
+
+    ghost since = { since_of };
 
     fn take_some(&mut self, buf: &[u8]) -> io::Result<usize> {
         let written = self.inner.write(buf);

@@ -2,8 +2,8 @@
 
 ghost use Rattle.std.specs.Prelude.{◌≡◌, ◌+◌, ◌++◌, ◌∷◌, [], length};
 ghost use Rattle.std.specs.Io.{WritesAtMost};
-ghost use Rattle.json_lines.specs.History.{moved_so_far, failures_so_far, stops_so_far, flushes_so_far};
-ghost use Rattle.json_lines.specs.Moves.{moved, failure_count, stops_after};
+ghost use Rattle.json_lines.specs.History.{moved_so_far, failures_so_far, stops_so_far, flushes_so_far, since_so_far};
+ghost use Rattle.json_lines.specs.Moves.{moved, failure_count, stops_after, since_after, since_flush};
 
 use boxcar::tag::{Names, Tag};
 use std::io;
@@ -15,6 +15,7 @@ pub(crate) struct History {
     failed: Tag,
     stopped: Tag,
     flushed: Tag,
+    since: Tag,
 }
 
 #[derive(Drop)]
@@ -53,12 +54,14 @@ impl History {
         ensures failures { failures_so_far result ≡ 0 }
         ensures stops { stops_so_far result ≡ 0 }
         ensures flushes { flushes_so_far result ≡ 0 }
+        ensures since { since_so_far result ≡ 0 }
     {
         History {
             moved: Tag::empty(),
             failed: Tag::empty(),
             stopped: Tag::empty(),
             flushed: Tag::empty(),
+            since: Tag::empty(),
         }
     }
 
@@ -69,11 +72,21 @@ impl History {
         ensures failures { failures_so_far self.new ≡ failures_so_far self.old + failure_count call.now }
         ensures stops { stops_so_far self.new ≡ stops_after call.now (length buf.now) (stops_so_far self.old) }
         ensures flushes { flushes_so_far self.new ≡ flushes_so_far self.old }
+        ensures since { since_so_far self.new ≡ since_after call.now (length buf.now) (since_so_far self.old) }
     {
         match *call {
-            Ok(0) if !buf.is_empty() => self.stopped = one_longer(&self.stopped),
-            Ok(n) => self.moved = with_bytes(&self.moved, &buf[..n]),
-            Err(_) => self.failed = one_longer(&self.failed),
+            Ok(0) if !buf.is_empty() => {
+                self.stopped = one_longer(&self.stopped);
+                self.since = Tag::empty();
+            }
+            Ok(n) => {
+                self.moved = with_bytes(&self.moved, &buf[..n]);
+                self.since = one_longer(&self.since);
+            }
+            Err(_) => {
+                self.failed = one_longer(&self.failed);
+                self.since = Tag::empty();
+            }
         }
     }
 
@@ -83,10 +96,13 @@ impl History {
         ensures failures { failures_so_far self.new ≡ failures_so_far self.old + failure_count call.now }
         ensures stops { stops_so_far self.new ≡ stops_so_far self.old }
         ensures flushes { flushes_so_far self.new ≡ flushes_so_far self.old + 1 }
+        ensures since { since_so_far self.new ≡ since_flush call.now (since_so_far self.old) }
     {
         self.flushed = one_longer(&self.flushed);
+        self.since = one_longer(&self.since);
         if call.is_err() {
             self.failed = one_longer(&self.failed);
+            self.since = Tag::empty();
         }
     }
 }

@@ -3,7 +3,7 @@
 ghost use Rattle.std.specs.Prelude.{◌≡◌, ◌≢◌, ◌+◌, ◌≤◌, ℕ, length, IfErr, Err, OnOk, ◌&&◌, ◌==◌, true, false};
 ghost use Rattle.json_lines.specs.Given.{OfBytes, OfInput, AreNext};
 ghost use Rattle.json_lines.specs.Json.{taken_line};
-ghost use Rattle.json_lines.specs.Reading.{cause_of, read_all, Reads, IsReadFault, IsOfSomeLine};
+ghost use Rattle.json_lines.specs.Reading.{cause_of, parts, read_all, Reads, IsReadFault, IsOfSomeLine};
 ghost use Rattle.json_lines.specs.declared.lines.InputFault.TheVariants.{Read};
 ghost use Rattle.json_lines.specs.declared.reading.Stop.TheVariants.{Input};
 
@@ -71,6 +71,8 @@ pub fn read_lines<R: Source, T: TakeJson>(
     // Also of a reader that never ends.
     ensures most { OfBytes R.given reader.old reader.new (λ came. length came ≤ MAX_INPUT + CHUNK) }
     ensures known { AreNext R.given R.ends R.remaining reader.old reader.new }
+    // Also where memory ran out: a line is one of those that came.
+    ensures line { IfErr result (λ e. OfBytes R.given reader.old reader.new (λ came. e.line ≤ length (parts came))) }
     // A cause is what some line gave.
     ensures told { IfErr result (IsOfSomeLine (taken_line T.Cause.not_json T.taken)) }
     // A reader's failure is told, and nothing else is called one.

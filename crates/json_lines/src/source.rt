@@ -3,7 +3,7 @@
 ghost use Rattle.std.specs.Prelude.{◌≡◌, ◌+◌, ◌++◌, ℕ, List, length};
 ghost use Rattle.std.specs.Io.{ReadsAtMost, WritesAtMost};
 ghost use Rattle.std.specs.Io.KnownBytes.{ReadConsumes, WriteAppends, Keeps};
-ghost use Rattle.json_lines.specs.Moves.{moved, failure_count, stops_after};
+ghost use Rattle.json_lines.specs.Moves.{moved, failure_count, stops_after, since_after, since_flush};
 
 use std::io;
 use std::io::{Read, Write};
@@ -28,7 +28,7 @@ pub trait Source: Read {
 }
 
 /// A writer of which contracts name all bytes that it took so far, and how often it failed, took none of some
-/// bytes, or was asked to flush.
+/// bytes, or was asked to flush, and how many calls came behind the last one that failed or took none.
 pub trait Sink: Write {
     ghost taken: { Self → List ℕ };
 
@@ -38,6 +38,8 @@ pub trait Sink: Write {
 
     ghost flushes: { Self → ℕ };
 
+    ghost since: { Self → ℕ };
+
     /// Writes some of the bytes. Each call adds to one of the first three.
     fn take_some(&mut self, buf: &[u8]) -> io::Result<usize>
         ensures bound { WritesAtMost result buf.now }
@@ -45,6 +47,7 @@ pub trait Sink: Write {
         ensures fails { failures self.new ≡ failures self.old + failure_count result }
         ensures stops { idle self.new ≡ stops_after result (length buf.now) (idle self.old) }
         ensures flushes { flushes self.new ≡ flushes self.old }
+        ensures since { since self.new ≡ since_after result (length buf.now) (since self.old) }
         // Where it is known what is held, the bytes stand behind it.
         ensures bytes { WriteAppends (Self.contents self.old) (Self.contents self.new) result buf.now };
 
@@ -54,5 +57,6 @@ pub trait Sink: Write {
         ensures fails { failures self.new ≡ failures self.old + failure_count result }
         ensures stops { idle self.new ≡ idle self.old }
         ensures flushes { flushes self.new ≡ flushes self.old + 1 }
+        ensures since { since self.new ≡ since_flush result (since self.old) }
         ensures bytes { Keeps (Self.contents self.old) (Self.contents self.new) };
 }

@@ -1,4 +1,5 @@
-use Rattle.std.proofs.Common.{sym, ◌∙◌, ◌||◌, [], append-nil, refl, rules}
+use Rattle.std.proofs.Common.{sym, ◌∙◌, ◌||◌, [], append-nil, refl, rules, arith, eqb}
+use Rattle.std.proofs.lemmas.List.Splits.{length-slice_split}
 use Rattle.evidence_check.specs.Causes.{of_input, is_memory, is_read}
 use Rattle.evidence_check.specs.Reading.{faulted}
 use Rattle.evidence_check.proofs.LineCauses.{readers_own}
@@ -21,3 +22,6 @@ returns-in-Err-read_lines-clause-exact g c =
 
 pub returns-in-Err-clause-exact : goal.returns-in-Err-clause-exact
 returns-in-Err-clause-exact g c = ([], sym (append-nil (g.R.Source.given c.args.reader.now)), λ rest ended. tt)
+
+pub returns-in-Err-clause-line : goal.returns-in-Err-clause-line
+returns-in-Err-clause-line g c = ([], sym (append-nil (g.R.Source.given c.args.reader.now)), omega (arith, length-slice_split (λ b. eqb b 10) []))

@@ -1,10 +1,11 @@
 use Rattle.std.proofs.Common.{◌≡◌, ◌+◌, Ok, Err, ◌∙◌, sym, refl, ap, arith, ℕ, List, [], ◌++◌, length, ◌≤◌, ◌^◌, min, true, false, ◌&&◌, eqb, append_assoc, append-nil, length-append}
+use Rattle.std.proofs.lemmas.List.Splits.{length-slice_split}
 use Rattle.json_lines.specs.Json.{taken_line}
 use Rattle.json_lines.specs.Lines.{line_ending}
 use Rattle.json_lines.specs.declared.lines.InputFault.TheVariants.{TooLong, OutOfMemory}
 use Rattle.json_lines.specs.declared.reading.Stop.TheVariants.{Input}
 use Rattle.json_lines.proofs.Exits.{no_error, same_error, same_fault, input_is_no_line, no_memory_fault, no_long_fault}
-use Rattle.json_lines.proofs.Folds.{Within, within_from, room_left, came_in_all, goes_on, cut_ends, over_ends, step_cut, last_ends, read_fails}
+use Rattle.json_lines.proofs.Folds.{Within, within_from, room_left, came_in_all, goes_on, line_came, cut_ends, over_ends, step_cut, last_ends, read_fails}
 use Rattle.json_lines.proofs.Given.{next-refl, next-trans}
 use Rattle.json_lines.proofs.reading.read_lines.Goals as goal
 
@@ -206,6 +207,36 @@ returns-clause-kept g c = tt
 
 pub returns-clause-unfailed : goal.returns-clause-unfailed
 returns-clause-unfailed g c = λ _. c.loop-number.invariant.kept
+
+pub returns-in-Err-clause-line : goal.returns-in-Err-clause-line
+returns-in-Err-clause-line g c = ([], sym (append-nil (g.R.Source.given c.args.reader.now)), omega (arith, length-slice_split (λ b. eqb b 10) []))
+
+pub returns-in-Err-next-clause-line : goal.returns-in-Err-next-clause-line
+returns-in-Err-next-clause-line g c =
+    let follows = c.loop-number.invariant.follows in
+    let came = c.next.ensures.most (g.R.Source.given c.args.reader.now ++ follows.0) follows.1 in
+    line_came (taken_line g.T.Cause.LineCause.not_json g.T.TakeJson.taken) c.args.value.now g.R.Source.given c.args.reader.now c.next.new.reader c.loop-number.number c.loop-number.room c.loop-number.value
+    follows.0 came.0 follows.3 came.1
+
+pub returns-then-is_over-clause-line : goal.returns-then-is_over-clause-line
+returns-then-is_over-clause-line g c =
+    let follows = c.loop-number.invariant.follows in
+    let came = c.next.ensures.most (g.R.Source.given c.args.reader.now ++ follows.0) follows.1 in
+    line_came (taken_line g.T.Cause.LineCause.not_json g.T.TakeJson.taken) c.args.value.now g.R.Source.given c.args.reader.now c.next.new.reader c.loop-number.number c.loop-number.room c.loop-number.value
+    follows.0 came.0 follows.3 came.1
+
+pub returns-in-Err-take_line-clause-line : goal.returns-in-Err-take_line-clause-line
+returns-in-Err-take_line-clause-line g c =
+    let follows = c.loop-number.invariant.follows in
+    let came = c.next.ensures.most (g.R.Source.given c.args.reader.now ++ follows.0) follows.1 in
+    line_came (taken_line g.T.Cause.LineCause.not_json g.T.TakeJson.taken) c.args.value.now g.R.Source.given c.args.reader.now c.next.new.reader c.loop-number.number c.loop-number.room c.loop-number.value
+    follows.0 came.0 follows.3 came.1
+
+pub returns-then-not-more-clause-line : goal.returns-then-not-more-clause-line
+returns-then-not-more-clause-line g c = tt
+
+pub returns-clause-line : goal.returns-clause-line
+returns-clause-line g c = absurd (omega arith)
 
 pub loop-number-preserved : goal.loop-number-preserved
 loop-number-preserved g c =

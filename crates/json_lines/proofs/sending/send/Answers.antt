@@ -68,3 +68,9 @@ returns-in-Ok-finish-clause-part g c = tt
 
 pub returns-in-Ok-finish-clause-refused : goal.returns-in-Ok-finish-clause-refused
 returns-in-Ok-finish-clause-refused g c = tt
+
+pub returns-in-Ok-finish-clause-broken_off : goal.returns-in-Ok-finish-clause-broken_off
+returns-in-Ok-finish-clause-broken_off g c = tt
+
+pub returns-in-Ok-finish-clause-last : goal.returns-in-Ok-finish-clause-last
+returns-in-Ok-finish-clause-last g c = tt
