@@ -32,6 +32,9 @@ pub trait KnownFact: Drop {
 
     ghost fact: { Self → FactValue };
 
+    /// Whether the mark of its userset is kept, so that it is compared by that first.
+    fn keeps_mark() -> bool;
+
     /// Whether it is the fact of this userset and this user id.
     fn is_of(&self, set: SetRef<'_>, user: u64) -> bool
         ensures { result ≡ fact_eq (fact_of (set_value set.entry) user) (fact self.now) };
@@ -55,6 +58,10 @@ pub trait KnownFact: Drop {
 
 impl KnownFact for Fact {
     ghost fact = { λ f. f };
+
+    fn keeps_mark() -> bool {
+        false
+    }
 
     fn is_of(&self, set: SetRef<'_>, user: u64) -> bool {
         are_same(set, self.set()) && user == self.user()
@@ -81,6 +88,10 @@ impl<'a> KnownFact for MarkedFact<'a> {
     ghost use Rattle.judgement.specs.Facts.{marked_fact};
 
     ghost fact = { marked_fact };
+
+    fn keeps_mark() -> bool {
+        true
+    }
 
     fn is_of(&self, set: SetRef<'_>, user: u64) -> bool {
         are_same(set, self.set.set) && user == self.user

@@ -19,6 +19,10 @@ use version_chains::{MarkedSet, Places, fact_mark};
 /// How many facts are looked at one after the other, which needs neither marks nor memory for them.
 const FEW: usize = 16;
 
+/// How many facts are compared by the texts of their usersets. From more of them on it is quicker to make the mark of the userset that is
+/// asked for, where they keep theirs.
+const VERY_FEW: usize = 4;
+
 /// Facts, which contracts see as the list of them in the order in which they were added.
 ///
 /// Where they are more than a few they are found by their marks, as the store finds tuples: no choice of texts makes that slower
@@ -26,14 +30,22 @@ const FEW: usize = 16;
 #[derive(Drop)]
 pub(crate) struct Facts<F: KnownFact> {
     facts: Vec<F>,
-    // whether the marks are those of the facts, and the users theirs
-    is_marked: bool,
+    // whether the facts of a user are looked for
+    by_user: bool,
+    // behind a pointer, since most lists have few facts and none, and are moved more often than they grow
+    index: Option<Box<Index>>,
+}
+
+/// By what facts are found: their marks, and their users where these are looked for.
+#[derive(Drop)]
+struct Index {
     marks: Places,
     users: Places,
 }
 
 impl<F: KnownFact> Model for Facts<F> {
     ghost use Rattle.std.specs.Prelude.{List, ◌≡◌, map, true};
+    ghost use Rattle.std.specs.Option.{ForSome};
     ghost use Rattle.tuple_text.specs.Tuples.{FactValue, fact_tuple};
     ghost use Rattle.version_chains.specs.Marks.{tuple_mark};
     ghost use Rattle.judgement.specs.Facts.{user_of};
@@ -45,8 +57,8 @@ impl<F: KnownFact> Model for Facts<F> {
 
     ghost view = { λ s. map F.fact s.facts.items };
 
-    ghost invariant = { λ s. (s.is_marked ≡ true → s.marks ≡ map tuple_mark (map fact_tuple (map F.fact s.facts.items)))
-        × (s.is_marked ≡ true → s.users ≡ map user_of (map F.fact s.facts.items)) };
+    ghost invariant = { λ s. ForSome s.index (λ i. (i.value.marks ≡ map tuple_mark (map fact_tuple (map F.fact s.facts.items)))
+        × (s.by_user ≡ true → i.value.users ≡ map user_of (map F.fact s.facts.items))) };
 }
 
 fn is_among<F: KnownFact>(facts: &[F], set: SetRef<'_>, user: u64) -> bool
@@ -121,41 +133,75 @@ fn is_found<F: KnownFact>(facts: &[F], marks: &Places, set: MarkedSet<'_>, user:
     false
 }
 
+/// An index of facts, with room for so many. The users are those of the facts where they are looked for.
+fn index_of<F: KnownFact>(
+    alloc: Global,
+    facts: &[F],
+    by_user: bool,
+    room: usize,
+) -> Result<Index, AllocError>
+    ensures marks { IfOk result (λ i. i.marks ≡ map tuple_mark (map fact_tuple (map F.fact facts.now))) }
+    ensures users { IfOk result (λ i. by_user ≡ true → i.users ≡ map user_of (map F.fact facts.now)) }
+{
+    let marks = marks_of(alloc, facts, room)?;
+    let users = if by_user {
+        users_of(alloc, facts, room)?
+    } else {
+        Places::new(alloc)
+    };
+    Ok(Index { marks, users })
+}
+
+impl Index {
+    /// Adds a fact of this mark, and its user where users are looked for.
+    fn push(&mut self, mark: u64, by_user: bool, user: u64) -> Result<(), AllocError>
+        ensures marks { OnOk result (self.new.marks ≡ self.old.marks ++ mark ∷ []) }
+        ensures users { OnOk result (by_user ≡ true → self.new.users ≡ self.old.users ++ user ∷ []) }
+    {
+        self.marks.push(mark)?;
+        if by_user {
+            self.users.push(user)?;
+        }
+        Ok(())
+    }
+}
+
 impl<F: KnownFact> Facts<F> {
-    pub(crate) fn new(alloc: Global) -> Facts<F>
+    /// No fact. By a user they are found quickly where `by_user` says so.
+    pub(crate) fn new(alloc: Global, by_user: bool) -> Facts<F>
         ensures { result ≡ [] }
     {
         Facts {
             facts: Vec::new(alloc),
-            is_marked: false,
-            marks: Places::new(alloc),
-            users: Places::new(alloc),
+            by_user,
+            index: None,
         }
     }
 
     /// No fact, and memory for so many. Their marks want memory nevertheless.
-    pub(crate) fn with_room(alloc: Global, count: usize) -> Result<Facts<F>, AllocError>
+    pub(crate) fn with_room(
+        alloc: Global,
+        by_user: bool,
+        count: usize,
+    ) -> Result<Facts<F>, AllocError>
         ensures { IfOk result (λ s. s ≡ []) }
     {
         Ok(Facts {
             facts: Vec::with_capacity(alloc, count)?,
-            is_marked: false,
-            marks: Places::new(alloc),
-            users: Places::new(alloc),
+            by_user,
+            index: None,
         })
     }
 
-    /// Finds all facts by their marks and their users from now on. There is room for as many marks as for facts. Where memory runs out, nothing
-    /// changes.
+    /// Finds all facts by an index from now on. There is room in it for as many as for facts. Where memory runs out, nothing changes.
     fn mark(&mut self) -> Result<(), AllocError>
         ensures same { self.new ≡ self.old }
     {
-        if !self.is_marked {
+        if self.index.is_none() {
             let alloc = *self.facts.allocator();
             let room = self.facts.capacity().max(2 * FEW);
-            self.marks = marks_of(alloc, &self.facts, room)?;
-            self.users = users_of(alloc, &self.facts, room)?;
-            self.is_marked = true;
+            let index = index_of(alloc, &self.facts, self.by_user, room)?;
+            self.index = Some(Box::new(alloc, index)?);
         }
         Ok(())
     }
@@ -169,12 +215,10 @@ impl<F: KnownFact> Facts<F> {
             self.mark()?;
         }
         self.facts.reserve(1)?;
-        if self.is_marked {
-            // where memory is refused for one of them, the next fact makes both anew
-            self.is_marked = false;
-            self.marks.push(fact.mark())?;
-            self.users.push(fact.user_id())?;
-            self.is_marked = true;
+        if let Some(mut index) = self.index.take() {
+            // where memory is refused, the next fact makes another
+            index.push(fact.mark(), self.by_user, fact.user_id())?;
+            self.index = Some(index);
         }
         if self.facts.push(fact).is_err() {
             unreachable!();
@@ -182,12 +226,17 @@ impl<F: KnownFact> Facts<F> {
         Ok(())
     }
 
+    /// Whether it is worth while to make the mark of a userset that is asked for.
+    fn is_asked_by_mark(&self) -> bool {
+        self.index.is_some() || F::keeps_mark() && self.facts.len() > VERY_FEW
+    }
+
     /// Whether the fact of a userset and a user id is there.
     pub(crate) fn has(&self, set: SetRef<'_>, user: u64) -> bool
         ensures { IsTrue result ↔ Contains self.now (fact_of (set_value set.entry) user) }
     {
-        if self.is_marked {
-            is_found(&self.facts, &self.marks, MarkedSet::of(set), user)
+        if self.is_asked_by_mark() {
+            self.has_marked(MarkedSet::of(set), user)
         } else {
             is_among(&self.facts, set, user)
         }
@@ -197,10 +246,9 @@ impl<F: KnownFact> Facts<F> {
     pub(crate) fn has_marked(&self, set: MarkedSet<'_>, user: u64) -> bool
         ensures { IsTrue result ↔ Contains self.now (fact_of (set_value set.entry.set) user) }
     {
-        if self.is_marked {
-            is_found(&self.facts, &self.marks, set, user)
-        } else {
-            is_marked_among(&self.facts, set, user)
+        match &self.index {
+            Some(index) => is_found(&self.facts, &index.marks, set, user),
+            None => is_marked_among(&self.facts, set, user),
         }
     }
 
@@ -208,10 +256,9 @@ impl<F: KnownFact> Facts<F> {
     fn newest_of(&self, user: u64) -> usize
         ensures { result ≡ last_place (is_of_user user) self.now (length self.now) }
     {
-        if self.is_marked {
-            self.users.newest(user)
-        } else {
-            last_of(&self.facts, user, self.facts.len())
+        match &self.index {
+            Some(index) if self.by_user => index.users.newest(user),
+            _ => last_of(&self.facts, user, self.facts.len()),
         }
     }
 
@@ -220,10 +267,9 @@ impl<F: KnownFact> Facts<F> {
         ensures { passes (is_of_user user) (slice_get self.now index) ≡ true
             → result ≡ last_place (is_of_user user) self.now index }
     {
-        if self.is_marked {
-            self.users.older(index)
-        } else {
-            last_of(&self.facts, user, index.min(self.facts.len()))
+        match &self.index {
+            Some(found) if self.by_user => found.users.older(index),
+            _ => last_of(&self.facts, user, index.min(self.facts.len())),
         }
     }
 

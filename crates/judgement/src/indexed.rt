@@ -44,7 +44,7 @@ fn is_touch_out<F: KnownFact>(
         set: stored,
         mark: touch.user.mark,
     };
-    if touch.set != set.set || is_out(trace.rules(), at, known, stored, relation, user) {
+    if is_out(trace.rules(), at, known, stored, relation, user) {
         return true;
     }
     !trace.chains().has_set(set, stored, at)

@@ -39,8 +39,8 @@ impl<F: KnownFact> Known<F> {
         ensures { result ≡ record { yes = []; no = [] } }
     {
         Known {
-            yes: Facts::new(alloc),
-            no: Facts::new(alloc),
+            yes: Facts::new(alloc, true),
+            no: Facts::new(alloc, false),
         }
     }
 
@@ -49,8 +49,8 @@ impl<F: KnownFact> Known<F> {
         ensures { IfOk result (λ k. k ≡ record { yes = []; no = [] }) }
     {
         Ok(Known {
-            yes: Facts::with_room(alloc, yes)?,
-            no: Facts::with_room(alloc, no)?,
+            yes: Facts::with_room(alloc, true, yes)?,
+            no: Facts::with_room(alloc, false, no)?,
         })
     }
 

@@ -16,7 +16,7 @@ use Rattle.strata.proofs.Walks.{both, edges_joined}
 use Rattle.namespaces.proofs.Names.{and_true, one_name}
 use Rattle.refusals.specs.Refusals.{◌>>=◌}
 use Rattle.trace_lines.specs.Traces.{strata_cause, tuples_checked}
-use Rattle.trace_lines.specs.Tuples.{is_user_of_kind, is_of_kind, IsSomeOfKind, Represents}
+use Rattle.trace_lines.specs.Tuples.{is_of_relation, is_user_of_kind, is_of_kind, IsSomeOfKind, Represents}
 
 pub tuples_joined : (ds : List Declaration) (ts us : List TupleValue)
     → first_broken ds (edges_of_tuples ds (ts ++ us)) ≡ both (first_broken ds (edges_of_tuples ds ts)) (first_broken ds (edges_of_tuples ds us))
@@ -27,9 +27,9 @@ tuples_joined ds ts us = ap (first_broken ds) (flat_map-append (tuple_edges ds) 
 -- the edges of a tuple do not turn on its object, nor on the object of its user
 edges_of_kind : (ds : List Declaration) (t u : TupleValue) → is_of_kind t u ≡ true → tuple_edges ds t ≡ tuple_edges ds u
 edges_of_kind ds t u h =
-    let n = and_true (bytes_eq t.set.namespace u.set.namespace) _ h in
-    let r = and_true (bytes_eq t.set.relation u.set.relation) (is_user_of_kind t.user u.user) n.1 in
-    by_user t.user u.user (one_name t.set.namespace u.set.namespace n.0) (one_name t.set.relation u.set.relation r.0) r.1
+    let k = and_true (is_of_relation t.set u.set) (is_user_of_kind t.user u.user) h in
+    let r = and_true (bytes_eq t.set.namespace u.set.namespace) (bytes_eq t.set.relation u.set.relation) k.0 in
+    by_user t.user u.user (one_name t.set.namespace u.set.namespace r.0) (one_name t.set.relation u.set.relation r.1) k.1
   where
     by_user : (x y : User) → t.set.namespace ≡ u.set.namespace → t.set.relation ≡ u.set.relation → is_user_of_kind x y ≡ true
         → user_edges ds t.set x ≡ user_edges ds u.set y

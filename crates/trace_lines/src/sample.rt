@@ -1,14 +1,14 @@
 //! Tuples that stand for all those ever added.
 
 ghost use Rattle.std.specs.Prelude.{◌≡◌, ◌≤◌, ◌∷◌, ◌++◌, [], Ok, length, take, true, OnErr, OnOk};
-ghost use Rattle.tuple_text.specs.Refs.{user_value};
+ghost use Rattle.tuple_text.specs.Refs.{set_value, user_value};
 ghost use Rattle.tuple_text.specs.TupleRefs.{tuple_value, tuple_values};
 ghost use Rattle.strata.specs.Edges.{first_broken, edges_of_tuples};
 ghost use Rattle.trace_lines.specs.Causes.{Gives};
 ghost use Rattle.trace_lines.specs.Declaring.{IsDeclaredOver};
 ghost use Rattle.trace_lines.specs.Indexed.{IsIndex};
 ghost use Rattle.trace_lines.specs.Traces.{tuples_checked};
-ghost use Rattle.trace_lines.specs.Tuples.{is_of_kind, is_user_of_kind, Represents, IsSomeOfKind};
+ghost use Rattle.trace_lines.specs.Tuples.{is_of_kind, is_of_relation, is_user_of_kind, Represents, IsSomeOfKind};
 
 use crate::cause::Cause;
 use crate::edge_index::EdgeIndex;
@@ -27,6 +27,8 @@ pub(crate) struct Sample {
     tuples: Vec<Tuple>,
     // where a tuple of a kind stands, by the numbers of its relations; who looks here makes sure that it does
     places: BTreeMap<u64, usize>,
+    // where one stands that was looked for last, since the next tuple is mostly of its kind
+    last: usize,
 }
 
 impl Model for Sample {
@@ -38,13 +40,18 @@ impl Model for Sample {
     ghost view = { λ s. s.tuples.items };
 }
 
+/// Whether two usersets are of one relation.
+pub(crate) fn is_of_relation(one: SetRef<'_>, other: SetRef<'_>) -> bool
+    ensures { result ≡ is_of_relation (set_value one.entry) (set_value other.entry) }
+{
+    one.namespace == other.namespace && one.relation == other.relation
+}
+
 fn is_user_of_kind(one: UserRef<'_>, other: UserRef<'_>) -> bool
     ensures { result ≡ is_user_of_kind (user_value one.entry) (user_value other.entry) }
 {
     match (one, other) {
-        (UserRef::Set(one), UserRef::Set(other)) => {
-            one.namespace == other.namespace && one.relation == other.relation
-        }
+        (UserRef::Set(one), UserRef::Set(other)) => is_of_relation(one, other),
         _ => false,
     }
 }
@@ -52,9 +59,7 @@ fn is_user_of_kind(one: UserRef<'_>, other: UserRef<'_>) -> bool
 fn is_of_kind(one: &Tuple, other: TupleRef<'_>) -> bool
     ensures { result ≡ is_of_kind one.now (tuple_value other.entry) }
 {
-    one.set().namespace == other.set().namespace
-        && one.set().relation == other.set().relation
-        && is_user_of_kind(one.user(), other.user())
+    is_of_relation(one.set(), other.set()) && is_user_of_kind(one.user(), other.user())
 }
 
 fn packed(number: RelNo) -> u64 {
@@ -111,6 +116,7 @@ impl Sample {
         Sample {
             tuples: Vec::new(alloc),
             places: BTreeMap::new(alloc),
+            last: 0,
         }
     }
 
@@ -133,17 +139,30 @@ impl Sample {
         self.tuples.truncate(len);
     }
 
-    /// Whether a tuple of this one's kind is there.
-    fn has(&self, kind: u64, tuple: TupleRef<'_>) -> bool
+    /// Whether a tuple of this one's kind stands where one was looked for last.
+    fn has_last(&self, tuple: TupleRef<'_>) -> bool
         ensures { result ≡ true → IsSomeOfKind (tuple_value tuple.entry) self.now }
     {
-        let Some(place) = self.places.get(&kind) else {
-            return false;
-        };
-        match self.tuples.get(*place) {
+        match self.tuples.get(self.last) {
             Some(one) => is_of_kind(one, tuple),
             None => false,
         }
+    }
+
+    /// Whether a tuple of this one's kind is there.
+    fn has(&mut self, rules: &Rules, tuple: TupleRef<'_>, user: SetRef<'_>) -> bool
+        ensures found { result ≡ true → IsSomeOfKind (tuple_value tuple.entry) self.old }
+        ensures same { self.new ≡ self.old }
+    {
+        if self.has_last(tuple) {
+            return true;
+        }
+        let kind = kind_number(rules, tuple.set(), user);
+        let Some(place) = self.places.get(&kind) else {
+            return false;
+        };
+        self.last = *place;
+        self.has_last(tuple)
     }
 
     /// Takes one more tuple, or refuses the first of its edges that is broken.
@@ -163,10 +182,10 @@ impl Sample {
         let UserRef::Set(user) = tuple.user() else {
             return Ok(());
         };
-        let kind = kind_number(rules, tuple.set(), user);
-        if self.has(kind, tuple) {
+        if self.has(rules, tuple, user) {
             return Ok(());
         }
+        let kind = kind_number(rules, tuple.set(), user);
         let tuple = tuple.to_tuple(*self.tuples.allocator())?;
         look(rules, index, &self.tuples, &tuple)?;
         put(&mut self.tuples, &mut self.places, kind, tuple)?;

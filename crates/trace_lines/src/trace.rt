@@ -2,6 +2,7 @@
 
 ghost use Rattle.std.specs.Prelude.{◌≡◌, ◌+◌, ◌<◌, ◌≤◌, Some, None, slice_get, ◌^◌, ◌&&◌, [], length, take, drop, All, true, false, ℕ, ◌++◌, map, option_map, option_and_then, Ok, IfOk, OnOk, OnErr, IfErr, IfSome, IsErr};
 ghost use Rattle.std.specs.Io.KnownBytes.{Consumes};
+ghost use Rattle.std.specs.Option.{ForSome};
 ghost use Rattle.serde_json.specs.Data.{Data};
 ghost use Rattle.serde_json.specs.View.{view};
 ghost use Rattle.json_lines.specs.Data.{value_data, line_data};
@@ -33,7 +34,7 @@ use crate::declaring::{change, declare, late_change};
 use crate::edge_index::EdgeIndex;
 use crate::entry::{Entry, EntryKind};
 use crate::recorded::Recorded;
-use crate::sample::Sample;
+use crate::sample::{Sample, is_of_relation};
 use crate::texts::tuples_of;
 use crate::versions::{Versions, version_of};
 use json_lines::fields::{number_of, optional_number_at, strings_of, text_at};
@@ -241,13 +242,26 @@ impl Trace {
         self.rules.stratum(set).is_some()
     }
 
+    /// Whether a userset's relation is declared, where that of another userset is: mostly it is the same.
+    fn is_declared_after(&self, last: Option<SetRef<'_>>, set: SetRef<'_>) -> bool
+        requires { ForSome last (λ s. is_declared self.now.declarations (set_value s) ≡ true) }
+        ensures { result ≡ is_declared self.now.declarations (set_value set.entry) }
+    {
+        match last {
+            Some(last) if is_of_relation(last, set) => true,
+            _ => self.is_declared(set),
+        }
+    }
+
     fn are_declared(&self, tuples: &[TupleRef<'_>]) -> bool
         ensures { result ≡ are_declared self.now.declarations (tuple_values tuples.now) }
     {
+        let mut last = None;
         for tuple in tuples {
-            if !self.is_declared(tuple.set()) {
+            if !self.is_declared_after(last, tuple.set()) {
                 return false;
             }
+            last = Some(tuple.set());
         }
         true
     }

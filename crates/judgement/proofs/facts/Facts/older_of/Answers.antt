@@ -2,21 +2,24 @@ use Rattle.std.proofs.Common.{◌≡◌, ◌∙◌, length, map, ap, sym, arith}
 use Rattle.std.proofs.lemmas.List.{length-map}
 use Rattle.version_chains.specs.Placed.{last_place}
 use Rattle.judgement.specs.Facts.{is_of_user, user_of}
+use Rattle.judgement.specs.declared.facts.Index.{Index}
 use Rattle.judgement.proofs.LedLemmas.{older_by_users, within_facts}
 use Rattle.judgement.proofs.facts.Facts.older_of.Goals as goal
 
-pub returns-then-self : goal.returns-then-self
-returns-then-self g c h =
-    older_by_users c.args.user c.args.self.now c.args.index c.self.inside.users c.older.result
-    (c.self.invariant.1 c.if-self.true ∙ ap (map user_of) c.self.view_is) h c.older.ensures
+pub returns-in-Some : goal.returns-in-Some
+returns-in-Some g c h =
+    let kept = (c.self.invariant c.in-Some.found c.in-Some.is).1 c.if-self.true in
+    older_by_users c.args.user c.args.self.now c.args.index c.deref.result.now.users c.older.result
+    (ap (λ (i : Index). i.users) c.deref.ensures ∙ kept ∙ ap (map user_of) c.self.view_is) h c.older.ensures
 
-pub returns-else-self : goal.returns-else-self
-returns-else-self g c h =
-    let kept : map g.F.KnownFact.fact c.deref.result.now ≡ c.args.self.now = ap (map g.F.KnownFact.fact) c.deref.ensures.value ∙ c.self.view_is in
+pub returns-in_default : goal.returns-in_default
+returns-in_default g c h =
+    let facts = c.deref-in_default.result.now in
+    let kept : map g.F.KnownFact.fact facts ≡ c.args.self.now = ap (map g.F.KnownFact.fact) c.deref-in_default.ensures.value ∙ c.self.view_is in
     let within = within_facts c.args.user c.args.self.now c.args.index h in
-    let long : length c.args.self.now ≡ length c.deref.result.now = ap length (sym kept) ∙ length-map c.deref.result.now g.F.KnownFact.fact in
+    let long : length c.args.self.now ≡ length facts = ap length (sym kept) ∙ length-map facts g.F.KnownFact.fact in
     let len = c.len.ensures in
-    let deref = c.deref.ensures.len in
+    let deref = c.deref-in_default.ensures.len in
     let min = c.min.ensures in
     let same : c.min.result ≡ c.args.index = omega (arith, within, long, len, deref, min) in
     c.last_of.ensures

@@ -1,17 +1,21 @@
-use Rattle.std.proofs.Common.{ap}
+use Rattle.std.proofs.Common.{List, [], ◌∷◌, ◌++◌, ap, subst, sym}
 use Rattle.std.proofs.lemmas.Result.{IfOk-from_err}
 use Rattle.tuple_text.specs.TupleRefs.{tuple_value}
+use Rattle.tuple_text.specs.Tuples.{TupleValue}
 use Rattle.trace_lines.specs.Traces.{strata_cause}
+use Rattle.trace_lines.specs.Tuples.{Represents}
 use Rattle.trace_lines.proofs.Sampling.{kind_unbroken, left_out}
 use Rattle.trace_lines.proofs.sample.Sample.admit.Goals as goal
 
 pub returns-then-has-clause-answer : goal.returns-then-has-clause-answer
 returns-then-has-clause-answer c =
-    ap strata_cause (kind_unbroken c.args.rules.now c.args.self.now (tuple_value c.args.tuple) (c.has.ensures c.if-has.true) c.requires.unbroken)
+    ap strata_cause (kind_unbroken c.args.rules.now c.args.self.now (tuple_value c.args.tuple) (c.has.ensures.found c.if-has.true) c.requires.unbroken)
 
 pub returns-then-has-clause-taken : goal.returns-then-has-clause-taken
 returns-then-has-clause-taken c =
-    left_out c.args.self.now (tuple_value c.args.tuple) (λ ds. kind_unbroken ds c.args.self.now (tuple_value c.args.tuple) (c.has.ensures c.if-has.true))
+    let all = c.args.self.now ++ tuple_value c.args.tuple ∷ [] in
+    subst (λ (ts : List TupleValue). Represents ts all) (sym c.has.ensures.same)
+    (left_out c.args.self.now (tuple_value c.args.tuple) (λ ds. kind_unbroken ds c.args.self.now (tuple_value c.args.tuple) (c.has.ensures.found c.if-has.true)))
 
 pub returns-in_err-tuple-clause-taken : goal.returns-in_err-tuple-clause-taken
 returns-in_err-tuple-clause-taken c = IfOk-from_err _ _ c.from_residual.ensures.0
