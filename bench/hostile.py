@@ -34,6 +34,9 @@ KIND is one of
   wide_pairs     a rule of many intersections that differ, and all begin with one leaf
   wide_leaves    the same, and they end with it: before it stand two of 250 computed relations, which nothing is known of
   wide_through   a rule of many relations through one tupleset, in which three usersets are stored
+  wide_records   as `wide_pairs`, with a record of one fact for each check
+  wide_turns     as `wide_pairs`, behind two leaves that deny the users in turn
+  wide_folders   as `wide_through`, and each fact is of another object, in whose tupleset a userset is stored
   ring           groups in a circle, and checks that each of many strangers is not in it: for `make`
   wide_make      a rule of many places that compute one relation, and objects in a chain of such rules: for `make`
   toggled        one tuple added and removed in every other commit, and checks at old snapshots
@@ -456,15 +459,15 @@ def wide_computed(size):
     return given
 
 
-def wide_intersections(size, leaves):
-    """A rule of many intersections, no two alike, of the leaves that two of 250 relations make."""
+def wide_intersections(size, leaves, fill=True):
+    """A rule of many intersections, no two alike, of the leaves that two of 250 relations make; and records of many facts, if wanted."""
     names = [f"r{k}" for k in range(250)]
     pairs = [{"intersection": leaves({"computed": names[k // 250 % 250]}, {"computed": names[k % 250]})} for k in range(62500)]
     rule = nested(pairs[:min(size // 3, LINE * 8 // 10) // len(text(pairs[-1]))])
     given = Input(size, [{"name": "doc", "relations": [*map(relation, names), relation("viewer", rule)]}])
     given.bytes = len(given.lines[0])
     given.commit(["doc:b#r0@1"])
-    return asked_of_many(given)
+    return asked_of_many(given) if fill else given
 
 
 def wide_pairs(size):
@@ -475,13 +478,47 @@ def wide_leaves(size):
     return wide_intersections(size, lambda one, other: [one, other, THIS])
 
 
-def wide_through(size):
+def through_many(size):
+    """Rules of many relations through one tupleset."""
     count = min(size // 3, LINE * 8 // 10) // 52
     rule = nested([{"tuple_to": {"tupleset": "parent", "computed": "c%x" % k}} for k in range(count)])
     given = Input(size, [{"name": "doc", "relations": [relation("parent"), relation("viewer", rule)]}])
     given.bytes = len(given.lines[0])
+    return given
+
+
+def wide_through(size):
+    given = through_many(size)
     given.commit([f"doc:a#parent@doc:p{k}#parent" for k in range(3)])
     return asked_of_many(given)
+
+
+def wide_records(size):
+    return asked_one_by_one(wide_intersections(size, lambda one, other: [THIS, one, other], fill=False))
+
+
+def wide_turns(size):
+    """Users that are denied by the first leaf and by the second in turn."""
+    turns = [{"computed": "r0"}, {"computed": "r1"}]
+    given = wide_intersections(size, lambda one, other: [*turns, one, other], fill=False)
+    user = 0
+    while not given.is_full():
+        count = min(max((given.size - given.bytes) // 40, 2), 20000)
+        users = range(user, user + count)
+        refused(given, [f"doc:a#viewer@{one}" for one in users] + [f"doc:a#r{one % 2}@{one}" for one in users])
+        user += count
+    return given
+
+
+def wide_folders(size):
+    given = through_many(size)
+    k = 0
+    while not given.is_full():
+        objects = range(k, k + 100)
+        given.commit([f"doc:{one}#parent@doc:p#parent" for one in objects])
+        refused(given, [f"doc:{one}#viewer@1" for one in objects])
+        k += 100
+    return given
 
 
 def ring(size):
@@ -617,6 +654,9 @@ KINDS = {
     "wide_pairs": wide_pairs,
     "wide_leaves": wide_leaves,
     "wide_through": wide_through,
+    "wide_records": wide_records,
+    "wide_turns": wide_turns,
+    "wide_folders": wide_folders,
     "ring": ring,
     "wide_make": wide_make,
     "toggled": toggled,

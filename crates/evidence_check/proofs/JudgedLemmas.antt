@@ -5,20 +5,23 @@ use Rattle.std.proofs.lemmas.Map.Views.{Contains-from_any, list_any-from_Contain
 use Rattle.tuple_text.specs.Tuples.{TupleValue, FactValue}
 use Rattle.tuple_text.specs.OrderLaws.{fact_equiv}
 use Rattle.tuple_text.proofs.ValueLemmas.{fact_eq-same}
-use Rattle.namespaces.specs.Alike.{IsAlike}
+use Rattle.namespaces.specs.Alike.{IsAlike, AreAlike}
 use Rattle.namespaces.specs.Expression.{Expression}
 use Rattle.namespaces.specs.Lookup.{Rule, Lookup, rule_at, rule_of}
 use Rattle.namespaces.specs.Plain.{ArePlain}
 use Rattle.version_chains.specs.Commits.{store_at}
 use Rattle.strata.proofs.Rounds.{stable_law, closed_law}
 use Rattle.trace_lines.specs.Values.{TraceValue, EntryValue}
-use Rattle.judgement.specs.Judgement.{KnownValue, Refuted}
-use Rattle.judgement.proofs.AlikeLemmas.{alike_refuted}
+use Rattle.namespaces.proofs.AlikeLemmas.{alike_back}
+use Rattle.judgement.specs.Asked.{Does}
+use Rattle.judgement.specs.Judgement.{KnownValue, Established, Refuted}
+use Rattle.judgement.proofs.AlikeLemmas.{alike_established, alike_refuted}
 use Rattle.evidence_check.specs.Accepted.{nothing_known, IsDisproved, IsAccepted, AreAccepted, after_step, after_steps, IsTrueOf}
 use Rattle.evidence_check.specs.Decided.{decided, dec_accepted}
 use Rattle.evidence_check.specs.Judged.{is_accepted, first_bad, is_among, by_reply, by_goal, by_steps, judged}
 use Rattle.evidence_check.specs.Laws.{HasValidStrataAt}
 use Rattle.evidence_check.specs.Members.{IsRight, IsWrong}
+use Rattle.evidence_check.specs.Rules.{IsRuleOf, IsSettled}
 use Rattle.evidence_check.specs.Steps.{StepValue}
 use Rattle.evidence_check.specs.declared.judged.Judged.{Judged}
 use Rattle.evidence_check.specs.declared.judged.Judged.TheVariants.{Silent}
@@ -61,27 +64,49 @@ none_bad rules store known k (s ∷ ss) e = by_test (λ h. none_bad rules store 
 
 -- ---- by the plain rule of a relation, where it is found
 
-alike_back : (a b : Expression) → IsAlike a b → IsAlike b a
-alike_back a b alike = record { gives_alike = λ l. sym (alike.gives_alike l); bars_alike = λ l. sym (alike.bars_alike l) }
+pub plain_alike : (a b : Option Expression) → ArePlain a b → AreAlike a b
+plain_alike None None h = h
+plain_alike None (Some b) h = absurd h
+plain_alike (Some a) None h = absurd h
+plain_alike (Some a) (Some b) h = h.alike
 
 pub by_rule : (o : Option Rule) (x : Expression) (P : Expression → Type 0) → ((a b : Expression) → IsAlike a b → P a → P b)
-    → ArePlain (Some x) (option_map (λ (r : Rule). r.expression) o) → (P x ↔ ((r : Rule) × (o ≡ Some r) × P r.expression))
-by_rule None x P carry plain = absurd plain
-by_rule (Some s) x P carry plain = (
-  λ p. (s, refl, carry x s.expression plain.alike p),
+    → AreAlike (Some x) (option_map (λ (r : Rule). r.expression) o) → (P x ↔ ((r : Rule) × (o ≡ Some r) × P r.expression))
+by_rule None x P carry alike = absurd alike
+by_rule (Some s) x P carry alike = (
+  λ p. (s, refl, carry x s.expression alike p),
   λ t. let rule : s ≡ t.0 = (let h : Some s ≡ Some t.0 = t.1 in cc) in
-      carry s.expression x (alike_back x s.expression plain.alike) (subst P (sym (ap (λ (r : Rule). r.expression) rule)) t.2),
+      carry s.expression x (alike_back x s.expression alike) (subst P (sym (ap (λ (r : Rule). r.expression) rule)) t.2),
 )
 
-pub no_rule : (o : Option Rule) → ArePlain None (option_map (λ (r : Rule). r.expression) o) → o ≡ None
+no_rule : (o : Option Rule) → AreAlike None (option_map (λ (r : Rule). r.expression) o) → o ≡ None
 no_rule None e = refl
 no_rule (Some r) e = absurd e
 
-pub disproved_by_rule : (rules : Lookup) (store : List TupleValue) (known : KnownValue) (f : FactValue) (x : Expression)
-    → ArePlain (Some x) (option_map (λ (r : Rule). r.expression) (rule_of rules f.set)) → (Refuted rules store known f x ↔ IsDisproved rules store known f)
-disproved_by_rule rules store known f x plain =
-    let rule = by_rule (rule_of rules f.set) x (λ e. Refuted rules store known f e) (alike_refuted rules store known f) plain in
-    (λ h. inr (rule.0 h), λ s. elim s [ inl none ↦ absurd (subst (λ (o : Option Rule). ArePlain (Some x) (option_map (λ (r : Rule). r.expression) o)) none plain) | inr t ↦ rule.1 t ])
+module _ (trace : TraceValue) (at : ℕ) (known : KnownValue) (f : FactValue) where
+  abbrev lookup : Lookup
+  lookup = rule_at trace.declarations at
+
+  abbrev store : List TupleValue
+  store = store_at trace.commits at
+
+  -- a rule that is alike settles the fact as its own does
+  pub settled_by_rule : (g : Bool) (x : Expression) → IsRuleOf trace.declarations at f.set (Some x)
+      → (Does trace at known f g x ↔ IsSettled lookup store known g f)
+  settled_by_rule true x alike = by_rule (rule_of lookup f.set) x (Established lookup store known f) (alike_established lookup store known f) alike
+  settled_by_rule false x alike =
+      let rule = by_rule (rule_of lookup f.set) x (Refuted lookup store known f) (alike_refuted lookup store known f) alike in
+      (λ h. inr (rule.0 h), λ s. elim s [
+        | inl none ↦ absurd (subst (λ (o : Option Rule). AreAlike (Some x) (option_map (λ (r : Rule). r.expression) o)) none alike)
+        | inr t ↦ rule.1 t
+      ])
+
+  -- without a rule it is disproved
+  pub settled_by_none : (g : Bool) → IsRuleOf trace.declarations at f.set None → (IsTrue (not g) ↔ IsSettled lookup store known g f)
+  settled_by_none true none =
+      let undeclared = no_rule (rule_of lookup f.set) none in
+      (λ t. cc, λ p. absurd (let h : None ≡ Some p.0 = sym undeclared ∙ p.1 in cc))
+  settled_by_none false none = (λ t. inl (no_rule (rule_of lookup f.set) none), λ d. refl)
 
 -- ---- what is known of the goal
 

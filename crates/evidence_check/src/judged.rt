@@ -7,7 +7,7 @@ ghost use Rattle.tuple_text.specs.Refs.{set_value};
 ghost use Rattle.tuple_text.specs.Tuples.{FactValue};
 ghost use Rattle.namespaces.specs.Lookup.{rule_at};
 ghost use Rattle.namespaces.specs.View.{expression_of};
-ghost use Rattle.evidence_check.specs.Rules.{IsPlainRuleOf};
+ghost use Rattle.evidence_check.specs.Rules.{IsRuleOf, IsLast, AreLast, IsSettled, rule_expression};
 ghost use Rattle.version_chains.specs.Commits.{store_at};
 ghost use Rattle.judgement.specs.Facts.{marked_fact};
 ghost use Rattle.trace_lines.specs.Values.{EntryValue, entry_value};
@@ -22,7 +22,7 @@ ghost use Rattle.evidence_check.specs.declared.judged.Judged.TheVariants.{Suppor
 use crate::evidence::Evidence;
 use crate::step::{StepRef, Steps};
 use crate::steps::borrowed_steps;
-use judgement::{Known, KnownFact, MarkedFact, established, refuted};
+use judgement::{AskedRule, Known, KnownFact, MarkedFact, established, refuted};
 use namespaces::{Rewrite, Rules};
 use std::alloc::{AllocError, Global};
 use trace_lines::laws::valid_strata;
@@ -56,69 +56,139 @@ fn is_given<F: KnownFact>(trace: &Trace, at: u64, known: &Known<F>, fact: Marked
     ensures { IsTrue result ↔ IsProved (rule_at trace.now.declarations at) (store_at trace.now.commits at) known.now (marked_fact fact.entry) }
 {
     match trace.rules().plain_body(fact.set.set, at) {
-        Some(rule) => established(rule, fact.set, fact.user, trace, at, known),
+        Some(rule) => established(&rule.rewrite, fact.set, fact.user, trace, at, known),
         None => false,
     }
 }
 
-/// The plain rule of a userset's relation, where that of another userset is at hand: facts of one relation mostly follow one another.
-fn rule_after<'t>(
+/// The rule of a relation that is in force at a timestamp, in its plain form. A wide one is asked by its parts.
+#[derive(Drop)]
+enum RuleInForce<'t> {
+    Undeclared,
+    Narrow(&'t Rewrite),
+    Wide(AskedRule<'t>),
+}
+
+/// The rule by which a fact was judged last, and the fact's userset.
+#[derive(Drop)]
+struct LastRule<'t, 'a> {
+    set: SetRef<'a>,
+    rule: RuleInForce<'t>,
+}
+
+/// Those by which the facts that are said to hold, and those that are denied, were judged last in a record.
+#[derive(Drop)]
+struct LastRules<'t, 'a> {
+    given: Option<LastRule<'t, 'a>>,
+    denied: Option<LastRule<'t, 'a>>,
+}
+
+fn rule_in_force<'t>(
+    alloc: Global,
     rules: &'t Rules,
     at: u64,
-    last: SetRef<'_>,
-    rule: Option<&'t Rewrite>,
     set: SetRef<'_>,
-) -> Option<&'t Rewrite>
-    requires { IsPlainRuleOf rules.now at (set_value last) (option_map (λ r. expression_of r.now) rule) }
-    ensures { IsPlainRuleOf rules.now at (set_value set.entry) (option_map (λ r. expression_of r.now) result) }
+) -> Result<RuleInForce<'t>, AllocError>
+    ensures { IfOk result (λ r. IsRuleOf rules.now at (set_value set.entry) (rule_expression r)) }
 {
-    if set.namespace == last.namespace && set.relation == last.relation {
-        rule
-    } else {
-        rules.plain_body(set, at)
+    match rules.plain_body(set, at) {
+        Some(plain) => match &plain.parted {
+            Some(parted) => Ok(RuleInForce::Wide(AskedRule::new(alloc, parted)?)),
+            None => Ok(RuleInForce::Narrow(&plain.rewrite)),
+        },
+        None => Ok(RuleInForce::Undeclared),
     }
 }
 
-/// Whether the fact's relation is undeclared, or its rule cannot give the fact by what is known.
-fn is_disproved(
-    trace: &Trace,
+/// The rule of a userset's relation, where that of another userset is at hand: facts of one relation mostly follow one another.
+fn rule_after<'t>(
+    alloc: Global,
+    rules: &'t Rules,
     at: u64,
-    known: &Known<MarkedFact<'_>>,
-    rule: Option<&Rewrite>,
-    fact: MarkedFact<'_>,
-) -> bool
-    requires { IsPlainRuleOf trace.now.declarations at (marked_fact fact).set (option_map (λ r. expression_of r.now) rule) }
-    ensures { IsTrue result ↔ IsDisproved (rule_at trace.now.declarations at) (store_at trace.now.commits at) known.now (marked_fact fact.entry) }
+    last: Option<LastRule<'t, '_>>,
+    set: SetRef<'_>,
+) -> Result<RuleInForce<'t>, AllocError>
+    requires { IsLast rules.now at last }
+    ensures { IfOk result (λ r. IsRuleOf rules.now at (set_value set.entry) (rule_expression r)) }
 {
-    match rule {
-        Some(rule) => refuted(rule, fact.set, fact.user, trace, at, known),
-        None => true,
-    }
-}
-
-fn are_disproved(
-    trace: &Trace,
-    at: u64,
-    known: &Known<MarkedFact<'_>>,
-    facts: &[MarkedFact<'_>],
-) -> bool
-    ensures { IsTrue result
-        ↔ AllByRecursion (IsDisproved (rule_at trace.now.declarations at) (store_at trace.now.commits at) known.now) (map marked_fact facts.now) }
-{
-    let Some(first) = facts.first() else {
-        return true;
-    };
-    let rules = trace.rules();
-    let mut last = first.set.set;
-    let mut rule = rules.plain_body(last, at);
-    for fact in facts {
-        rule = rule_after(rules, at, last, rule, fact.set.set);
-        last = fact.set.set;
-        if !is_disproved(trace, at, known, rule, *fact) {
-            return false;
+    if let Some(last) = last {
+        if set.namespace == last.set.namespace && set.relation == last.set.relation {
+            return Ok(last.rule);
         }
     }
-    true
+    rule_in_force(alloc, rules, at, set)
+}
+
+/// Whether a fact is proved by its rule, or disproved.
+fn settles(
+    rule: &mut RuleInForce<'_>,
+    is_given: bool,
+    trace: &Trace,
+    at: u64,
+    known: &Known<MarkedFact<'_>>,
+    fact: MarkedFact<'_>,
+) -> Result<bool, AllocError>
+    requires { IsRuleOf trace.now.declarations at (marked_fact fact).set (rule_expression rule.old) }
+    ensures rule { rule_expression rule.new ≡ rule_expression rule.old }
+    ensures settles { IfOk result (λ r. IsTrue r
+        ↔ IsSettled (rule_at trace.now.declarations at) (store_at trace.now.commits at) known.now is_given (marked_fact fact.entry)) }
+{
+    match rule {
+        RuleInForce::Undeclared => Ok(!is_given),
+        RuleInForce::Narrow(rule) => {
+            if is_given {
+                Ok(established(rule, fact.set, fact.user, trace, at, known))
+            } else {
+                Ok(refuted(rule, fact.set, fact.user, trace, at, known))
+            }
+        }
+        RuleInForce::Wide(rule) => rule.does(is_given, fact.set, fact.user, trace, at, known),
+    }
+}
+
+/// The same, by the rule of the fact before where it is of the same relation.
+fn is_settled<'t, 'a>(
+    alloc: Global,
+    last: &mut Option<LastRule<'t, 'a>>,
+    is_given: bool,
+    trace: &'t Trace,
+    at: u64,
+    known: &Known<MarkedFact<'a>>,
+    fact: MarkedFact<'a>,
+) -> Result<bool, AllocError>
+    requires { IsLast trace.now.declarations at last.old }
+    ensures last { IsLast trace.now.declarations at last.new }
+    ensures settled { IfOk result (λ r. IsTrue r
+        ↔ IsSettled (rule_at trace.now.declarations at) (store_at trace.now.commits at) known.now is_given (marked_fact fact.entry)) }
+{
+    let mut rule = rule_after(alloc, trace.rules(), at, last.take(), fact.set.set)?;
+    let is_settled = settles(&mut rule, is_given, trace, at, known, fact)?;
+    *last = Some(LastRule {
+        set: fact.set.set,
+        rule,
+    });
+    Ok(is_settled)
+}
+
+fn are_disproved<'t, 'a>(
+    alloc: Global,
+    last: &mut Option<LastRule<'t, 'a>>,
+    trace: &'t Trace,
+    at: u64,
+    known: &Known<MarkedFact<'a>>,
+    facts: &[MarkedFact<'a>],
+) -> Result<bool, AllocError>
+    requires { IsLast trace.now.declarations at last.old }
+    ensures last { IsLast trace.now.declarations at last.new }
+    ensures disproved { IfOk result (λ r. IsTrue r
+        ↔ AllByRecursion (IsDisproved (rule_at trace.now.declarations at) (store_at trace.now.commits at) known.now) (map marked_fact facts.now)) }
+{
+    for fact in facts {
+        if !is_settled(alloc, last, false, trace, at, known, *fact)? {
+            return Ok(false);
+        }
+    }
+    Ok(true)
 }
 
 /// From now on the fact is known not to hold. Where that was not known so before, the fact is put behind those in `fresh`.
@@ -158,34 +228,45 @@ fn deny_each<'a>(
 
 /// Whether a step that says a fact is accepted. From now on the fact is known to hold. A fact that is known already is not judged
 /// again: what is known bears it out.
-fn take_yes<'a>(
-    trace: &Trace,
+fn take_yes<'t, 'a>(
+    alloc: Global,
+    last: &mut Option<LastRule<'t, 'a>>,
+    trace: &'t Trace,
     at: u64,
     known: &mut Known<MarkedFact<'a>>,
     fact: MarkedFact<'a>,
 ) -> Result<bool, AllocError>
-    requires { IsBorneOut (rule_at trace.now.declarations at) (store_at trace.now.commits at) known.old }
+    requires last { IsLast trace.now.declarations at last.old }
+    requires borne { IsBorneOut (rule_at trace.now.declarations at) (store_at trace.now.commits at) known.old }
+    ensures last { IsLast trace.now.declarations at last.new }
     ensures accepted { IfOk result (λ r. r
         ≡ is_accepted (rule_at trace.now.declarations at) (store_at trace.now.commits at) known.old (yes_step (marked_fact fact.entry))) }
     ensures known { OnOk result (known.new ≡ after_step known.old (yes_step (marked_fact fact.entry))) }
     ensures borne { IfOk result (λ r. r ≡ true
         → IsBorneOut (rule_at trace.now.declarations at) (store_at trace.now.commits at) known.new) }
 {
-    let proved = known.yes_marked(fact.set, fact.user) || is_given(trace, at, known, fact);
+    let proved = if known.yes_marked(fact.set, fact.user) {
+        true
+    } else {
+        is_settled(alloc, last, true, trace, at, known, fact)?
+    };
     known.add_yes(fact)?;
     Ok(proved)
 }
 
 /// Whether a step that denies facts is accepted. From now on they are known not to hold. Only those that were not known so before
 /// are judged; they are left in `fresh`.
-fn take_no<'a>(
-    trace: &Trace,
+fn take_no<'t, 'a>(
+    last: &mut Option<LastRule<'t, 'a>>,
+    trace: &'t Trace,
     at: u64,
     known: &mut Known<MarkedFact<'a>>,
     fresh: &mut Vec<MarkedFact<'a>>,
     facts: &[FactRef<'a>],
 ) -> Result<bool, AllocError>
-    requires { IsBorneOut (rule_at trace.now.declarations at) (store_at trace.now.commits at) known.old }
+    requires last { IsLast trace.now.declarations at last.old }
+    requires borne { IsBorneOut (rule_at trace.now.declarations at) (store_at trace.now.commits at) known.old }
+    ensures last { IsLast trace.now.declarations at last.new }
     ensures accepted { IfOk result (λ r. r
         ≡ is_accepted (rule_at trace.now.declarations at) (store_at trace.now.commits at) known.old (no_step (map fact_value facts.now))) }
     ensures known { OnOk result (known.new ≡ after_step known.old (no_step (map fact_value facts.now))) }
@@ -193,18 +274,21 @@ fn take_no<'a>(
         → IsBorneOut (rule_at trace.now.declarations at) (store_at trace.now.commits at) known.new) }
 {
     deny_each(known, fresh, facts)?;
-    Ok(are_disproved(trace, at, known, fresh))
+    are_disproved(*fresh.allocator(), last, trace, at, known, fresh)
 }
 
 /// Whether a step is accepted. From now on its facts are known. `fresh` is room for the facts that it denies.
-fn take_step<'a>(
-    trace: &Trace,
+fn take_step<'t, 'a>(
+    rules: &mut LastRules<'t, 'a>,
+    trace: &'t Trace,
     at: u64,
     known: &mut Known<MarkedFact<'a>>,
     fresh: &mut Vec<MarkedFact<'a>>,
     step: &StepRef<'a>,
 ) -> Result<bool, AllocError>
-    requires { IsBorneOut (rule_at trace.now.declarations at) (store_at trace.now.commits at) known.old }
+    requires last { AreLast trace.now.declarations at rules.old }
+    requires borne { IsBorneOut (rule_at trace.now.declarations at) (store_at trace.now.commits at) known.old }
+    ensures last { AreLast trace.now.declarations at rules.new }
     ensures accepted { IfOk result (λ r. r
         ≡ is_accepted (rule_at trace.now.declarations at) (store_at trace.now.commits at) known.old (borrowed_step step.now)) }
     ensures known { OnOk result (known.new ≡ after_step known.old (borrowed_step step.now)) }
@@ -212,8 +296,18 @@ fn take_step<'a>(
         → IsBorneOut (rule_at trace.now.declarations at) (store_at trace.now.commits at) known.new) }
 {
     match step {
-        StepRef::Yes(fact) => take_yes(trace, at, known, MarkedFact::of(*fact)),
-        StepRef::No(facts) => take_no(trace, at, known, fresh, facts),
+        StepRef::Yes(fact) => {
+            let alloc = *fresh.allocator();
+            take_yes(
+                alloc,
+                &mut rules.given,
+                trace,
+                at,
+                known,
+                MarkedFact::of(*fact),
+            )
+        }
+        StepRef::No(facts) => take_no(&mut rules.denied, trace, at, known, fresh, facts),
     }
 }
 
@@ -231,8 +325,12 @@ fn first_bad<'a>(
     ensures known { IfOk result (λ r. r ≡ None → known.new ≡ after_steps known.old (borrowed_steps steps.now)) }
 {
     let mut fresh = Vec::new(alloc);
+    let mut rules = LastRules {
+        given: None,
+        denied: None,
+    };
     for k in 0..steps.len() {
-        if !take_step(trace, at, known, &mut fresh, &steps[k])? {
+        if !take_step(&mut rules, trace, at, known, &mut fresh, &steps[k])? {
             return Ok(Some(k as u64 + 1));
         }
     }

@@ -225,7 +225,7 @@ impl Gates {
             place,
         };
         match trace.rules().plain_body(fact.set(), at) {
-            Some(rule) => self.add_place(site, rule, place),
+            Some(rule) => self.add_place(site, &rule.rewrite, place),
             None => Ok(()),
         }
     }

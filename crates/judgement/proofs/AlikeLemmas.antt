@@ -8,7 +8,7 @@ use Rattle.namespaces.specs.Lookup.{Lookup}
 use Rattle.judgement.specs.Decided.{dec_established, dec_refuted}
 use Rattle.judgement.specs.Judgement.{KnownValue, Established, SomeEstablished, EachEstablished, Refuted, SomeRefuted, EachRefuted}
 
-is_so : {A : Type 0} → Dec A → Bool
+pub is_so : {A : Type 0} → Dec A → Bool
 is_so (yes a) = true
 is_so (no n) = false
 
@@ -41,14 +41,14 @@ then_and false b f g h = absurd (true≢false (sym (f h.0)))
 
 module _ (rules : Lookup) (store : List TupleValue) (known : KnownValue) (f : FactValue) where
   -- what the leaves of a rule give and rule out by what is known
-  abbrev by_known : Leaves
+  abbrev pub by_known : Leaves
   by_known = record {
     given = λ e. is_so (dec_established rules store known f e);
     barred = λ e. is_so (dec_refuted rules store known f e);
   }
 
   mutual
-    given_then : (e : Expression) → gives by_known e ≡ true → Established rules store known f e
+    pub given_then : (e : Expression) → gives by_known e ≡ true → Established rules store known f e
     given_then this h = so_then (dec_established rules store known f this) h
     given_then (computed q) h = so_then (dec_established rules store known f (computed q)) h
     given_then (tuple_to q c) h = so_then (dec_established rules store known f (tuple_to q c)) h
@@ -64,7 +64,7 @@ module _ (rules : Lookup) (store : List TupleValue) (known : KnownValue) (f : Fa
     each_given_then no_child h = tt
     each_given_then (child e es) h = and_then (gives by_known e) (each_gives by_known es) (given_then e) (each_given_then es) h
 
-    barred_then : (e : Expression) → bars by_known e ≡ true → Refuted rules store known f e
+    pub barred_then : (e : Expression) → bars by_known e ≡ true → Refuted rules store known f e
     barred_then this h = so_then (dec_refuted rules store known f this) h
     barred_then (computed q) h = so_then (dec_refuted rules store known f (computed q)) h
     barred_then (tuple_to q c) h = so_then (dec_refuted rules store known f (tuple_to q c)) h
@@ -81,7 +81,7 @@ module _ (rules : Lookup) (store : List TupleValue) (known : KnownValue) (f : Fa
     some_barred_then (child e es) h = or_then (bars by_known e) (some_bars by_known es) (barred_then e) (some_barred_then es) h
 
   mutual
-    then_given : (e : Expression) → Established rules store known f e → gives by_known e ≡ true
+    pub then_given : (e : Expression) → Established rules store known f e → gives by_known e ≡ true
     then_given this h = then_so (dec_established rules store known f this) h
     then_given (computed q) h = then_so (dec_established rules store known f (computed q)) h
     then_given (tuple_to q c) h = then_so (dec_established rules store known f (tuple_to q c)) h
@@ -97,7 +97,7 @@ module _ (rules : Lookup) (store : List TupleValue) (known : KnownValue) (f : Fa
     then_each_given no_child h = refl
     then_each_given (child e es) h = then_and (gives by_known e) (each_gives by_known es) (then_given e) (then_each_given es) h
 
-    then_barred : (e : Expression) → Refuted rules store known f e → bars by_known e ≡ true
+    pub then_barred : (e : Expression) → Refuted rules store known f e → bars by_known e ≡ true
     then_barred this h = then_so (dec_refuted rules store known f this) h
     then_barred (computed q) h = then_so (dec_refuted rules store known f (computed q)) h
     then_barred (tuple_to q c) h = then_so (dec_refuted rules store known f (tuple_to q c)) h

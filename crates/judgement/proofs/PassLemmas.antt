@@ -1,6 +1,8 @@
 -- What a pass over the stored usersets of a userset shows.
-use Rattle.std.proofs.Common.{◌≡◌, ℕ, Bool, true, false, List, [], ◌∷◌, Option, ◌⊎◌, inl, inr, ◌↔◌, refl, sym, ◌∙◌, ap, subst, ◌||◌}
-use Rattle.std.specs.Prelude.{Contains}
+use Rattle.std.proofs.Common.{◌≡◌, ℕ, ◌+◌, ◌<◌, length, arith, Bool, true, false, List, [], ◌∷◌, Option, ◌⊎◌, inl, inr, ◌↔◌, refl, sym, ◌∙◌, ap, subst, ◌||◌}
+use Rattle.std.proofs.Math.Nat.{eq-or-lt_of_le}
+use Rattle.std.proofs.lemmas.Option.{slice_get_within, slice_get_read, get_or_from_slice_get}
+use Rattle.std.specs.Prelude.{Contains, slice_get, Some}
 use Rattle.std.specs.List.{list_any}
 use Rattle.tuple_text.specs.Sets.{SetValue, set_eq}
 use Rattle.tuple_text.specs.Tuples.{tuple_of}
@@ -55,6 +57,28 @@ each_from : (P : SetValue → Type 0) (gs : List SetValue) → ((g : SetValue) �
 each_from P [] h = tt
 each_from P (x ∷ xs) h = (h x (first_there x xs), each_from P xs (λ g k. h g (or_second (set_eq g x) _ k)))
 
+-- ---- names by their places
+
+pub named_at : (names : List (List ℕ)) (k : ℕ) (c : List ℕ) → slice_get names k ≡ Some c → Contains names c
+named_at names k c h = (k, slice_get_within names k c h, get_or_from_slice_get names k c c h)
+
+pub place_of_name : (names : List (List ℕ)) (c : List ℕ) → Contains names c → (k : ℕ) × (k < length names) × (slice_get names k ≡ Some c)
+place_of_name names c (k, within, is) = (k, within, slice_get_read names (length names) k c refl within (sym is))
+
+-- where each place was looked at, so was each name
+pub each_named : (P : List ℕ → Type 0) (names : List (List ℕ)) → ((k : ℕ) (c : List ℕ) → k < length names → slice_get names k ≡ Some c → P c)
+    → (c : List ℕ) → Contains names c → P c
+each_named P names h c there = let p = place_of_name names c there in h p.0 c p.1 p.2
+
+-- one place more
+pub next_named : (P : List ℕ → Type 0) (names : List (List ℕ)) (n : ℕ) → ((k : ℕ) (c : List ℕ) → k < n → slice_get names k ≡ Some c → P c)
+    → ((c : List ℕ) → slice_get names n ≡ Some c → P c) → (k : ℕ) (c : List ℕ) → k < n + 1 → slice_get names k ≡ Some c → P c
+next_named P names n before here k c within at = by_cases (eq-or-lt_of_le (omega (arith, within)))
+  where
+    by_cases : (k ≡ n) ⊎ (k < n) → P c
+    by_cases (inl same) = here c (subst (λ m. slice_get names m ≡ Some c) same at)
+    by_cases (inr less) = before k c less at
+
 module _ (commits : List Commit) (at : ℕ) (set : SetValue) (gs : List SetValue)
     (has : (g : SetValue) → list_any (set_eq g) gs ≡ is_stored commits at (tuple_of set (Set g))) (known : KnownValue) (relation : Option (List ℕ)) (id : ℕ) where
   stored : (g : SetValue) → list_any (set_eq g) gs ≡ true → Contains (store_at commits at) (tuple_of set (Set g))
@@ -62,6 +86,9 @@ module _ (commits : List Commit) (at : ℕ) (set : SetValue) (gs : List SetValue
 
   there : (g : SetValue) → Contains (store_at commits at) (tuple_of set (Set g)) → list_any (set_eq g) gs ≡ true
   there g c = has g ∙ (store_at-iff commits at (tuple_of set (Set g))).0 c
+
+  pub each_by_sets : (P : SetValue → Type 0) → EachSet P gs ↔ ((g : SetValue) → Contains (store_at commits at) (tuple_of set (Set g)) → P g)
+  each_by_sets P = (λ h. λ g c. each_at P gs h g (there g c), λ b. each_from P gs (λ g h. b g (stored g h)))
 
   pub led_by_sets : SomeSet (GivesId known relation id) gs ↔ IsLed (store_at commits at) known set relation id
   led_by_sets = (

@@ -43,6 +43,18 @@ abbrev pub IsBarred : Lookup → List TupleValue → KnownValue → SetValue →
 IsBarred rules store known set relation id =
     (g : SetValue) → IsStored store set (Set g) → IsOut rules known (fact_of (target g relation) id)
 
+-- a userset whose object does not hold the user id under any of these relations
+abbrev pub BarsNames : Lookup → KnownValue → List (List ℕ) → ℕ → SetValue → Type 0
+BarsNames rules known names id g = (c : List ℕ) → Contains names c → BarsId rules known (Some c) id g
+
+-- some userset that is stored in `set` has a target under one of these relations that is known to hold the user id
+abbrev pub IsLedByName : List TupleValue → KnownValue → SetValue → List (List ℕ) → ℕ → Type 0
+IsLedByName store known set names id = (c : List ℕ) × Contains names c × IsLed store known set (Some c) id
+
+-- none has one that may hold it
+abbrev pub AreBarred : Lookup → List TupleValue → KnownValue → SetValue → List (List ℕ) → ℕ → Type 0
+AreBarred rules store known set names id = (c : List ℕ) → Contains names c → IsBarred rules store known set (Some c) id
+
 -- some userset that is stored in `set` has this target
 abbrev pub IsTargetStored : List TupleValue → SetValue → Option (List ℕ) → SetValue → Type 0
 IsTargetStored store set relation t = (g : SetValue) × IsStored store set (Set g) × (target g relation ≡ t)

@@ -18,6 +18,9 @@
 //! ```
 #![tactic(auto)]
 
+mod answers;
+mod asked_rule;
+mod asking;
 mod fact;
 mod facts;
 mod indexed;
@@ -25,7 +28,9 @@ mod known;
 mod leading;
 mod stored;
 mod table;
+mod through;
 
+pub use asked_rule::AskedRule;
 pub use fact::{KnownFact, MarkedFact};
 pub use known::Known;
 pub use table::{established, refuted};

@@ -5,15 +5,11 @@ use Rattle.std.specs.Prelude.{Contains, ◌<◌, ℕ, zero, suc, length, map}
 use Rattle.std.specs.List.{list_any, list_all}
 use Rattle.namespaces.specs.Alike.{Leaves, gives, some_gives, each_gives, bars, each_bars, some_bars, IsAlike}
 use Rattle.namespaces.specs.Expression.{Expression, minus}
-use Rattle.namespaces.specs.Joints.{joined, IsPut}
+use Rattle.namespaces.specs.Joints.{joined, IsPut, JoinAlike}
 use Rattle.namespaces.specs.View.{children, expression_of}
 use Rattle.namespaces.specs.declared.plain.Joint.{Joint}
 use Rattle.namespaces.specs.declared.rewrite.Rewrite.{Rewrite}
 use Rattle.namespaces.proofs.Names.{by_bool}
-
--- some children join to what others join to
-abbrev pub JoinAlike : Joint → List Expression → List Expression → Type 0
-JoinAlike joint es fs = IsAlike (joined joint es) (joined joint fs)
 
 -- ---- children as tests of a list
 
@@ -68,7 +64,7 @@ pub or_none : (a : Bool) → (a || false) ≡ a
 or_none true = refl
 or_none false = refl
 
-and_all : (a : Bool) → (a && true) ≡ a
+pub and_all : (a : Bool) → (a && true) ≡ a
 and_all true = refl
 and_all false = refl
 
@@ -108,6 +104,9 @@ alike_then a b c p q = record {
   bars_alike = λ l. p.bars_alike l ∙ q.bars_alike l;
 }
 
+pub alike_back : (a b : Expression) → IsAlike a b → IsAlike b a
+alike_back a b p = record { gives_alike = λ l. sym (p.gives_alike l); bars_alike = λ l. sym (p.bars_alike l) }
+
 same_more : (some each : Expression → Bool) (es fs gs : List Expression) → SameTests some each es fs → SameTests some each (es ++ gs) (fs ++ gs)
 same_more some each es fs gs t = record {
   any = rw (list_any-append some es gs, list_any-append some fs gs, t.any) refl;
@@ -115,9 +114,51 @@ same_more some each es fs gs t = record {
 }
 
 -- more children behind both
-alike_more : (j : Joint) (es fs gs : List Expression) → JoinAlike j es fs → JoinAlike j (es ++ gs) (fs ++ gs)
+pub alike_more : (j : Joint) (es fs gs : List Expression) → JoinAlike j es fs → JoinAlike j (es ++ gs) (fs ++ gs)
 alike_more Joint.Union es fs gs a = by_tests Joint.Union (es ++ gs) (fs ++ gs) (λ l. same_more (gives l) (bars l) es fs gs (tests_of Joint.Union es fs a l))
 alike_more Joint.Inter es fs gs a = by_tests Joint.Inter (es ++ gs) (fs ++ gs) (λ l. same_more (bars l) (gives l) es fs gs (tests_of Joint.Inter es fs a l))
+
+same_front : (some each : Expression → Bool) (es fs gs : List Expression) → SameTests some each fs gs → SameTests some each (es ++ fs) (es ++ gs)
+same_front some each es fs gs t = record {
+  any = rw (list_any-append some es fs, list_any-append some es gs, t.any) refl;
+  all = rw (list_all-append each es fs, list_all-append each es gs, t.all) refl;
+}
+
+-- the same children before both
+pub alike_front : (j : Joint) (es fs gs : List Expression) → JoinAlike j fs gs → JoinAlike j (es ++ fs) (es ++ gs)
+alike_front Joint.Union es fs gs a =
+    by_tests Joint.Union (es ++ fs) (es ++ gs) (λ l. same_front (gives l) (bars l) es fs gs (tests_of Joint.Union fs gs a l))
+alike_front Joint.Inter es fs gs a =
+    by_tests Joint.Inter (es ++ fs) (es ++ gs) (λ l. same_front (bars l) (gives l) es fs gs (tests_of Joint.Inter fs gs a l))
+
+or_swap : (a b c : Bool) → ((a || b) || c) ≡ ((a || c) || b)
+or_swap true b c = refl
+or_swap false true true = refl
+or_swap false true false = refl
+or_swap false false true = refl
+or_swap false false false = refl
+
+and_swap : (a b c : Bool) → ((a && b) && c) ≡ ((a && c) && b)
+and_swap false b c = refl
+and_swap true true true = refl
+and_swap true true false = refl
+and_swap true false true = refl
+and_swap true false false = refl
+
+same_swapped : (some each : Expression → Bool) (es fs gs : List Expression) → SameTests some each ((es ++ fs) ++ gs) ((es ++ gs) ++ fs)
+same_swapped some each es fs gs = record {
+  any = rw (list_any-append some (es ++ fs) gs, list_any-append some (es ++ gs) fs, list_any-append some es fs, list_any-append some es gs)
+      (or_swap (list_any some es) (list_any some fs) (list_any some gs));
+  all = rw (list_all-append each (es ++ fs) gs, list_all-append each (es ++ gs) fs, list_all-append each es fs, list_all-append each es gs)
+      (and_swap (list_all each es) (list_all each fs) (list_all each gs));
+}
+
+-- children in another order
+pub alike_swapped : (j : Joint) (es fs gs : List Expression) → JoinAlike j ((es ++ fs) ++ gs) ((es ++ gs) ++ fs)
+alike_swapped Joint.Union es fs gs =
+    by_tests Joint.Union ((es ++ fs) ++ gs) ((es ++ gs) ++ fs) (λ l. same_swapped (gives l) (bars l) es fs gs)
+alike_swapped Joint.Inter es fs gs =
+    by_tests Joint.Inter ((es ++ fs) ++ gs) ((es ++ gs) ++ fs) (λ l. same_swapped (bars l) (gives l) es fs gs)
 
 same_last : (some each : Expression → Bool) (es : List Expression) (e f : Expression) → some e ≡ some f → each e ≡ each f → SameTests some each (es ++ e ∷ []) (es ++ f ∷ [])
 same_last some each es e f p q = record {
@@ -126,7 +167,7 @@ same_last some each es e f p q = record {
 }
 
 -- the last child may be one that is alike
-alike_last : (j : Joint) (es : List Expression) (e f : Expression) → IsAlike e f → JoinAlike j (es ++ e ∷ []) (es ++ f ∷ [])
+pub alike_last : (j : Joint) (es : List Expression) (e f : Expression) → IsAlike e f → JoinAlike j (es ++ e ∷ []) (es ++ f ∷ [])
 alike_last Joint.Union es e f a = by_tests Joint.Union (es ++ e ∷ []) (es ++ f ∷ []) (λ l. same_last (gives l) (bars l) es e f (a.gives_alike l) (a.bars_alike l))
 alike_last Joint.Inter es e f a = by_tests Joint.Inter (es ++ e ∷ []) (es ++ f ∷ []) (λ l. same_last (bars l) (gives l) es e f (a.bars_alike l) (a.gives_alike l))
 

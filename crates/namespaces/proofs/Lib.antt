@@ -16,3 +16,6 @@ pub mod Walks
 pub mod AlikeLemmas
 pub mod PlainLemmas
 pub mod ThinnedLemmas
+pub mod PartLemmas
+pub mod NamedLemmas
+pub mod InForceLemmas

@@ -1,5 +1,5 @@
 -- Rules that say the same, whatever their leaves give and bar. A leaf is `this`, a computed relation or a tupleset.
-use Rattle.std.specs.Prelude.{◌≡◌, Bool, true, false, ◌&&◌, ◌||◌}
+use Rattle.std.specs.Prelude.{◌≡◌, Bool, true, false, ◌&&◌, ◌||◌, Option, None, Some, ⊤}
 use Rattle.namespaces.specs.Expression.{Expression, this, computed, tuple_to, union, inter, minus, Expressions, no_child, child}
 
 -- which leaves give a fact, and which rule it out
@@ -46,3 +46,10 @@ abbrev mutual
 pub record IsAlike (a b : Expression) : Type 0 where
   pub gives_alike : (l : Leaves) → gives l a ≡ gives l b
   pub bars_alike : (l : Leaves) → bars l a ≡ bars l b
+
+-- the same of two rules, or there is neither
+abbrev pub AreAlike : Option Expression → Option Expression → Type 0
+AreAlike None None = ⊤
+AreAlike None (Some b) = ⊥
+AreAlike (Some a) None = ⊥
+AreAlike (Some a) (Some b) = IsAlike a b

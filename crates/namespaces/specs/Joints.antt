@@ -1,6 +1,7 @@
 -- Children that a union or an intersection joins. No public clause cites this module.
 use Rattle.std.specs.Prelude.{◌≡◌, List, [], ◌∷◌, ◌++◌, ◌⊎◌, Contains}
 use Rattle.namespaces.specs.Expression.{Expression, union, inter}
+use Rattle.namespaces.specs.Alike.{IsAlike}
 use Rattle.namespaces.specs.Plain.{IsPlainOf}
 use Rattle.namespaces.specs.View.{children}
 use Rattle.namespaces.specs.declared.plain.Joint.{Joint}
@@ -16,3 +17,7 @@ IsPut old new e = (new ≡ old ++ e ∷ []) ⊎ ((new ≡ old) × Contains old e
 -- some children join to a plain form of what others join to
 abbrev pub JoinPlain : Joint → List Expression → List Expression → Type 0
 JoinPlain joint es fs = IsPlainOf (joined joint es) (joined joint fs)
+
+-- some children join to what others join to
+abbrev pub JoinAlike : Joint → List Expression → List Expression → Type 0
+JoinAlike joint es fs = IsAlike (joined joint es) (joined joint fs)

@@ -7,10 +7,12 @@ pub mod Drafts
 pub mod Expression
 pub mod ExpressionCode
 pub mod Fault
+pub mod InForce
 pub mod Index
 pub mod Joints
 pub mod Kept
 pub mod Lookup
+pub mod Parts
 pub mod Plain
 pub mod Shape
 pub mod Shown

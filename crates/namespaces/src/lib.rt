@@ -23,6 +23,7 @@ mod fault;
 mod index;
 mod lookups;
 mod number;
+mod parts;
 mod plain;
 mod reading;
 mod relation;
@@ -32,5 +33,7 @@ mod table;
 
 pub use fault::RulesFault;
 pub use number::RelNo;
+pub use parts::{Node, Part, PartedRule, Through};
+pub use relation::PlainRule;
 pub use rewrite::Rewrite;
 pub use rules::Rules;

@@ -18,7 +18,7 @@ pub(crate) enum Joint {
 
 /// Whether two rules are the same, place by place.
 #[cycle(is_same)]
-fn is_same(one: &Rewrite, other: &Rewrite) -> bool
+pub(crate) fn is_same(one: &Rewrite, other: &Rewrite) -> bool
     ensures { result ≡ true → expression_of one.now ≡ expression_of other.now }
 {
     match (one, other) {
@@ -60,7 +60,7 @@ fn mixed(mark: u64, word: u64) -> u64 {
     (mark ^ word).wrapping_mul(0x0000_0100_0000_01b3)
 }
 
-fn text_mark(mark: u64, text: &str) -> u64 {
+pub(crate) fn text_mark(mark: u64, text: &str) -> u64 {
     let mut mark = mixed(mark, text.len() as u64);
     for byte in text.as_bytes() {
         mark = mixed(mark, u64::from(*byte));
@@ -70,7 +70,7 @@ fn text_mark(mark: u64, text: &str) -> u64 {
 
 /// A number that rules share which are the same.
 #[cycle(mark)]
-fn mark(rewrite: &Rewrite) -> u64 {
+pub(crate) fn mark(rewrite: &Rewrite) -> u64 {
     match rewrite {
         Rewrite::This => 1,
         Rewrite::Computed(relation) => text_mark(2, relation.as_str()),

@@ -1,22 +1,47 @@
 //! Relations, with their rules in two forms.
-ghost use Rattle.std.specs.Prelude.{◌≡◌, ℕ, Ok};
+ghost use Rattle.std.specs.Prelude.{◌≡◌, ℕ, Ok, IfOk};
 ghost use Rattle.namespaces.specs.Expression.{Expression};
 ghost use Rattle.namespaces.specs.Fault.{Gives};
+ghost use Rattle.namespaces.specs.Parts.{ArePartsOf};
 ghost use Rattle.namespaces.specs.Plain.{IsPlainOf};
 ghost use Rattle.namespaces.specs.View.{expression_of};
 
 use crate::fault::RulesFault;
+use crate::parts::{PartedRule, parted};
 use crate::plain::plain;
-use crate::rewrite::Rewrite;
-use std::alloc::Global;
+use crate::rewrite::{Rewrite, has_more};
+use std::alloc::{AllocError, Global};
+
+/// How many places a rule may have that is judged place by place.
+const FEW_PLACES: usize = 16;
+
+/// The plain form of a rule, and its parts where it has more than a few places.
+#[derive(Drop)]
+pub struct PlainRule {
+    pub rewrite: Rewrite,
+    pub parted: Option<PartedRule>,
+    ghost parted_of: { ArePartsOf parted (expression_of rewrite) },
+}
 
 /// What is declared of a relation, beside its name. The plain form of its rule is made once, when it is declared.
 #[derive(Drop)]
 pub(crate) struct Relation {
     pub(crate) stratum: u8,
     pub(crate) rewrite: Rewrite,
-    pub(crate) plain: Rewrite,
-    ghost plain_of: { IsPlainOf (expression_of plain) (expression_of rewrite) },
+    pub(crate) plain: PlainRule,
+    ghost plain_of: { IsPlainOf (expression_of plain.rewrite) (expression_of rewrite) },
+}
+
+/// A plain rule, with its parts where it is wide.
+fn plain_rule(alloc: Global, rewrite: Rewrite) -> Result<PlainRule, AllocError>
+    ensures { IfOk result (λ r. expression_of r.rewrite ≡ expression_of rewrite) }
+{
+    let parted = if has_more(&rewrite, FEW_PLACES) {
+        Some(parted(alloc, &rewrite)?)
+    } else {
+        None
+    };
+    Ok(PlainRule { rewrite, parted })
 }
 
 /// A relation of a stratum and a rule.
@@ -27,7 +52,7 @@ pub(crate) fn relation_of(
 ) -> Result<Relation, RulesFault>
     ensures { Gives {Y = ℕ × Expression} (λ r. (r.stratum, expression_of r.rewrite)) result (Ok (stratum, expression_of rewrite)) }
 {
-    let plain = plain(alloc, &rewrite)?;
+    let plain = plain_rule(alloc, plain(alloc, &rewrite)?)?;
     Ok(Relation {
         stratum,
         rewrite,

@@ -1,5 +1,5 @@
 //! The rules for the members of a relation.
-ghost use Rattle.std.specs.Prelude.{◌≡◌, nat_lt, string_bytes, IfOk};
+ghost use Rattle.std.specs.Prelude.{◌≡◌, ◌≤◌, nat_lt, string_bytes, IfOk};
 ghost use Rattle.std.specs.List.{list_all};
 ghost use Rattle.tuple_text.specs.Forms.{is_name};
 ghost use Rattle.namespaces.specs.Expression as expression;
@@ -26,6 +26,35 @@ pub enum Rewrite {
     Inter(Vec<Rewrite>),
     /// The members of the first rule that are not members of the second.
     Minus(Box<Rewrite>, Box<Rewrite>),
+}
+
+/// How many places a rule has, as far as it has no more than some.
+#[cycle(places_up_to)]
+fn places_up_to(rewrite: &Rewrite, most: usize) -> usize
+    ensures { result ≤ most }
+{
+    if most == 0 {
+        return 0;
+    }
+    match rewrite {
+        Rewrite::This | Rewrite::Computed(_) | Rewrite::TupleTo { .. } => 1,
+        Rewrite::Union(children) | Rewrite::Inter(children) => {
+            let mut places = 1;
+            for child in children {
+                places += places_up_to(child, most - places);
+            }
+            places
+        }
+        Rewrite::Minus(base, subtract) => {
+            let places = 1 + places_up_to(base, most - 1);
+            places + places_up_to(subtract, most - places)
+        }
+    }
+}
+
+/// Whether a rule has more places than some.
+pub(crate) fn has_more(rewrite: &Rewrite, places: usize) -> bool {
+    places_up_to(rewrite, places.saturating_add(1)) > places
 }
 
 /// A rule that follows a tupleset, of copies of its names.

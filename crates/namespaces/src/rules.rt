@@ -1,7 +1,8 @@
 //! The declared namespaces, by name, by number and at a timestamp.
-ghost use Rattle.std.specs.Prelude.{◌≡◌, ℕ, ◌<◌, ◌≤◌, [], ◌∷◌, ◌++◌, length, option_map, option_and_then, slice_get, string_bytes, IfSome, OnOk, OnErr, IfErr};
+ghost use Rattle.std.specs.Prelude.{◌≡◌, ℕ, List, None, Contains, ◌<◌, ◌≤◌, [], ◌∷◌, ◌++◌, length, option_map, option_and_then, slice_get, string_bytes, IfSome, OnOk, OnErr, IfErr};
 ghost use Rattle.tuple_text.specs.Refs.{set_value};
 ghost use Rattle.namespaces.specs.Declaration.{declared};
+ghost use Rattle.namespaces.specs.InForce.{names_in_force};
 ghost use Rattle.namespaces.specs.Lookup.{rule_of, rule_at, relation_of, relation_count, relations_of, number_of, place_of, namespace_names, namespace_numbered, relation_numbered, history_numbered};
 ghost use Rattle.namespaces.specs.Plain.{ArePlain};
 ghost use Rattle.namespaces.specs.View.{expression_of};
@@ -12,7 +13,7 @@ use crate::index::{Revision, note, revision_at, revision_with};
 use crate::lookups::{place_in, value_in};
 use crate::number::RelNo;
 use crate::reading::{Draft, read_draft};
-use crate::relation::Relation;
+use crate::relation::{PlainRule, Relation};
 use crate::rewrite::Rewrite;
 use crate::table::{Namespace, copied_namespace, keeps_names, keeps_strata, tested};
 use indexmap::IndexMap;
@@ -155,13 +156,33 @@ impl Rules {
 
     /// A plain form of the rule that `body` gives: it gives and rules out what that rule does, whatever its leaves do;
     /// it has the leaves of that rule, none at more places; and it has neither a union in a union, nor an intersection
-    /// in an intersection, nor the same child twice. `None` where `body` has none.
-    pub fn plain_body(&self, set: SetRef<'_>, at: u64) -> Option<&Rewrite>
-        ensures { ArePlain (option_map (λ r. expression_of r.now) result)
+    /// in an intersection, nor the same child twice. Where it has many places, its parts stand beside it. `None` where `body` has none.
+    pub fn plain_body(&self, set: SetRef<'_>, at: u64) -> Option<&PlainRule>
+        ensures { ArePlain (option_map (λ r. expression_of r.now.rewrite) result)
             (option_map (λ r. r.expression) (rule_of (rule_at self.now at) (set_value set.entry))) }
     {
         let relation = self.declared_at(set, at)?;
         Some(&relation.plain)
+    }
+
+    /// How many relations a namespace has at a timestamp, by its last declaration in force; 0 where it is not declared by then.
+    pub fn count_in_force(&self, namespace: &str, at: u64) -> usize
+        ensures count { result ≡ length (names_in_force at namespace.now self.now) }
+        ensures whole { (relation : List ℕ) → ¬ (rule_at self.now at namespace.now relation ≡ None)
+            → Contains (names_in_force at namespace.now self.now) relation }
+    {
+        match self.in_force(namespace, at) {
+            Some(relations) => relations.len(),
+            None => 0,
+        }
+    }
+
+    /// The name of relation number `k` of a namespace at a timestamp, counted from 0 in order of declaration, or `None` where there is none.
+    pub fn name_in_force(&self, namespace: &str, at: u64, k: usize) -> Option<&str>
+        ensures { option_map (λ s. s.now) result ≡ slice_get (names_in_force at namespace.now self.now) k }
+    {
+        let (name, _) = self.in_force(namespace, at)?.get_index(k)?;
+        Some(name.as_str())
     }
 
     /// Rule number `k` of a relation, counted from 0 in order of declaration, or `None` where there is none.

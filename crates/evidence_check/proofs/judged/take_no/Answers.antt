@@ -27,8 +27,8 @@ returns-clause-accepted c =
     let each : IsTrue c.are_disproved.result ↔ AllByRecursion (IsDisproved lookup store (with_no c.args.known.now facts)) fresh =
     subst (λ (k : KnownValue). IsTrue c.are_disproved.result ↔ AllByRecursion (IsDisproved lookup store k) fresh) known
     (subst (λ (xs : List MarkedFact). IsTrue c.are_disproved.result ↔ AllByRecursion (IsDisproved lookup store c.deny_each.new.known) (map marked_fact xs))
-    c.deref.ensures.value c.are_disproved.ensures) in
-    let all = fresh_decide lookup store c.args.known.now facts fresh c.requires among in
+    c.deref.ensures.value c.in_ok-are_disproved.ensures.disproved) in
+    let all = fresh_decide lookup store c.args.known.now facts fresh c.requires.borne among in
     accepted_by lookup store c.args.known.now (no_step facts) _ (λ t. all.0 (each.0 t), λ h. each.1 (all.1 h))
 
 pub returns-clause-borne : goal.returns-clause-borne
@@ -38,4 +38,4 @@ returns-clause-borne c = λ ok.
     let step = no_step (map fact_value c.args.facts.now) in
     let known : c.deny_each.new.known ≡ with_no c.args.known.now (map fact_value c.args.facts.now) = search rules in
     let accepted : is_accepted lookup store c.args.known.now step ≡ true = sym (returns-clause-accepted c) ∙ ok in
-    rw known (borne_out_after lookup store c.args.known.now step c.requires ((accepted_iff lookup store c.args.known.now step).0 accepted))
+    rw known (borne_out_after lookup store c.args.known.now step c.requires.borne ((accepted_iff lookup store c.args.known.now step).0 accepted))

@@ -18,7 +18,7 @@ returns-clause-accepted c =
     let proves : IsTrue c.if-yes_marked.proved ↔ IsProved lookup store c.args.known.now fact = elim c.if-yes_marked.branch [
       | then-yes_marked w ↦
           let is : c.if-yes_marked.proved ≡ true = search rules in
-          (λ t. c.requires.yes fact (c.yes_marked.ensures.0 w.if-yes_marked.true), λ p. is)
+          (λ t. c.requires.borne.yes fact (c.yes_marked.ensures.0 w.if-yes_marked.true), λ p. is)
       | else-yes_marked w ↦
           let is : c.if-yes_marked.proved ≡ w.is_given-proved.result = search rules in
           rw is w.is_given-proved.ensures
@@ -32,4 +32,4 @@ returns-clause-borne c = λ ok.
     let step = yes_step (marked_fact c.args.fact) in
     let known : c.add_yes.new.self ≡ after_step c.args.known.now step = search rules in
     let accepted : is_accepted lookup store c.args.known.now step ≡ true = sym (returns-clause-accepted c) ∙ ok in
-    rw known (borne_out_after lookup store c.args.known.now step c.requires ((accepted_iff lookup store c.args.known.now step).0 accepted))
+    rw known (borne_out_after lookup store c.args.known.now step c.requires.borne ((accepted_iff lookup store c.args.known.now step).0 accepted))

@@ -1,0 +1,80 @@
+-- What is read through one tupleset.
+use Rattle.std.proofs.Common.{◌≡◌, ℕ, zero, suc, List, [], ◌∷◌, Option, None, Some, ◌↔◌, refl, inl, inr, map, arith, String, Global}
+use Rattle.std.specs.Prelude.{Contains, ◌⊎◌, string_bytes}
+use Rattle.tuple_text.specs.Sets.{SetValue}
+use Rattle.tuple_text.specs.Tuples.{TupleValue, FactValue}
+use Rattle.namespaces.specs.Declaration.{Declaration}
+use Rattle.namespaces.specs.Expression.{Expression, tuple_to}
+use Rattle.namespaces.specs.InForce.{names_in_force}
+use Rattle.namespaces.specs.Lookup.{Lookup, Rule, rule_at, rule_of}
+use Rattle.namespaces.specs.Parts.{computed_names, each_shown, through_expression}
+use Rattle.namespaces.specs.View.{children}
+use Rattle.namespaces.specs.declared.parts.Through.{Through}
+use Rattle.strata.specs.Meaning.{with_relation}
+use Rattle.strata.proofs.Lists.{Contains-cons_cases}
+use Rattle.judgement.specs.Decided.{dec_undeclared}
+use Rattle.judgement.specs.Judgement.{KnownValue, Established, SomeEstablished, Refuted, EachRefuted}
+use Rattle.judgement.specs.Passes.{AreBarred, BarsId, BarsNames, IsLedByName, IsBarred, IsLed, target}
+
+-- ---- the relations of a userset's namespace are enough to look at
+
+pub names_enough : (ds : List Declaration) (at : ℕ) (known : KnownValue) (names : List (List ℕ)) (id : ℕ) (g : SetValue)
+    → ((c : List ℕ) → ¬ (rule_at ds at g.namespace c ≡ None) → Contains (names_in_force at g.namespace ds) c)
+    → ((c : List ℕ) → Contains (names_in_force at g.namespace ds) c → Contains names c → BarsId (rule_at ds at) known (Some c) id g)
+    → BarsNames (rule_at ds at) known names id g
+names_enough ds at known names id g whole each c named = by (dec_undeclared (rule_of (rule_at ds at) (target g (Some c))))
+  where
+    by : Dec (rule_of (rule_at ds at) (target g (Some c)) ≡ None) → BarsId (rule_at ds at) known (Some c) id g
+    by (yes none) = inl none
+    by (no declared) = each c (whole c declared) named
+
+-- ---- a union of what each relation gives
+
+module _ (rules : Lookup) (store : List TupleValue) (known : KnownValue) (f : FactValue) (q : List ℕ) where
+  abbrev each : List (String Global × Unit {0}) → List Expression
+  each es = map (λ e. tuple_to q (string_bytes e.0)) es
+
+  abbrev names : List (String Global × Unit {0}) → List (List ℕ)
+  names es = map (λ e. string_bytes e.0) es
+
+  some_led : (es : List (String Global × Unit {0})) → SomeEstablished rules store known f (children (each es))
+      → IsLedByName store known (with_relation f.set q) (names es) f.user
+  some_led [] h = absurd h
+  some_led (e ∷ es) (inl led) = (string_bytes e.0, (0, omega arith, refl), led)
+  some_led (e ∷ es) (inr h) = let w = some_led es h in (w.0, (suc w.1.0, omega (arith, w.1.1), w.1.2), w.2)
+
+  led_some : (es : List (String Global × Unit {0})) (c : List ℕ) → Contains (names es) c → IsLed store known (with_relation f.set q) (Some c) f.user
+      → SomeEstablished rules store known f (children (each es))
+  led_some [] c (k, within, is) led = absurd (omega arith)
+  led_some (e ∷ es) c (zero, within, is) led = inl (rw is led)
+  led_some (e ∷ es) c (suc k, within, is) led = inr (led_some es c (k, omega (arith, within), is) led)
+
+  each_barred : (es : List (String Global × Unit {0})) → EachRefuted rules store known f (children (each es))
+      → AreBarred rules store known (with_relation f.set q) (names es) f.user
+  each_barred [] h c (k, within, is) = absurd (omega arith)
+  each_barred (e ∷ es) h c (zero, within, is) = rw (← is) h.0
+  each_barred (e ∷ es) h c (suc k, within, is) = each_barred es h.1 c (k, omega (arith, within), is)
+
+  barred_each : (es : List (String Global × Unit {0})) → AreBarred rules store known (with_relation f.set q) (names es) f.user
+      → EachRefuted rules store known f (children (each es))
+  barred_each [] h = tt
+  barred_each (e ∷ es) h = (
+    h (string_bytes e.0) (0, omega arith, refl),
+    barred_each es (λ c there. h c (suc there.0, omega (arith, there.1), there.2)),
+  )
+
+pub through_led : (rules : Lookup) (store : List TupleValue) (known : KnownValue) (f : FactValue) (t : Through)
+    → IsLedByName store known (with_relation f.set (string_bytes t.tupleset)) (computed_names t) f.user
+    ↔ Established rules store known f (through_expression t)
+through_led rules store known f t = (
+  λ l. led_some rules store known f (string_bytes t.tupleset) t.computed.entries l.0 l.1 l.2,
+  λ e. some_led rules store known f (string_bytes t.tupleset) t.computed.entries e,
+)
+
+pub through_barred : (rules : Lookup) (store : List TupleValue) (known : KnownValue) (f : FactValue) (t : Through)
+    → AreBarred rules store known (with_relation f.set (string_bytes t.tupleset)) (computed_names t) f.user
+    ↔ Refuted rules store known f (through_expression t)
+through_barred rules store known f t = (
+  λ b. barred_each rules store known f (string_bytes t.tupleset) t.computed.entries b,
+  λ r. each_barred rules store known f (string_bytes t.tupleset) t.computed.entries r,
+)

@@ -1,0 +1,92 @@
+//! What was asked of the parts of a rule.
+
+ghost use Rattle.std.specs.Prelude.{◌≡◌, ◌∷◌, ◌++◌, [], Contains, IfOk, IfSome, OnOk};
+
+use std::alloc::{AllocError, Global};
+use std::marker::Model;
+
+/// Whether a part gives a fact, or whether it rules the fact out, and the answer.
+#[derive(Clone, Copy)]
+pub(crate) struct Asked {
+    pub(crate) part: usize,
+    pub(crate) is_given: bool,
+    pub(crate) answer: bool,
+}
+
+/// Answers in the order in which they were asked for, as contracts see them.
+///
+/// For each part stands where its answers may be found, as in a sparse set (Briggs and Torczon): what stands there is believed only where
+/// it is of that part, so that nothing has to be cleared for the next fact.
+#[derive(Drop)]
+pub(crate) struct Answers {
+    asked: Vec<Asked>,
+    given: Vec<usize>,
+    barred: Vec<usize>,
+}
+
+impl Model for Answers {
+    ghost use Rattle.std.specs.Prelude.{List};
+    ghost use Rattle.judgement.specs.declared.answers.Asked.{Asked};
+
+    ghost Value = { List Asked };
+
+    ghost view = { λ s. s.asked.items };
+}
+
+impl Answers {
+    /// Nothing was asked, and there is room for the answers of so many parts.
+    pub(crate) fn new(alloc: Global, parts: usize) -> Result<Answers, AllocError>
+        ensures { IfOk result (λ s. s ≡ []) }
+    {
+        Ok(Answers {
+            asked: Vec::new(alloc),
+            given: vec![in alloc; 0usize; parts]?,
+            barred: vec![in alloc; 0usize; parts]?,
+        })
+    }
+
+    /// The answer, where it was asked for.
+    pub(crate) fn find(&self, part: usize, is_given: bool) -> Option<bool>
+        ensures { IfSome result (λ answer. Contains self.now (record { part = part; is_given = is_given; answer = answer })) }
+    {
+        let places = if is_given { &self.given } else { &self.barred };
+        let place = places.get(part).copied()?;
+        let asked = self.asked.get(place).copied()?;
+        if asked.part == part && asked.is_given == is_given {
+            Some(asked.answer)
+        } else {
+            None
+        }
+    }
+
+    /// One answer more.
+    pub(crate) fn note(&mut self, asked: Asked) -> Result<(), AllocError>
+        ensures { OnOk result (self.new ≡ self.old ++ asked ∷ []) }
+    {
+        let place = self.asked.len();
+        self.asked.push(asked)?;
+        let places = if asked.is_given {
+            &mut self.given
+        } else {
+            &mut self.barred
+        };
+        if asked.part < places.len() {
+            places[asked.part] = place;
+        }
+        Ok(())
+    }
+
+    /// From now on nothing was asked.
+    pub(crate) fn clear(&mut self)
+        ensures { self.new ≡ [] }
+    {
+        self.asked.clear();
+    }
+
+    /// All that was asked.
+    pub(crate) fn as_slice(&self) -> &[Asked]
+        ensures { result.now ≡ self.now }
+    {
+        &self.asked
+    }
+}

@@ -1,0 +1,166 @@
+//! What is read through one tupleset.
+
+ghost use Rattle.std.specs.Prelude.{◌≡◌, ◌↔◌, IsTrue, option_map, slice_get};
+ghost use Rattle.tuple_text.specs.Refs.{set_value};
+ghost use Rattle.tuple_text.specs.Tuples.{fact_of};
+ghost use Rattle.namespaces.specs.Lookup.{rule_at};
+ghost use Rattle.namespaces.specs.Parts.{computed_names, through_expression};
+ghost use Rattle.version_chains.specs.Commits.{store_at};
+ghost use Rattle.judgement.specs.Judgement.{Established, Refuted};
+ghost use Rattle.judgement.specs.Passes.{AreBarred, BarsNames, EachSet, IsLedByName};
+
+use crate::fact::KnownFact;
+use crate::known::Known;
+use crate::stored::{is_barred, is_led, is_out, under};
+use namespaces::{Rules, Through};
+use trace_lines::Trace;
+use version_chains::{MarkedSet, Usersets};
+
+/// Up to how many relations are asked for one by one.
+const FEW_RELATIONS: usize = 4;
+
+/// Whether a stored userset's object has the user under none of the relations that are read. Those that its namespace does not declare
+/// at the timestamp have no members, so no others are asked for; there are 256 at most.
+fn bars_names<F: KnownFact>(
+    rules: &Rules,
+    at: u64,
+    known: &Known<F>,
+    through: &Through,
+    set: MarkedSet<'_>,
+    user: u64,
+) -> bool
+    ensures { IsTrue result ↔ BarsNames (rule_at rules.now at) known.now (computed_names through.now) user (set_value set.entry.set) }
+{
+    for k in 0..rules.count_in_force(set.set.namespace, at) {
+        if let Some(relation) = rules.name_in_force(set.set.namespace, at, k) {
+            if through.reads(relation) && !is_out(rules, at, known, set, Some(relation), user) {
+                return false;
+            }
+        }
+    }
+    true
+}
+
+/// Whether that holds of each of some usersets.
+fn each_bars_names<F: KnownFact>(
+    rules: &Rules,
+    at: u64,
+    known: &Known<F>,
+    through: &Through,
+    sets: Usersets<'_>,
+    user: u64,
+) -> bool
+    ensures { IsTrue result ↔ EachSet (BarsNames (rule_at rules.now at) known.now (computed_names through.now) user) sets.entry }
+{
+    for set in sets {
+        if !bars_names(rules, at, known, through, set, user) {
+            return false;
+        }
+    }
+    true
+}
+
+/// The name of a relation that is read, by its place.
+fn name_at(through: &Through, k: usize) -> Option<&str>
+    ensures { option_map (λ s. s.now) result ≡ slice_get (computed_names through.now) k }
+{
+    let (name, _) = through.computed.get_index(k)?;
+    Some(name.as_str())
+}
+
+/// Whether some userset that is stored in a set has the user under a relation that is read, as far as that is known.
+fn is_led_by_name<F: KnownFact>(
+    trace: &Trace,
+    at: u64,
+    known: &Known<F>,
+    through: &Through,
+    set: MarkedSet<'_>,
+    user: u64,
+) -> bool
+    ensures { IsTrue result
+        ↔ IsLedByName (store_at trace.now.commits at) known.now (set_value set.entry.set) (computed_names through.now) user }
+{
+    for k in 0..through.computed.len() {
+        if let Some(name) = name_at(through, k) {
+            if is_led(trace, at, known, set, Some(name), user) {
+                return true;
+            }
+        }
+    }
+    false
+}
+
+/// Whether no userset that is stored in a set may have the user under a relation that is read, one relation after the other.
+fn are_barred_one_by_one<F: KnownFact>(
+    trace: &Trace,
+    at: u64,
+    known: &Known<F>,
+    through: &Through,
+    set: MarkedSet<'_>,
+    user: u64,
+) -> bool
+    ensures { IsTrue result
+        ↔ AreBarred (rule_at trace.now.declarations at) (store_at trace.now.commits at) known.now (set_value set.entry.set)
+        (computed_names through.now) user }
+{
+    for k in 0..through.computed.len() {
+        if let Some(name) = name_at(through, k) {
+            if !is_barred(trace, at, known, set, Some(name), user) {
+                return false;
+            }
+        }
+    }
+    true
+}
+
+/// The same. Where many relations are read and few usersets are stored, it goes over these once for all relations.
+fn are_barred<F: KnownFact>(
+    trace: &Trace,
+    at: u64,
+    known: &Known<F>,
+    through: &Through,
+    set: MarkedSet<'_>,
+    user: u64,
+) -> bool
+    ensures { IsTrue result
+        ↔ AreBarred (rule_at trace.now.declarations at) (store_at trace.now.commits at) known.now (set_value set.entry.set)
+        (computed_names through.now) user }
+{
+    if through.computed.len() <= FEW_RELATIONS || trace.usersets().is_crowded(set) {
+        return are_barred_one_by_one(trace, at, known, through, set, user);
+    }
+    let sets = trace.chains().usersets(set, at);
+    each_bars_names(trace.rules(), at, known, through, sets, user)
+}
+
+/// Whether what is read through a tupleset gives a fact.
+pub(crate) fn through_gives<F: KnownFact>(
+    through: &Through,
+    set: MarkedSet<'_>,
+    user: u64,
+    trace: &Trace,
+    at: u64,
+    known: &Known<F>,
+) -> bool
+    ensures { IsTrue result ↔ Established (rule_at trace.now.declarations at) (store_at trace.now.commits at) known.now
+        (fact_of (set_value set.entry.set) user) (through_expression through.now) }
+{
+    let tupleset = MarkedSet::of(under(set.set, through.tupleset.as_str()));
+    is_led_by_name(trace, at, known, through, tupleset, user)
+}
+
+/// Whether all that is read through a tupleset rules a fact out.
+pub(crate) fn through_bars<F: KnownFact>(
+    through: &Through,
+    set: MarkedSet<'_>,
+    user: u64,
+    trace: &Trace,
+    at: u64,
+    known: &Known<F>,
+) -> bool
+    ensures { IsTrue result ↔ Refuted (rule_at trace.now.declarations at) (store_at trace.now.commits at) known.now
+        (fact_of (set_value set.entry.set) user) (through_expression through.now) }
+{
+    let tupleset = MarkedSet::of(under(set.set, through.tupleset.as_str()));
+    are_barred(trace, at, known, through, tupleset, user)
+}
