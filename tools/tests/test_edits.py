@@ -126,6 +126,11 @@ class Edits(Case):
         gone = "./proofs/lists/half/Answers.antt:3:9: error: `returns`: `c.count` is not in scope\n"
         self.assertEqual(self.word(gone + NOT_PROVED, "half_is_all"), [UNTOLD])
 
+    def test_a_lemma_refuses_an_edit_that_is_alone(self):
+        lemma = "./proofs/Halves.antt:7:3: error: `half_of`: the two types differ\n"
+        self.assertEqual(self.word(lemma + NOT_PROVED, "one_more"), [REFUSED])
+        self.assertEqual(self.word(lemma + NOT_PROVED, "half_is_all", "lost_is_done"), [UNTOLD, UNTOLD])
+
     def test_no_code(self):
         said = "error[type-mismatch]: expected u64\n  --> src/lists.rt:23:5\n"
         self.assertEqual(self.word(said, "done_is_lost", "half_is_all"), [UNTOLD, UNREAD])

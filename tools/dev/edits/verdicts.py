@@ -9,6 +9,8 @@ NAMED = "REFUSED FOR A NAME"
 PLACE = re.compile(r"(?:note: )?(?:\./)?(src/\S+?):(\d+):\d+: (.*)")
 # A function's own file of proofs, and what is wrong there.
 PROOF = re.compile(r"(?:\./)?proofs/(?:(\S+)/)?\+?(\w+)/\w+\.antt:\d+:\d+: error: (.*)")
+# Any file of proofs.
+LEMMA = re.compile(r"(?:\./)?proofs/\S+\.antt:\d+:\d+: error: (.*)")
 # A function with no file of proofs, some of whose own goals are left. What it only calls stands in other words.
 LEFT = re.compile(r"fn \S+: no proof: expected answers in (?:\./)?proofs/(?:(\S+)/)?\+?(\w+)/\w+\.antt; `search` did not prove (.*)")
 # Where a file of proofs names what is gone, the refusal shows nothing of a contract.
@@ -36,16 +38,16 @@ def stands_at(function, line):
 
 
 def is_refusal(line):
-    """Whether the line refuses a goal of some function."""
-    place, proof = PLACE.match(line), PROOF.match(line)
-    return bool(place and "it is not proved" in place[3] or LEFT.match(line) or proof and not NAMES.search(proof[3]))
+    """Whether the line refuses a goal of some function, or a lemma."""
+    place, proof = PLACE.match(line), LEMMA.match(line)
+    return bool(place and "it is not proved" in place[3] or LEFT.match(line) or proof and not NAMES.search(proof[1]))
 
 
 def refusal_of(edit, lines, is_alone):
     """A line that refuses a goal of a function that the edit changes, or of any where it is alone; better one of a goal that is left."""
     wanted = is_refusal if is_alone else lambda line: any(stands_at(it, line) for it in edit.functions)
     found = [line for line in lines if wanted(line)]
-    return next((line for line in found if not PROOF.match(line)), found[0] if found else "")
+    return next((line for line in found if not LEMMA.match(line)), found[0] if found else "")
 
 
 def unread(edits, lines):
