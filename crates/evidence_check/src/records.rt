@@ -1,6 +1,6 @@
 //! The records of evidence.
 
-ghost use Rattle.std.specs.Prelude.{◌≡◌, option_map, map, nat_lt, if◌then◌else◌};
+ghost use Rattle.std.specs.Prelude.{◌≡◌, ◌≤◌, option_map, map, nat_lt, if◌then◌else◌};
 ghost use Rattle.json_lines.specs.Data.{value_data, items_data};
 ghost use Rattle.tuple_text.specs.FactRefs.{fact_value};
 ghost use Rattle.tuple_text.specs.Reading.{fact_at};
@@ -77,15 +77,31 @@ fn cause_if_shaped(is_shaped: bool, cause: EvidenceCause) -> EvidenceCause
     }
 }
 
-/// The facts that texts are.
+/// For how many of the items room is asked for at once: for all that there are, up to as many as a record may have.
+fn room_for(items: JsonItems<'_, '_>) -> usize
+    ensures { result ≤ MAX_FACTS }
+{
+    let mut rest = items;
+    let mut count = 0usize;
+    while let Some(_item) = rest.next() {
+        if count >= MAX_FACTS {
+            return MAX_FACTS;
+        }
+        count += 1;
+    }
+    count
+}
+
+/// The facts that texts are, with room for so many.
 fn read_facts<'a>(
     alloc: Global,
+    room: usize,
     items: JsonItems<'_, 'a>,
 ) -> Result<Vec<FactRef<'a>>, EvidenceCause>
     ensures { Gives (λ v. map fact_value v.items) result (read_facts (items_data items.entry)) }
 {
     let mut rest = items;
-    let mut facts = Vec::new(alloc);
+    let mut facts = Vec::with_capacity(alloc, room)?;
     while let Some(item) = rest.next() {
         match fact_in(&item) {
             Ok(fact) => facts.push(fact)?,
@@ -101,7 +117,7 @@ fn read_list<'a>(alloc: Global, value: &JsonRef<'_, 'a>) -> Result<Vec<FactRef<'
     if !value.is_array() {
         return Err(EvidenceCause::Shape);
     }
-    read_facts(alloc, value.items())
+    read_facts(alloc, room_for(value.items()), value.items())
 }
 
 /// The step that a value is, where it is known.
@@ -119,15 +135,16 @@ fn read_step<'a>(
     }
 }
 
-/// The steps that values are, each looked at once up to the first fault.
+/// The steps that values are, with room for so many, each looked at once up to the first fault.
 fn read_steps<'a>(
     alloc: Global,
+    room: usize,
     items: JsonItems<'_, 'a>,
 ) -> Result<Vec<StepRef<'a>>, EvidenceCause>
     ensures { Gives (λ v. borrowed_steps v.items) result (read_steps (items_data items.entry)) }
 {
     let mut rest = items;
-    let mut steps = Vec::new(alloc);
+    let mut steps = Vec::with_capacity(alloc, room)?;
     let mut all_known = true;
     while let Some(item) = rest.next() {
         match read_step(alloc, &item) {
@@ -155,7 +172,7 @@ pub(crate) fn steps_of<'a>(
     if !list.is_array() {
         return Err(EvidenceCause::Shape);
     }
-    read_steps(alloc, list.items())
+    read_steps(alloc, room_for(list.items()), list.items())
 }
 
 /// Whether the steps, kept or borrowed, have more facts than a record may have.

@@ -1,6 +1,5 @@
 -- Words of texts.
-use Rattle.std.proofs.Common.{◌≡◌, ℕ, ◌+◌, ◌-◌, ◌/◌, ◌≤◌, ◌<◌, suc, List, [], ◌∷◌, ◌++◌, length, take, drop, replicate, ◌∙◌, ap, refl, arith}
-use Rattle.std.specs.Prelude.{slice_index_or}
+use Rattle.std.proofs.Common.{◌≡◌, ℕ, ◌+◌, ◌-◌, ◌/◌, ◌≤◌, ◌<◌, suc, List, [], ◌∷◌, ◌++◌, length, take, drop, replicate, ◌∙◌, ap, arith}
 use Rattle.std.specs.Int.{w64, from_le_bytes}
 use Rattle.std.proofs.lemmas.List.{append-nil, length-drop, length-take, take_all}
 use Rattle.version_chains.specs.Words.{first_words, words, word_of}
@@ -29,17 +28,3 @@ unfolding first_words
 no_word text none =
     let few : (length text + 7) / 8 ≡ 0 = omega (arith, none) in
     ap (λ (n : ℕ). first_words n text) few
-
--- fewer than eight bytes, each named
-pub seven_bytes : (bs : List ℕ) → length bs < 8
-    → (slice_index_or bs 0 0 ∷ slice_index_or bs 1 0 ∷ slice_index_or bs 2 0 ∷ slice_index_or bs 3 0
-    ∷ slice_index_or bs 4 0 ∷ slice_index_or bs 5 0 ∷ slice_index_or bs 6 0 ∷ 0 ∷ []) ≡ bs ++ replicate (8 - length bs) 0
-seven_bytes [] _ = refl
-seven_bytes (a ∷ []) _ = refl
-seven_bytes (a ∷ b ∷ []) _ = refl
-seven_bytes (a ∷ b ∷ c ∷ []) _ = refl
-seven_bytes (a ∷ b ∷ c ∷ d ∷ []) _ = refl
-seven_bytes (a ∷ b ∷ c ∷ d ∷ e ∷ []) _ = refl
-seven_bytes (a ∷ b ∷ c ∷ d ∷ e ∷ f ∷ []) _ = refl
-seven_bytes (a ∷ b ∷ c ∷ d ∷ e ∷ f ∷ g ∷ []) _ = refl
-seven_bytes (a ∷ b ∷ c ∷ d ∷ e ∷ f ∷ g ∷ h ∷ rest) short = absurd (omega arith)

@@ -6,8 +6,8 @@ use Rattle.evidence_check.specs.Steps.{borrowed_step, borrowed_steps}
 use Rattle.evidence_check.proofs.StepLoops.{steps_after, next_step, fault_in_steps}
 use Rattle.evidence_check.proofs.records.read_steps.Goals as goal
 
-pub loop-item-preserved-in-Continue-1 : goal.loop-item-preserved-in-Continue-1
-loop-item-preserved-in-Continue-1 c =
+pub loop-item-preserved-in-Continue-branch-2 : goal.loop-item-preserved-in-Continue-branch-2
+loop-item-preserved-in-Continue-branch-2 c =
     let front = borrowed_steps c.loop-item.steps.items in
     let pushed = ap borrowed_steps c.in_ok-push-in-Ok-Some.ensures.items ∙ map-append borrowed_step c.loop-item.steps.items (c.in-Ok-Some.step ∷ []) in
     let is : read_step (value_data c.in-Some.item) ≡ Ok (Some (borrowed_step c.in-Ok-Some.step)) = search rules in

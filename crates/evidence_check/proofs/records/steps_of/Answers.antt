@@ -10,4 +10,4 @@ returns c =
     let list = value_data c.in_ok-list.list in
     let found : get (codes "steps") (value_data c.args.json.now) ≡ Some list = search rules in
     let is : is_some (as_array list) ≡ true = search rules in
-    rw (steps_listed (value_data c.args.json.now) list found is, ← c.items.ensures) c.read_steps.ensures
+    rw (steps_listed (value_data c.args.json.now) list found is, ← c.items-2.ensures) c.read_steps.ensures
