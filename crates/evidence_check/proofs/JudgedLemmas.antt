@@ -95,11 +95,13 @@ module _ (trace : TraceValue) (at : ℕ) (known : KnownValue) (f : FactValue) wh
       → (Does trace at known f g x ↔ IsSettled lookup store known g f)
   settled_by_rule true x alike = by_rule (rule_of lookup f.set) x (Established lookup store known f) (alike_established lookup store known f) alike
   settled_by_rule false x alike =
-      let rule = by_rule (rule_of lookup f.set) x (Refuted lookup store known f) (alike_refuted lookup store known f) alike in
-      (λ h. inr (rule.0 h), λ s. elim s [
-        | inl none ↦ absurd (subst (λ (o : Option Rule). AreAlike (Some x) (option_map (λ (r : Rule). r.expression) o)) none alike)
-        | inr t ↦ rule.1 t
-      ])
+      let rule = by_rule (rule_of lookup f.set) x (Refuted lookup store known f) (alike_refuted lookup store known f) alike in (
+        λ h. inr (rule.0 h),
+        λ s. elim s [
+          | inl none ↦ absurd (subst (λ (o : Option Rule). AreAlike (Some x) (option_map (λ (r : Rule). r.expression) o)) none alike)
+          | inr t ↦ rule.1 t
+        ],
+      )
 
   -- without a rule it is disproved
   pub settled_by_none : (g : Bool) → IsRuleOf trace.declarations at f.set None → (IsTrue (not g) ↔ IsSettled lookup store known g f)

@@ -274,7 +274,8 @@ fn take_no<'t, 'a>(
         → IsBorneOut (rule_at trace.now.declarations at) (store_at trace.now.commits at) known.new) }
 {
     deny_each(known, fresh, facts)?;
-    are_disproved(*fresh.allocator(), last, trace, at, known, fresh)
+    let are_all = are_disproved(*fresh.allocator(), last, trace, at, known, fresh)?;
+    Ok(are_all)
 }
 
 /// Whether a step is accepted. From now on its facts are known. `fresh` is room for the facts that it denies.

@@ -1,5 +1,6 @@
 -- What follows for a rule from what was asked of its parts.
-use Rattle.std.proofs.Common.{◌≡◌, ℕ, Bool, true, false, not, ◌||◌, ◌&&◌, IsTrue, ◌↔◌, List, [], ◌∷◌, ◌++◌, refl, sym, ◌∙◌, subst, inl, inr, arith}
+use Rattle.std.proofs.Common.{◌≡◌, ℕ, Bool, true, false, not, ◌||◌, ◌&&◌, IsTrue, ◌↔◌, List, [], ◌∷◌, ◌++◌, refl, sym, ◌∙◌, subst, inl, inr, arith, true≢false}
+use mathlib.Core.Bool.{beq}
 use Rattle.std.proofs.lemmas.List.Elements.{Contains-append_left, Contains-append_right, Contains-append_cases}
 use Rattle.std.specs.Prelude.{Contains, ◌⊎◌}
 use Rattle.tuple_text.specs.Tuples.{FactValue}
@@ -15,6 +16,22 @@ use Rattle.judgement.specs.Asked.{does, Does, Agrees, AreRight, Follows, AsksMor
 use Rattle.judgement.specs.Judgement.{KnownValue}
 use Rattle.judgement.specs.declared.answers.Asked.{Asked}
 use Rattle.judgement.proofs.AlikeLemmas.{by_known, given_then, barred_then, then_given, then_barred}
+
+pub same_beq : (a b : Bool) → beq a b ≡ true → a ≡ b
+same_beq true true h = refl
+same_beq true false h = absurd (true≢false (sym h))
+same_beq false true h = absurd (true≢false (sym h))
+same_beq false false h = refl
+
+pub other_beq : (a b : Bool) → beq a b ≡ false → ¬ (a ≡ b)
+other_beq true true h e = true≢false h
+other_beq true false h e = true≢false e
+other_beq false true h e = true≢false (sym e)
+other_beq false false h e = true≢false h
+
+pub not_false : (a : Bool) → not a ≡ false → a ≡ true
+not_false true h = refl
+not_false false h = absurd (true≢false h)
 
 only_one : (a b : Asked) → Contains (a ∷ []) b → a ≡ b
 only_one a b there = elim (Contains-cons_cases a [] b there) [ inl is ↦ is | inr none ↦ absurd (omega (arith, none.1)) ]
@@ -156,6 +173,10 @@ module _ (trace : TraceValue) (at : ℕ) (known : KnownValue) (f : FactValue) wh
     right = left.right;
     follows = λ l agrees. left.same l agrees ∙ joined_none l stop g;
   }
+
+  pub tells_as : (parts : List Expression) (old new : List Asked) (g : Bool) (e e' : Expression) (r : Bool) → e ≡ e'
+      → Tells trace at known f parts old new g e' r → Tells trace at known f parts old new g e r
+  tells_as parts old new g e e' r is tells = rw is tells
 
   -- ---- a difference
 

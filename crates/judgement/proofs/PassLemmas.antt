@@ -57,23 +57,23 @@ each_from : (P : SetValue → Type 0) (gs : List SetValue) → ((g : SetValue) �
 each_from P [] h = tt
 each_from P (x ∷ xs) h = (h x (first_there x xs), each_from P xs (λ g k. h g (or_second (set_eq g x) _ k)))
 
--- ---- names by their places
+-- ---- elements by their places
 
-pub named_at : (names : List (List ℕ)) (k : ℕ) (c : List ℕ) → slice_get names k ≡ Some c → Contains names c
-named_at names k c h = (k, slice_get_within names k c h, get_or_from_slice_get names k c c h)
+pub element_at : {X : Type 0} (names : List X) (k : ℕ) (c : X) → slice_get names k ≡ Some c → Contains names c
+element_at names k c h = (k, slice_get_within names k c h, get_or_from_slice_get names k c c h)
 
-pub place_of_name : (names : List (List ℕ)) (c : List ℕ) → Contains names c → (k : ℕ) × (k < length names) × (slice_get names k ≡ Some c)
-place_of_name names c (k, within, is) = (k, within, slice_get_read names (length names) k c refl within (sym is))
+pub place_of_element : {X : Type 0} (names : List X) (c : X) → Contains names c → (k : ℕ) × (k < length names) × (slice_get names k ≡ Some c)
+place_of_element names c (k, within, is) = (k, within, slice_get_read names (length names) k c refl within (sym is))
 
--- where each place was looked at, so was each name
-pub each_named : (P : List ℕ → Type 0) (names : List (List ℕ)) → ((k : ℕ) (c : List ℕ) → k < length names → slice_get names k ≡ Some c → P c)
-    → (c : List ℕ) → Contains names c → P c
-each_named P names h c there = let p = place_of_name names c there in h p.0 c p.1 p.2
+-- where each place was looked at, so was each element
+pub each_element : {X : Type 0} (P : X → Type 0) (names : List X) → ((k : ℕ) (c : X) → k < length names → slice_get names k ≡ Some c → P c)
+    → (c : X) → Contains names c → P c
+each_element P names h c there = let p = place_of_element names c there in h p.0 c p.1 p.2
 
 -- one place more
-pub next_named : (P : List ℕ → Type 0) (names : List (List ℕ)) (n : ℕ) → ((k : ℕ) (c : List ℕ) → k < n → slice_get names k ≡ Some c → P c)
-    → ((c : List ℕ) → slice_get names n ≡ Some c → P c) → (k : ℕ) (c : List ℕ) → k < n + 1 → slice_get names k ≡ Some c → P c
-next_named P names n before here k c within at = by_cases (eq-or-lt_of_le (omega (arith, within)))
+pub next_element : {X : Type 0} (P : X → Type 0) (names : List X) (n : ℕ) → ((k : ℕ) (c : X) → k < n → slice_get names k ≡ Some c → P c)
+    → ((c : X) → slice_get names n ≡ Some c → P c) → (k : ℕ) (c : X) → k < n + 1 → slice_get names k ≡ Some c → P c
+next_element P names n before here k c within at = by_cases (eq-or-lt_of_le (omega (arith, within)))
   where
     by_cases : (k ≡ n) ⊎ (k < n) → P c
     by_cases (inl same) = here c (subst (λ m. slice_get names m ≡ Some c) same at)

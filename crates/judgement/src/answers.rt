@@ -33,6 +33,12 @@ impl Model for Answers {
     ghost view = { λ s. s.asked.items };
 }
 
+fn set_place(places: &mut Vec<usize>, part: usize, place: usize) {
+    if part < places.len() {
+        places[part] = place;
+    }
+}
+
 impl Answers {
     /// Nothing was asked, and there is room for the answers of so many parts.
     pub(crate) fn new(alloc: Global, parts: usize) -> Result<Answers, AllocError>
@@ -65,13 +71,10 @@ impl Answers {
     {
         let place = self.asked.len();
         self.asked.push(asked)?;
-        let places = if asked.is_given {
-            &mut self.given
+        if asked.is_given {
+            set_place(&mut self.given, asked.part, place);
         } else {
-            &mut self.barred
-        };
-        if asked.part < places.len() {
-            places[asked.part] = place;
+            set_place(&mut self.barred, asked.part, place);
         }
         Ok(())
     }

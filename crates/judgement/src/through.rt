@@ -1,13 +1,14 @@
 //! What is read through one tupleset.
 
-ghost use Rattle.std.specs.Prelude.{◌≡◌, ◌↔◌, IsTrue, option_map, slice_get};
+ghost use Rattle.std.specs.Prelude.{◌≡◌, ◌↔◌, ℕ, List, Some, Contains, IsTrue, option_map, slice_get};
 ghost use Rattle.tuple_text.specs.Refs.{set_value};
 ghost use Rattle.tuple_text.specs.Tuples.{fact_of};
+ghost use Rattle.namespaces.specs.InForce.{names_in_force};
 ghost use Rattle.namespaces.specs.Lookup.{rule_at};
 ghost use Rattle.namespaces.specs.Parts.{computed_names, through_expression};
 ghost use Rattle.version_chains.specs.Commits.{store_at};
 ghost use Rattle.judgement.specs.Judgement.{Established, Refuted};
-ghost use Rattle.judgement.specs.Passes.{AreBarred, BarsNames, EachSet, IsLedByName};
+ghost use Rattle.judgement.specs.Passes.{AreBarred, BarsId, BarsNames, EachSet, IsLedByName};
 
 use crate::fact::KnownFact;
 use crate::known::Known;
@@ -18,6 +19,28 @@ use version_chains::{MarkedSet, Usersets};
 
 /// Up to how many relations are asked for one by one.
 const FEW_RELATIONS: usize = 4;
+
+/// Whether relation number `k` of a stored userset's namespace is not read, or its object does not have the user under it.
+fn bars_name_at<F: KnownFact>(
+    rules: &Rules,
+    at: u64,
+    known: &Known<F>,
+    through: &Through,
+    set: MarkedSet<'_>,
+    user: u64,
+    k: usize,
+) -> bool
+    ensures bars { IsTrue result → (c : List ℕ) → slice_get (names_in_force at (set_value set.entry.set).namespace rules.now) k ≡ Some c
+        → Contains (computed_names through.now) c → BarsId (rule_at rules.now at) known.now (Some c) user (set_value set.entry.set) }
+    ensures none { BarsNames (rule_at rules.now at) known.now (computed_names through.now) user (set_value set.entry.set) → IsTrue result }
+{
+    match rules.name_in_force(set.set.namespace, at, k) {
+        Some(relation) => {
+            !through.reads(relation) || is_out(rules, at, known, set, Some(relation), user)
+        }
+        None => true,
+    }
+}
 
 /// Whether a stored userset's object has the user under none of the relations that are read. Those that its namespace does not declare
 /// at the timestamp have no members, so no others are asked for; there are 256 at most.
@@ -32,10 +55,8 @@ fn bars_names<F: KnownFact>(
     ensures { IsTrue result ↔ BarsNames (rule_at rules.now at) known.now (computed_names through.now) user (set_value set.entry.set) }
 {
     for k in 0..rules.count_in_force(set.set.namespace, at) {
-        if let Some(relation) = rules.name_in_force(set.set.namespace, at, k) {
-            if through.reads(relation) && !is_out(rules, at, known, set, Some(relation), user) {
-                return false;
-            }
+        if !bars_name_at(rules, at, known, through, set, user, k) {
+            return false;
         }
     }
     true

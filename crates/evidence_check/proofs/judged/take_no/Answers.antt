@@ -24,10 +24,10 @@ returns-clause-accepted c =
     let are : AreFresh c.args.known.now.no c.deny_each.new.known.no fresh = search rules in
     let among : AreFresh c.args.known.now.no (with_no c.args.known.now facts).no fresh =
     subst (λ (k : KnownValue). AreFresh c.args.known.now.no k.no fresh) known are in
-    let each : IsTrue c.are_disproved.result ↔ AllByRecursion (IsDisproved lookup store (with_no c.args.known.now facts)) fresh =
-    subst (λ (k : KnownValue). IsTrue c.are_disproved.result ↔ AllByRecursion (IsDisproved lookup store k) fresh) known
-    (subst (λ (xs : List MarkedFact). IsTrue c.are_disproved.result ↔ AllByRecursion (IsDisproved lookup store c.deny_each.new.known) (map marked_fact xs))
-    c.deref.ensures.value c.in_ok-are_disproved.ensures.disproved) in
+    let each : IsTrue c.in_ok-are_all.are_all ↔ AllByRecursion (IsDisproved lookup store (with_no c.args.known.now facts)) fresh =
+    subst (λ (k : KnownValue). IsTrue c.in_ok-are_all.are_all ↔ AllByRecursion (IsDisproved lookup store k) fresh) known
+    (subst (λ (xs : List MarkedFact). IsTrue c.in_ok-are_all.are_all ↔ AllByRecursion (IsDisproved lookup store c.deny_each.new.known) (map marked_fact xs))
+    c.deref.ensures.value c.in_ok-are_all.ensures.disproved) in
     let all = fresh_decide lookup store c.args.known.now facts fresh c.requires.borne among in
     accepted_by lookup store c.args.known.now (no_step facts) _ (λ t. all.0 (each.0 t), λ h. each.1 (all.1 h))
 

@@ -8,7 +8,7 @@ use Rattle.evidence_check.specs.Steps.{yes_step}
 use Rattle.evidence_check.proofs.Growing.{borne_out_after}
 use Rattle.evidence_check.proofs.JudgedLemmas.{accepted_by, accepted_iff}
 use Rattle.evidence_check.proofs.judged.take_yes.Goals as goal
-use Rattle.evidence_check.proofs.judged.take_yes.Goals.{then-yes_marked, else-yes_marked}
+use Rattle.evidence_check.proofs.judged.take_yes.Goals.{then-yes_marked, else-yes_marked+in_ok-proved}
 
 pub returns-clause-accepted : goal.returns-clause-accepted
 returns-clause-accepted c =
@@ -19,9 +19,9 @@ returns-clause-accepted c =
       | then-yes_marked w ↦
           let is : c.if-yes_marked.proved ≡ true = search rules in
           (λ t. c.requires.borne.yes fact (c.yes_marked.ensures.0 w.if-yes_marked.true), λ p. is)
-      | else-yes_marked w ↦
-          let is : c.if-yes_marked.proved ≡ w.is_given-proved.result = search rules in
-          rw is w.is_given-proved.ensures
+      | else-yes_marked+in_ok-proved w ↦
+          let is : c.if-yes_marked.proved ≡ w.in_ok-proved.proved = search rules in
+          rw is w.in_ok-proved.ensures.settled
     ] in
     accepted_by lookup store c.args.known.now (yes_step fact) c.if-yes_marked.proved proves
 

@@ -6,12 +6,6 @@ use Rattle.judgement.specs.Asked.{joined_of}
 use Rattle.judgement.proofs.AskedLemmas.{IsLeft}
 use Rattle.judgement.proofs.asking.+node.Given as goal
 
-abbrev pub decreases-node_does : goal.decreases-node_does
-decreases-node_does g l = goal.size-node_does g l
-
-abbrev pub decreases-nodes_do : goal.decreases-nodes_do
-decreases-nodes_do g l = goal.size-nodes_do g l
-
 -- the nodes that are left decide
 abbrev pub invariant-nodes_do-loop-node : goal.invariant-nodes_do-loop-node
 invariant-nodes_do-loop-node g l =
