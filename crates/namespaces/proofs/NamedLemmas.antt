@@ -1,6 +1,5 @@
 -- Names that a table has.
-use Rattle.std.proofs.Common.{◌≡◌, ℕ, zero, suc, Bool, true, ◌||◌, List, [], ◌∷◌, refl, sym, ◌∙◌, map, arith, String, Global}
-use Rattle.std.proofs.lemmas.Map.Made.{is_some-lookup}
+use Rattle.std.proofs.Common.{◌≡◌, ℕ, zero, suc, true, List, [], ◌∷◌, refl, sym, map, arith, String, Global}
 use Rattle.std.specs.List.{list_any}
 use Rattle.std.specs.Prelude.{Contains, string_bytes}
 use Rattle.std.specs.Str.{bytes_eq}

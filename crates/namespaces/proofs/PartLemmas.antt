@@ -1,16 +1,15 @@
 -- Parts, as they are numbered, and nodes that say what expressions say.
-use Rattle.std.proofs.Common.{rules, ◌≡◌, ℕ, zero, suc, ◌<◌, Bool, true, false, ◌||◌, ◌&&◌, List, [], ◌∷◌, ◌++◌, Option, Some, length, map, option_map, refl, sym, ◌∙◌, ap, subst, append_assoc, get_or}
+use Rattle.std.proofs.Common.{rules, ◌≡◌, ℕ, zero, suc, List, [], ◌∷◌, ◌++◌, Some, length, option_map, refl, sym, ◌∙◌, ap, subst, append_assoc}
 use Rattle.std.proofs.Math.Seq.{get_or-append_seam}
 use Rattle.std.proofs.lemmas.List.{append-nil, map-append, length-map, get_or_append_left}
-use Rattle.std.proofs.lemmas.List.Folds.{list_any-append, list_all-append}
 use Rattle.std.proofs.lemmas.Option.{unwrap_or-slice_get, slice_get-map, slice_get_within, get_or_from_slice_get}
 use Rattle.std.specs.Global.{Vec}
-use Rattle.std.specs.Prelude.{slice_get, slice_set, unwrap_or}
+use Rattle.std.specs.Prelude.{slice_get, slice_set}
 use Rattle.namespaces.specs.Alike.{IsAlike, gives, bars}
 use Rattle.namespaces.specs.Expression.{Expression, union, inter, minus, no_child}
 use Rattle.namespaces.specs.Joints.{joined, JoinAlike}
 use Rattle.namespaces.specs.View.{children}
-use Rattle.namespaces.specs.Parts.{each_shown, through_expression, throughs_shown, part_expression, parts_shown, part_at, node_expression, nodes_shown, IsGrown, SaysWith, Says, HasPart, AllSay}
+use Rattle.namespaces.specs.Parts.{each_shown, through_expression, throughs_shown, part_expression, parts_shown, part_at, node_expression, nodes_shown, IsGrown, Says, HasPart, AllSay}
 use Rattle.namespaces.specs.declared.parts.Part.{Part}
 use Rattle.namespaces.specs.declared.parts.Node
 use Rattle.namespaces.specs.declared.parts.Node.{Node, the_lemmas}

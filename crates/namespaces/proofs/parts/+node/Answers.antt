@@ -1,4 +1,4 @@
-use Rattle.std.proofs.Common.{rules, ◌≡◌, ◌∷◌, ◌+◌, ◌++◌, [], map, drop, add-one, refl, ap, true, false}
+use Rattle.std.proofs.Common.{rules, ◌≡◌, ◌∷◌, ◌+◌, ◌++◌, [], map, drop, add-one, refl, ap}
 use Rattle.std.proofs.Math.Seq.{drop-cons}
 use Rattle.std.proofs.lemmas.List.{append-nil, drop_all}
 use Rattle.std.proofs.lemmas.Result.{IfOk-weaker}
@@ -11,7 +11,7 @@ use Rattle.namespaces.specs.declared.rewrite.Rewrite.{the_lemmas}
 use Rattle.namespaces.specs.declared.parts.Node
 use Rattle.namespaces.specs.declared.parts.Node.{Node}
 use Rattle.namespaces.proofs.AlikeLemmas.{alike_then}
-use Rattle.namespaces.proofs.PartLemmas.{grown_then, later, union_shown, inter_shown, inter_step, union_put, union_step, says_joined, says_part, says_minus}
+use Rattle.namespaces.proofs.PartLemmas.{grown_then, later, union_shown, inter_shown, inter_step, union_put, union_step, says_joined, says_minus}
 use Rattle.namespaces.proofs.parts.+node.Goals as goal
 
 pub inter_of-loop-child-preserved : goal.inter_of-loop-child-preserved

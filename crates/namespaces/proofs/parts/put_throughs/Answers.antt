@@ -1,6 +1,6 @@
 use Rattle.std.proofs.Common.{rules, ◌≡◌, ◌∷◌, ◌++◌, []}
 use Rattle.std.proofs.lemmas.List.{append-nil}
-use Rattle.namespaces.specs.Parts.{parts_shown, throughs_shown}
+use Rattle.namespaces.specs.Parts.{parts_shown}
 use Rattle.namespaces.proofs.PartLemmas.{grown_then, last_node}
 use Rattle.namespaces.proofs.parts.put_throughs.Goals as goal
 

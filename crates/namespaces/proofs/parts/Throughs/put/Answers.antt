@@ -1,4 +1,4 @@
-use Rattle.std.proofs.Common.{rules, ◌≡◌, ◌∷◌, ◌++◌, [], ◌∙◌, length, refl, sym, string_bytes, subst, arith}
+use Rattle.std.proofs.Common.{◌≡◌, ◌∷◌, ◌++◌, [], ◌∙◌, length, refl, sym, string_bytes, subst, arith}
 use Rattle.std.specs.Prelude.{slice_get, slice_set, Some, if◌then◌else◌}
 use Rattle.std.proofs.lemmas.Option.{slice_get_read}
 use Rattle.namespaces.specs.Expression.{tuple_to}
