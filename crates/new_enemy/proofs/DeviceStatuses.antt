@@ -5,8 +5,6 @@ use Rattle.json_lines.specs.Devices.{moved_by, failures_of, stops_of}
 use Rattle.json_lines.specs.declared.devices.Counted.{Counted}
 use Rattle.json_lines.specs.declared.lines.TheConstants.{CHUNK}
 use Rattle.json_lines.specs.declared.reading.TheConstants.{MAX_INPUT}
-use Rattle.trace_lines.specs.declared.cause.Cause.TheVariants as causes
-use Rattle.evidence_check.specs.declared.cause.EvidenceCause.TheVariants as evidence_causes
 use Rattle.audit.specs.Answers.{TellsOfTrace, Audited}
 use Rattle.audit.specs.Audit.{IsOfDevices, IsOfNoDevice, IsUnwritten}
 use Rattle.audit.specs.Devices.{Writer, Writing, WriterFailed, reads, GivesFew}

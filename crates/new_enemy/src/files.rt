@@ -96,15 +96,7 @@ pub fn run_audit<F: Read, W: Sink, E: Sink, P: Threads + Wait + Sync>(
 {
     let mut trace = Counted::new(trace);
     let mut evidence = Counted::new(evidence);
-    let answer = audit_sharing(
-        rt,
-        alloc,
-        &mut trace,
-        &mut evidence,
-        sharing,
-        out,
-        err,
-    );
+    let answer = audit_sharing(rt, alloc, &mut trace, &mut evidence, sharing, out, err);
     (status_with(answer, err), trace, evidence)
 }
 
