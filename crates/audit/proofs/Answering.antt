@@ -16,8 +16,8 @@ use Rattle.findings.specs.WrongReplies.{NamesOnlyWrongReplies}
 use Rattle.findings.specs.declared.finding.Finding.{Finding}
 use Rattle.findings.proofs.WrongReplies.{named_by_bytes}
 use Rattle.audit.specs.Answers.{TraceRead, EvidenceRead, Told, IsReport, AreFound, TellsOfTrace, Audited}
-use Rattle.audit.specs.Audit.{Audits, Breaks, FailsWriting, RefusesEvidenceFor, IsOfAudit, IsOfBytes, IsOfEvidence, IsOfNoDevice, IsOfTrace, verdict_of}
-use Rattle.audit.specs.Devices.{Reader, Reading, Writer, Writing, OfAll, OfAny, OfBoth, OfCame, GivesFew, GivesNext, ReaderFailed, ReaderHeld}
+use Rattle.audit.specs.Audit.{Audits, Breaks, RefusesEvidenceFor, IsOfAudit, IsOfBytes, IsOfEvidence, IsOfNoDevice, IsOfTrace, verdict_of}
+use Rattle.audit.specs.Devices.{Reader, Reading, Writer, Writing, OfAll, OfAny, OfBoth, OfCame, GivesFew, GivesNext, ReaderFailed, ReaderHeld, FailsWriting}
 use Rattle.audit.specs.History.{IsOfHistory}
 use Rattle.audit.specs.declared.plain.Verdict.{Verdict}
 use Rattle.audit.specs.declared.plain.Verdict.TheVariants.{Clean}
@@ -40,7 +40,7 @@ told_no_memory Says w =
       kept = tt;
       kinds = inl refl;
       unwritten = λ is. refl;
-      unfailed = λ is. refl;
+      unfailed = λ is. (refl, refl);
       held = behind_at_rest w;
     }
 
@@ -169,7 +169,7 @@ never_evidence faults.Limits of f is = of
 never_evidence faults.Joined of f is = of
 never_evidence faults.Input of f is = of
 
-pub trace_not_read : {V : Type 0} (Tells : List ℕ → List ℕ → List ℕ → V → Type 0) (Breaks : List ℕ → List ℕ → List ℕ → ℕ → Type 0) (trace : Reading) (w : Writer) (e : AuditFault)
+pub trace_not_read : {V : Type 0} (Tells : List ℕ → List ℕ → List ℕ → V → Type 0) (Breaks : List ℕ → Writing → ℕ → Type 0) (trace : Reading) (w : Writer) (e : AuditFault)
     → TraceRead trace (Err e) → TellsOfTrace Tells Breaks trace (record { before = w; after = w }) (Err e)
 trace_not_read {V} Tells Breaks trace w e read =
     record {
@@ -184,13 +184,13 @@ trace_not_read {V} Tells Breaks trace w e read =
       held = behind_at_rest w;
       devices = devices_of_trace e _ ⊥ _ read.kinds (λ f is. read.failed f (ap (λ (x : AuditFault). Err x) is));
       kept = tt;
-      unfailed = λ none. (read.unfailed none, refl);
+      unfailed = λ none. (read.unfailed none, (refl, refl));
     }
 
-pub tells_of : {V : Type 0} (Tells : List ℕ → List ℕ → List ℕ → V → Type 0) (Breaks : List ℕ → List ℕ → List ℕ → ℕ → Type 0) (Says : List ℕ → V → Type 0) (trace : Reading) (out : Writing)
+pub tells_of : {V : Type 0} (Tells : List ℕ → List ℕ → List ℕ → V → Type 0) (Breaks : List ℕ → Writing → ℕ → Type 0) (Says : List ℕ → V → Type 0) (trace : Reading) (out : Writing)
     (t : TraceValue) (r : Result V AuditFault) → TraceRead trace (Ok t) → Told Says out r
     → ((a text old new : List ℕ) (v : V) → trace_of true a ≡ Ok t → Says text v → new ≡ old ++ text → Tells a old new v)
-    → ((a text old new : List ℕ) (v : V) (n : ℕ) → trace_of true a ≡ Ok t → Says text v → FailsWriting old new n text → Breaks a old new n)
+    → ((a text : List ℕ) (v : V) (n : ℕ) → trace_of true a ≡ Ok t → Says text v → FailsWriting out n text → Breaks a out n)
     → TellsOfTrace Tells Breaks trace out r
 tells_of Tells Breaks Says trace out t (Ok v) read told tells breaks =
     record {
@@ -217,8 +217,7 @@ tells_of {V} Tells Breaks Says trace out t (Err e) read told tells breaks =
       trace_cut = λ f is. absurd (never_refused (Err e) (faults.Trace f) told.kinds is tt);
       write = λ n is.
           let h = told.write n is in
-          of_all-map trace (λ a. trace_of true a ≡ Ok t) (λ a. Breaks a out.before.taken out.after.taken n)
-          (λ a says. breaks a h.1 out.before.taken out.after.taken h.0 n says h.2 h.3) read.given;
+          of_all-map trace (λ a. trace_of true a ≡ Ok t) (λ a. Breaks a out n) (λ a says. breaks a h.1 h.0 n says h.2 h.3) read.given;
       unwritten = told.unwritten;
       most = read.few;
       known = read.next;
@@ -229,7 +228,7 @@ tells_of {V} Tells Breaks Says trace out t (Err e) read told tells breaks =
     }
 
 -- the same call with another answer
-pub tells-map : {V X : Type 0} (Tells : List ℕ → List ℕ → List ℕ → V → Type 0) (Also : List ℕ → List ℕ → List ℕ → X → Type 0) (Breaks : List ℕ → List ℕ → List ℕ → ℕ → Type 0)
+pub tells-map : {V X : Type 0} (Tells : List ℕ → List ℕ → List ℕ → V → Type 0) (Also : List ℕ → List ℕ → List ℕ → X → Type 0) (Breaks : List ℕ → Writing → ℕ → Type 0)
     (trace : Reading) (out : Writing) (v : V) (x : X) → ((a old new : List ℕ) → Tells a old new v → Also a old new x)
     → TellsOfTrace Tells Breaks trace out (Ok v) → TellsOfTrace Also Breaks trace out (Ok x)
 tells-map Tells Also Breaks trace out v x f h =
@@ -250,7 +249,7 @@ tells-map Tells Also Breaks trace out v x f h =
       unfailed = tt;
     }
 
-pub tells_fault : {V X : Type 0} (Tells : List ℕ → List ℕ → List ℕ → V → Type 0) (Also : List ℕ → List ℕ → List ℕ → X → Type 0) (Breaks : List ℕ → List ℕ → List ℕ → ℕ → Type 0)
+pub tells_fault : {V X : Type 0} (Tells : List ℕ → List ℕ → List ℕ → V → Type 0) (Also : List ℕ → List ℕ → List ℕ → X → Type 0) (Breaks : List ℕ → Writing → ℕ → Type 0)
     (trace : Reading) (out : Writing) (e : AuditFault) → TellsOfTrace Tells Breaks trace out (Err e) → TellsOfTrace Also Breaks trace out (Err e)
 tells_fault {V} {X} Tells Also Breaks trace out e h =
     record {
@@ -268,7 +267,7 @@ tells_fault {V} {X} Tells Also Breaks trace out e h =
       unfailed = h.unfailed;
     }
 
-pub tells_at_rest : {V : Type 0} (Tells : List ℕ → List ℕ → List ℕ → V → Type 0) (Breaks : List ℕ → List ℕ → List ℕ → ℕ → Type 0) (a : Reader) (w : Writer)
+pub tells_at_rest : {V : Type 0} (Tells : List ℕ → List ℕ → List ℕ → V → Type 0) (Breaks : List ℕ → Writing → ℕ → Type 0) (a : Reader) (w : Writer)
     → TellsOfTrace Tells Breaks (record { before = a; after = a }) (record { before = w; after = w }) (Err faults.Limits)
 tells_at_rest Tells Breaks a w =
     record {
@@ -283,7 +282,7 @@ tells_at_rest Tells Breaks a w =
       held = behind_at_rest w;
       devices = tt;
       kept = tt;
-      unfailed = λ none. (refl, refl);
+      unfailed = λ none. (refl, (refl, refl));
     }
 
 pub history_of_trace : (e : AuditFault) → IsOfTrace e → IsOfHistory e
@@ -353,7 +352,7 @@ audited_no_trace trace b w e read =
       held = behind_at_rest w;
       devices = devices_of_trace e _ _ _ read.kinds (λ f is. read.failed f (ap (λ (x : AuditFault). Err x) is));
       kept = tt;
-      unfailed = λ none. (read.unfailed none, refl, refl);
+      unfailed = λ none. (read.unfailed none, refl, (refl, refl));
     }
 
 -- the evidence was refused, and nothing was written
@@ -377,7 +376,7 @@ audited_no_evidence Says trace evidence w t e read given =
       held = behind_at_rest w;
       devices = devices_of_evidence e _ _ _ given.kinds (λ f is. given.failed f (ap (λ (x : AuditFault). Err x) is));
       kept = tt;
-      unfailed = λ none. (read.held, given.unfailed none, refl);
+      unfailed = λ none. (read.held, given.unfailed none, (refl, refl));
     }
 
 -- what was found was told
@@ -422,8 +421,8 @@ audited trace evidence out t found (Err e) read by law told =
       evidence_cut = λ f is. absurd (never_refused (Err e) (faults.Evidence f) told.kinds is tt);
       write = λ n is.
           let h = told.write n is in
-          on_both trace evidence t read.given (λ a b. Breaks a b out.before.taken out.after.taken n) given by.given.2
-          (λ a b is says. (t, given, is, says, subst (λ (text : List ℕ). FailsWriting out.before.taken out.after.taken n text) h.2.0 h.3));
+          on_both trace evidence t read.given (λ a b. Breaks a b out n) given by.given.2
+          (λ a b is says. (t, given, is, says, subst (λ (text : List ℕ). FailsWriting out n text) h.2.0 h.3));
       unwritten = told.unwritten;
       most = (read.few, by.few);
       known = (read.next, by.next);
@@ -453,7 +452,7 @@ audited_at_rest a b w =
       held = behind_at_rest w;
       devices = tt;
       kept = tt;
-      unfailed = λ none. (refl, refl, refl);
+      unfailed = λ none. (refl, refl, (refl, refl));
     }
 
 -- what is told of evidence for a trace is told of the bytes of both

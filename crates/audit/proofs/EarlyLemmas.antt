@@ -10,7 +10,7 @@ use Rattle.std.proofs.lemmas.List.Elements.{All-nil, All-push, All-weaker}
 use Rattle.trace_lines.specs.Values.{TraceValue, EntryValue}
 use Rattle.evidence_check.specs.Steps.{StepValue}
 use Rattle.audit.specs.Devices.{HasRisen}
-use Rattle.audit.specs.Early.{IsEarlyLine, WriterState, WentOut, TellsEarly, early_text}
+use Rattle.audit.specs.Early.{IsEarlyLine, WriterState, WasLast, WentOut, TellsEarly, early_text}
 use Rattle.findings.specs.Findings.{found_on, on_line}
 use Rattle.audit.specs.Shared.{nothing_found, found_at, has_finding}
 use Rattle.audit.specs.Told.{IsLineOf, line_for}
@@ -25,7 +25,7 @@ joined lines = flat_map (λ l. l) lines
 
 -- the first n bytes of a line went out
 goes_on : (P : List ℕ → Type 0) (old mid new : WriterState) (line : List ℕ) (n : ℕ) (given_up : Bool) → P line → new.taken ≡ mid.taken ++ take n line
-    → (given_up ≡ false → (length line ≡ n) × (new.failures ≡ mid.failures) × (new.idle ≡ mid.idle)) → (given_up ≡ true → HasRisen mid.failures new.failures ⊎ HasRisen mid.idle new.idle)
+    → (given_up ≡ false → (length line ≡ n) × (new.failures ≡ mid.failures) × (new.idle ≡ mid.idle)) → (given_up ≡ true → WasLast mid new)
     → WentOut P old mid false → WentOut P old new given_up
 unfolding joined
 goes_on P old mid new line n given_up is part all risen e =
@@ -45,12 +45,14 @@ goes_on P old mid new line n given_up is part all risen e =
         now.1 ∙ kept.1,
         now.2 ∙ kept.2,
       );
-      cut = λ gives. rises kept.1 kept.2 (risen gives);
+      cut = λ gives. let last = risen gives in (rises kept.1 kept.2 last.0, last.1);
     }
   where
-    rises : mid.failures ≡ old.failures → mid.idle ≡ old.idle → HasRisen mid.failures new.failures ⊎ HasRisen mid.idle new.idle → HasRisen old.failures new.failures ⊎ HasRisen old.idle new.idle
-    rises a b (inl h) = inl (h ∙ ap (λ (k : ℕ). k + 1) a)
-    rises a b (inr h) = inr (h ∙ ap (λ (k : ℕ). k + 1) b)
+    rises : mid.failures ≡ old.failures → mid.idle ≡ old.idle
+        → (HasRisen mid.failures new.failures × (new.idle ≡ mid.idle)) ⊎ (HasRisen mid.idle new.idle × (new.failures ≡ mid.failures))
+        → (HasRisen old.failures new.failures × (new.idle ≡ old.idle)) ⊎ (HasRisen old.idle new.idle × (new.failures ≡ old.failures))
+    rises a b (inl h) = inl (h.0 ∙ ap (λ (k : ℕ). k + 1) a, h.1 ∙ b)
+    rises a b (inr h) = inr (h.0 ∙ ap (λ (k : ℕ). k + 1) b, h.1 ∙ a)
 
 module _ (gives : ℕ → Found → Type 0) (alerts : Found → Bool) (old mid new : WriterState) (i : ℕ) (found : Found) (line : List ℕ) where
   line_is : gives i found → alerts found ≡ true → line ≡ line_for found → IsLineOf gives alerts line
@@ -65,15 +67,17 @@ module _ (gives : ℕ → Found → Type 0) (alerts : Found → Bool) (old mid n
       (∥∥₁_map before (goes_on P old mid new line (length line) false (line_is at.0 at.1 is) (out ∙ ap (λ (l : List ℕ). mid.taken ++ l) (sym (take-length line))) (λ _. (refl, kept.0, kept.1)) (λ e. absurd cc)))
 
   pub tells_part : (n : ℕ) (b : Bool) → b ≡ false → gives i found × (alerts found ≡ true) → line ≡ line_for found → new.taken ≡ mid.taken ++ take n line
-      → HasRisen mid.failures new.failures ⊎ (HasRisen mid.idle new.idle × (n < length line)) → ∥ WentOut (IsLineOf gives alerts) old mid b ∥₁ → ∥ WentOut (IsLineOf gives alerts) old new true ∥₁
-  tells_part n b keeps at is out risen told =
+      → (HasRisen mid.failures new.failures × (new.idle ≡ mid.idle)) ⊎ (HasRisen mid.idle new.idle × (new.failures ≡ mid.failures) × (n < length line)) → new.since ≡ 0
+      → ∥ WentOut (IsLineOf gives alerts) old mid b ∥₁ → ∥ WentOut (IsLineOf gives alerts) old new true ∥₁
+  tells_part n b keeps at is out risen last told =
       let P : List ℕ → Type 0 = IsLineOf gives alerts in
       let before : ∥ WentOut P old mid false ∥₁ = subst (λ (b : Bool). ∥ WentOut P old mid b ∥₁) keeps told in
-      ∥∥₁_map before (goes_on P old mid new line n true (line_is at.0 at.1 is) out (λ e. absurd cc) (λ _. either risen))
+      ∥∥₁_map before (goes_on P old mid new line n true (line_is at.0 at.1 is) out (λ e. absurd cc) (λ _. (either risen, last)))
     where
-      either : HasRisen mid.failures new.failures ⊎ (HasRisen mid.idle new.idle × (n < length line)) → HasRisen mid.failures new.failures ⊎ HasRisen mid.idle new.idle
+      either : (HasRisen mid.failures new.failures × (new.idle ≡ mid.idle)) ⊎ (HasRisen mid.idle new.idle × (new.failures ≡ mid.failures) × (n < length line))
+          → (HasRisen mid.failures new.failures × (new.idle ≡ mid.idle)) ⊎ (HasRisen mid.idle new.idle × (new.failures ≡ mid.failures))
       either (inl h) = inl h
-      either (inr h) = inr h.0
+      either (inr h) = inr (h.0, h.1)
 
 pub begins : (P : List ℕ → Type 0) (old : WriterState) → ∥ WentOut P old old false ∥₁
 begins P old = merely (record { lines = []; each = All-nil P; written = 0; goes = sym (append-nil old.taken); whole = λ _. (refl, refl, refl); cut = λ e. absurd cc })

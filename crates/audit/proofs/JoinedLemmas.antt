@@ -21,11 +21,11 @@ use Rattle.evidence_check.specs.Steps.{StepValue}
 use Rattle.findings.proofs.WrongReplies.{named_by_bytes}
 use Rattle.findings.specs.Headline.{IsRightAndFresh, IsTraceRightAndFresh}
 use Rattle.findings.specs.WrongReplies.{NamesOnlyWrongReplies}
-use Rattle.audit.specs.Audit.{Audits, Breaks, FailsWriting, IsOfBehind, IsOfDevices, IsOfFront, IsOfJoined, IsWrite, RefusesTrace}
+use Rattle.audit.specs.Audit.{Audits, Breaks, IsOfBehind, IsOfDevices, IsOfFront, IsOfJoined, IsWrite, RefusesTrace}
 use Rattle.json_lines.specs.declared.lines.InputFault.{InputFault}
 use Rattle.json_lines.specs.declared.lines.InputFault.TheVariants as input
 use Rattle.audit.specs.Answers.{Told, IsReport}
-use Rattle.audit.specs.Devices.{Writing}
+use Rattle.audit.specs.Devices.{Writing, FailsWriting}
 use Rattle.audit.proofs.Readers.{devices_of_writing}
 use Rattle.audit.specs.Joined.{OfParts, HasNoParts, IsRead, of_input}
 use Rattle.audit.specs.declared.plain.AuditFault.{AuditFault}
@@ -134,11 +134,11 @@ module _ {R : Type 0} (given : R → List ℕ) (ends : R → ℕ) (old new : R) 
     joined_audited out (Err e) told = tt
 
     pub joined_broken : (out : Writing) (r : Result Verdict AuditFault) → Told (IsReport t evidence) out r
-        → (n : ℕ) → r ≡ Err (faults.Write n) → OfWhole given ends old new (OfParts (λ a b. Breaks a b out.before.taken out.after.taken n))
+        → (n : ℕ) → r ≡ Err (faults.Write n) → OfWhole given ends old new (OfParts (λ a b. Breaks a b out n))
     joined_broken out r told n is =
         let h = told.write n is in
-        on_both (λ a b. Breaks a b out.before.taken out.after.taken n)
-        (λ a b is by. (t, evidence, is, by, subst (λ (l : List ℕ). FailsWriting out.before.taken out.after.taken n l) h.2.0 h.3))
+        on_both (λ a b. Breaks a b out n)
+        (λ a b is by. (t, evidence, is, by, subst (λ (l : List ℕ). FailsWriting out n l) h.2.0 h.3))
 
     pub joined_right : IsRightAndFresh t → OfWhole given ends old new (OfParts (λ a b. IsTraceRightAndFresh a))
     joined_right right = on_both (λ a b. IsTraceRightAndFresh a) (λ a b is by. (t, is, right))

@@ -19,7 +19,6 @@ use Rattle.findings.specs.declared.finding.What.TheVariants.{NoEvidence, WrongRe
 use Rattle.findings.specs.Headline.{IsRightAndFresh, IsTraceRightAndFresh}
 use Rattle.findings.proofs.EachFinding.{HoldsOfTokens, each_finding}
 use Rattle.findings.proofs.ToldFindings.{by_evidence, told}
-use Rattle.audit.specs.Audit.{FailsWriting}
 use Rattle.audit.specs.Made.{IsMade, AreMade}
 use Rattle.audit.specs.MadeAudit.{AuditsMade, BreaksMade, WhateverIsMade, IsOfMaker, AreOfMaker, IsSettled, MissesNoWrongReply, IsFoundMade, AuditedMade}
 use Rattle.audit.specs.Shared.{found_lines}
@@ -27,7 +26,7 @@ use Rattle.audit.specs.declared.shared.Found.{Found}
 use Rattle.audit.specs.declared.plain.AuditFault.{AuditFault}
 use Rattle.audit.specs.declared.plain.Verdict.{Verdict}
 use Rattle.audit.specs.Answers.{TraceRead, Told, IsReport, TellsOfTrace}
-use Rattle.audit.specs.Devices.{Reading, Writing, Writer, OfAll}
+use Rattle.audit.specs.Devices.{Reading, Writing, Writer, FailsWriting, OfAll}
 use Rattle.audit.proofs.Answering.{tells_of, told_clean}
 use Rattle.audit.proofs.Readers.{of_all-map}
 use Rattle.findings.proofs.WrongReplies.{named_by_bytes}
@@ -134,7 +133,7 @@ module _ (trace : Reading) (out : Writing) (t : TraceValue) (read : TraceRead tr
         tells =
             tells_of AuditsMade BreaksMade (IsReport t given) trace out t r read told
             (λ a text old new v is says went. (t, given, is, made, (went ∙ ap (λ (l : List ℕ). old ++ l) says.0, says.1)))
-            (λ a text old new v n is says fails. (t, given, is, made, subst (λ (l : List ℕ). FailsWriting old new n l) says.0 fails));
+            (λ a text v n is says fails. (t, given, is, made, subst (λ (l : List ℕ). FailsWriting out n l) says.0 fails));
         headline = λ clean.
             of_all-map trace (λ a. trace_of true a ≡ Ok t) IsTraceRightAndFresh (λ a is. (t, is, law given (told_clean t given out r told clean))) read.given;
         wrong_replies = whatever_made trace t read.given r HasOnlyWrongRepliesNamed (λ a given is made. named_by_bytes a t given is);

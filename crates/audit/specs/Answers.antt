@@ -15,8 +15,8 @@ use Rattle.findings.specs.Findings.{findings_of}
 use Rattle.findings.specs.declared.finding.Finding.{Finding}
 use Rattle.findings.specs.Headline.{IsTraceRightAndFresh}
 use Rattle.findings.specs.WrongReplies.{NamesOnlyWrongReplies}
-use Rattle.audit.specs.Audit.{Audits, Breaks, RefusesTrace, RefusesEvidence, RefusesEvidenceFor, CutsEvidence, FailsWriting, IsOfDevices, IsOfNoDevice, IsOfTrace, IsOfEvidence, IsUnwritten, IsWrite, report_on, verdict_of}
-use Rattle.audit.specs.Devices.{Reading, Writing, OfCame, OfAll, OfAny, OfBoth, GivesFew, GivesNext, ReaderFailed, ReaderHeld, WriterFailed, WriterHeld, IsUntouched, StandsBehind}
+use Rattle.audit.specs.Audit.{Audits, Breaks, RefusesTrace, RefusesEvidence, RefusesEvidenceFor, CutsEvidence, IsOfDevices, IsOfNoDevice, IsOfTrace, IsOfEvidence, IsUnwritten, IsWrite, report_on, verdict_of}
+use Rattle.audit.specs.Devices.{Reading, Writing, OfCame, OfAll, OfAny, OfBoth, GivesFew, GivesNext, ReaderFailed, ReaderHeld, WriterFailed, WriterHeld, IsUntouched, FailsWriting, StandsBehind}
 use Rattle.audit.specs.declared.plain.Verdict.{Verdict}
 use Rattle.audit.specs.declared.plain.Verdict.TheVariants.{Clean}
 use Rattle.audit.specs.declared.plain.AuditFault.{AuditFault}
@@ -59,9 +59,9 @@ pub record EvidenceRead {V : Type 0} (Says : List (Option (List StepValue)) → 
 pub record Told {V : Type 0} (Says : List ℕ → V → Type 0) (out : Writing) (result : Result V AuditFault) : Type 0 where
   pub text : IfOk result (λ v. (text : List ℕ) × Says text v × (out.after.taken ≡ out.before.taken ++ text))
   pub flushed : OnOk result (out.after.flushes ≡ out.before.flushes + 1)
-  -- the first n bytes went out, and the writer failed or took none of some
+  -- the first n bytes went out, and the writer failed or took none of some; where these are all, it failed to flush
   pub write : (n : ℕ) → result ≡ Err (faults.Write n)
-      → (v : V) × (text : List ℕ) × Says text v × FailsWriting out.before.taken out.after.taken n text
+      → (v : V) × (text : List ℕ) × Says text v × FailsWriting out n text
   pub failed : IfErr result (λ e. IsWrite e → WriterFailed out)
   pub kept : OnOk result (WriterHeld out)
   -- of memory alone nothing is written
@@ -83,7 +83,7 @@ AreFound t given v = v.items ≡ findings_of t given
 -- A call that reads a trace and tells of it. Tells is what stands between the bytes of the trace, what the writer took
 -- before and after, and the answer; Breaks is that where writing failed after so many bytes.
 pub record TellsOfTrace {V : Type 0} (Tells : List ℕ → List ℕ → List ℕ → V → Type 0)
-    (Breaks : List ℕ → List ℕ → List ℕ → ℕ → Type 0) (trace : Reading) (out : Writing)
+    (Breaks : List ℕ → Writing → ℕ → Type 0) (trace : Reading) (out : Writing)
     (result : Result V AuditFault) : Type 0 where
   -- what is told of all that the reader gave, to its end, went out whole
   pub told : IfOk result (λ v. OfAll trace (λ a. Tells a out.before.taken out.after.taken v))
@@ -92,8 +92,8 @@ pub record TellsOfTrace {V : Type 0} (Tells : List ℕ → List ℕ → List ℕ
   pub trace_refused : (f : TraceFault) → result ≡ Err (faults.Trace f) → OfAny trace (λ a. RefusesTrace a f)
   pub trace_cut : (f : TraceFault) → result ≡ Err (faults.Trace f) → f.cause ≡ causes.Read
       → OfCame trace (λ a. trace_of false a ≡ Err f)
-  -- the first n bytes went out, and no others
-  pub write : (n : ℕ) → result ≡ Err (faults.Write n) → OfAll trace (λ a. Breaks a out.before.taken out.after.taken n)
+  -- the first n bytes went out, and no others; where these are all, a flush failed, and else none was asked for
+  pub write : (n : ℕ) → result ≡ Err (faults.Write n) → OfAll trace (λ a. Breaks a out n)
   pub unwritten : IfErr result (λ e. IsUnwritten e → IsUntouched out)
   pub most : GivesFew trace
   pub known : GivesNext trace
@@ -122,9 +122,9 @@ pub record Audited (trace evidence : Reading) (out : Writing) (result : Result V
       → OfAll trace (λ a. OfAny evidence (λ b. RefusesEvidence a b f))
   pub evidence_cut : (f : EvidenceFault) → result ≡ Err (faults.Evidence f) → f.cause ≡ evidence_causes.Read
       → OfAll trace (λ a. OfCame evidence (λ b. CutsEvidence a b f))
-  -- the first n bytes went out, and no others
+  -- the first n bytes went out, and no others; where these are all, a flush failed, and else none was asked for
   pub write : (n : ℕ) → result ≡ Err (faults.Write n)
-      → OfBoth trace evidence (λ a b. Breaks a b out.before.taken out.after.taken n)
+      → OfBoth trace evidence (λ a b. Breaks a b out n)
   pub unwritten : IfErr result (λ e. IsUnwritten e → IsUntouched out)
   pub most : GivesFew trace × GivesFew evidence
   pub known : GivesNext trace × GivesNext evidence

@@ -1,5 +1,5 @@
 -- What an audit answers and writes.
-use Rattle.std.specs.Prelude.{◌≡◌, ◌≢◌, ℕ, ◌≤◌, true, false, List, [], ◌∷◌, ◌++◌, length, take, Option, Ok, Err, ⊤}
+use Rattle.std.specs.Prelude.{◌≡◌, ◌≢◌, ℕ, true, false, List, [], ◌∷◌, ◌++◌, length, Option, Ok, Err, ⊤}
 use Rattle.trace_lines.specs.Values.{TraceValue}
 use Rattle.trace_lines.specs.Traces.{trace_of}
 use Rattle.trace_lines.specs.Results.{FailsBy}
@@ -13,6 +13,7 @@ use Rattle.evidence_check.specs.Steps.{StepValue}
 use Rattle.findings.specs.Findings.{findings_of}
 use Rattle.findings.specs.Report.{report_text}
 use Rattle.findings.specs.declared.finding.Finding.{Finding}
+use Rattle.audit.specs.Devices.{Writing, FailsWriting}
 use Rattle.audit.specs.declared.plain.Verdict.{Verdict}
 use Rattle.audit.specs.declared.plain.Verdict.TheVariants.{Clean, Dirty}
 use Rattle.audit.specs.declared.plain.AuditFault.{AuditFault}
@@ -35,10 +36,6 @@ IsWrite _ = ⊥
 abbrev pub IsUnwritten : AuditFault → Type 0
 IsUnwritten (faults.Write n) = ⊥
 IsUnwritten _ = ⊤
-
--- the first n bytes of the report went out, and no others
-abbrev pub FailsWriting : List ℕ → List ℕ → ℕ → List ℕ → Type 0
-FailsWriting old new n report = (n ≤ length report) × (new ≡ old ++ take n report)
 
 -- ---- what the readers' bytes say
 
@@ -65,10 +62,10 @@ abbrev pub RefusesEvidence : List ℕ → List ℕ → EvidenceFault → Type 0
 RefusesEvidence a b f = (t : TraceValue) × (trace_of true a ≡ Ok t) × RefusesEvidenceFor t b f
 
 -- the bytes say a trace and evidence for it, and the report on them went out up to its first n bytes
-abbrev pub Breaks : List ℕ → List ℕ → List ℕ → List ℕ → ℕ → Type 0
-Breaks a b old new n =
+abbrev pub Breaks : List ℕ → List ℕ → Writing → ℕ → Type 0
+Breaks a b out n =
     (t : TraceValue) × (given : List (Option (List StepValue))) × (trace_of true a ≡ Ok t) × (evidence_of t.entries true b ≡ Ok given)
-    × FailsWriting old new n (report_on t given)
+    × FailsWriting out n (report_on t given)
 
 -- ---- the devices
 

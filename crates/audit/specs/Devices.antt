@@ -1,6 +1,7 @@
 -- What a call's contract says of its readers and of its writer: each before the call, and after it.
-use Rattle.std.specs.Prelude.{◌≡◌, ◌⊎◌, ℕ, ◌+◌, ◌≤◌, List, Option, length}
+use Rattle.std.specs.Prelude.{◌≡◌, ◌⊎◌, ℕ, ◌+◌, ◌≤◌, List, ◌++◌, Option, length, take}
 use Rattle.json_lines.specs.Given.{OfBytes, OfWhole, OfInput, AreNext, StandBehind}
+use Rattle.json_lines.specs.Moves.{IsBrokenOff}
 use Rattle.json_lines.specs.declared.lines.TheConstants.{CHUNK}
 use Rattle.json_lines.specs.declared.reading.TheConstants.{MAX_INPUT}
 
@@ -87,12 +88,18 @@ abbrev pub WriterFailed : Writing → Type 0
 WriterFailed w = HasRisen w.before.failures w.after.failures ⊎ HasRisen w.before.idle w.after.idle
 
 abbrev pub WriterHeld : Writing → Type 0
-WriterHeld w = w.after.failures ≡ w.before.failures
+WriterHeld w = (w.after.failures ≡ w.before.failures) × (w.after.idle ≡ w.before.idle)
 
 -- ---- what a writer took
 
 abbrev pub IsUntouched : Writing → Type 0
 IsUntouched w = w.after.taken ≡ w.before.taken
+
+-- the first n bytes of the text went out, and no others; a flush was asked for where these are all, and only there
+abbrev pub FailsWriting : Writing → ℕ → List ℕ → Type 0
+FailsWriting w n text =
+    (n ≤ length text) × (w.after.taken ≡ w.before.taken ++ take n text)
+    × IsBrokenOff w.before.flushes w.after.flushes n (length text)
 
 -- where it is known what the writer holds, what went out stands behind that
 abbrev pub StandsBehind : Writing → Type 0

@@ -6,7 +6,8 @@ use Rattle.tuple_text.specs.Tuples.{TupleValue}
 use Rattle.version_chains.specs.Commits.{Commit, history_of}
 use Rattle.trace_lines.specs.Values.{TraceValue}
 use Rattle.trace_lines.specs.Traces.{trace_of}
-use Rattle.audit.specs.Audit.{FailsWriting, IsOfTrace}
+use Rattle.audit.specs.Audit.{IsOfTrace}
+use Rattle.audit.specs.Devices.{Writing, FailsWriting}
 use Rattle.audit.specs.declared.plain.AuditFault.{AuditFault}
 use Rattle.audit.specs.declared.plain.AuditFault.TheVariants as faults
 
@@ -23,8 +24,8 @@ abbrev pub TellsHistory : List ℕ → TupleValue → List ℕ → List ℕ → 
 TellsHistory a tuple old new n = (t : TraceValue) × (trace_of true a ≡ Ok t) × (new ≡ old ++ history_text t.commits tuple) × (n ≡ length (history_of t.commits tuple))
 
 -- the bytes say a trace, and the tuple's history in it went out up to its first n bytes
-abbrev pub BreaksHistory : List ℕ → TupleValue → List ℕ → List ℕ → ℕ → Type 0
-BreaksHistory a tuple old new n = (t : TraceValue) × (trace_of true a ≡ Ok t) × FailsWriting old new n (history_text t.commits tuple)
+abbrev pub BreaksHistory : List ℕ → TupleValue → Writing → ℕ → Type 0
+BreaksHistory a tuple out n = (t : TraceValue) × (trace_of true a ≡ Ok t) × FailsWriting out n (history_text t.commits tuple)
 
 -- a fault of telling a history
 abbrev pub IsOfHistory : AuditFault → Type 0

@@ -13,7 +13,7 @@ use Rattle.goal_cone.specs.Bounds.{IsOutgrown}
 use Rattle.goal_cone.specs.declared.premises.TheConstants.{MAX_LINKS}
 use Rattle.record_text.specs.Record.{record_text, record_length}
 use Rattle.evidence_maker.specs.Made.{IsOneStep, IsTooLong}
-use Rattle.audit.specs.Audit.{FailsWriting}
+use Rattle.audit.specs.Devices.{Writing, FailsWriting}
 
 -- by the steps the entry is supported or contradicted
 abbrev pub IsDecided : TraceValue → EntryValue → List StepValue → Type 0
@@ -74,6 +74,6 @@ abbrev pub MakesRecords : List ℕ → List ℕ → List ℕ → List ℕ → Ty
 MakesRecords a old new lines = (t : TraceValue) × (trace_of true a ≡ Ok t) × (text : List ℕ) × AreRecords t text lines × (new ≡ old ++ text)
 
 -- the bytes say a trace, and the records that are made for it went out up to their first n bytes
-abbrev pub BreaksMaking : List ℕ → List ℕ → List ℕ → ℕ → Type 0
-BreaksMaking a old new n =
-    (t : TraceValue) × (trace_of true a ≡ Ok t) × (text : List ℕ) × (lines : List ℕ) × AreRecords t text lines × FailsWriting old new n text
+abbrev pub BreaksMaking : List ℕ → Writing → ℕ → Type 0
+BreaksMaking a out n =
+    (t : TraceValue) × (trace_of true a ≡ Ok t) × (text : List ℕ) × (lines : List ℕ) × AreRecords t text lines × FailsWriting out n text

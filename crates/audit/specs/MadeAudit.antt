@@ -11,12 +11,12 @@ use Rattle.findings.specs.declared.finding.Finding.{Finding}
 use Rattle.findings.specs.declared.finding.What.{What}
 use Rattle.findings.specs.declared.finding.What.TheVariants.{NoEvidence, BadEvidence, Silent, WrongReply}
 use Rattle.audit.specs.Answers.{TellsOfTrace}
-use Rattle.audit.specs.Devices.{Reading, Writing, OfAll}
+use Rattle.audit.specs.Devices.{Reading, Writing, FailsWriting, OfAll}
 use Rattle.findings.specs.Headline.{IsTraceRightAndFresh}
 use Rattle.findings.specs.WrongReplies.{HasOnlyWrongRepliesNamed}
 use Rattle.audit.specs.declared.plain.AuditFault.{AuditFault}
 use Rattle.audit.specs.declared.plain.Verdict.TheVariants.{Clean}
-use Rattle.audit.specs.Audit.{report_on, verdict_of, FailsWriting}
+use Rattle.audit.specs.Audit.{report_on, verdict_of}
 use Rattle.audit.specs.Made.{IsMade, AreMade, IsOutOfReach}
 use Rattle.audit.specs.declared.shared.Found.{Found}
 use Rattle.audit.specs.declared.plain.Verdict.{Verdict}
@@ -39,8 +39,8 @@ abbrev pub AuditsMade : List ℕ → List ℕ → List ℕ → Verdict → Type 
 AuditsMade a old new v = OfMade (λ t given. (new ≡ old ++ report_on t given) × (v ≡ verdict_of (findings_of t given))) a
 
 -- the report on it went out up to its first n bytes
-abbrev pub BreaksMade : List ℕ → List ℕ → List ℕ → ℕ → Type 0
-BreaksMade a old new n = OfMade (λ t given. FailsWriting old new n (report_on t given)) a
+abbrev pub BreaksMade : List ℕ → Writing → ℕ → Type 0
+BreaksMade a out n = OfMade (λ t given. FailsWriting out n (report_on t given)) a
 
 -- the bytes say a trace, and whatever evidence is made for it, P holds of the findings
 abbrev pub WhateverIsMade : (TraceValue → List Finding → Type 0) → List ℕ → Type 0

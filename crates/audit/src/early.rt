@@ -36,7 +36,7 @@ trait Begun {
 impl Begun for Brand {
     ghost use Rattle.std.specs.Prelude.{[]};
 
-    ghost begun = { record { taken = []; failures = 0; idle = 0 } };
+    ghost begun = { record { taken = []; failures = 0; idle = 0; since = 0 } };
 }
 
 /// It writes a line for each alert that it is shown, until its writer fails or takes nothing.
@@ -46,7 +46,7 @@ struct Teller<'e, E: Sink, N: Names<Found> + Begun> {
     alloc: Global,
     given_up: bool,
     names: PhantomData<N>,
-    ghost told: { ∥ WentOut (IsLineOf N.gives N.alerts) N.begun (state_of E.taken E.failures E.idle early.now) given_up ∥₁ },
+    ghost told: { ∥ WentOut (IsLineOf N.gives N.alerts) N.begun (state_of E.taken E.failures E.idle E.since early.now) given_up ∥₁ },
 }
 
 fn first_of(found: &Found) -> Option<Finding>
@@ -139,9 +139,9 @@ fn found_early<N: Names<Found> + Begun + Sync, E: Sink, R: Threads + Wait + Sync
     requires workers { (0 < workers) × (workers ≤ 16) }
     requires size { 0 < size }
     requires names { IsNamedBy (λ entry found. found ≡ found_at trace.now (evidence_value evidence.now) entry) has_finding N.gives N.alerts }
-    requires begun { N.begun ≡ state_of E.taken E.failures E.idle early.old }
+    requires begun { N.begun ≡ state_of E.taken E.failures E.idle E.since early.old }
     ensures found { IfOk result (λ v. flat_map report_items v.items ≡ all_found trace.now (evidence_value evidence.now)) }
-    ensures early { (given_up : Bool) × ∥ WentOut (IsLineOf N.gives N.alerts) N.begun (state_of E.taken E.failures E.idle early.new) given_up ∥₁ }
+    ensures early { (given_up : Bool) × ∥ WentOut (IsLineOf N.gives N.alerts) N.begun (state_of E.taken E.failures E.idle E.since early.new) given_up ∥₁ }
 {
     let mut teller: Teller<'_, E, N> = Teller {
         early,
@@ -165,7 +165,7 @@ fn findings_early<E: Sink, R: Threads + Wait + Sync>(
     requires workers { (0 < workers) × (workers ≤ 16) }
     requires size { 0 < size }
     ensures found { IfOk result (λ v. v.items ≡ findings_of trace.now (evidence_value evidence.now)) }
-    ensures early { TellsEarly trace.now (evidence_value evidence.now) (state_of E.taken E.failures E.idle early.old) (state_of E.taken E.failures E.idle early.new) }
+    ensures early { TellsEarly trace.now (evidence_value evidence.now) (state_of E.taken E.failures E.idle E.since early.old) (state_of E.taken E.failures E.idle E.since early.new) }
 {
     let reports = found_early::<Brand, E, R>(rt, alloc, trace, evidence, early, workers, size)?;
     gathered(alloc, reports.as_slice())
@@ -190,7 +190,7 @@ impl<'r, 'e, B: Source, R: Threads + Wait + Sync, E: Sink> Finder<B> for Tellers
 
     ghost mark = { λ t. t.early.ghost_name };
 
-    ghost tells = { λ t given old new. TellsEarly t given (state_of E.taken E.failures E.idle old.early.now) (state_of E.taken E.failures E.idle new.early.now) };
+    ghost tells = { λ t given old new. TellsEarly t given (state_of E.taken E.failures E.idle E.since old.early.now) (state_of E.taken E.failures E.idle E.since new.early.now) };
 
     fn findings(
         &mut self,
@@ -240,13 +240,13 @@ pub fn audit_early<A: Source, B: Source, W: Sink, E: Sink, R: Threads + Wait + S
     ensures limits { result ≡ Err faults.Limits ↔ (are_within_limits workers slice ≡ false) }
     ensures unread { result ≡ Err faults.Limits →
         (trace.new ≡ trace.old) × (evidence.new ≡ evidence.old) × (out.new ≡ out.old) × (early.new ≡ early.old) }
-    // Lines went out of entries that have just these findings, and the last may be cut where `early` failed or took none
-    // of some bytes.
+    // Lines went out of entries that have just these findings. The last may be cut where `early` failed or took none of
+    // some bytes; then no call came behind that one.
     ensures early { (early.new ≡ early.old)
         ⊎ OfBoth (reads A.given A.ends A.failures A.remaining trace.old trace.new)
         (reads B.given B.ends B.failures B.remaining evidence.old evidence.new)
-        (λ a b. IsOfBytes a b (λ t given. TellsEarly t given (state_of E.taken E.failures E.idle early.old)
-        (state_of E.taken E.failures E.idle early.new))) }
+        (λ a b. IsOfBytes a b (λ t given. TellsEarly t given (state_of E.taken E.failures E.idle E.since early.old)
+        (state_of E.taken E.failures E.idle E.since early.new))) }
 {
     if !are_within_limits(workers, slice) {
         return Err(AuditFault::Limits);

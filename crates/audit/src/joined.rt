@@ -10,7 +10,7 @@ ghost use Rattle.evidence_check.specs.Judging.{GivesJudged};
 ghost use Rattle.evidence_check.specs.Reading.{evidence_of};
 ghost use Rattle.evidence_check.specs.declared.cause.EvidenceFault.{EvidenceFault};
 ghost use Rattle.audit.specs.Audit.{Audits, Breaks, RefusesTrace, RefusesEvidence, RefusesEvidenceFor, IsOfDevices, IsUnwritten, IsOfFront, IsOfBehind, IsOfJoined};
-ghost use Rattle.audit.specs.Devices.{HasRisen};
+ghost use Rattle.audit.specs.Devices.{HasRisen, WriterHeld, writes};
 ghost use Rattle.findings.specs.Headline.{IsTraceRightAndFresh};
 ghost use Rattle.audit.specs.Joined.{OfParts, HasNoParts, IsRead, of_input};
 ghost use Rattle.findings.specs.WrongReplies.{NamesOnlyWrongReplies};
@@ -107,7 +107,7 @@ pub fn audit_joined<R: Source, W: Sink>(
     ensures evidence { (f : EvidenceFault) → result ≡ Err (faults.Evidence f) → OfWhole R.given R.ends input.old input.new (OfParts (λ a b. RefusesEvidence a b f)) }
     // Of every input that begins with the bytes that came.
     ensures joined { result ≡ Err faults.Joined → OfInput R.given R.ends input.old input.new HasNoParts }
-    ensures write { (n : ℕ) → result ≡ Err (faults.Write n) → OfWhole R.given R.ends input.old input.new (OfParts (λ a b. Breaks a b (W.taken out.old) (W.taken out.new) n)) }
+    ensures write { (n : ℕ) → result ≡ Err (faults.Write n) → OfWhole R.given R.ends input.old input.new (OfParts (λ a b. Breaks a b (writes W.taken W.flushes W.failures W.idle W.contents out.old out.new) n)) }
     ensures unwritten { IfErr result (λ e. IsUnwritten e → W.taken out.new ≡ W.taken out.old) }
     // Also of a reader that never ends.
     ensures most { OfBytes R.given input.old input.new (λ came. length came ≤ MAX_INPUT + CHUNK) }
@@ -118,8 +118,8 @@ pub fn audit_joined<R: Source, W: Sink>(
         (HasRisen (W.failures out.old) (W.failures out.new) ⊎ HasRisen (W.idle out.old) (W.idle out.new))) }
     // Any other answer comes only where no device failed.
     ensures kept { result ≢ Err faults.Input → R.failures input.new ≡ R.failures input.old }
-    ensures out_kept { OnOk result (W.failures out.new ≡ W.failures out.old) }
-    ensures out_unfailed { IfErr result (λ e. IsUnwritten e → W.failures out.new ≡ W.failures out.old) }
+    ensures out_kept { OnOk result (WriterHeld (writes W.taken W.flushes W.failures W.idle W.contents out.old out.new)) }
+    ensures out_unfailed { IfErr result (λ e. IsUnwritten e → WriterHeld (writes W.taken W.flushes W.failures W.idle W.contents out.old out.new)) }
     ensures faults { IfErr result IsOfJoined }
 {
     let (trace, rest) = trace_of_front(alloc, input)?;

@@ -220,7 +220,16 @@ pub(crate) fn see_read(
         (IsRead (rule_at trace.now.declarations at) (store_at trace.now.commits at) fact.now) seen.old }
 {
     match trace.rules().plain_body(fact.set(), at) {
-        Some(rule) => see_premises(alloc, &rule.rewrite, fact.set(), fact.user(), trace, at, seen, room),
+        Some(rule) => see_premises(
+            alloc,
+            &rule.rewrite,
+            fact.set(),
+            fact.user(),
+            trace,
+            at,
+            seen,
+            room,
+        ),
         None => Ok(()),
     }
 }

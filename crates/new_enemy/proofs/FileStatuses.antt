@@ -37,6 +37,11 @@ verdict_failed (Ok Clean) s h = tt
 verdict_failed (Ok Dirty) s h = tt
 verdict_failed (Err e) s h = h.1
 
+pub verdict_past : (answer : Result Verdict AuditFault) (s : ℕ) → IsStatusOf answer s → IfErr answer (λ e. 2 ≤ s)
+verdict_past (Ok Clean) s h = tt
+verdict_past (Ok Dirty) s h = tt
+verdict_past (Err e) s h = h.0
+
 module _ {A : Type 0} (a0 a1 : Counted A) (nothing : moved_by a0 ≡ []) (no_end : stops_of a0 ≡ 0) where
   trace_refused : (f : TraceFault) → f.cause ≢ causes.Read → f.cause ≢ causes.OutOfMemory → OfInput moved_by stops_of a0 a1 (λ a. RefusesTrace a f) → IsNoTrace a1
   trace_refused f read memory h =

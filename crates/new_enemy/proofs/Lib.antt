@@ -1,3 +1,4 @@
+pub mod DeviceStatuses
 pub mod FileStatuses
 pub mod MadeEvidence
 pub mod Runs

@@ -1,18 +1,20 @@
 //! The commands that read files, by what these gave.
 
-ghost use Rattle.std.specs.Prelude.{◌≡◌, ◌≢◌, ◌↔◌, ◌+◌, ◌<◌, ◌≤◌, ◌⊎◌, [], length, false, IfErr, OnOk};
-ghost use Rattle.json_lines.specs.Devices.{moved_by, failures_of, stops_of};
-ghost use Rattle.json_lines.specs.Given.{StandBehind};
-ghost use Rattle.json_lines.specs.declared.lines.TheConstants.{CHUNK};
-ghost use Rattle.json_lines.specs.declared.reading.TheConstants.{MAX_INPUT};
-ghost use Rattle.audit.specs.Devices.{HasRisen};
+ghost use Rattle.std.specs.Prelude.{◌≡◌, ◌≢◌, ◌⊎◌, ◌↔◌, ◌≤◌, [], false, Err, IfErr, OnOk};
+ghost use Rattle.json_lines.specs.Devices.{moved_by};
+ghost use Rattle.audit.specs.Answers.{Audited};
+ghost use Rattle.audit.specs.Audit.{IsOfAudit};
+ghost use Rattle.audit.specs.Devices.{reads, writes};
 ghost use Rattle.audit.specs.Shared.{are_within_limits};
+ghost use Rattle.audit.specs.declared.plain.AuditFault.TheVariants as faults;
 ghost use Rattle.new_enemy.specs.Run.{IsStatus, IsStatusOf};
 ghost use Rattle.new_enemy.specs.Files.{IsCleanAudit, IsDirtyAudit, IsCleanAuditMade, IsDirtyAuditMade, IsMadeEvidence, IsToldHistory, IsNoTrace, IsNoAudit};
+ghost use Rattle.new_enemy.specs.Outcomes.{SaysOfDevices};
+ghost use Rattle.new_enemy.specs.declared.run.Ran.TheVariants as ran;
 
 use crate::status::{status_of, tell, tell_given_up};
 use audit::{AuditFault, Verdict, audit, audit_early, audit_made, history, make_records_listing};
-use json_lines::{Counted, Sink};
+use json_lines::{Counted, Sink, Source};
 use std::alloc::Global;
 use std::io::Read;
 use std::sync::Wait;
@@ -41,6 +43,35 @@ fn status_with<E: Sink>(answer: Result<Verdict, AuditFault>, err: &mut E) -> u8
     }
 }
 
+/// The audit that is asked for. Early alerts go to `err`.
+fn audit_sharing<A: Source, B: Source, W: Sink, E: Sink, P: Threads + Wait + Sync>(
+    rt: &P,
+    alloc: Global,
+    trace: &mut A,
+    evidence: &mut B,
+    sharing: Sharing,
+    out: &mut W,
+    err: &mut E,
+) -> Result<Verdict, AuditFault>
+    ensures audited { Audited (reads A.given A.ends A.failures A.remaining trace.old trace.new)
+        (reads B.given B.ends B.failures B.remaining evidence.old evidence.new)
+        (writes W.taken W.flushes W.failures W.idle W.contents out.old out.new) result }
+    ensures kinds { IfErr result (λ e. IsOfAudit e ⊎ (e ≡ faults.Limits)) }
+    ensures limits { result ≡ Err faults.Limits ↔ (are_within_limits sharing.workers sharing.slice ≡ false) }
+    ensures unread { result ≡ Err faults.Limits → (trace.new ≡ trace.old) × (evidence.new ≡ evidence.old) }
+{
+    let Sharing {
+        workers,
+        slice,
+        early,
+    } = sharing;
+    if early {
+        audit_early(rt, alloc, trace, evidence, out, err, workers, slice)
+    } else {
+        audit(rt, alloc, trace, evidence, out, workers, slice)
+    }
+}
+
 /// Audits a trace by its evidence, writes the report to `out`, and hands the two back with what they gave. Early alerts go to `err`, and a fault
 /// is told there in one line.
 pub fn run_audit<F: Read, W: Sink, E: Sink, P: Threads + Wait + Sync>(
@@ -56,40 +87,16 @@ pub fn run_audit<F: Read, W: Sink, E: Sink, P: Threads + Wait + Sync>(
     // the report on them went out whole.
     ensures clean { result.0 ≡ 0 → IsCleanAudit result.1 result.2 (W.taken out.old) (W.taken out.new) }
     ensures dirty { result.0 ≡ 1 → IsDirtyAudit result.1 result.2 (W.taken out.old) (W.taken out.new) }
-    ensures flushed { result.0 ≤ 1 → W.flushes out.new ≡ W.flushes out.old + 1 }
     ensures limits { result.0 ≡ 3 ↔ (are_within_limits sharing.workers sharing.slice ≡ false) }
     ensures unread { result.0 ≡ 3 → (moved_by result.1 ≡ []) × (moved_by result.2 ≡ []) }
     ensures refused { result.0 ≡ 2 → IsNoAudit result.1 result.2 }
-    ensures device { result.0 ≡ 5 → (0 < failures_of result.1 + failures_of result.2) ⊎ (HasRisen (W.failures out.old) (W.failures out.new) ⊎ HasRisen (W.idle out.old) (W.idle out.new)) }
-    // Any other status comes only where none failed.
-    ensures kept { result.0 ≢ 5 → (failures_of result.1 ≡ 0) × (failures_of result.2 ≡ 0) × (W.failures out.new ≡ W.failures out.old) }
-    ensures unwritten { 2 ≤ result.0 → result.0 ≤ 4 → W.taken out.new ≡ W.taken out.old }
-    // Also of files that never end.
-    ensures most { (length (moved_by result.1) ≤ MAX_INPUT + CHUNK) × (length (moved_by result.2) ≤ MAX_INPUT + CHUNK) }
-    ensures held { StandBehind W.taken W.contents out.old out.new }
+    ensures devices { SaysOfDevices result.0 (ran.Audited result.1 result.2)
+        (writes W.taken W.flushes W.failures W.idle W.contents out.old out.new) }
     ensures statuses { result.0 ≤ 5 }
 {
-    let Sharing {
-        workers,
-        slice,
-        early,
-    } = sharing;
     let mut trace = Counted::new(trace);
     let mut evidence = Counted::new(evidence);
-    let answer = if early {
-        audit_early(
-            rt,
-            alloc,
-            &mut trace,
-            &mut evidence,
-            out,
-            err,
-            workers,
-            slice,
-        )
-    } else {
-        audit(rt, alloc, &mut trace, &mut evidence, out, workers, slice)
-    };
+    let answer = audit_sharing(rt, alloc, &mut trace, &mut evidence, sharing, out, err);
     (status_with(answer, err), trace, evidence)
 }
 
@@ -126,17 +133,11 @@ pub fn run_audit_made<F: Read, W: Sink, E: Sink, P: Threads + Wait + Sync>(
     // out whole.
     ensures clean { result.0 ≡ 0 → IsCleanAuditMade result.1 (W.taken out.old) (W.taken out.new) }
     ensures dirty { result.0 ≡ 1 → IsDirtyAuditMade result.1 (W.taken out.old) (W.taken out.new) }
-    ensures flushed { result.0 ≤ 1 → W.flushes out.new ≡ W.flushes out.old + 1 }
     ensures limits { result.0 ≡ 3 ↔ (are_within_limits sharing.workers sharing.slice ≡ false) }
     ensures unread { result.0 ≡ 3 → moved_by result.1 ≡ [] }
     ensures refused { result.0 ≡ 2 → IsNoTrace result.1 }
-    ensures device { result.0 ≡ 5 → (0 < failures_of result.1) ⊎ (HasRisen (W.failures out.old) (W.failures out.new) ⊎ HasRisen (W.idle out.old) (W.idle out.new)) }
-    // Any other status comes only where none failed.
-    ensures kept { result.0 ≢ 5 → (failures_of result.1 ≡ 0) × (W.failures out.new ≡ W.failures out.old) }
-    ensures unwritten { 2 ≤ result.0 → result.0 ≤ 4 → W.taken out.new ≡ W.taken out.old }
-    // Also of a file that never ends.
-    ensures most { length (moved_by result.1) ≤ MAX_INPUT + CHUNK }
-    ensures held { StandBehind W.taken W.contents out.old out.new }
+    ensures devices { SaysOfDevices result.0 (ran.AuditedAlone result.1)
+        (writes W.taken W.flushes W.failures W.idle W.contents out.old out.new) }
     ensures statuses { result.0 ≤ 5 }
 {
     let mut trace = Counted::new(trace);
@@ -155,20 +156,29 @@ pub fn run_make<F: Read, W: Sink, E: Sink>(
 ) -> (u8, Counted<F>)
     // All that the file gave, to its end, is a trace, and the records that are made for it went out whole.
     ensures made { result.0 ≡ 0 → IsMadeEvidence result.1 (W.taken out.old) (W.taken out.new) }
-    ensures flushed { result.0 ≡ 0 → W.flushes out.new ≡ W.flushes out.old + 1 }
     ensures refused { result.0 ≡ 2 → IsNoTrace result.1 }
-    ensures device { result.0 ≡ 5 → (0 < failures_of result.1) ⊎ (HasRisen (W.failures out.old) (W.failures out.new) ⊎ HasRisen (W.idle out.old) (W.idle out.new)) }
-    // Any other status comes only where none failed.
-    ensures kept { result.0 ≢ 5 → (failures_of result.1 ≡ 0) × (W.failures out.new ≡ W.failures out.old) }
-    ensures unwritten { 2 ≤ result.0 → result.0 ≤ 4 → W.taken out.new ≡ W.taken out.old }
-    // Also of a file that never ends.
-    ensures most { length (moved_by result.1) ≤ MAX_INPUT + CHUNK }
-    ensures held { StandBehind W.taken W.contents out.old out.new }
+    ensures devices { SaysOfDevices result.0 (ran.Made result.1)
+        (writes W.taken W.flushes W.failures W.idle W.contents out.old out.new) }
     ensures statuses { (result.0 ≤ 5) × (result.0 ≢ 1) × (result.0 ≢ 3) }
 {
     let mut trace = Counted::new(trace);
     let answer = make_records_listing(alloc, &mut trace, out);
     (status_made(answer, list, err), trace)
+}
+
+/// The status of the answer of `history`. A fault is told to `err` in one line.
+fn status_told<E: Sink>(answer: Result<u64, AuditFault>, err: &mut E) -> u8
+    ensures done { OnOk answer (result ≡ 0) }
+    ensures fault { IfErr answer (λ e. IsStatus e result) }
+    ensures failure { IfErr answer (λ _. 2 ≤ result) }
+{
+    match answer {
+        Ok(_) => 0,
+        Err(fault) => {
+            tell(err, &fault);
+            status_of(&fault)
+        }
+    }
 }
 
 /// Writes a tuple's history in a trace to `out`, and hands the trace's file back with what it gave. A fault is told to `err` in one line.
@@ -181,24 +191,12 @@ pub fn run_history<F: Read, W: Sink, E: Sink>(
 ) -> (u8, Counted<F>)
     // All that the file gave, to its end, is a trace, and the tuple's history in it went out whole.
     ensures told { result.0 ≡ 0 → IsToldHistory tuple.now result.1 (W.taken out.old) (W.taken out.new) }
-    ensures flushed { result.0 ≡ 0 → W.flushes out.new ≡ W.flushes out.old + 1 }
     ensures refused { result.0 ≡ 2 → IsNoTrace result.1 }
-    ensures device { result.0 ≡ 5 → (0 < failures_of result.1) ⊎ (HasRisen (W.failures out.old) (W.failures out.new) ⊎ HasRisen (W.idle out.old) (W.idle out.new)) }
-    // Any other status comes only where none failed.
-    ensures kept { result.0 ≢ 5 → (failures_of result.1 ≡ 0) × (W.failures out.new ≡ W.failures out.old) }
-    ensures unwritten { 2 ≤ result.0 → result.0 ≤ 4 → W.taken out.new ≡ W.taken out.old }
-    // Also of a file that never ends.
-    ensures most { length (moved_by result.1) ≤ MAX_INPUT + CHUNK }
-    ensures held { StandBehind W.taken W.contents out.old out.new }
+    ensures devices { SaysOfDevices result.0 (ran.Told result.1)
+        (writes W.taken W.flushes W.failures W.idle W.contents out.old out.new) }
     ensures statuses { (result.0 ≤ 5) × (result.0 ≢ 1) × (result.0 ≢ 3) }
 {
     let mut trace = Counted::new(trace);
-    let status = match history(alloc, &mut trace, tuple, out) {
-        Ok(_) => 0,
-        Err(fault) => {
-            tell(err, &fault);
-            status_of(&fault)
-        }
-    };
-    (status, trace)
+    let answer = history(alloc, &mut trace, tuple, out);
+    (status_told(answer, err), trace)
 }

@@ -34,7 +34,8 @@ pub fn run_joined<R: Source, W: Sink, E: Sink>(
     ensures device { result ≡ 5 → HasRisen (R.failures input.old) (R.failures input.new)
         ⊎ (HasRisen (W.failures out.old) (W.failures out.new) ⊎ HasRisen (W.idle out.old) (W.idle out.new)) }
     // Any other status comes only where neither failed.
-    ensures kept { result ≢ 5 → (R.failures input.new ≡ R.failures input.old) × (W.failures out.new ≡ W.failures out.old) }
+    ensures kept { result ≢ 5 → (R.failures input.new ≡ R.failures input.old)
+        × (W.failures out.new ≡ W.failures out.old) × (W.idle out.new ≡ W.idle out.old) }
     // A report goes out with a verdict, or as far as the writer took it.
     ensures unwritten { 2 ≤ result → result ≤ 4 → W.taken out.new ≡ W.taken out.old }
     // Also of input that never ends.

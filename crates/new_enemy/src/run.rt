@@ -6,12 +6,12 @@ ghost use Rattle.json_lines.specs.Given.{OfBytes, OfWhole, OfInput, AreNext, Sta
 ghost use Rattle.json_lines.specs.declared.lines.TheConstants.{CHUNK};
 ghost use Rattle.json_lines.specs.declared.reading.TheConstants.{MAX_INPUT};
 ghost use Rattle.audit.specs.Audit.{Audits};
-ghost use Rattle.audit.specs.Devices.{HasRisen};
+ghost use Rattle.audit.specs.Devices.{HasRisen, writes};
 ghost use Rattle.audit.specs.Shared.{are_within_limits};
 ghost use Rattle.findings.specs.Headline.{IsTraceRightAndFresh};
 ghost use Rattle.audit.specs.Joined.{OfParts};
 ghost use Rattle.new_enemy.specs.Files.{OfFiles, file_failures};
-ghost use Rattle.new_enemy.specs.Outcomes.{HasSucceeded, HasFoundDirty, HasRefused, HasReadNothing};
+ghost use Rattle.new_enemy.specs.Outcomes.{HasSucceeded, HasFoundDirty, HasRefused, HasReadNothing, SaysOfDevices};
 ghost use Rattle.new_enemy.specs.Run.{IsRefused, OfEveryInput, IsCleanRun, IsDirtyRun};
 ghost use Rattle.new_enemy.specs.Words.{IsAsked, IsOfCommand, RanAudit, RanAuditAlone, RanMake, RanHistory};
 ghost use Rattle.new_enemy.specs.declared.run.Ran.TheVariants as ran;
@@ -73,15 +73,11 @@ fn audit_paths<W: Sink, E: Sink, P: Files + Threads + Wait + Sync>(
     ensures command { IsOfCommand (Some (codes "audit")) result.1 }
     ensures ran { IfSome paths.entry.1 (λ _. RanAudit result.0 result.1) }
     ensures ran_alone { paths.entry.1 ≡ None → RanAuditAlone result.0 result.1 }
-    ensures flushed { result.0 ≤ 1 → W.flushes out.new ≡ W.flushes out.old + 1 }
     ensures limits { result.0 ≡ 3 → are_within_limits sharing.workers sharing.slice ≡ false }
     ensures unread { result.0 ≡ 3 → HasReadNothing result.1 }
     ensures refused { result.0 ≡ 2 → HasRefused ⊥ result.1 }
-    ensures device { result.0 ≡ 5 → result.1 ≢ ran.Nothing → (0 < file_failures result.1) ⊎ (HasRisen (W.failures out.old) (W.failures out.new) ⊎ HasRisen (W.idle out.old) (W.idle out.new)) }
-    ensures kept { result.0 ≢ 5 → (file_failures result.1 ≡ 0) × (W.failures out.new ≡ W.failures out.old) }
-    ensures unwritten { 2 ≤ result.0 → result.0 ≤ 4 → W.taken out.new ≡ W.taken out.old }
-    ensures most { OfFiles result.1 (λ file. length (moved_by file) ≤ MAX_INPUT + CHUNK) }
-    ensures held { StandBehind W.taken W.contents out.old out.new }
+    ensures devices { SaysOfDevices result.0 result.1
+        (writes W.taken W.flushes W.failures W.idle W.contents out.old out.new) }
     ensures statuses { result.0 ≤ 5 }
 {
     let (trace, evidence) = paths;
@@ -110,13 +106,9 @@ fn make_for_path<W: Sink, E: Sink, P: Files>(
 ) -> (u8, Ran<P::File>)
     ensures made { result.0 ≡ 0 → HasSucceeded ⊥ (W.taken out.old) (W.taken out.new) result.1 }
     ensures ran { RanMake result.0 result.1 }
-    ensures flushed { result.0 ≤ 1 → W.flushes out.new ≡ W.flushes out.old + 1 }
     ensures refused { result.0 ≡ 2 → HasRefused ⊥ result.1 }
-    ensures device { result.0 ≡ 5 → result.1 ≢ ran.Nothing → (0 < file_failures result.1) ⊎ (HasRisen (W.failures out.old) (W.failures out.new) ⊎ HasRisen (W.idle out.old) (W.idle out.new)) }
-    ensures kept { result.0 ≢ 5 → (file_failures result.1 ≡ 0) × (W.failures out.new ≡ W.failures out.old) }
-    ensures unwritten { 2 ≤ result.0 → result.0 ≤ 4 → W.taken out.new ≡ W.taken out.old }
-    ensures most { OfFiles result.1 (λ file. length (moved_by file) ≤ MAX_INPUT + CHUNK) }
-    ensures held { StandBehind W.taken W.contents out.old out.new }
+    ensures devices { SaysOfDevices result.0 result.1
+        (writes W.taken W.flushes W.failures W.idle W.contents out.old out.new) }
     ensures statuses { (result.0 ≤ 5) × (result.0 ≢ 1) × (result.0 ≢ 3) }
 {
     let Some(trace) = opened(rt, trace, err) else {
@@ -136,13 +128,9 @@ fn history_in_path<W: Sink, E: Sink, P: Files>(
     err: &mut E,
 ) -> (u8, Ran<P::File>)
     ensures ran { RanHistory tuple.now (W.taken out.old) (W.taken out.new) result.0 result.1 }
-    ensures flushed { result.0 ≤ 1 → W.flushes out.new ≡ W.flushes out.old + 1 }
     ensures refused { result.0 ≡ 2 → HasRefused ⊥ result.1 }
-    ensures device { result.0 ≡ 5 → result.1 ≢ ran.Nothing → (0 < file_failures result.1) ⊎ (HasRisen (W.failures out.old) (W.failures out.new) ⊎ HasRisen (W.idle out.old) (W.idle out.new)) }
-    ensures kept { result.0 ≢ 5 → (file_failures result.1 ≡ 0) × (W.failures out.new ≡ W.failures out.old) }
-    ensures unwritten { 2 ≤ result.0 → result.0 ≤ 4 → W.taken out.new ≡ W.taken out.old }
-    ensures most { OfFiles result.1 (λ file. length (moved_by file) ≤ MAX_INPUT + CHUNK) }
-    ensures held { StandBehind W.taken W.contents out.old out.new }
+    ensures devices { SaysOfDevices result.0 result.1
+        (writes W.taken W.flushes W.failures W.idle W.contents out.old out.new) }
     ensures statuses { (result.0 ≤ 5) × (result.0 ≢ 1) × (result.0 ≢ 3) }
 {
     let tuple = match parse_tuple(alloc, tuple) {
@@ -194,8 +182,9 @@ pub fn run_words<R: Source, W: Sink, E: Sink, P: Files + Threads + Wait + Sync>(
     ensures used { result.0 ≡ 3 → HasReadNothing result.1 }
     ensures device { result.0 ≡ 5 → result.1 ≢ ran.Nothing → (HasRisen (R.failures input.old) (R.failures input.new) ⊎ (0 < file_failures result.1))
         ⊎ (HasRisen (W.failures out.old) (W.failures out.new) ⊎ HasRisen (W.idle out.old) (W.idle out.new)) }
-    // Any other status comes only where no device failed.
-    ensures kept { result.0 ≢ 5 → (R.failures input.new ≡ R.failures input.old) × (file_failures result.1 ≡ 0) × (W.failures out.new ≡ W.failures out.old) }
+    // Any other status comes only where no device failed, and no write took nothing.
+    ensures kept { result.0 ≢ 5 → (R.failures input.new ≡ R.failures input.old) × (file_failures result.1 ≡ 0)
+        × (W.failures out.new ≡ W.failures out.old) × (W.idle out.new ≡ W.idle out.old) }
     // A command reads its files alone.
     ensures unread { result.1 ≢ ran.Joined → input.new ≡ input.old }
     ensures unwritten { 2 ≤ result.0 → result.0 ≤ 4 → W.taken out.new ≡ W.taken out.old }
@@ -274,7 +263,8 @@ pub fn run_on<R: Read, W: Write, E: Write, P: Files + Threads + Wait + Sync>(
     ensures refused { result.0 ≡ 2 → HasRefused (OfEveryInput result.2.0 IsRefused) result.1 }
     ensures used { result.0 ≡ 3 → HasReadNothing result.1 }
     ensures device { result.0 ≡ 5 → result.1 ≢ ran.Nothing → 0 < (failures_of result.2.0 + file_failures result.1) + (failures_of result.2.1 + stops_of result.2.1) }
-    ensures kept { result.0 ≢ 5 → (failures_of result.2.0 ≡ 0) × (file_failures result.1 ≡ 0) × (failures_of result.2.1 ≡ 0) }
+    ensures kept { result.0 ≢ 5 → (failures_of result.2.0 ≡ 0) × (file_failures result.1 ≡ 0)
+        × (failures_of result.2.1 ≡ 0) × (stops_of result.2.1 ≡ 0) }
     ensures unread { result.1 ≢ ran.Joined → (moved_by result.2.0 ≡ []) × (failures_of result.2.0 ≡ 0) }
     ensures unwritten { 2 ≤ result.0 → result.0 ≤ 4 → moved_by result.2.1 ≡ [] }
     ensures most { (length (moved_by result.2.0) ≤ MAX_INPUT + CHUNK) × OfFiles result.1 (λ file. length (moved_by file) ≤ MAX_INPUT + CHUNK) }

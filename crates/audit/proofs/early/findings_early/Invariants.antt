@@ -10,4 +10,4 @@ ghosts-found_early-N-Names g a = record { gives = λ entry found. found ≡ foun
 
 -- how the writer stood when the call began
 abbrev pub ghosts-found_early-N-Begun : goal.ghosts-found_early-N-Begun
-ghosts-found_early-N-Begun g a = record { begun = state_of g.E.Sink.taken g.E.Sink.failures g.E.Sink.idle a.early.now }
+ghosts-found_early-N-Begun g a = record { begun = state_of g.E.Sink.taken g.E.Sink.failures g.E.Sink.idle g.E.Sink.since a.early.now }

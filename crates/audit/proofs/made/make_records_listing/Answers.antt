@@ -17,7 +17,7 @@ returns-clause-told g c =
     tells_of (λ a old new v. MakesRecords a old new v.items) BreaksMaking (λ text v. AreRecords c.in-Ok.trace text v.items) (reads g.A.Source.given g.A.Source.ends g.A.Source.failures g.A.Read.remaining c.args.trace.now c.trace_from.new.reader) (writes g.W.Sink.taken g.W.Sink.flushes g.W.Sink.failures g.W.Sink.idle g.W.Write.contents c.args.out.now c.tell_records-answer.new.out) c.in-Ok.trace c.tell_records-answer.result
     (subst (λ (r : Result TraceValue AuditFault). TraceRead (reads g.A.Source.given g.A.Source.ends g.A.Source.failures g.A.Read.remaining c.args.trace.now c.trace_from.new.reader) r) c.in-Ok.is c.trace_from.ensures) c.tell_records-answer.ensures
     (λ a text old new v is says went. (c.in-Ok.trace, is, text, says, went))
-    (λ a text old new v n is says fails. (c.in-Ok.trace, is, text, v.items, says, fails))
+    (λ a text v n is says fails. (c.in-Ok.trace, is, text, v.items, says, fails))
 
 pub returns-clause-kinds : goal.returns-clause-kinds
 returns-clause-kinds g c = history_kinds _ (writes g.W.Sink.taken g.W.Sink.flushes g.W.Sink.failures g.W.Sink.idle g.W.Write.contents c.args.out.now c.tell_records-answer.new.out) c.tell_records-answer.result c.tell_records-answer.ensures

@@ -19,7 +19,7 @@ pub returns-in-Err-found-clause-made : goal.returns-in-Err-found-clause-made
 returns-in-Err-found-clause-made g c =
     made_fault (reads g.A.Source.given g.A.Source.ends g.A.Source.failures g.A.Read.remaining c.args.trace.now c.trace_from.new.reader) (writer g.W.Sink.taken g.W.Sink.flushes g.W.Sink.failures g.W.Sink.idle g.W.Write.contents c.args.out.now) faults.OutOfMemory
     (tells_of AuditsMade BreaksMade (λ text v. ⊥) (reads g.A.Source.given g.A.Source.ends g.A.Source.failures g.A.Read.remaining c.args.trace.now c.trace_from.new.reader) (record { before = (writer g.W.Sink.taken g.W.Sink.flushes g.W.Sink.failures g.W.Sink.idle g.W.Write.contents c.args.out.now); after = (writer g.W.Sink.taken g.W.Sink.flushes g.W.Sink.failures g.W.Sink.idle g.W.Write.contents c.args.out.now) }) c.in-Ok.trace (Err faults.OutOfMemory)
-    (subst (λ (r : Result TraceValue AuditFault). TraceRead (reads g.A.Source.given g.A.Source.ends g.A.Source.failures g.A.Read.remaining c.args.trace.now c.trace_from.new.reader) r) c.in-Ok.is c.trace_from.ensures) (told_no_memory (λ text v. ⊥) (writer g.W.Sink.taken g.W.Sink.flushes g.W.Sink.failures g.W.Sink.idle g.W.Write.contents c.args.out.now)) (λ a text old new v is says went. absurd says) (λ a text old new v n is says fails. absurd says))
+    (subst (λ (r : Result TraceValue AuditFault). TraceRead (reads g.A.Source.given g.A.Source.ends g.A.Source.failures g.A.Read.remaining c.args.trace.now c.trace_from.new.reader) r) c.in-Ok.is c.trace_from.ensures) (told_no_memory (λ text v. ⊥) (writer g.W.Sink.taken g.W.Sink.flushes g.W.Sink.failures g.W.Sink.idle g.W.Write.contents c.args.out.now)) (λ a text old new v is says went. absurd says) (λ a text v n is says fails. absurd says))
 
 pub returns-in-Ok-found-clause-made : goal.returns-in-Ok-found-clause-made
 returns-in-Ok-found-clause-made g c =

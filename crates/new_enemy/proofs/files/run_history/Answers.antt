@@ -1,14 +1,34 @@
-use Rattle.std.proofs.Common.{◌≡◌, inl, ap, Err, ◌∙◌, arith}
-use Rattle.audit.specs.declared.plain.AuditFault.{AuditFault}
-use Rattle.new_enemy.proofs.FileStatuses.{fault_of_trace}
+use Rattle.json_lines.specs.Devices.{counted_inner}
+use Rattle.audit.specs.Devices.{writes}
+use Rattle.new_enemy.proofs.DeviceStatuses.{devices_of_trace}
+use Rattle.new_enemy.specs.declared.run.Ran.TheVariants as ran
+use Rattle.std.proofs.Common.{◌≡◌, ◌≤◌, inl, arith, refl}
+use Rattle.std.proofs.lemmas.Result.{IfErr-weaker, on_ok_weaker}
+use Rattle.audit.specs.History.{IsOfHistory, TellsHistory, BreaksHistory}
+use Rattle.new_enemy.proofs.FileStatuses.{no_trace}
+use Rattle.new_enemy.proofs.MadeEvidence.{made_of}
 use Rattle.new_enemy.proofs.files.run_history.Goals as goal
-use Rattle.new_enemy.proofs.files.run_history.Goals.{in-Ok, in-Err}
 
 pub returns-clause-refused : goal.returns-clause-refused
-returns-clause-refused g c = elim c.match-history.branch [
-  | in-Ok w ↦ λ two. absurd (omega (arith, two, w.status-is))
-  | in-Err w ↦ λ two.
-      let same : w.status_of-status.result ≡ 2 = omega (arith, two, w.status-is) in
-      fault_of_trace c.new-trace.result c.history.new.trace c.new-trace.ensures.moved c.new-trace.ensures.stops w.in-Err.fault w.status_of-status.result
-      w.status_of-status.ensures.status (inl w.in-Err.ensures.kinds) (λ f is. c.history.ensures.told.trace_refused f (w.in-Err.is ∙ ap (λ (x : AuditFault). Err x) is)) same
-]
+returns-clause-refused g c =
+    let answer = c.history-answer in
+    let s = c.status_told.result in
+    no_trace c.new-trace.result answer.new.trace c.new-trace.ensures.moved c.new-trace.ensures.stops answer.result s
+    (on_ok_weaker {P = s ≡ 0} {Q = s ≤ 1} answer.result (λ zero. omega (arith, zero)) c.status_told.ensures.done) c.status_told.ensures.fault
+    (IfErr-weaker answer.result IsOfHistory _ (λ e h. inl h) answer.ensures.kinds) answer.ensures.told.trace_refused
+
+pub returns-clause-devices : goal.returns-clause-devices
+returns-clause-devices g c =
+    let answer = c.history-answer in
+    let s = c.status_told.result in
+    devices_of_trace (λ x. g.F.Read.remaining (counted_inner x)) c.new-trace.result answer.new.trace c.new-trace.ensures.moved c.new-trace.ensures.failures
+    (writes g.W.Sink.taken g.W.Sink.flushes g.W.Sink.failures g.W.Sink.idle g.W.Write.contents c.args.out.now answer.new.out) s (ran.Told answer.new.trace) (λ e. cc)
+    (λ a. TellsHistory a c.args.tuple.now) (λ a. BreaksHistory a c.args.tuple.now) answer.result refl (λ P h. h)
+    (on_ok_weaker {P = s ≡ 0} {Q = s ≤ 1} answer.result (λ zero. omega (arith, zero)) c.status_told.ensures.done) c.status_told.ensures.fault c.status_told.ensures.failure answer.ensures.told
+
+pub returns-clause-told : goal.returns-clause-told
+returns-clause-told g c = λ zero.
+    let answer = c.history-answer in
+    made_of answer.result c.status_told.result (λ n. n)
+    (λ a n. TellsHistory a c.args.tuple.now (g.W.Sink.taken c.args.out.now) (g.W.Sink.taken answer.new.out) n) _ _ _ _
+    c.new-trace.ensures.stops c.new-trace.ensures.moved answer.ensures.told.told c.status_told.ensures.failure zero

@@ -10,5 +10,5 @@ invariant_of-self g c = record {
 pub invariant_of-self-in-Err-send : goal.invariant_of-self-in-Err-send
 invariant_of-self-in-Err-send g c = record {
   told = tells_part g.N.Names.gives g.N.Names.alerts g.N.Begun.begun _ _ c.args.alert.now.entry c.args.alert.now.report c.as_bytes.result.now c.in-Err-send.field-0.written c.args.self.now.given_up c.if-self.false c.requires (c.as_bytes.ensures.value ∙ c.in-Ok.ensures)
-      c.in-Err-send.ensures.part.1 c.in-Err-send.ensures.refused c.args.self.now.told;
+      c.in-Err-send.ensures.part.1 c.in-Err-send.ensures.refused c.in-Err-send.ensures.last c.args.self.now.told;
 }
