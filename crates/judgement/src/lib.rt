@@ -8,9 +8,13 @@
 //! another relation's rule; neither takes memory. A userset that is undeclared at the timestamp counts as refuted where it is stored, in a
 //! tupleset too, and a user id in a tupleset contributes nobody.
 //!
+//! [`AskedRule`] answers the same for a rule that has many places, of many facts one after the other, by the rule's parts. It takes memory
+//! for what was asked.
+//!
 //! What a call costs is no promise. A look-up among known facts goes by their marks. What is stored in a userset with many usersets is
 //! passed over by the trace's index of them, so that those that are dead or undeclared then are not looked at; and whether one of them
-//! leads to a known fact is found from the shorter of two lists, the stored usersets and the user's known facts.
+//! leads to a known fact is found from the shorter of two lists, the stored usersets and the user's known facts. An `AskedRule` asks for each
+//! part once for a fact, and goes over the rule only where a part has another answer than it had for the fact before.
 //!
 //! ```text
 //! known.add_yes(fact)?;

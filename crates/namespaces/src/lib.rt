@@ -3,7 +3,8 @@
 //!
 //! [`Rules`] reads a namespace from a JSON value by `add` (in force from 0) and `change` (in force from a timestamp on). Contracts see it
 //! as the list of its declarations: every accepted value in order, each with its timestamp, name, and relations (name, stratum, rule).
-//! A [`Rewrite`] is seen as the `Expression` that the meaning of the rules is defined over.
+//! A [`Rewrite`] is seen as the `Expression` that the meaning of the rules is defined over, and so is a [`PartedRule`], a rule of many places by
+//! its parts.
 //!
 //! Callers may rely on this: a value is accepted, or refused with the first fault that applies, exactly as the definitions over its JSON
 //! data say, running out of memory apart; after a refusal the rules hold what they held before; every look-up answers by the list. `IsWellFormed`,
