@@ -7,6 +7,10 @@ use Rattle.version_chains.specs.contracts.places.Places as places
 use Rattle.version_chains.specs.contracts.arena.Arena as arena
 use Rattle.version_chains.specs.contracts.chains.Chains as chains
 use Rattle.namespaces.proofs.rewrite.Rewrite.TheLaws.TheKnot.{sync-Rewrite}
+use Rattle.namespaces.proofs.parts.Node.TheLaws.TheKnot.{sync-Node}
+use Rattle.namespaces.specs.contracts.parts.Through as through
+use Rattle.namespaces.specs.contracts.parts.PartedRule as parted
+use Rattle.namespaces.specs.contracts.relation.PlainRule as plain
 use Rattle.namespaces.specs.contracts.relation.Relation as relation
 use Rattle.namespaces.specs.contracts.table.Namespace as namespace
 use Rattle.namespaces.specs.contracts.rules.Line as line
@@ -28,8 +32,17 @@ arena_sync = search (sendable, crosses, maps.crosses, tuple_sync, places_sync) d
 chains_sync : IsSync chains.the_row
 chains_sync = search (sendable, crosses, maps.crosses, arena_sync) depth 40
 
+through_sync : IsSync through.the_row
+through_sync = search (sendable, crosses, maps.crosses) depth 40 fits 100000
+
+parted_sync : IsSync parted.the_row
+parted_sync = search (sendable, crosses, maps.crosses, sync-Rewrite, sync-Node, through_sync) depth 40 fits 100000
+
+plain_sync : IsSync (plain.the_field).row
+plain_sync = search (sendable, crosses, maps.crosses, sync-Rewrite, parted_sync) depth 40 fits 100000
+
 relation_sync : IsSync relation.the_row
-relation_sync = search (sendable, crosses, maps.crosses, sync-Rewrite) depth 40 fits 100000
+relation_sync = search (sendable, crosses, maps.crosses, sync-Rewrite, plain_sync) depth 40 fits 100000
 
 namespace_sync : IsSync (namespace.the_field).row
 namespace_sync = search (sendable, crosses, maps.crosses, relation_sync) depth 40 fits 100000
