@@ -36,6 +36,7 @@ KIND is one of
   wide_through   a rule of many relations through one tupleset, in which three usersets are stored
   wide_records   as `wide_pairs`, with a record of one fact for each check
   wide_turns     as `wide_pairs`, behind two leaves that deny the users in turn
+  wide_users     as `wide_through`, and users that are let in by the last of the relations
   wide_folders   as `wide_through`, and each fact is of another object, in whose tupleset a userset is stored
   ring           groups in a circle, and checks that each of many strangers is not in it: for `make`
   wide_make      a rule of many places that compute one relation, and objects in a chain of such rules: for `make`
@@ -478,11 +479,12 @@ def wide_leaves(size):
     return wide_intersections(size, lambda one, other: [one, other, THIS])
 
 
-def through_many(size):
-    """Rules of many relations through one tupleset."""
+def through_many(size, *more):
+    """Rules of many relations through one tupleset, those of these names declared and the last ones."""
     count = min(size // 3, LINE * 8 // 10) // 52
-    rule = nested([{"tuple_to": {"tupleset": "parent", "computed": "c%x" % k}} for k in range(count)])
-    given = Input(size, [{"name": "doc", "relations": [relation("parent"), relation("viewer", rule)]}])
+    names = ["c%x" % k for k in range(count)] + list(more)
+    rule = nested([{"tuple_to": {"tupleset": "parent", "computed": name}} for name in names])
+    given = Input(size, [{"name": "doc", "relations": [relation("parent"), *map(relation, more), relation("viewer", rule)]}])
     given.bytes = len(given.lines[0])
     return given
 
@@ -507,6 +509,19 @@ def wide_turns(size):
         users = range(user, user + count)
         refused(given, [f"doc:a#viewer@{one}" for one in users] + [f"doc:a#r{one % 2}@{one}" for one in users])
         user += count
+    return given
+
+
+def wide_users(size):
+    """Users that are let in by the last of the relations."""
+    given = through_many(size, "last")
+    given.commit(["doc:a#parent@doc:p#parent"])
+    user = 0
+    while not given.is_full():
+        users = range(user, user + 100)
+        given.commit([f"doc:p#last@{one}" for one in users])
+        given.check(f"doc:a#viewer@{user}", True, [{"yes": f"doc:{goal}@{one}"} for one in users for goal in ("p#last", "a#viewer")])
+        user += 100
     return given
 
 
@@ -656,6 +671,7 @@ KINDS = {
     "wide_through": wide_through,
     "wide_records": wide_records,
     "wide_turns": wide_turns,
+    "wide_users": wide_users,
     "wide_folders": wide_folders,
     "ring": ring,
     "wide_make": wide_make,

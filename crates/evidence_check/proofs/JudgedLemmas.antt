@@ -1,5 +1,11 @@
 -- What a judgement shows.
-use Rattle.std.proofs.Common.{◌≡◌, ℕ, ◌+◌, Bool, true, false, not, cond, IsTrue, ◌↔◌, List, [], ◌∷◌, Option, None, Some, refl, sym, ◌∙◌, ap, subst, inl, inr}
+use Rattle.std.proofs.Common.{◌≡◌, ℕ, ◌+◌, Bool, true, false, not, ◌&&◌, cond, nat_eq, IsTrue, ◌↔◌, List, [], ◌∷◌, ◌++◌, Option, None, Some, refl, sym, ◌∙◌, ap, subst, inl, inr, arith}
+use Rattle.std.proofs.lemmas.List.Elements.{Contains-append_cases}
+use Rattle.strata.proofs.Lists.{Contains-cons_cases}
+use Rattle.namespaces.specs.Declaration.{Declaration}
+use Rattle.namespaces.specs.declared.number.RulePlace.{RulePlace}
+use Rattle.evidence_check.specs.declared.asked_rules.PlacedRule.{PlacedRule}
+use Rattle.std.proofs.lemmas.Bool.{eqb-true}
 use Rattle.std.specs.Prelude.{Contains, option_map, slice_get, IfOk, Result, Ok, Err}
 use Rattle.std.proofs.lemmas.Map.Views.{Contains-from_any, list_any-from_Contains}
 use Rattle.tuple_text.specs.Tuples.{TupleValue, FactValue}
@@ -7,7 +13,7 @@ use Rattle.tuple_text.specs.OrderLaws.{fact_equiv}
 use Rattle.tuple_text.proofs.ValueLemmas.{fact_eq-same}
 use Rattle.namespaces.specs.Alike.{IsAlike, AreAlike}
 use Rattle.namespaces.specs.Expression.{Expression}
-use Rattle.namespaces.specs.Lookup.{Rule, Lookup, rule_at, rule_of}
+use Rattle.namespaces.specs.Lookup.{Rule, Lookup, expression_in, rule_at, rule_of}
 use Rattle.namespaces.specs.Plain.{ArePlain}
 use Rattle.version_chains.specs.Commits.{store_at}
 use Rattle.strata.proofs.Rounds.{stable_law, closed_law}
@@ -21,7 +27,7 @@ use Rattle.evidence_check.specs.Decided.{decided, dec_accepted}
 use Rattle.evidence_check.specs.Judged.{is_accepted, first_bad, is_among, by_reply, by_goal, by_steps, judged}
 use Rattle.evidence_check.specs.Laws.{HasValidStrataAt}
 use Rattle.evidence_check.specs.Members.{IsRight, IsWrong}
-use Rattle.evidence_check.specs.Rules.{IsRuleOf, IsSettled}
+use Rattle.evidence_check.specs.Rules.{ArePlaced, IsRuleOf, IsSettled}
 use Rattle.evidence_check.specs.Steps.{StepValue}
 use Rattle.evidence_check.specs.declared.judged.Judged.{Judged}
 use Rattle.evidence_check.specs.declared.judged.Judged.TheVariants.{Silent}
@@ -61,6 +67,29 @@ none_bad rules store known k (s ∷ ss) e = by_test (λ h. none_bad rules store 
         → cond b (first_bad rules store (after_step known s) (k + 1) ss) (Some k) ≡ None → IsAccepted rules store known s × AreAccepted rules store (after_step known s) ss
     by_test rest true t h = ((accepted_iff rules store known s).0 t, rest h)
     by_test rest false t h = absurd cc
+
+-- ---- rules at their places
+
+and_both : (a b : Bool) → a && b ≡ true → (a ≡ true) × (b ≡ true)
+and_both true true h = (refl, refl)
+and_both true false h = absurd cc
+and_both false b h = absurd cc
+
+pub same_place : (p q : RulePlace) → nat_eq p.line q.line && nat_eq p.relation q.relation ≡ true → p ≡ q
+same_place p q h =
+    let both = and_both (nat_eq p.line q.line) (nat_eq p.relation q.relation) h in
+    λ i. record { line = eqb-true p.line q.line both.0 i; relation = eqb-true p.relation q.relation both.1 i }
+
+pub one_placed_more : (ds : List Declaration) (rules : List PlacedRule) (p : PlacedRule) → ArePlaced ds rules
+    → AreAlike (Some p.rule) (expression_in p.place ds) → ArePlaced ds (rules ++ p ∷ [])
+one_placed_more ds rules p are alike q there =
+    elim (Contains-append_cases rules (p ∷ []) q there) [
+      | inl before ↦ are q before
+      | inr last ↦ subst (λ (x : PlacedRule). AreAlike (Some x.rule) (expression_in x.place ds)) (only q last) alike
+    ]
+  where
+    only : (q : PlacedRule) → Contains (p ∷ []) q → p ≡ q
+    only q last = elim (Contains-cons_cases p [] q last) [ inl is ↦ is | inr none ↦ absurd (omega (arith, none.1)) ]
 
 -- ---- by the plain rule of a relation, where it is found
 
@@ -102,6 +131,19 @@ module _ (trace : TraceValue) (at : ℕ) (known : KnownValue) (f : FactValue) wh
           | inr t ↦ rule.1 t
         ],
       )
+
+  -- rules that are alike do the same
+  pub does_alike : (g : Bool) (x y : Expression) (o : Option Expression) → AreAlike (Some x) o → AreAlike (Some y) o
+      → (Does trace at known f g x ↔ Does trace at known f g y)
+  does_alike g x y None alike other = absurd alike
+  does_alike true x y (Some z) alike other = (
+    λ d. alike_established lookup store known f z y (alike_back y z other) (alike_established lookup store known f x z alike d),
+    λ d. alike_established lookup store known f z x (alike_back x z alike) (alike_established lookup store known f y z other d),
+  )
+  does_alike false x y (Some z) alike other = (
+    λ d. alike_refuted lookup store known f z y (alike_back y z other) (alike_refuted lookup store known f x z alike d),
+    λ d. alike_refuted lookup store known f z x (alike_back x z alike) (alike_refuted lookup store known f y z other d),
+  )
 
   -- without a rule it is disproved
   pub settled_by_none : (g : Bool) → IsRuleOf trace.declarations at f.set None → (IsTrue (not g) ↔ IsSettled lookup store known g f)

@@ -7,7 +7,7 @@ ghost use Rattle.tuple_text.specs.Refs.{set_value};
 ghost use Rattle.tuple_text.specs.Tuples.{FactValue};
 ghost use Rattle.namespaces.specs.Lookup.{rule_at};
 ghost use Rattle.namespaces.specs.View.{expression_of};
-ghost use Rattle.evidence_check.specs.Rules.{IsRuleOf, IsLast, AreLast, IsSettled, rule_expression};
+ghost use Rattle.evidence_check.specs.Rules.{IsInForce, IsLast, AreLast, IsSettled};
 ghost use Rattle.version_chains.specs.Commits.{store_at};
 ghost use Rattle.judgement.specs.Facts.{marked_fact};
 ghost use Rattle.trace_lines.specs.Values.{EntryValue, entry_value};
@@ -19,11 +19,12 @@ ghost use Rattle.evidence_check.specs.Members.{IsRight, IsWrong};
 ghost use Rattle.evidence_check.specs.Steps.{yes_step, no_step, step_values, borrowed_step, borrowed_steps};
 ghost use Rattle.evidence_check.specs.declared.judged.Judged.TheVariants.{Supported, Contradicted};
 
+use crate::asked_rules::AskedRules;
 use crate::evidence::Evidence;
 use crate::step::{StepRef, Steps};
 use crate::steps::borrowed_steps;
-use judgement::{AskedRule, Known, KnownFact, MarkedFact, established, refuted};
-use namespaces::{Rewrite, Rules};
+use judgement::{Known, KnownFact, MarkedFact, established, refuted};
+use namespaces::{PartedRule, Rewrite, RulePlace, Rules};
 use std::alloc::{AllocError, Global};
 use trace_lines::laws::valid_strata;
 use trace_lines::{Entry, Trace};
@@ -62,74 +63,73 @@ fn is_given<F: KnownFact>(trace: &Trace, at: u64, known: &Known<F>, fact: Marked
 }
 
 /// The rule of a relation that is in force at a timestamp, in its plain form. A wide one is asked by its parts.
-#[derive(Drop)]
+#[derive(Clone, Copy, Drop)]
 enum RuleInForce<'t> {
     Undeclared,
     Narrow(&'t Rewrite),
-    Wide(AskedRule<'t>),
+    Wide(RulePlace, &'t PartedRule),
 }
 
 /// The rule by which a fact was judged last, and the fact's userset.
-#[derive(Drop)]
+#[derive(Clone, Copy, Drop)]
 struct LastRule<'t, 'a> {
     set: SetRef<'a>,
     rule: RuleInForce<'t>,
 }
 
 /// Those by which the facts that are said to hold, and those that are denied, were judged last in a record.
-#[derive(Drop)]
+#[derive(Clone, Copy, Drop)]
 struct LastRules<'t, 'a> {
     given: Option<LastRule<'t, 'a>>,
     denied: Option<LastRule<'t, 'a>>,
 }
 
-fn rule_in_force<'t>(
-    alloc: Global,
-    rules: &'t Rules,
-    at: u64,
-    set: SetRef<'_>,
-) -> Result<RuleInForce<'t>, AllocError>
-    ensures { IfOk result (λ r. IsRuleOf rules.now at (set_value set.entry) (rule_expression r)) }
+fn rule_in_force<'t>(rules: &'t Rules, at: u64, set: SetRef<'_>) -> RuleInForce<'t>
+    ensures { IsInForce rules.now at (set_value set.entry) result }
 {
-    match rules.plain_body(set, at) {
+    let Some(place) = rules.body_place(set, at) else {
+        return RuleInForce::Undeclared;
+    };
+    match rules.plain_in(place) {
         Some(plain) => match &plain.parted {
-            Some(parted) => Ok(RuleInForce::Wide(AskedRule::new(alloc, parted)?)),
-            None => Ok(RuleInForce::Narrow(&plain.rewrite)),
+            Some(parted) => RuleInForce::Wide(place, parted),
+            None => RuleInForce::Narrow(&plain.rewrite),
         },
-        None => Ok(RuleInForce::Undeclared),
+        None => RuleInForce::Undeclared,
     }
 }
 
 /// The rule of a userset's relation, where that of another userset is at hand: facts of one relation mostly follow one another.
 fn rule_after<'t>(
-    alloc: Global,
     rules: &'t Rules,
     at: u64,
     last: Option<LastRule<'t, '_>>,
     set: SetRef<'_>,
-) -> Result<RuleInForce<'t>, AllocError>
+) -> RuleInForce<'t>
     requires { IsLast rules.now at last }
-    ensures { IfOk result (λ r. IsRuleOf rules.now at (set_value set.entry) (rule_expression r)) }
+    ensures { IsInForce rules.now at (set_value set.entry) result }
 {
     if let Some(last) = last {
         if set.namespace == last.set.namespace && set.relation == last.set.relation {
-            return Ok(last.rule);
+            return last.rule;
         }
     }
-    rule_in_force(alloc, rules, at, set)
+    rule_in_force(rules, at, set)
 }
 
 /// Whether a fact is proved by its rule, or disproved.
-fn settles(
-    rule: &mut RuleInForce<'_>,
+fn settles<'t>(
+    rule: RuleInForce<'t>,
+    asked: &mut AskedRules<'t>,
     is_given: bool,
     trace: &Trace,
     at: u64,
     known: &Known<MarkedFact<'_>>,
     fact: MarkedFact<'_>,
 ) -> Result<bool, AllocError>
-    requires { IsRuleOf trace.now.declarations at (marked_fact fact).set (rule_expression rule.old) }
-    ensures rule { rule_expression rule.new ≡ rule_expression rule.old }
+    requires rule { IsInForce trace.now.declarations at (marked_fact fact).set rule }
+    requires asked { asked.old ≡ trace.now.declarations }
+    ensures asked { asked.new ≡ asked.old }
     ensures settles { IfOk result (λ r. IsTrue r
         ↔ IsSettled (rule_at trace.now.declarations at) (store_at trace.now.commits at) known.now is_given (marked_fact fact.entry)) }
 {
@@ -142,13 +142,13 @@ fn settles(
                 Ok(refuted(rule, fact.set, fact.user, trace, at, known))
             }
         }
-        RuleInForce::Wide(rule) => rule.does(is_given, fact.set, fact.user, trace, at, known),
+        RuleInForce::Wide(place, rule) => asked.does(place, rule, is_given, trace, at, known, fact),
     }
 }
 
 /// The same, by the rule of the fact before where it is of the same relation.
 fn is_settled<'t, 'a>(
-    alloc: Global,
+    asked: &mut AskedRules<'t>,
     last: &mut Option<LastRule<'t, 'a>>,
     is_given: bool,
     trace: &'t Trace,
@@ -156,35 +156,38 @@ fn is_settled<'t, 'a>(
     known: &Known<MarkedFact<'a>>,
     fact: MarkedFact<'a>,
 ) -> Result<bool, AllocError>
-    requires { IsLast trace.now.declarations at last.old }
+    requires asked { asked.old ≡ trace.now.declarations }
+    requires last { IsLast trace.now.declarations at last.old }
+    ensures asked { asked.new ≡ asked.old }
     ensures last { IsLast trace.now.declarations at last.new }
     ensures settled { IfOk result (λ r. IsTrue r
         ↔ IsSettled (rule_at trace.now.declarations at) (store_at trace.now.commits at) known.now is_given (marked_fact fact.entry)) }
 {
-    let mut rule = rule_after(alloc, trace.rules(), at, last.take(), fact.set.set)?;
-    let is_settled = settles(&mut rule, is_given, trace, at, known, fact)?;
+    let rule = rule_after(trace.rules(), at, *last, fact.set.set);
     *last = Some(LastRule {
         set: fact.set.set,
         rule,
     });
-    Ok(is_settled)
+    settles(rule, asked, is_given, trace, at, known, fact)
 }
 
 fn are_disproved<'t, 'a>(
-    alloc: Global,
+    asked: &mut AskedRules<'t>,
     last: &mut Option<LastRule<'t, 'a>>,
     trace: &'t Trace,
     at: u64,
     known: &Known<MarkedFact<'a>>,
     facts: &[MarkedFact<'a>],
 ) -> Result<bool, AllocError>
-    requires { IsLast trace.now.declarations at last.old }
+    requires asked { asked.old ≡ trace.now.declarations }
+    requires last { IsLast trace.now.declarations at last.old }
+    ensures asked { asked.new ≡ asked.old }
     ensures last { IsLast trace.now.declarations at last.new }
     ensures disproved { IfOk result (λ r. IsTrue r
         ↔ AllByRecursion (IsDisproved (rule_at trace.now.declarations at) (store_at trace.now.commits at) known.now) (map marked_fact facts.now)) }
 {
     for fact in facts {
-        if !is_settled(alloc, last, false, trace, at, known, *fact)? {
+        if !is_settled(asked, last, false, trace, at, known, *fact)? {
             return Ok(false);
         }
     }
@@ -229,15 +232,17 @@ fn deny_each<'a>(
 /// Whether a step that says a fact is accepted. From now on the fact is known to hold. A fact that is known already is not judged
 /// again: what is known bears it out.
 fn take_yes<'t, 'a>(
-    alloc: Global,
+    asked: &mut AskedRules<'t>,
     last: &mut Option<LastRule<'t, 'a>>,
     trace: &'t Trace,
     at: u64,
     known: &mut Known<MarkedFact<'a>>,
     fact: MarkedFact<'a>,
 ) -> Result<bool, AllocError>
+    requires asked { asked.old ≡ trace.now.declarations }
     requires last { IsLast trace.now.declarations at last.old }
     requires borne { IsBorneOut (rule_at trace.now.declarations at) (store_at trace.now.commits at) known.old }
+    ensures asked { asked.new ≡ asked.old }
     ensures last { IsLast trace.now.declarations at last.new }
     ensures accepted { IfOk result (λ r. r
         ≡ is_accepted (rule_at trace.now.declarations at) (store_at trace.now.commits at) known.old (yes_step (marked_fact fact.entry))) }
@@ -248,7 +253,7 @@ fn take_yes<'t, 'a>(
     let proved = if known.yes_marked(fact.set, fact.user) {
         true
     } else {
-        is_settled(alloc, last, true, trace, at, known, fact)?
+        is_settled(asked, last, true, trace, at, known, fact)?
     };
     known.add_yes(fact)?;
     Ok(proved)
@@ -257,6 +262,7 @@ fn take_yes<'t, 'a>(
 /// Whether a step that denies facts is accepted. From now on they are known not to hold. Only those that were not known so before
 /// are judged; they are left in `fresh`.
 fn take_no<'t, 'a>(
+    asked: &mut AskedRules<'t>,
     last: &mut Option<LastRule<'t, 'a>>,
     trace: &'t Trace,
     at: u64,
@@ -264,8 +270,10 @@ fn take_no<'t, 'a>(
     fresh: &mut Vec<MarkedFact<'a>>,
     facts: &[FactRef<'a>],
 ) -> Result<bool, AllocError>
+    requires asked { asked.old ≡ trace.now.declarations }
     requires last { IsLast trace.now.declarations at last.old }
     requires borne { IsBorneOut (rule_at trace.now.declarations at) (store_at trace.now.commits at) known.old }
+    ensures asked { asked.new ≡ asked.old }
     ensures last { IsLast trace.now.declarations at last.new }
     ensures accepted { IfOk result (λ r. r
         ≡ is_accepted (rule_at trace.now.declarations at) (store_at trace.now.commits at) known.old (no_step (map fact_value facts.now))) }
@@ -274,12 +282,13 @@ fn take_no<'t, 'a>(
         → IsBorneOut (rule_at trace.now.declarations at) (store_at trace.now.commits at) known.new) }
 {
     deny_each(known, fresh, facts)?;
-    let are_all = are_disproved(*fresh.allocator(), last, trace, at, known, fresh)?;
+    let are_all = are_disproved(asked, last, trace, at, known, fresh)?;
     Ok(are_all)
 }
 
 /// Whether a step is accepted. From now on its facts are known. `fresh` is room for the facts that it denies.
 fn take_step<'t, 'a>(
+    asked: &mut AskedRules<'t>,
     rules: &mut LastRules<'t, 'a>,
     trace: &'t Trace,
     at: u64,
@@ -287,8 +296,10 @@ fn take_step<'t, 'a>(
     fresh: &mut Vec<MarkedFact<'a>>,
     step: &StepRef<'a>,
 ) -> Result<bool, AllocError>
+    requires asked { asked.old ≡ trace.now.declarations }
     requires last { AreLast trace.now.declarations at rules.old }
     requires borne { IsBorneOut (rule_at trace.now.declarations at) (store_at trace.now.commits at) known.old }
+    ensures asked { asked.new ≡ asked.old }
     ensures last { AreLast trace.now.declarations at rules.new }
     ensures accepted { IfOk result (λ r. r
         ≡ is_accepted (rule_at trace.now.declarations at) (store_at trace.now.commits at) known.old (borrowed_step step.now)) }
@@ -297,30 +308,30 @@ fn take_step<'t, 'a>(
         → IsBorneOut (rule_at trace.now.declarations at) (store_at trace.now.commits at) known.new) }
 {
     match step {
-        StepRef::Yes(fact) => {
-            let alloc = *fresh.allocator();
-            take_yes(
-                alloc,
-                &mut rules.given,
-                trace,
-                at,
-                known,
-                MarkedFact::of(*fact),
-            )
-        }
-        StepRef::No(facts) => take_no(&mut rules.denied, trace, at, known, fresh, facts),
+        StepRef::Yes(fact) => take_yes(
+            asked,
+            &mut rules.given,
+            trace,
+            at,
+            known,
+            MarkedFact::of(*fact),
+        ),
+        StepRef::No(facts) => take_no(asked, &mut rules.denied, trace, at, known, fresh, facts),
     }
 }
 
 /// The first step that is not accepted, from 1. Where there is none, the facts of all of them are known from now on.
-fn first_bad<'a>(
+fn first_bad<'t, 'a>(
     alloc: Global,
-    trace: &Trace,
+    asked: &mut AskedRules<'t>,
+    trace: &'t Trace,
     at: u64,
     known: &mut Known<MarkedFact<'a>>,
     steps: &[StepRef<'a>],
 ) -> Result<Option<u64>, AllocError>
-    requires { IsBorneOut (rule_at trace.now.declarations at) (store_at trace.now.commits at) known.old }
+    requires asked { asked.old ≡ trace.now.declarations }
+    requires borne { IsBorneOut (rule_at trace.now.declarations at) (store_at trace.now.commits at) known.old }
+    ensures asked { asked.new ≡ asked.old }
     ensures first { IfOk result (λ r. r
         ≡ first_bad (rule_at trace.now.declarations at) (store_at trace.now.commits at) known.old 1 (borrowed_steps steps.now)) }
     ensures known { IfOk result (λ r. r ≡ None → known.new ≡ after_steps known.old (borrowed_steps steps.now)) }
@@ -331,7 +342,7 @@ fn first_bad<'a>(
         denied: None,
     };
     for k in 0..steps.len() {
-        if !take_step(&mut rules, trace, at, known, &mut fresh, &steps[k])? {
+        if !take_step(asked, &mut rules, trace, at, known, &mut fresh, &steps[k])? {
             return Ok(Some(k as u64 + 1));
         }
     }
@@ -380,16 +391,19 @@ fn nothing_known<'a>(
 }
 
 /// How borrowed steps judge an entry.
-pub(crate) fn judge_borrowed(
+pub(crate) fn judge_borrowed<'t>(
     alloc: Global,
-    trace: &Trace,
+    asked: &mut AskedRules<'t>,
+    trace: &'t Trace,
     entry: &Entry,
     steps: &[StepRef<'_>],
 ) -> Result<Judged, AllocError>
-    ensures { IfOk result (λ j. j ≡ judged trace.now (entry_value entry.now) (Some (borrowed_steps steps.now))) }
+    requires { asked.old ≡ trace.now.declarations }
+    ensures asked { asked.new ≡ asked.old }
+    ensures judged { IfOk result (λ j. j ≡ judged trace.now (entry_value entry.now) (Some (borrowed_steps steps.now))) }
 {
     let mut known = nothing_known(alloc, steps)?;
-    match first_bad(alloc, trace, entry.snapshot, &mut known, steps)? {
+    match first_bad(alloc, asked, trace, entry.snapshot, &mut known, steps)? {
         Some(step) => Ok(Judged::Bad { step }),
         None => Ok(by_goal(&known, &entry.goal, entry.reply)),
     }
@@ -400,7 +414,14 @@ pub fn judge_steps(trace: &Trace, entry: &Entry, steps: &Steps) -> Result<Judged
     ensures { IfOk result (λ j. j ≡ judged trace.now (entry_value entry.now) (Some (step_values steps.now.items))) }
 {
     let alloc = *steps.allocator();
-    judge_borrowed(alloc, trace, entry, &borrowed_steps(alloc, steps)?)
+    let mut asked = AskedRules::new(alloc, trace.rules());
+    judge_borrowed(
+        alloc,
+        &mut asked,
+        trace,
+        entry,
+        &borrowed_steps(alloc, steps)?,
+    )
 }
 
 fn judge(trace: &Trace, entry: &Entry, steps: Option<&Steps>) -> Result<Judged, AllocError>

@@ -7,6 +7,7 @@ ghost use Rattle.evidence_check.specs.Judging.{is_judged, judge_line, judged_by,
 ghost use Rattle.evidence_check.specs.Steps.{borrowed_steps};
 ghost use Rattle.evidence_check.specs.declared.judged.Judged.TheVariants.{Missing};
 
+use crate::asked_rules::AskedRules;
 use crate::cause::EvidenceCause;
 use crate::judged::{Judged, judge_borrowed};
 use crate::placed::{EntryLines, placed_steps};
@@ -24,10 +25,12 @@ pub(crate) struct Judging<'t> {
     trace: &'t Trace,
     lines: EntryLines,
     judgements: Vec<Judged>,
+    asked: AskedRules<'t>,
 }
 
 impl<'t> Model for Judging<'t> {
     ghost use Rattle.evidence_check.specs.Records.{Judgements};
+    ghost use Rattle.std.specs.Prelude.{◌≡◌};
     ghost use Rattle.evidence_check.specs.EvidenceCode.{judgements_code};
 
     ghost Value = { Judgements };
@@ -35,6 +38,8 @@ impl<'t> Model for Judging<'t> {
     ghost coded = { judgements_code };
 
     ghost view = { λ j. record { trace = j.trace.now; lines = j.lines; judgements = j.judgements.items } };
+
+    ghost invariant = { λ j. j.asked ≡ j.trace.now.declarations };
 }
 
 fn none_judged(alloc: Global, count: usize) -> Result<Vec<Judged>, AllocError>
@@ -54,6 +59,7 @@ impl<'t> Judging<'t> {
             trace,
             lines,
             judgements,
+            asked: AskedRules::new(alloc, trace.rules()),
         })
     }
 
@@ -75,11 +81,13 @@ impl<'t> Judging<'t> {
     }
 
     /// The judgement of an entry by steps.
-    fn judgement(&self, place: usize, steps: &[StepRef<'_>]) -> Result<Judged, AllocError>
-        ensures { IfOk result (λ j. j ≡ judged_by self.now.trace (slice_get self.now.trace.entries place) (borrowed_steps steps.now)) }
+    fn judgement(&mut self, place: usize, steps: &[StepRef<'_>]) -> Result<Judged, AllocError>
+        ensures same { self.new ≡ self.old }
+        ensures judged { IfOk result (λ j. j ≡ judged_by self.old.trace (slice_get self.old.trace.entries place) (borrowed_steps steps.now)) }
     {
         if place < self.trace.len() {
-            judge_borrowed(self.alloc, self.trace, self.trace.entry(place), steps)
+            let entry = self.trace.entry(place);
+            judge_borrowed(self.alloc, &mut self.asked, self.trace, entry, steps)
         } else {
             Ok(Judged::Missing)
         }

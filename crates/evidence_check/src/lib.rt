@@ -15,6 +15,7 @@
 //! ```
 #![tactic(auto)]
 
+mod asked_rules;
 mod behind;
 mod cause;
 mod evidence;

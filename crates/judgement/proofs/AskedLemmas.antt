@@ -12,9 +12,10 @@ use Rattle.namespaces.specs.View.{children}
 use Rattle.version_chains.specs.Commits.{store_at}
 use Rattle.strata.proofs.Lists.{Contains-cons_cases}
 use Rattle.trace_lines.specs.Values.{TraceValue}
-use Rattle.judgement.specs.Asked.{does, Does, Agrees, AreRight, Follows, AsksMore, Tells, joined_of}
+use Rattle.judgement.specs.Asked.{does, Does, Agrees, AreRight, Follows, AreRightPaths, AsksMore, Tells, joined_of}
 use Rattle.judgement.specs.Judgement.{KnownValue}
 use Rattle.judgement.specs.declared.answers.Asked.{Asked}
+use Rattle.judgement.specs.declared.paths.Path.{Path}
 use Rattle.judgement.proofs.AlikeLemmas.{by_known, given_then, barred_then, then_given, then_barred}
 
 pub same_beq : (a b : Bool) → beq a b ≡ true → a ≡ b
@@ -33,12 +34,20 @@ pub not_false : (a : Bool) → not a ≡ false → a ≡ true
 not_false true h = refl
 not_false false h = absurd (true≢false h)
 
-only_one : (a b : Asked) → Contains (a ∷ []) b → a ≡ b
+only_one : {X : Type 0} (a b : X) → Contains (a ∷ []) b → a ≡ b
 only_one a b there = elim (Contains-cons_cases a [] b there) [ inl is ↦ is | inr none ↦ absurd (omega (arith, none.1)) ]
 
-follows_later : (parts : List Expression) (old new : List Asked) (g : Bool) (e : Expression) (r : Bool) → AsksMore old new
+pub follows_later : (parts : List Expression) (old new : List Asked) (g : Bool) (e : Expression) (r : Bool) → AsksMore old new
     → Follows parts old g e r → Follows parts new g e r
 follows_later parts old new g e r more h l agrees = h l (λ a there. agrees a (more a there))
+
+pub one_path_more : (parts : List Expression) (e : Expression) (paths : List Path) (p : Path) → AreRightPaths parts e paths
+    → Follows parts p.asked.items p.is_given e p.answer → AreRightPaths parts e (paths ++ p ∷ [])
+one_path_more parts e paths p right follows q there =
+    elim (Contains-append_cases paths (p ∷ []) q there) [
+      | inl before ↦ right q before
+      | inr last ↦ subst (λ (x : Path). Follows parts x.asked.items x.is_given e x.answer) (only_one p q last) follows
+    ]
 
 -- ---- the children of a node
 

@@ -14,7 +14,7 @@ use Rattle.version_chains.proofs.PlacedLemmas.{at_last_place, given_at, given_fr
 use Rattle.version_chains.proofs.StoreLemmas.{store_at-iff}
 use Rattle.judgement.specs.Facts.{is_of_user, sets_before, sets_of_user, user_of}
 use Rattle.judgement.specs.Judgement.{KnownValue}
-use Rattle.judgement.specs.Passes.{IsLed, IsObjectStored, IsTargetStored, SomeSet, target}
+use Rattle.judgement.specs.Passes.{IsLed, IsLedByName, IsObjectStored, IsTargetStored, LeadsByName, SomeSet, target}
 use Rattle.judgement.proofs.PassLemmas.{some_from, some_given}
 
 any_map : {X Y : Type 0} (f : X → Y) (p : Y → Bool) (xs : List X) → list_any p (map f xs) ≡ list_any (λ x. p (f x)) xs
@@ -85,6 +85,24 @@ led_by_targets store known set relation user = (
   λ l.
       some_from (IsTargetStored store set relation) (sets_of_user user known.yes) (target l.0 relation)
       (sets_by_known known.yes user (target l.0 relation) l.2) (l.0, l.1, refl),
+)
+
+-- what leads by a name leads by that of a known fact of the user
+pub led_by_known_names : (store : List TupleValue) (known : KnownValue) (set : SetValue) (names : List (List ℕ)) (user : ℕ)
+    → SomeSet (LeadsByName store known set names user) (sets_of_user user known.yes) ↔ IsLedByName store known set names user
+led_by_known_names store known set names user = (
+  λ h. let w = some_given (LeadsByName store known set names user) (sets_of_user user known.yes) h in (w.0.relation, w.2.0, w.2.1),
+  λ l.
+      some_from (LeadsByName store known set names user) (sets_of_user user known.yes) (target l.2.0 (Some l.0))
+      (sets_by_known known.yes user (target l.2.0 (Some l.0)) l.2.2) (l.1, l.2),
+)
+
+-- what is left of some usersets decides where the first does not
+pub some_left : (P : SetValue → Type 0) (old new : List SetValue) (t : SetValue) (whole : Type 0) → old ≡ t ∷ new → ¬ P t
+    → (SomeSet P old ↔ whole) → (SomeSet P new ↔ whole)
+some_left P old new t whole is not_first same = (
+  λ s. same.0 (subst (SomeSet P) (sym is) (inr s)),
+  λ w. elim (subst (SomeSet P) is (same.1 w)) [ inl first ↦ absurd (not_first first) | inr rest ↦ rest ],
 )
 
 -- a userset is a target itself where it is stored

@@ -10,6 +10,7 @@ use Rattle.version_chains.specs.Commits.{store_at}
 use Rattle.trace_lines.specs.Values.{TraceValue}
 use Rattle.judgement.specs.Judgement.{KnownValue, Established, Refuted}
 use Rattle.judgement.specs.declared.answers.Asked.{Asked}
+use Rattle.judgement.specs.declared.paths.Path.{Path}
 
 -- whether an expression gives the fact, or whether it rules it out, where its leaves do as they do
 abbrev pub does : Leaves → Bool → Expression → Bool
@@ -37,6 +38,10 @@ Follows parts asked is_given e answer = (l : Leaves) → Agrees l parts asked �
 -- more was asked
 abbrev pub AsksMore : List Asked → List Asked → Type 0
 AsksMore old new = (a : Asked) → Contains old a → Contains new a
+
+-- the answer of a path follows from what was asked on it
+abbrev pub AreRightPaths : List Expression → Expression → List Path → Type 0
+AreRightPaths parts e paths = (p : Path) → Contains paths p → Follows parts p.asked.items p.is_given e p.answer
 
 -- more was asked, each answer is right, and an answer follows for an expression
 pub record Tells (trace : TraceValue) (at : ℕ) (known : KnownValue) (f : FactValue) (parts : List Expression) (old new : List Asked) (is_given : Bool) (e : Expression) (answer : Bool) : Type 0 where

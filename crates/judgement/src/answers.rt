@@ -1,6 +1,7 @@
 //! What was asked of the parts of a rule.
 
-ghost use Rattle.std.specs.Prelude.{◌≡◌, ◌∷◌, ◌++◌, [], Contains, IfOk, IfSome, OnOk};
+ghost use Rattle.std.specs.Prelude.{◌≡◌, ◌∷◌, ◌++◌, [], Contains, IsTrue, IfOk, IfSome, OnOk};
+ghost use Rattle.judgement.specs.Asked.{AsksMore};
 
 use std::alloc::{AllocError, Global};
 use std::marker::Model;
@@ -77,6 +78,21 @@ impl Answers {
             set_place(&mut self.barred, asked.part, place);
         }
         Ok(())
+    }
+
+    /// Whether all of these were asked for, with these answers.
+    pub(crate) fn have(&self, asked: &[Asked]) -> bool
+        ensures { IsTrue result → AsksMore asked.now self.now }
+    {
+        for one in asked {
+            let Some(answer) = self.find(one.part, one.is_given) else {
+                return false;
+            };
+            if answer != one.answer {
+                return false;
+            }
+        }
+        true
     }
 
     /// From now on nothing was asked.

@@ -1,16 +1,17 @@
-//! A rule, and what was asked of its parts for the fact that was judged last.
+//! A rule, and what was asked of its parts for facts before.
 
-ghost use Rattle.std.specs.Prelude.{◌≡◌, ◌↔◌, IsTrue, true, IfOk, OnOk};
+ghost use Rattle.std.specs.Prelude.{◌≡◌, ◌↔◌, IsTrue, IfOk};
 ghost use Rattle.tuple_text.specs.Refs.{set_value};
 ghost use Rattle.tuple_text.specs.Tuples.{fact_of};
 ghost use Rattle.namespaces.specs.Parts.{parts_shown, rule_shown};
 ghost use Rattle.judgement.specs.Asked.{AreRight, Does};
 
-use crate::answers::{Answers, Asked};
-use crate::asking::{node_does, part_does};
+use crate::answers::Answers;
+use crate::asking::{ask, node_does};
 use crate::fact::KnownFact;
 use crate::known::Known;
-use namespaces::{Part, PartedRule};
+use crate::paths::{Paths, Reached};
+use namespaces::{Node, Part, PartedRule};
 use std::alloc::{AllocError, Global};
 use std::marker::Model;
 use trace_lines::Trace;
@@ -18,24 +19,20 @@ use version_chains::MarkedSet;
 
 /// A rule that many facts are asked for, one after the other. Contracts see its expression.
 ///
-/// Each part is asked for once for a fact. Where all that was asked for the fact before has the same answers again, so has the rule, and
-/// nothing else is asked.
+/// Each part is asked for once for a fact, first those that were asked for facts before, in their order, as far as the answers are those of
+/// one of them. Where all of its answers are, the rule's answer is that fact's, and nothing else is asked.
 #[derive(Drop)]
 pub struct AskedRule<'r> {
     rule: &'r PartedRule,
     answers: Answers,
-    // whether the answer below follows from those answers
-    is_answered: bool,
-    is_given: bool,
-    answer: bool,
+    paths: Paths,
 }
 
 impl<'r> Model for AskedRule<'r> {
-    ghost use Rattle.std.specs.Prelude.{◌≡◌, true};
     ghost use Rattle.namespaces.specs.Expression.{Expression};
     ghost use Rattle.namespaces.specs.ExpressionCode.{expression_code};
     ghost use Rattle.namespaces.specs.Parts.{parts_shown, rule_shown};
-    ghost use Rattle.judgement.specs.Asked.{Follows};
+    ghost use Rattle.judgement.specs.Asked.{AreRightPaths};
 
     ghost Value = { Expression };
 
@@ -43,28 +40,54 @@ impl<'r> Model for AskedRule<'r> {
 
     ghost view = { λ r. rule_shown r.rule.now };
 
-    ghost invariant = { λ r. r.is_answered ≡ true
-        → Follows (parts_shown r.rule.now.parts.items) r.answers r.is_given (rule_shown r.rule.now) r.answer };
+    ghost invariant = { λ r. AreRightPaths (parts_shown r.rule.now.parts.items) (rule_shown r.rule.now) r.paths };
 }
 
-/// Whether what was asked has the same answers for a fact.
-fn are_right<F: KnownFact>(
+/// How many places some nodes have.
+#[cycle(places)]
+fn places_of(nodes: &Vec<Node>) -> usize {
+    let mut places = 0usize;
+    for node in nodes {
+        places = places.saturating_add(places_below(node));
+    }
+    places
+}
+
+/// How many places of parts stand at a node and below it.
+#[cycle(places)]
+fn places_below(node: &Node) -> usize {
+    match node {
+        Node::Part(_) => 1,
+        Node::Union(nodes) => places_of(nodes),
+        Node::Inter(nodes) => places_of(nodes),
+        Node::Minus(base, subtract) => places_below(base).saturating_add(places_below(subtract)),
+    }
+}
+
+/// Asks what was asked for facts before, as far as the answers lead. A path asks each question once at most.
+fn ask_again<F: KnownFact>(
+    paths: &Paths,
     parts: &[Part],
-    asked: &[Asked],
+    is_given: bool,
     set: MarkedSet<'_>,
     user: u64,
     trace: &Trace,
     at: u64,
     known: &Known<F>,
-) -> bool
-    ensures { IsTrue result → AreRight trace.now at known.now (fact_of (set_value set.entry.set) user) (parts_shown parts.now) asked.now }
+    answers: &mut Answers,
+) -> Result<Reached, AllocError>
+    ensures { IfOk result (λ _. AreRight trace.now at known.now (fact_of (set_value set.entry.set) user) (parts_shown parts.now) answers.old
+        → AreRight trace.now at known.now (fact_of (set_value set.entry.set) user) (parts_shown parts.now) answers.new) }
 {
-    for one in asked {
-        if part_does(parts, one.part, one.is_given, set, user, trace, at, known) != one.answer {
-            return false;
-        }
+    let mut reached = paths.first(is_given);
+    for _ in 0..paths.most() {
+        let Some((part, gives)) = paths.question(reached) else {
+            return Ok(reached);
+        };
+        let answer = ask(parts, part, gives, set, user, trace, at, known, answers)?;
+        reached = paths.after(reached, answer);
     }
-    true
+    Ok(reached)
 }
 
 impl<'r> AskedRule<'r> {
@@ -75,9 +98,7 @@ impl<'r> AskedRule<'r> {
         Ok(AskedRule {
             rule,
             answers: Answers::new(alloc, rule.parts.len())?,
-            is_answered: false,
-            is_given: false,
-            answer: false,
+            paths: Paths::new(alloc, places_below(&rule.top)),
         })
     }
 
@@ -95,29 +116,28 @@ impl<'r> AskedRule<'r> {
         ensures rule { self.new ≡ self.old }
         ensures does { IfOk result (λ r. IsTrue r ↔ Does trace.now at known.now (fact_of (set_value set.entry.set) user) is_given self.old) }
     {
-        let parts = self.rule.parts.as_slice();
-        if self.is_answered
-            && self.is_given == is_given
-            && are_right(parts, self.answers.as_slice(), set, user, trace, at, known)
-        {
-            return Ok(self.answer);
-        }
-        self.is_answered = false;
         self.answers.clear();
-        let answer = node_does(
+        let parts = self.rule.parts.as_slice();
+        let answers = &mut self.answers;
+        let reached = ask_again(
+            &self.paths,
             parts,
-            &self.rule.top,
             is_given,
             set,
             user,
             trace,
             at,
             known,
-            &mut self.answers,
+            answers,
         )?;
-        self.is_given = is_given;
-        self.answer = answer;
-        self.is_answered = true;
+        if let Some(answer) = self.paths.answer(reached, is_given, answers) {
+            return Ok(answer);
+        }
+        let depth = answers.as_slice().len();
+        let top = &self.rule.top;
+        let answer = node_does(parts, top, is_given, set, user, trace, at, known, answers)?;
+        self.paths
+            .keep(reached, depth, answers.as_slice(), is_given, answer)?;
         Ok(answer)
     }
 }

@@ -17,7 +17,7 @@ use trace_lines::Trace;
 use version_chains::MarkedSet;
 
 /// Whether the part of a number gives a fact, or whether it rules the fact out. Where there is no such part, it is as a union of nothing.
-pub(crate) fn part_does<F: KnownFact>(
+fn part_does<F: KnownFact>(
     parts: &[Part],
     part: usize,
     is_given: bool,
@@ -52,7 +52,7 @@ pub(crate) fn part_does<F: KnownFact>(
 }
 
 /// The same, asked for once.
-fn ask<F: KnownFact>(
+pub(crate) fn ask<F: KnownFact>(
     parts: &[Part],
     part: usize,
     is_given: bool,

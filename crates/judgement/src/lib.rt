@@ -14,7 +14,7 @@
 //! What a call costs is no promise. A look-up among known facts goes by their marks. What is stored in a userset with many usersets is
 //! passed over by the trace's index of them, so that those that are dead or undeclared then are not looked at; and whether one of them
 //! leads to a known fact is found from the shorter of two lists, the stored usersets and the user's known facts. An `AskedRule` asks for each
-//! part once for a fact, and goes over the rule only where a part has another answer than it had for the fact before.
+//! part once for a fact, and goes over the rule only where its parts have other answers than they had for each fact that it remembers.
 //!
 //! ```text
 //! known.add_yes(fact)?;
@@ -30,6 +30,7 @@ mod facts;
 mod indexed;
 mod known;
 mod leading;
+mod paths;
 mod stored;
 mod table;
 mod through;

@@ -1,6 +1,6 @@
 //! What is read through one tupleset.
 
-ghost use Rattle.std.specs.Prelude.{◌≡◌, ◌↔◌, ℕ, List, Some, Contains, IsTrue, option_map, slice_get};
+ghost use Rattle.std.specs.Prelude.{◌≡◌, ◌↔◌, ◌⊎◌, ℕ, List, Some, Contains, IsTrue, true, false, option_map, slice_get};
 ghost use Rattle.tuple_text.specs.Refs.{set_value};
 ghost use Rattle.tuple_text.specs.Tuples.{fact_of};
 ghost use Rattle.namespaces.specs.InForce.{names_in_force};
@@ -8,13 +8,15 @@ ghost use Rattle.namespaces.specs.Lookup.{rule_at};
 ghost use Rattle.namespaces.specs.Parts.{computed_names, through_expression};
 ghost use Rattle.version_chains.specs.Commits.{store_at};
 ghost use Rattle.judgement.specs.Judgement.{Established, Refuted};
-ghost use Rattle.judgement.specs.Passes.{AreBarred, BarsId, BarsNames, EachSet, IsLedByName};
+ghost use Rattle.judgement.specs.Passes.{AreBarred, BarsId, BarsNames, EachSet, IsLed, IsLedByName, LeadsByName, SomeSet};
 
 use crate::fact::KnownFact;
+use crate::facts::SetsOfUser;
 use crate::known::Known;
 use crate::stored::{is_barred, is_led, is_out, under};
 use namespaces::{Rules, Through};
 use trace_lines::Trace;
+use tuple_text::SetRef;
 use version_chains::{MarkedSet, Usersets};
 
 /// Up to how many relations are asked for one by one.
@@ -89,6 +91,76 @@ fn name_at(through: &Through, k: usize) -> Option<&str>
     Some(name.as_str())
 }
 
+/// Whether some userset that is stored in a set has the user under relation number `k` that is read.
+fn leads_at<F: KnownFact>(
+    trace: &Trace,
+    at: u64,
+    known: &Known<F>,
+    through: &Through,
+    set: MarkedSet<'_>,
+    user: u64,
+    k: usize,
+) -> bool
+    ensures leads { IsTrue result
+        → IsLedByName (store_at trace.now.commits at) known.now (set_value set.entry.set) (computed_names through.now) user }
+    ensures none { (c : List ℕ) → slice_get (computed_names through.now) k ≡ Some c
+        → IsLed (store_at trace.now.commits at) known.now (set_value set.entry.set) (Some c) user → IsTrue result }
+{
+    match name_at(through, k) {
+        Some(name) => is_led(trace, at, known, set, Some(name), user),
+        None => false,
+    }
+}
+
+/// Whether one has the user under the relation of a target, where that is read.
+fn leads_by_name<F: KnownFact>(
+    trace: &Trace,
+    at: u64,
+    known: &Known<F>,
+    through: &Through,
+    set: MarkedSet<'_>,
+    user: u64,
+    target: SetRef<'_>,
+) -> bool
+    ensures { IsTrue result ↔ LeadsByName (store_at trace.now.commits at) known.now (set_value set.entry.set) (computed_names through.now) user
+        (set_value target.entry) }
+{
+    let name = target.relation;
+    through.reads(name) && is_led(trace, at, known, set, Some(name), user)
+}
+
+/// Whether one has the user under a relation that is read, or under that of one of some targets. It goes over both lists side by side, so it
+/// takes no more steps than the shorter has items.
+fn leads_by_either<F: KnownFact>(
+    trace: &Trace,
+    at: u64,
+    known: &Known<F>,
+    through: &Through,
+    set: MarkedSet<'_>,
+    user: u64,
+    targets: SetsOfUser<'_, F>,
+) -> bool
+    ensures leads { result ≡ true → IsLedByName (store_at trace.now.commits at) known.now (set_value set.entry.set) (computed_names through.now) user
+        ⊎ SomeSet (LeadsByName (store_at trace.now.commits at) known.now (set_value set.entry.set) (computed_names through.now) user) targets.entry }
+    ensures none { result ≡ false
+        → (¬ IsLedByName (store_at trace.now.commits at) known.now (set_value set.entry.set) (computed_names through.now) user)
+        ⊎ (¬ SomeSet (LeadsByName (store_at trace.now.commits at) known.now (set_value set.entry.set) (computed_names through.now) user) targets.entry) }
+{
+    let mut targets = targets;
+    for k in 0..through.computed.len() {
+        if leads_at(trace, at, known, through, set, user, k) {
+            return true;
+        }
+        let Some(target) = targets.next() else {
+            return false;
+        };
+        if leads_by_name(trace, at, known, through, set, user, target.set) {
+            return true;
+        }
+    }
+    false
+}
+
 /// Whether some userset that is stored in a set has the user under a relation that is read, as far as that is known.
 fn is_led_by_name<F: KnownFact>(
     trace: &Trace,
@@ -101,14 +173,7 @@ fn is_led_by_name<F: KnownFact>(
     ensures { IsTrue result
         ↔ IsLedByName (store_at trace.now.commits at) known.now (set_value set.entry.set) (computed_names through.now) user }
 {
-    for k in 0..through.computed.len() {
-        if let Some(name) = name_at(through, k) {
-            if is_led(trace, at, known, set, Some(name), user) {
-                return true;
-            }
-        }
-    }
-    false
+    leads_by_either(trace, at, known, through, set, user, known.sets_of(user))
 }
 
 /// Whether no userset that is stored in a set may have the user under a relation that is read, one relation after the other.

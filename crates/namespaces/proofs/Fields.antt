@@ -2,6 +2,7 @@
 use Rattle.std.proofs.Common.{◌≡◌, ℕ, ◌+◌, ◌-◌, ◌<◌, ◌≤◌, nat_le, List, [], ◌∷◌, ◌++◌, map, length, slice_get, position, filter, Bool, true, false, cond, Option, None, Some, option_map, option_and_then, is_some, string_bytes, refl, sym, ap, ◌∙◌, arith}
 use Rattle.std.proofs.lemmas.Option.{slice_get-map}
 use Rattle.std.proofs.lemmas.Map.Made.{is_some-lookup}
+use Rattle.indexmap.proofs.MapLemmas.{Found-position, some_index}
 use Rattle.std.specs.Global.{Vec}
 use Rattle.std.specs.Option.{IfSome}
 use Rattle.std.specs.Str.{bytes_eq}
@@ -127,6 +128,26 @@ stratum_found q (e ∷ es) = found_mapped (is_text q e.0) _ _ _ e.1 _ _ refl (st
 pub expression_found : (q : List ℕ) (es : List Entry) → option_map (λ r. r.expression) (relation_named q (show_relations es)) ≡ option_map (λ r. expression_of r.rewrite) (lookup (is_text q) es)
 expression_found q [] = refl
 expression_found q (e ∷ es) = found_mapped (is_text q e.0) _ _ _ e.1 _ _ refl (expression_found q es)
+
+-- the relation of a name stands at the place of the name
+pub expression_placed : (q : List ℕ) (es : List Entry) (i : ℕ) → position (is_text q) (keys_of es) ≡ Some i
+    → option_map (λ r. r.expression) (slice_get (show_relations es) i) ≡ option_map (λ r. r.expression) (relation_named q (show_relations es))
+expression_placed q es i at =
+    ap (option_map (λ r. r.expression)) (slice_get-map show_relation es i)
+    ∙ map-map show_relation (λ r. r.expression) (slice_get es i)
+    ∙ sym (map-map (λ (e : Entry). e.1) (λ r. expression_of r.rewrite) (slice_get es i))
+    ∙ ap (option_map (λ r. expression_of r.rewrite)) (sym (slice_get-map (λ (e : Entry). e.1) es i) ∙ sym (Found-position (is_text q) es i at).value)
+    ∙ sym (expression_found q es)
+
+-- and none, where the name stands nowhere
+pub none_placed : (q : List ℕ) (es : List Entry) → position (is_text q) (keys_of es) ≡ None
+    → option_map (λ r. r.expression) (relation_named q (show_relations es)) ≡ None
+none_placed q es none =
+    expression_found q es ∙ ap (option_map (λ r. expression_of r.rewrite)) (none_there (lookup (is_text q) es) (sym (some_index (is_text q) es) ∙ ap is_some none))
+  where
+    none_there : {X : Type 0} (o : Option X) → is_some o ≡ false → o ≡ None
+    none_there None is = refl
+    none_there (Some x) is = cc
 
 pub expression_of_rule : (o : Option declaration.Relation) → option_map (λ r. r.expression) (option_map as_rule o) ≡ option_map (λ r. r.expression) o
 expression_of_rule None = refl

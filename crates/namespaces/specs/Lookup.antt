@@ -7,6 +7,7 @@ use Rattle.tuple_text.specs.Sets.{SetValue}
 use Rattle.namespaces.specs.Expression.{Expression}
 use Rattle.namespaces.specs.Declaration.{Relation, Declaration}
 use Rattle.namespaces.specs.declared.number.RelNo.{RelNo}
+use Rattle.namespaces.specs.declared.number.RulePlace.{RulePlace}
 
 -- what is declared of one relation
 pub record Rule : Type 0 where
@@ -63,6 +64,12 @@ as_rule r = record { stratum = r.stratum; expression = r.expression }
 -- the rules in force at a timestamp
 abbrev pub rule_at : List Declaration → ℕ → List ℕ → List ℕ → Option Rule
 rule_at ds at namespace relation = option_map as_rule (relation_at ds at namespace relation)
+
+-- what the declaration of a number says of its relation of a number, both counted from 0
+abbrev pub expression_in : RulePlace → List Declaration → Option Expression
+expression_in place ds =
+    option_map (λ r. r.expression)
+    (option_and_then (λ rs. slice_get rs place.relation) (option_map (λ d. d.relations) (slice_get ds place.line)))
 
 -- ---- by number, counted from 1
 

@@ -33,7 +33,7 @@ mod rules;
 mod table;
 
 pub use fault::RulesFault;
-pub use number::RelNo;
+pub use number::{RelNo, RulePlace};
 pub use parts::{Node, Part, PartedRule, Through};
 pub use relation::PlainRule;
 pub use rewrite::Rewrite;

@@ -3,7 +3,7 @@ ghost use Rattle.std.specs.Prelude.{◌≡◌, ℕ, List, None, Contains, ◌<�
 ghost use Rattle.tuple_text.specs.Refs.{set_value};
 ghost use Rattle.namespaces.specs.Declaration.{declared};
 ghost use Rattle.namespaces.specs.InForce.{names_in_force};
-ghost use Rattle.namespaces.specs.Lookup.{rule_of, rule_at, relation_of, relation_count, relations_of, number_of, place_of, namespace_names, namespace_numbered, relation_numbered, history_numbered};
+ghost use Rattle.namespaces.specs.Lookup.{expression_in, rule_of, rule_at, relation_of, relation_count, relations_of, number_of, place_of, namespace_names, namespace_numbered, relation_numbered, history_numbered};
 ghost use Rattle.namespaces.specs.Plain.{ArePlain};
 ghost use Rattle.namespaces.specs.View.{expression_of};
 ghost use Rattle.namespaces.specs.WellFormed.{IsWellFormed};
@@ -11,7 +11,7 @@ ghost use Rattle.namespaces.specs.WellFormed.{IsWellFormed};
 use crate::fault::RulesFault;
 use crate::index::{Revision, note, revision_at, revision_with};
 use crate::lookups::{place_in, value_in};
-use crate::number::RelNo;
+use crate::number::{RelNo, RulePlace};
 use crate::reading::{Draft, read_draft};
 use crate::relation::{PlainRule, Relation};
 use crate::rewrite::Rewrite;
@@ -165,6 +165,27 @@ impl Rules {
         Some(&relation.plain)
     }
 
+    /// Where the rule stands that `body` gives, or `None` where it gives none. A place is that of one rule for good.
+    pub fn body_place(&self, set: SetRef<'_>, at: u64) -> Option<RulePlace>
+        ensures { option_and_then (λ p. expression_in p self.now) result
+            ≡ option_map (λ r. r.expression) (rule_of (rule_at self.now at) (set_value set.entry)) }
+    {
+        let revision = self.revision_in_force(set.namespace, at)?;
+        let relation = place_in(self.relations_in(revision.line)?, set.relation)?;
+        Some(RulePlace {
+            line: revision.line,
+            relation,
+        })
+    }
+
+    /// The plain form of the rule that stands at a place, as `plain_body` gives it, or `None` where none stands there.
+    pub fn plain_in(&self, place: RulePlace) -> Option<&PlainRule>
+        ensures { ArePlain (option_map (λ r. expression_of r.now.rewrite) result) (expression_in place self.now) }
+    {
+        let (_, relation) = self.relation_in(place)?;
+        Some(&relation.plain)
+    }
+
     /// How many relations a namespace has at a timestamp, by its last declaration in force; 0 where it is not declared by then.
     pub fn count_in_force(&self, namespace: &str, at: u64) -> usize
         ensures count { result ≡ length (names_in_force at namespace.now self.now) }
@@ -193,7 +214,10 @@ impl Rules {
         let (_, revisions) = self.numbered(number.namespace)?;
         let index = number.relation.checked_sub(1)? as usize;
         let revision = revision_with(revisions.as_slice(), index, k)?;
-        let (_, relation) = self.relation_in(revision, index)?;
+        let (_, relation) = self.relation_in(RulePlace {
+            line: revision.line,
+            relation: index,
+        })?;
         Some(&relation.rewrite)
     }
 
@@ -304,23 +328,26 @@ impl Rules {
         let (_, revisions) = self.numbered(number.namespace)?;
         let index = number.relation.checked_sub(1)?;
         let newest = revisions.last().copied()?;
-        self.relation_in(newest, index as usize)
+        self.relation_in(RulePlace {
+            line: newest.line,
+            relation: index as usize,
+        })
     }
 
-    /// The relation at a place of the declaration that a revision stands for.
-    fn relation_in(&self, revision: Revision, index: usize) -> Option<(&String, &Relation)>
+    /// The relation whose rule stands at a place.
+    fn relation_in(&self, place: RulePlace) -> Option<(&String, &Relation)>
         ensures { option_map (λ p. show_relation (p.0.now, p.1.now)) result
-            ≡ option_and_then (λ rs. slice_get rs index) (option_map (λ d. d.relations) (slice_get self.now revision.line)) }
+            ≡ option_and_then (λ rs. slice_get rs place.relation) (option_map (λ d. d.relations) (slice_get self.now place.line)) }
     {
-        self.relations_in(revision)?.get_index(index)
+        self.relations_in(place.line)?.get_index(place.relation)
     }
 
-    /// The relations of the declaration that a revision stands for.
-    fn relations_in(&self, revision: Revision) -> Option<&IndexMap<String, Relation>>
+    /// The relations of the declaration of a number.
+    fn relations_in(&self, line: usize) -> Option<&IndexMap<String, Relation>>
         ensures { option_map (λ m. show_relations m.now.entries) result
-            ≡ option_map (λ d. d.relations) (slice_get self.now revision.line) }
+            ≡ option_map (λ d. d.relations) (slice_get self.now line) }
     {
-        let line = self.lines.get(revision.line)?;
+        let line = self.lines.get(line)?;
         Some(&line.namespace.relations)
     }
 
@@ -331,7 +358,17 @@ impl Rules {
         ensures well_formed { IsWellFormed self.now }
     {
         let newest = value_in(&self.namespaces, namespace)?.last().copied()?;
-        self.relations_in(newest)
+        self.relations_in(newest.line)
+    }
+
+    /// The last declaration of a namespace that is in force at a timestamp.
+    fn revision_in_force(&self, namespace: &str, at: u64) -> Option<Revision>
+        ensures relations { option_and_then (λ v. option_map (λ d. d.relations) (slice_get self.now v.line)) result
+            ≡ relations_at at namespace.now self.now }
+        ensures well_formed { IsWellFormed self.now }
+    {
+        let revisions = value_in(&self.namespaces, namespace)?;
+        revision_at(revisions.as_slice(), at)
     }
 
     /// The relations of a namespace by the last declaration in force at a timestamp.
@@ -339,9 +376,8 @@ impl Rules {
         ensures relations { option_map (λ m. show_relations m.now.entries) result ≡ relations_at at namespace.now self.now }
         ensures well_formed { IsWellFormed self.now }
     {
-        let revisions = value_in(&self.namespaces, namespace)?;
-        let revision = revision_at(revisions.as_slice(), at)?;
-        self.relations_in(revision)
+        let revision = self.revision_in_force(namespace, at)?;
+        self.relations_in(revision.line)
     }
 
     /// What is declared of a relation by the last declaration in force at a timestamp.

@@ -8,7 +8,8 @@ use Rattle.evidence_check.specs.Rules.{AreLast}
 use Rattle.evidence_check.specs.Steps.{borrowed_steps}
 use Rattle.evidence_check.proofs.judged.first_bad.Given as goal
 
--- what is left decides, what is known bears itself out, and the last rules are those of their usersets
+-- what is left decides, what is known bears itself out, the last rules are those of their usersets, and rules are asked by the trace's
+-- declarations
 abbrev pub invariant-loop-k : goal.invariant-loop-k
 invariant-loop-k l =
     (first_bad (rule_at l.trace.declarations l.at) (store_at l.trace.commits l.at) l.known (l.k + 1) (borrowed_steps (drop l.k l.steps))
@@ -16,3 +17,4 @@ invariant-loop-k l =
     × (after_steps l.known (borrowed_steps (drop l.k l.steps)) ≡ after_steps l.fn.known (borrowed_steps l.steps))
     × IsBorneOut (rule_at l.trace.declarations l.at) (store_at l.trace.commits l.at) l.known
     × AreLast l.trace.declarations l.at l.rules
+    × (l.asked ≡ l.trace.declarations)

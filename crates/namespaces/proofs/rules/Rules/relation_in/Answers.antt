@@ -15,6 +15,6 @@ pub returns : goal.returns
 returns c =
     rw (
       ← c.in_ok-relations_in.ensures,
-      slice_get-map show_relation c.in_ok-relations_in.field-0.now.entries c.args.index,
+      slice_get-map show_relation c.in_ok-relations_in.field-0.now.entries c.args.place.relation,
       ← c.get_index.ensures.entry,
     ) (mapped_twice _ show_relation c.get_index.result)

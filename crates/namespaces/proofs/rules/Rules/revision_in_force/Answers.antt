@@ -1,7 +1,7 @@
 use Rattle.std.proofs.Common.{sym, refl}
 use Rattle.namespaces.proofs.Fields.{well, none_found, some_found, at_led}
 use Rattle.namespaces.proofs.Times.{revisions_rise_in_time}
-use Rattle.namespaces.proofs.rules.Rules.in_force.Goals as goal
+use Rattle.namespaces.proofs.rules.Rules.revision_in_force.Goals as goal
 
 pub returns-in_err-revisions-clause-relations : goal.returns-in_err-revisions-clause-relations
 returns-in_err-revisions-clause-relations c =
@@ -18,16 +18,9 @@ revision_at-requires c =
     let some = some_found s.lines.items s.namespaces.entries s.changes c.args.self.now c.self.view_is c.self.invariant q _ (sym c.in_ok-revisions.ensures.value) in
     rw (c.as_slice.ensures.value, ← some) (revisions_rise_in_time q c.args.self.now w.continued)
 
-pub returns-in_err-revision-clause-relations : goal.returns-in_err-revision-clause-relations
-returns-in_err-revision-clause-relations c =
-    let s = c.self.inside in
-    let q = c.args.namespace.now in
-    let some = some_found s.lines.items s.namespaces.entries s.changes c.args.self.now c.self.view_is c.self.invariant q _ (sym c.in_ok-revisions.ensures.value) in
-    rw (c.from_residual-in_err-revision.ensures, at_led c.args.at q c.args.self.now _ some, ← c.as_slice.ensures.value, ← c.in_err-revision.ensures) refl
-
 pub returns-clause-relations : goal.returns-clause-relations
 returns-clause-relations c =
     let s = c.self.inside in
     let q = c.args.namespace.now in
     let some = some_found s.lines.items s.namespaces.entries s.changes c.args.self.now c.self.view_is c.self.invariant q _ (sym c.in_ok-revisions.ensures.value) in
-    rw (at_led c.args.at q c.args.self.now _ some, ← c.as_slice.ensures.value, ← c.in_ok-revision.ensures) c.relations_in.ensures
+    rw (at_led c.args.at q c.args.self.now _ some, ← c.as_slice.ensures.value, ← c.revision_at.ensures) refl

@@ -1,0 +1,102 @@
+//! Rules of many places that facts were asked for.
+
+ghost use Rattle.std.specs.Prelude.{◌≡◌, ◌↔◌, IsTrue, Some, IfOk};
+ghost use Rattle.namespaces.specs.Alike.{AreAlike};
+ghost use Rattle.namespaces.specs.Expression.{Expression};
+ghost use Rattle.namespaces.specs.Lookup.{expression_in};
+ghost use Rattle.namespaces.specs.Parts.{rule_shown};
+ghost use Rattle.judgement.specs.Asked.{Does};
+ghost use Rattle.judgement.specs.Facts.{marked_fact};
+
+use judgement::{AskedRule, Known, MarkedFact};
+use namespaces::{PartedRule, RulePlace, Rules};
+use std::alloc::{AllocError, Global};
+use std::collections::BTreeMap;
+use std::marker::Model;
+use trace_lines::Trace;
+
+/// A rule, and where it stands.
+#[derive(Drop)]
+pub(crate) struct PlacedRule<'t> {
+    place: RulePlace,
+    rule: AskedRule<'t>,
+}
+
+/// Rules of many places, each with what was asked of it in all records so far. Contracts see the declarations that they stand in.
+#[derive(Drop)]
+pub(crate) struct AskedRules<'t> {
+    alloc: Global,
+    rules: &'t Rules,
+    asked: Vec<PlacedRule<'t>>,
+    // by its place, where a rule may be found: it is the one only where its place says so
+    numbers: BTreeMap<u64, usize>,
+}
+
+impl<'t> Model for AskedRules<'t> {
+    ghost use Rattle.std.specs.Prelude.{List};
+    ghost use Rattle.std.specs.Coded.{coded_list};
+    ghost use Rattle.namespaces.specs.Declaration.{Declaration, declaration_code};
+    ghost use Rattle.evidence_check.specs.Rules.{ArePlaced};
+
+    ghost Value = { List Declaration };
+
+    ghost coded = { coded_list declaration_code };
+
+    ghost view = { λ s. s.rules.now };
+
+    ghost invariant = { λ s. ArePlaced s.rules.now s.asked.items };
+}
+
+/// A number for a place: there are 256 relations at most in a declaration.
+fn key(place: RulePlace) -> u64 {
+    (place.line as u64)
+        .wrapping_mul(256)
+        .wrapping_add(place.relation as u64)
+}
+
+impl<'t> AskedRules<'t> {
+    /// Nothing was asked.
+    pub(crate) fn new(alloc: Global, rules: &'t Rules) -> AskedRules<'t>
+        ensures { result ≡ rules.now }
+    {
+        AskedRules {
+            alloc,
+            rules,
+            asked: Vec::new(alloc),
+            numbers: BTreeMap::new(alloc),
+        }
+    }
+
+    /// Whether the rule at a place gives a fact, or whether it rules the fact out.
+    pub(crate) fn does(
+        &mut self,
+        place: RulePlace,
+        parted: &'t PartedRule,
+        is_given: bool,
+        trace: &Trace,
+        at: u64,
+        known: &Known<MarkedFact<'_>>,
+        fact: MarkedFact<'_>,
+    ) -> Result<bool, AllocError>
+        requires { AreAlike (Some (rule_shown parted.now)) (expression_in place self.old) }
+        ensures rules { self.new ≡ self.old }
+        ensures does { IfOk result (λ r. IsTrue r ↔ Does trace.now at known.now (marked_fact fact.entry) is_given (rule_shown parted.now)) }
+    {
+        let number = self
+            .numbers
+            .get(&key(place))
+            .copied()
+            .unwrap_or(self.asked.len());
+        if number < self.asked.len() && self.asked[number].place == place {
+            return self.asked[number]
+                .rule
+                .does(is_given, fact.set, fact.user, trace, at, known);
+        }
+        let mut rule = AskedRule::new(self.alloc, parted)?;
+        let does = rule.does(is_given, fact.set, fact.user, trace, at, known)?;
+        let number = self.asked.len();
+        self.asked.push(PlacedRule { place, rule })?;
+        let _ = self.numbers.insert(key(place), number)?;
+        Ok(does)
+    }
+}
