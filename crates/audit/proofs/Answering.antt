@@ -1,5 +1,5 @@
 -- What a call answers, by what its parts did.
-use Rattle.std.proofs.Common.{◌≡◌, ◌≢◌, ◌⊎◌, inl, inr, ℕ, true, false, List, [], ◌++◌, Option, Result, Ok, Err, refl, sym, ap, subst, ◌∙◌, length}
+use Rattle.std.proofs.Common.{◌≡◌, ◌≢◌, ◌⊎◌, inl, inr, ℕ, true, false, List, [], ◌∷◌, ◌++◌, Option, Result, Ok, Err, refl, sym, ap, subst, ◌∙◌, length}
 use Rattle.std.specs.Prelude.{IfErr}
 use Rattle.std.specs.declared.vec.Vec.{Vec}
 use Rattle.std.specs.declared.alloc.Global.{Global}
@@ -16,14 +16,16 @@ use Rattle.findings.specs.WrongReplies.{NamesOnlyWrongReplies}
 use Rattle.findings.specs.declared.finding.Finding.{Finding}
 use Rattle.findings.proofs.WrongReplies.{named_by_bytes}
 use Rattle.audit.specs.Answers.{TraceRead, EvidenceRead, Told, IsReport, AreFound, TellsOfTrace, Audited}
-use Rattle.audit.specs.Audit.{Audits, Breaks, RefusesEvidenceFor, IsOfAudit, IsOfBytes, IsOfEvidence, IsOfNoDevice, IsOfTrace, verdict_of}
+use Rattle.audit.specs.Audit.{Audits, Breaks, RefusesEvidenceFor, IsOfBytes, IsOfNoDevice, verdict_of}
 use Rattle.audit.specs.Devices.{Reader, Reading, Writer, Writing, OfAll, OfAny, OfBoth, OfCame, GivesFew, GivesNext, ReaderFailed, ReaderHeld, FailsWriting}
-use Rattle.audit.specs.History.{IsOfHistory}
+use Rattle.audit.specs.Kinds.{IsOneOf}
+use Rattle.audit.specs.Kinds as kind
 use Rattle.audit.specs.declared.plain.Verdict.{Verdict}
 use Rattle.audit.specs.declared.plain.Verdict.TheVariants.{Clean}
 use Rattle.audit.specs.declared.plain.AuditFault.{AuditFault}
 use Rattle.audit.specs.declared.plain.AuditFault.TheVariants as faults
-use Rattle.audit.proofs.Readers.{of_all-map, few_at_rest, next_at_rest, behind_at_rest, refused_evidence, cut_evidence, on_both, of_writing, never_refused, devices_of_trace, devices_of_evidence, devices_of_writing, unwritten_without_device, answered_clean}
+use Rattle.audit.proofs.KindLemmas.{one_of-more, never_answered}
+use Rattle.audit.proofs.Readers.{of_all-map, few_at_rest, next_at_rest, behind_at_rest, refused_evidence, cut_evidence, on_both, devices_of_reading, devices_of_writing, unwritten_without_device, answered_clean}
 
 -- ---- what is told
 
@@ -38,7 +40,7 @@ told_no_memory Says w =
       write = λ n is. absurd (cc (is));
       failed = λ is. absurd is;
       kept = tt;
-      kinds = inl refl;
+      kinds = (refl, tt);
       unwritten = λ is. refl;
       unfailed = λ is. (refl, refl);
       held = behind_at_rest w;
@@ -89,7 +91,7 @@ module _ (t : TraceValue) (r : Reading) where
   pub evidence_stopped : {V : Type 0} (Says : List (Option (List StepValue)) → V → Type 0) (fault : EvidenceFault) (e : AuditFault) → OfAny r (λ b. RefusesEvidenceFor t b fault)
       → (fault.cause ≡ evidence_causes.Read → OfCame r (λ b. evidence_of t.entries false b ≡ Err fault)) → GivesFew r → GivesNext r
       → (fault.cause ≡ evidence_causes.Read → ReaderFailed r) → (fault.cause ≢ evidence_causes.Read → ReaderHeld r)
-      → ((f : EvidenceFault) → e ≡ faults.Evidence f → f ≡ fault) → (IsOfNoDevice e → fault.cause ≢ evidence_causes.Read) → IsOfEvidence e → EvidenceRead {V = V} Says t r (Err e)
+      → ((f : EvidenceFault) → e ≡ faults.Evidence f → f ≡ fault) → (IsOfNoDevice e → fault.cause ≢ evidence_causes.Read) → IsOneOf (kind.evidence ∷ kind.memory ∷ []) e → EvidenceRead {V = V} Says t r (Err e)
   evidence_stopped {V} Says fault e refused cut few next failed held told device kinds =
       let same = λ (f : EvidenceFault) (is : ◌≡◌ {A = Result V AuditFault} (Err e) (Err (faults.Evidence f))). told f (fault_same {V = V} e (faults.Evidence f) is) in
       record {
@@ -146,28 +148,10 @@ module _ (t : TraceValue) (r : Reading) where
           failed = λ f is. absurd (cc (is));
           held = tt;
           unfailed = λ none. h.held;
-          kinds = tt;
+          kinds = (refl, tt);
         }
 
 -- ---- calls that read a trace alone
-
-never_of_trace : (e : AuditFault) → IsOfTrace e → (n : ℕ) → e ≡ faults.Write n → ⊥
-never_of_trace (faults.Trace f) of n is = absurd (cc (is))
-never_of_trace (faults.Evidence f) of n is = of
-never_of_trace (faults.Write k) of n is = of
-never_of_trace faults.OutOfMemory of n is = absurd (cc (is))
-never_of_trace faults.Limits of n is = of
-never_of_trace faults.Joined of n is = of
-never_of_trace faults.Input of n is = of
-
-never_evidence : (e : AuditFault) → IsOfTrace e → (f : EvidenceFault) → e ≡ faults.Evidence f → ⊥
-never_evidence (faults.Trace g) of f is = absurd (cc (is))
-never_evidence (faults.Evidence g) of f is = of
-never_evidence (faults.Write k) of f is = of
-never_evidence faults.OutOfMemory of f is = absurd (cc (is))
-never_evidence faults.Limits of f is = of
-never_evidence faults.Joined of f is = of
-never_evidence faults.Input of f is = of
 
 pub trace_not_read : {V : Type 0} (Tells : List ℕ → List ℕ → List ℕ → V → Type 0) (Breaks : List ℕ → Writing → ℕ → Type 0) (trace : Reading) (w : Writer) (e : AuditFault)
     → TraceRead trace (Err e) → TellsOfTrace Tells Breaks trace (record { before = w; after = w }) (Err e)
@@ -177,12 +161,15 @@ trace_not_read {V} Tells Breaks trace w e read =
       flushed = tt;
       trace_refused = λ f is. read.refused f (ap (λ (x : AuditFault). Err x) (fault_same {V = V} e (faults.Trace f) is));
       trace_cut = λ f is. read.cut f (ap (λ (x : AuditFault). Err x) (fault_same {V = V} e (faults.Trace f) is));
-      write = λ n is. absurd (never_of_trace e read.kinds n (fault_same {V = V} e (faults.Write n) is));
+      write = λ n is. absurd (never_answered {V = V} (kind.trace ∷ kind.memory ∷ []) (Err e) (faults.Write n) refl read.kinds is);
       unwritten = λ is. refl;
       most = read.few;
       known = read.next;
       held = behind_at_rest w;
-      devices = devices_of_trace e _ ⊥ _ read.kinds (λ f is. read.failed f (ap (λ (x : AuditFault). Err x) is));
+      devices =
+          devices_of_reading e _ ⊥ _ (one_of-more (kind.trace ∷ kind.memory ∷ []) (kind.trace ∷ kind.evidence ∷ kind.memory ∷ []) refl e read.kinds)
+          (λ f is. read.failed f (ap (λ (x : AuditFault). Err x) is))
+          (λ f is read_fails. never_answered {V = V} (kind.trace ∷ kind.memory ∷ []) (Err e) (faults.Evidence f) refl read.kinds (ap (λ (x : AuditFault). Err x) is));
       kept = tt;
       unfailed = λ none. (read.unfailed none, (refl, refl));
     }
@@ -213,8 +200,8 @@ tells_of {V} Tells Breaks Says trace out t (Err e) read told tells breaks =
     record {
       told = tt;
       flushed = tt;
-      trace_refused = λ f is. absurd (never_refused (Err e) (faults.Trace f) told.kinds is tt);
-      trace_cut = λ f is. absurd (never_refused (Err e) (faults.Trace f) told.kinds is tt);
+      trace_refused = λ f is. absurd (never_answered {V = V} (kind.write ∷ kind.memory ∷ []) (Err e) (faults.Trace f) refl told.kinds is);
+      trace_cut = λ f is. absurd (never_answered {V = V} (kind.write ∷ kind.memory ∷ []) (Err e) (faults.Trace f) refl told.kinds is);
       write = λ n is.
           let h = told.write n is in
           of_all-map trace (λ a. trace_of true a ≡ Ok t) (λ a. Breaks a out n) (λ a says. breaks a h.1 h.0 n says h.2 h.3) read.given;
@@ -285,51 +272,7 @@ tells_at_rest Tells Breaks a w =
       unfailed = λ none. (refl, (refl, refl));
     }
 
-pub history_of_trace : (e : AuditFault) → IsOfTrace e → IsOfHistory e
-history_of_trace (faults.Trace f) h = h
-history_of_trace (faults.Evidence f) h = absurd h
-history_of_trace (faults.Write n) h = absurd h
-history_of_trace faults.OutOfMemory h = tt
-history_of_trace faults.Limits h = absurd h
-history_of_trace faults.Joined h = absurd h
-history_of_trace faults.Input h = absurd h
-
-pub history_kinds : {V : Type 0} (Says : List ℕ → V → Type 0) (out : Writing) (r : Result V AuditFault) → Told Says out r → IfErr r IsOfHistory
-history_kinds Says out (Ok v) told = tt
-history_kinds Says out (Err e) told = of_writing IsOfHistory tt (λ n. tt) e told.kinds
-
 -- ---- audits
-
-pub audit_kinds : {V : Type 0} (Says : List ℕ → V → Type 0) (out : Writing) (r : Result V AuditFault) → Told Says out r → IfErr r IsOfAudit
-audit_kinds Says out (Ok v) told = tt
-audit_kinds Says out (Err e) told = of_writing IsOfAudit tt (λ n. tt) e told.kinds
-
-pub kinds_of_trace : (e : AuditFault) → IsOfTrace e → IsOfAudit e
-kinds_of_trace (faults.Trace f) h = h
-kinds_of_trace (faults.Evidence f) h = absurd h
-kinds_of_trace (faults.Write n) h = absurd h
-kinds_of_trace faults.OutOfMemory h = tt
-kinds_of_trace faults.Limits h = absurd h
-kinds_of_trace faults.Joined h = absurd h
-kinds_of_trace faults.Input h = absurd h
-
-pub kinds_of_evidence : (e : AuditFault) → IsOfEvidence e → IsOfAudit e
-kinds_of_evidence (faults.Trace f) h = absurd h
-kinds_of_evidence (faults.Evidence f) h = h
-kinds_of_evidence (faults.Write n) h = absurd h
-kinds_of_evidence faults.OutOfMemory h = tt
-kinds_of_evidence faults.Limits h = absurd h
-kinds_of_evidence faults.Joined h = absurd h
-kinds_of_evidence faults.Input h = absurd h
-
-never_of_evidence : (e x : AuditFault) → IsOfEvidence e → e ≡ x → ((f : EvidenceFault) → faults.Evidence f ≡ x → ⊥) → faults.OutOfMemory ≢ x → ⊥
-never_of_evidence (faults.Trace f) x of is no_evidence no_memory = of
-never_of_evidence (faults.Evidence f) x of is no_evidence no_memory = no_evidence f is
-never_of_evidence (faults.Write n) x of is no_evidence no_memory = of
-never_of_evidence faults.OutOfMemory x of is no_evidence no_memory = no_memory is
-never_of_evidence faults.Limits x of is no_evidence no_memory = of
-never_of_evidence faults.Joined x of is no_evidence no_memory = of
-never_of_evidence faults.Input x of is no_evidence no_memory = of
 
 -- the trace was refused, and nothing else touched
 pub audited_no_trace : (trace : Reading) (b : Reader) (w : Writer) (e : AuditFault) → TraceRead trace (Err e)
@@ -343,14 +286,17 @@ audited_no_trace trace b w e read =
       wrong_replies = tt;
       trace_refused = λ f is. read.refused f (ap (λ (x : AuditFault). Err x) (same (faults.Trace f) is));
       trace_cut = λ f is. read.cut f (ap (λ (x : AuditFault). Err x) (same (faults.Trace f) is));
-      evidence_refused = λ f is. absurd (never_evidence e read.kinds f (same (faults.Evidence f) is));
-      evidence_cut = λ f is. absurd (never_evidence e read.kinds f (same (faults.Evidence f) is));
-      write = λ n is. absurd (never_of_trace e read.kinds n (same (faults.Write n) is));
+      evidence_refused = λ f is. absurd (never_answered {V = Verdict} (kind.trace ∷ kind.memory ∷ []) (Err e) (faults.Evidence f) refl read.kinds is);
+      evidence_cut = λ f is. absurd (never_answered {V = Verdict} (kind.trace ∷ kind.memory ∷ []) (Err e) (faults.Evidence f) refl read.kinds is);
+      write = λ n is. absurd (never_answered {V = Verdict} (kind.trace ∷ kind.memory ∷ []) (Err e) (faults.Write n) refl read.kinds is);
       unwritten = λ is. refl;
       most = (read.few, few_at_rest b);
       known = (read.next, next_at_rest b);
       held = behind_at_rest w;
-      devices = devices_of_trace e _ _ _ read.kinds (λ f is. read.failed f (ap (λ (x : AuditFault). Err x) is));
+      devices =
+          devices_of_reading e _ _ _ (one_of-more (kind.trace ∷ kind.memory ∷ []) (kind.trace ∷ kind.evidence ∷ kind.memory ∷ []) refl e read.kinds)
+          (λ f is. read.failed f (ap (λ (x : AuditFault). Err x) is))
+          (λ f is read_fails. absurd (never_answered {V = Verdict} (kind.trace ∷ kind.memory ∷ []) (Err e) (faults.Evidence f) refl read.kinds (ap (λ (x : AuditFault). Err x) is)));
       kept = tt;
       unfailed = λ none. (read.unfailed none, refl, (refl, refl));
     }
@@ -365,16 +311,19 @@ audited_no_evidence Says trace evidence w t e read given =
       flushed = tt;
       headline = λ is. absurd (cc (is));
       wrong_replies = tt;
-      trace_refused = λ f is. absurd (never_of_evidence e (faults.Trace f) given.kinds (same (faults.Trace f) is) (λ g h. cc (h)) (λ h. cc (h)));
-      trace_cut = λ f is. absurd (never_of_evidence e (faults.Trace f) given.kinds (same (faults.Trace f) is) (λ g h. cc (h)) (λ h. cc (h)));
+      trace_refused = λ f is. absurd (never_answered {V = Verdict} (kind.evidence ∷ kind.memory ∷ []) (Err e) (faults.Trace f) refl given.kinds is);
+      trace_cut = λ f is. absurd (never_answered {V = Verdict} (kind.evidence ∷ kind.memory ∷ []) (Err e) (faults.Trace f) refl given.kinds is);
       evidence_refused = λ f is. refused_evidence trace evidence t read.given f (given.refused f (ap (λ (x : AuditFault). Err x) (same (faults.Evidence f) is)));
       evidence_cut = λ f is cut. cut_evidence trace evidence t read.given f (given.cut f (ap (λ (x : AuditFault). Err x) (same (faults.Evidence f) is)) cut);
-      write = λ n is. absurd (never_of_evidence e (faults.Write n) given.kinds (same (faults.Write n) is) (λ g h. cc (h)) (λ h. cc (h)));
+      write = λ n is. absurd (never_answered {V = Verdict} (kind.evidence ∷ kind.memory ∷ []) (Err e) (faults.Write n) refl given.kinds is);
       unwritten = λ is. refl;
       most = (read.few, given.few);
       known = (read.next, given.next);
       held = behind_at_rest w;
-      devices = devices_of_evidence e _ _ _ given.kinds (λ f is. given.failed f (ap (λ (x : AuditFault). Err x) is));
+      devices =
+          devices_of_reading e _ _ _ (one_of-more (kind.evidence ∷ kind.memory ∷ []) (kind.trace ∷ kind.evidence ∷ kind.memory ∷ []) refl e given.kinds)
+          (λ f is read_fails. absurd (never_answered {V = Verdict} (kind.evidence ∷ kind.memory ∷ []) (Err e) (faults.Trace f) refl given.kinds (ap (λ (x : AuditFault). Err x) is)))
+          (λ f is. given.failed f (ap (λ (x : AuditFault). Err x) is));
       kept = tt;
       unfailed = λ none. (read.held, given.unfailed none, (refl, refl));
     }
@@ -415,10 +364,10 @@ audited trace evidence out t found (Err e) read by law told =
       flushed = tt;
       headline = λ is. absurd (cc (is));
       wrong_replies = tt;
-      trace_refused = λ f is. absurd (never_refused (Err e) (faults.Trace f) told.kinds is tt);
-      trace_cut = λ f is. absurd (never_refused (Err e) (faults.Trace f) told.kinds is tt);
-      evidence_refused = λ f is. absurd (never_refused (Err e) (faults.Evidence f) told.kinds is tt);
-      evidence_cut = λ f is. absurd (never_refused (Err e) (faults.Evidence f) told.kinds is tt);
+      trace_refused = λ f is. absurd (never_answered {V = Verdict} (kind.write ∷ kind.memory ∷ []) (Err e) (faults.Trace f) refl told.kinds is);
+      trace_cut = λ f is. absurd (never_answered {V = Verdict} (kind.write ∷ kind.memory ∷ []) (Err e) (faults.Trace f) refl told.kinds is);
+      evidence_refused = λ f is. absurd (never_answered {V = Verdict} (kind.write ∷ kind.memory ∷ []) (Err e) (faults.Evidence f) refl told.kinds is);
+      evidence_cut = λ f is. absurd (never_answered {V = Verdict} (kind.write ∷ kind.memory ∷ []) (Err e) (faults.Evidence f) refl told.kinds is);
       write = λ n is.
           let h = told.write n is in
           on_both trace evidence t read.given (λ a b. Breaks a b out n) given by.given.2

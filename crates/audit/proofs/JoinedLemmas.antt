@@ -1,5 +1,5 @@
 -- Joined input: its front, and what stands behind it.
-use Rattle.std.proofs.Common.{◌≡◌, ◌⊎◌, ℕ, ◌+◌, ◌<◌, ◌≤◌, ◌^◌, true, List, [], ◌++◌, length, length-append, Option, Some, None, Result, Ok, Err, refl, sym, ap, subst, ◌∙◌, append_assoc, append-nil, arith, inl, inr}
+use Rattle.std.proofs.Common.{◌≡◌, ◌⊎◌, ℕ, ◌+◌, ◌<◌, ◌≤◌, ◌^◌, true, List, [], ◌∷◌, ◌++◌, length, length-append, Option, Some, None, Result, Ok, Err, refl, sym, ap, subst, ◌∙◌, append_assoc, append-nil, arith, inl, inr}
 use Rattle.std.specs.Prelude.{IfOk, IfErr, IfSome}
 use Rattle.std.specs.declared.vec.Vec.{Vec}
 use Rattle.std.specs.declared.alloc.Global.{Global}
@@ -21,7 +21,9 @@ use Rattle.evidence_check.specs.Steps.{StepValue}
 use Rattle.findings.proofs.WrongReplies.{named_by_bytes}
 use Rattle.findings.specs.Headline.{IsRightAndFresh, IsTraceRightAndFresh}
 use Rattle.findings.specs.WrongReplies.{NamesOnlyWrongReplies}
-use Rattle.audit.specs.Audit.{Audits, Breaks, IsOfBehind, IsOfDevices, IsOfFront, IsOfJoined, IsWrite, RefusesTrace}
+use Rattle.audit.specs.Audit.{Audits, Breaks, IsOfDevices, IsWrite, RefusesTrace}
+use Rattle.audit.specs.Kinds.{IsOneOf}
+use Rattle.audit.specs.Kinds as kind
 use Rattle.json_lines.specs.declared.lines.InputFault.{InputFault}
 use Rattle.json_lines.specs.declared.lines.InputFault.TheVariants as input
 use Rattle.audit.specs.Answers.{Told, IsReport}
@@ -153,28 +155,8 @@ pub devices_wider : (e : AuditFault) (input out more_input more_out : Type 0) �
 devices_wider (faults.Trace f) input out more_input more_out i o h = h
 devices_wider (faults.Evidence f) input out more_input more_out i o h = h
 devices_wider (faults.Write n) input out more_input more_out i o h = o h
-devices_wider faults.OutOfMemory input out more_input more_out i o h = tt
-devices_wider faults.Limits input out more_input more_out i o h = tt
-devices_wider faults.Joined input out more_input more_out i o h = tt
 devices_wider faults.Input input out more_input more_out i o h = i h
-
-pub of_front : (e : AuditFault) → IsOfFront e → IsOfJoined e
-of_front (faults.Trace f) h = h
-of_front (faults.Evidence f) h = absurd h
-of_front (faults.Write n) h = absurd h
-of_front faults.OutOfMemory h = tt
-of_front faults.Limits h = absurd h
-of_front faults.Joined h = tt
-of_front faults.Input h = tt
-
-pub of_behind : (e : AuditFault) → IsOfBehind e → IsOfJoined e
-of_behind (faults.Trace f) h = absurd h
-of_behind (faults.Evidence f) h = h
-of_behind (faults.Write n) h = absurd h
-of_behind faults.OutOfMemory h = tt
-of_behind faults.Limits h = absurd h
-of_behind faults.Joined h = tt
-of_behind faults.Input h = tt
+devices_wider _ input out more_input more_out i o h = tt
 
 -- joined input is refused as such, of a fault of the input, only where it has too many bytes
 pub joined_long : (fault : InputFault) (e : AuditFault) → e ≡ of_input fault → e ≡ faults.Joined → fault ≡ input.TooLong
@@ -182,7 +164,7 @@ joined_long input.Read e is h = cc
 joined_long input.TooLong e is h = refl
 joined_long input.OutOfMemory e is h = cc
 
-pub devices_of_report : (r : Result Verdict AuditFault) (input out : Type 0) → IfErr r (λ e. (e ≡ faults.OutOfMemory) ⊎ IsWrite e) → IfErr r (λ e. IsWrite e → out)
+pub devices_of_report : (r : Result Verdict AuditFault) (input out : Type 0) → IfErr r (IsOneOf (kind.write ∷ kind.memory ∷ [])) → IfErr r (λ e. IsWrite e → out)
     → IfErr r (IsOfDevices input ⊥ ⊥ out)
 devices_of_report r input out of at =
     IfErr-weaker r (IsOfDevices ⊥ ⊥ ⊥ out) (IsOfDevices input ⊥ ⊥ out) (λ e h. devices_wider e ⊥ out input out (λ x. absurd x) (λ x. x) h) (devices_of_writing r ⊥ ⊥ out of at)

@@ -1,6 +1,6 @@
 -- What the calls of this crate answer, each fact said once: what reading a trace or evidence tells, what writing a text
 -- does, and what the two make of a call as a whole. Beside a record, a call's contract says what that call alone does.
-use Rattle.std.specs.Prelude.{◌≡◌, ◌⊎◌, ℕ, ◌+◌, true, false, List, ◌++◌, Option, Result, Ok, Err, IfOk, IfErr, OnOk}
+use Rattle.std.specs.Prelude.{◌≡◌, ℕ, ◌+◌, true, false, List, [], ◌∷◌, ◌++◌, Option, Result, Ok, Err, IfOk, IfErr, OnOk}
 use Rattle.trace_lines.specs.Values.{TraceValue}
 use Rattle.trace_lines.specs.Traces.{trace_of}
 use Rattle.trace_lines.specs.declared.cause.Cause.TheVariants as causes
@@ -15,7 +15,9 @@ use Rattle.findings.specs.Findings.{findings_of}
 use Rattle.findings.specs.declared.finding.Finding.{Finding}
 use Rattle.findings.specs.Headline.{IsTraceRightAndFresh}
 use Rattle.findings.specs.WrongReplies.{NamesOnlyWrongReplies}
-use Rattle.audit.specs.Audit.{Audits, Breaks, RefusesTrace, RefusesEvidence, RefusesEvidenceFor, CutsEvidence, IsOfDevices, IsOfNoDevice, IsOfTrace, IsOfEvidence, IsUnwritten, IsWrite, report_on, verdict_of}
+use Rattle.audit.specs.Audit.{Audits, Breaks, RefusesTrace, RefusesEvidence, RefusesEvidenceFor, CutsEvidence, IsOfDevices, IsOfNoDevice, IsUnwritten, IsWrite, report_on, verdict_of}
+use Rattle.audit.specs.Kinds.{IsOneOf}
+use Rattle.audit.specs.Kinds as kind
 use Rattle.audit.specs.Devices.{Reading, Writing, OfCame, OfAll, OfAny, OfBoth, GivesFew, GivesNext, ReaderFailed, ReaderHeld, WriterFailed, WriterHeld, IsUntouched, FailsWriting, StandsBehind}
 use Rattle.audit.specs.declared.plain.Verdict.{Verdict}
 use Rattle.audit.specs.declared.plain.Verdict.TheVariants.{Clean}
@@ -36,7 +38,7 @@ pub record TraceRead (trace : Reading) (result : Result TraceValue AuditFault) :
   pub failed : (f : TraceFault) → result ≡ Err (faults.Trace f) → f.cause ≡ causes.Read → ReaderFailed trace
   pub held : OnOk result (ReaderHeld trace)
   pub unfailed : IfErr result (λ e. IsOfNoDevice e → ReaderHeld trace)
-  pub kinds : IfErr result IsOfTrace
+  pub kinds : IfErr result (IsOneOf (kind.trace ∷ kind.memory ∷ []))
 
 -- So it is with the evidence for a trace. Says tells how the answer shows what was given.
 pub record EvidenceRead {V : Type 0} (Says : List (Option (List StepValue)) → V → Type 0) (t : TraceValue)
@@ -52,7 +54,7 @@ pub record EvidenceRead {V : Type 0} (Says : List (Option (List StepValue)) → 
       → ReaderFailed evidence
   pub held : OnOk result (ReaderHeld evidence)
   pub unfailed : IfErr result (λ e. IsOfNoDevice e → ReaderHeld evidence)
-  pub kinds : IfErr result IsOfEvidence
+  pub kinds : IfErr result (IsOneOf (kind.evidence ∷ kind.memory ∷ []))
 
 -- A text and an answer of which Says holds were told: the text went out whole and was flushed, or the writer stopped
 -- it, or there was no memory for it.
@@ -65,7 +67,7 @@ pub record Told {V : Type 0} (Says : List ℕ → V → Type 0) (out : Writing) 
   pub failed : IfErr result (λ e. IsWrite e → WriterFailed out)
   pub kept : OnOk result (WriterHeld out)
   -- of memory alone nothing is written
-  pub kinds : IfErr result (λ e. (e ≡ faults.OutOfMemory) ⊎ IsWrite e)
+  pub kinds : IfErr result (IsOneOf (kind.write ∷ kind.memory ∷ []))
   pub unwritten : IfErr result (λ e. IsUnwritten e → IsUntouched out)
   pub unfailed : IfErr result (λ e. IsUnwritten e → WriterHeld out)
   pub held : StandsBehind out
@@ -108,9 +110,9 @@ pub record Audited (trace evidence : Reading) (out : Writing) (result : Result V
   -- the report on what the readers gave, to their ends, went out whole, and the verdict is its last line
   pub audits : IfOk result (λ v. OfBoth trace evidence (λ a b. Audits a b out.before.taken out.after.taken v))
   pub flushed : OnOk result (out.after.flushes ≡ out.before.flushes + 1)
-  -- A clean verdict says that each reply is what the rules mean over the tuples committed up to its snapshot, and that
-  -- no check is older than its zookie, nor than any access change committed before the content check of the version that
-  -- it names.
+  -- A clean verdict says that each reply is what the rules mean over the tuples committed up to its snapshot, and
+  -- that no check is older than its zookie, nor than any access change committed before the content check of the
+  -- version that it names.
   pub headline : result ≡ Ok Clean → OfAll trace IsTraceRightAndFresh
   -- whatever the verdict: a reply that a finding F10 calls wrong is wrong
   pub wrong_replies : OnOk result (OfBoth trace evidence NamesOnlyWrongReplies)

@@ -5,8 +5,8 @@ use Rattle.json_lines.specs.Moves.{IsBrokenOff}
 use Rattle.json_lines.specs.declared.lines.TheConstants.{CHUNK}
 use Rattle.json_lines.specs.declared.reading.TheConstants.{MAX_INPUT}
 
--- a reader: all bytes that it gave, how often it was at its end and how often it failed, and what it has left where that
--- is known
+-- a reader: all bytes that it gave, how often it was at its end and how often it failed, and what it has left where
+-- that is known
 pub record Reader : Type 0 where
   pub given : List ℕ
   pub ends : ℕ

@@ -35,7 +35,8 @@ pub(crate) trait Finder<B: Source> {
         ensures read { EvidenceRead (AreFound trace.now) trace.now
             (reads B.given B.ends B.failures B.remaining evidence.old evidence.new) result }
         ensures mark { mark self.new ≡ mark self.old }
-        ensures tells { (self.new ≡ self.old) ⊎ OfAll (reads B.given B.ends B.failures B.remaining evidence.old evidence.new)
+        ensures tells { (self.new ≡ self.old)
+            ⊎ OfAll (reads B.given B.ends B.failures B.remaining evidence.old evidence.new)
             (λ b. (given : List (Option (List StepValue))) × (evidence_of trace.now.entries true b ≡ Ok given)
             × tells trace.now given self.old self.new) };
 }

@@ -1,6 +1,6 @@
 //! What an audit reads.
 
-ghost use Rattle.std.specs.Prelude.{◌≡◌, ◌≢◌, List, Option};
+ghost use Rattle.std.specs.Prelude.{◌≡◌, ◌≢◌, List, [], ◌∷◌, Option};
 ghost use Rattle.trace_lines.specs.declared.cause.Cause.TheVariants as causes;
 ghost use Rattle.trace_lines.specs.declared.cause.TraceFault.{TraceFault};
 ghost use Rattle.evidence_check.specs.declared.cause.EvidenceCause.TheVariants as evidence_causes;
@@ -8,8 +8,10 @@ ghost use Rattle.evidence_check.specs.declared.cause.EvidenceFault.{EvidenceFaul
 ghost use Rattle.evidence_check.specs.Evidences.{evidence_value};
 ghost use Rattle.evidence_check.specs.Judging.{AreJudged};
 ghost use Rattle.audit.specs.Answers.{TraceRead, EvidenceRead};
-ghost use Rattle.audit.specs.Audit.{IsOfNoDevice, IsOfTrace, IsOfEvidence};
+ghost use Rattle.audit.specs.Audit.{IsOfNoDevice};
 ghost use Rattle.audit.specs.Devices.{reads};
+ghost use Rattle.audit.specs.Kinds.{IsOneOf};
+ghost use Rattle.audit.specs.Kinds as kind;
 ghost use Rattle.audit.specs.declared.plain.AuditFault.TheVariants as faults;
 
 use crate::plain::AuditFault;
@@ -34,7 +36,7 @@ pub(crate) fn trace_from<R: Source>(alloc: Global, reader: &mut R) -> Result<Tra
 pub(crate) fn of_trace(fault: TraceFault) -> AuditFault
     ensures same { (f : TraceFault) → result ≡ faults.Trace f → f ≡ fault }
     ensures device { IsOfNoDevice result → fault.cause ≢ causes.Read }
-    ensures kinds { IsOfTrace result }
+    ensures kinds { IsOneOf (kind.trace ∷ kind.memory ∷ []) result }
 {
     match fault.cause {
         Cause::OutOfMemory => AuditFault::OutOfMemory,
@@ -46,7 +48,7 @@ pub(crate) fn of_trace(fault: TraceFault) -> AuditFault
 pub(crate) fn of_evidence(fault: EvidenceFault) -> AuditFault
     ensures same { (f : EvidenceFault) → result ≡ faults.Evidence f → f ≡ fault }
     ensures device { IsOfNoDevice result → fault.cause ≢ evidence_causes.Read }
-    ensures kinds { IsOfEvidence result }
+    ensures kinds { IsOneOf (kind.evidence ∷ kind.memory ∷ []) result }
 {
     match fault.cause {
         EvidenceCause::OutOfMemory => AuditFault::OutOfMemory,

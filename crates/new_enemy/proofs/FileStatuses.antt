@@ -1,5 +1,5 @@
 -- What the status of a command with files tells of them.
-use Rattle.std.proofs.Common.{◌≡◌, ◌≢◌, ◌⊎◌, inl, inr, ℕ, ◌≤◌, true, List, [], ◌++◌, Result, Ok, Err, refl, sym, ap, subst, ◌∙◌, arith}
+use Rattle.std.proofs.Common.{◌≡◌, ◌≢◌, inl, inr, ℕ, ◌≤◌, true, List, [], ◌∷◌, ◌++◌, Result, Ok, Err, refl, sym, ap, subst, ◌∙◌, arith}
 use Rattle.std.specs.Prelude.{IfErr, OnOk}
 use Rattle.json_lines.specs.Devices.{moved_by, stops_of}
 use Rattle.json_lines.specs.Given.{OfWhole, OfInput}
@@ -11,8 +11,9 @@ use Rattle.trace_lines.specs.declared.cause.TraceFault.{TraceFault}
 use Rattle.evidence_check.specs.Reading.{evidence_of}
 use Rattle.evidence_check.specs.declared.cause.EvidenceCause.TheVariants as evidence_causes
 use Rattle.evidence_check.specs.declared.cause.EvidenceFault.{EvidenceFault}
-use Rattle.audit.specs.Audit.{RefusesTrace, RefusesEvidence, IsOfAudit}
-use Rattle.audit.specs.History.{IsOfHistory}
+use Rattle.audit.specs.Audit.{RefusesTrace, RefusesEvidence}
+use Rattle.audit.specs.Kinds.{IsOneOf}
+use Rattle.audit.specs.Kinds as kind
 use Rattle.audit.specs.declared.plain.AuditFault.{AuditFault}
 use Rattle.audit.specs.declared.plain.AuditFault.TheVariants as faults
 use Rattle.audit.specs.declared.plain.Verdict.{Verdict}
@@ -49,22 +50,17 @@ module _ {A : Type 0} (a0 a1 : Counted A) (nothing : moved_by a0 ≡ []) (no_end
       (of_input-map moved_by stops_of a0 a1 (λ a. RefusesTrace a f) SayNoTrace (λ a by. (f, said_by_trace f.cause f (trace_of true a) read memory by)) h)
 
   -- a fault of a call that reads a trace alone
-  pub fault_of_trace : (fault : AuditFault) (s : ℕ) → IsStatus fault s → IsOfHistory fault ⊎ (fault ≡ faults.Limits)
+  pub fault_of_trace : (fault : AuditFault) (s : ℕ) → IsStatus fault s → IsOneOf (kind.trace ∷ kind.write ∷ kind.memory ∷ kind.limits ∷ []) fault
       → ((f : TraceFault) → fault ≡ faults.Trace f → OfInput moved_by stops_of a0 a1 (λ a. RefusesTrace a f)) → s ≡ 2 → IsNoTrace a1
   fault_of_trace (faults.Trace f) s (inl p) of t two = two_or_five s two p.1
-  fault_of_trace (faults.Trace f) s (inr p) (inl memory) t two = trace_refused f p.0 memory (t f refl)
-  fault_of_trace (faults.Trace f) s (inr p) (inr is) t two = absurd cc
-  fault_of_trace (faults.Evidence f) s st (inl none) t two = absurd none
-  fault_of_trace (faults.Evidence f) s st (inr is) t two = absurd cc
+  fault_of_trace (faults.Trace f) s (inr p) of t two = trace_refused f p.0 of.1 (t f refl)
   fault_of_trace (faults.Write n) s five of t two = two_or_five s two five
   fault_of_trace faults.OutOfMemory s four of t two = absurd (omega (arith, four, two))
   fault_of_trace faults.Limits s three of t two = absurd (omega (arith, three, two))
-  fault_of_trace faults.Joined s st (inl none) t two = absurd none
-  fault_of_trace faults.Joined s st (inr is) t two = absurd cc
-  fault_of_trace faults.Input s five of t two = two_or_five s two five
+  fault_of_trace _ s st of t two = absurd (cc (of.0))
 
   -- an answer of one
-  pub no_trace : {V : Type 0} (answer : Result V AuditFault) (s : ℕ) → OnOk answer (s ≤ 1) → IfErr answer (λ e. IsStatus e s) → IfErr answer (λ e. IsOfHistory e ⊎ (e ≡ faults.Limits))
+  pub no_trace : {V : Type 0} (answer : Result V AuditFault) (s : ℕ) → OnOk answer (s ≤ 1) → IfErr answer (λ e. IsStatus e s) → IfErr answer (IsOneOf (kind.trace ∷ kind.write ∷ kind.memory ∷ kind.limits ∷ []))
       → ((f : TraceFault) → answer ≡ Err (faults.Trace f) → OfInput moved_by stops_of a0 a1 (λ a. RefusesTrace a f)) → s ≡ 2 → IsNoTrace a1
   no_trace (Ok v) s done failed of t two = absurd (omega (arith, done, two))
   no_trace (Err e) s done failed of t two = fault_of_trace e s failed of (λ f is. t f (ap (λ (x : AuditFault). Err x) is)) two
@@ -80,25 +76,22 @@ module _ {A : Type 0} (a0 a1 : Counted A) (nothing : moved_by a0 ≡ []) (no_end
         (of_input-map moved_by stops_of b0 b1 (λ b. RefusesEvidence a b f) (λ b. SayNoAudit a b)
         (λ b r. inr (r.0, r.1, f, said_by_evidence f.cause f (evidence_of r.0.entries true b) read memory r.2)) by)) h))
 
-    fault_of_audit : (fault : AuditFault) (s : ℕ) → IsStatus fault s → IsOfAudit fault ⊎ (fault ≡ faults.Limits)
+    fault_of_audit : (fault : AuditFault) (s : ℕ) → IsStatus fault s → IsOneOf (kind.trace ∷ kind.evidence ∷ kind.write ∷ kind.memory ∷ kind.limits ∷ []) fault
         → ((f : TraceFault) → fault ≡ faults.Trace f → OfInput moved_by stops_of a0 a1 (λ a. RefusesTrace a f))
         → ((f : EvidenceFault) → fault ≡ faults.Evidence f → OfWhole moved_by stops_of a0 a1 (λ a. OfInput moved_by stops_of b0 b1 (λ b. RefusesEvidence a b f)))
         → s ≡ 2 → IsNoAudit a1 b1
     fault_of_audit (faults.Trace f) s (inl p) of t e two = two_or_five s two p.1
-    fault_of_audit (faults.Trace f) s (inr p) (inl memory) t e two = λ rest ended more done. inl (trace_refused f p.0 memory (t f refl) rest ended)
-    fault_of_audit (faults.Trace f) s (inr p) (inr is) t e two = absurd cc
+    fault_of_audit (faults.Trace f) s (inr p) of t e two = λ rest ended more done.
+        inl (trace_refused f p.0 of.1 (t f refl) rest ended)
     fault_of_audit (faults.Evidence f) s (inl p) of t e two = two_or_five s two p.1
-    fault_of_audit (faults.Evidence f) s (inr p) (inl memory) t e two = evidence_refused f p.0 memory (e f refl)
-    fault_of_audit (faults.Evidence f) s (inr p) (inr is) t e two = absurd cc
+    fault_of_audit (faults.Evidence f) s (inr p) of t e two = evidence_refused f p.0 of.1 (e f refl)
     fault_of_audit (faults.Write n) s five of t e two = two_or_five s two five
     fault_of_audit faults.OutOfMemory s four of t e two = absurd (omega (arith, four, two))
     fault_of_audit faults.Limits s three of t e two = absurd (omega (arith, three, two))
-    fault_of_audit faults.Joined s st (inl none) t e two = absurd none
-    fault_of_audit faults.Joined s st (inr is) t e two = absurd cc
-    fault_of_audit faults.Input s five of t e two = two_or_five s two five
+    fault_of_audit _ s st of t e two = absurd (cc (of.0))
 
     -- an answer of a call that reads a trace and evidence
-    pub no_audit : (answer : Result Verdict AuditFault) (s : ℕ) → IsStatusOf answer s → IfErr answer (λ e. IsOfAudit e ⊎ (e ≡ faults.Limits))
+    pub no_audit : (answer : Result Verdict AuditFault) (s : ℕ) → IsStatusOf answer s → IfErr answer (IsOneOf (kind.trace ∷ kind.evidence ∷ kind.write ∷ kind.memory ∷ kind.limits ∷ []))
         → ((f : TraceFault) → answer ≡ Err (faults.Trace f) → OfInput moved_by stops_of a0 a1 (λ a. RefusesTrace a f))
         → ((f : EvidenceFault) → answer ≡ Err (faults.Evidence f) → OfWhole moved_by stops_of a0 a1 (λ a. OfInput moved_by stops_of b0 b1 (λ b. RefusesEvidence a b f)))
         → s ≡ 2 → IsNoAudit a1 b1

@@ -1,5 +1,5 @@
--- What an exit status says of a run, by what it read. A writer took `new` in all, of which it had `old` before; what the status says of joined
--- input is handed in.
+-- What an exit status says of a run, by what it read. A writer took `new` in all, of which it had `old` before; what
+-- the status says of joined input is handed in.
 use Rattle.std.specs.Prelude.{◌≡◌, ◌≢◌, ◌⊎◌, List, [], length, ℕ, ◌+◌, ◌<◌, ◌≤◌, ⊤}
 use Rattle.json_lines.specs.Devices.{moved_by}
 use Rattle.json_lines.specs.declared.lines.TheConstants.{CHUNK}
@@ -45,7 +45,8 @@ HasReadNothing _ = ⊥
 -- What a status says of the devices of a run: of its files, and of the writer that its answer goes to.
 pub record SaysOfDevices {F : Type 0} (status : ℕ) (run : Ran F) (out : Writing) : Type 0 where
   pub flushed : status ≤ 1 → out.after.flushes ≡ out.before.flushes + 1
-  -- it is 5 only where a device failed, took none of some bytes, or could not be opened, and any other only where none did
+  -- it is 5 only where a device failed, took none of some bytes, or could not be opened, and any other only where
+  -- none did
   pub device : status ≡ 5 → run ≢ ran.Nothing → (0 < file_failures run) ⊎ WriterFailed out
   pub kept : status ≢ 5 → (file_failures run ≡ 0) × WriterHeld out
   pub unwritten : 2 ≤ status → status ≤ 4 → IsUntouched out

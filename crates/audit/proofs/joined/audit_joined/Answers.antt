@@ -1,16 +1,16 @@
-use Rattle.std.proofs.Common.{◌≡◌, ◌+◌, true, List, Ok, Err, ap, subst, sym, ◌∙◌}
-use Rattle.std.proofs.lemmas.Result.{IfErr-weaker}
+use Rattle.std.proofs.Common.{◌≡◌, ◌+◌, true, List, [], ◌∷◌, Ok, Err, ap, refl, subst, sym, ◌∙◌}
 use Rattle.json_lines.proofs.Given.{next-trans}
 use Rattle.trace_lines.specs.Traces.{trace_of}
 use Rattle.evidence_check.specs.Judging.{AreJudged}
 use Rattle.evidence_check.specs.declared.judged.Judged.{Judged}
-use Rattle.audit.specs.Audit.{IsOfJoined, RefusesEvidence, RefusesEvidenceFor}
+use Rattle.audit.specs.Audit.{RefusesEvidence, RefusesEvidenceFor}
 use Rattle.audit.specs.Devices.{writes}
+use Rattle.audit.specs.Kinds as kind
 use Rattle.audit.specs.declared.plain.AuditFault.{AuditFault}
 use Rattle.audit.specs.declared.plain.AuditFault.TheVariants as faults
 use Rattle.audit.proofs.Answering.{as_report, told_clean}
-use Rattle.audit.proofs.Readers.{never_refused, of_writing}
-use Rattle.audit.proofs.JoinedLemmas.{devices_wider, evidence_read, joined_audited, joined_broken, joined_named, joined_right, long_behind, most_behind, devices_of_report, of_behind, parts_read, parts_said}
+use Rattle.audit.proofs.KindLemmas.{kinds-more, never_answered, one_of-more}
+use Rattle.audit.proofs.JoinedLemmas.{devices_wider, evidence_read, joined_audited, joined_broken, joined_named, joined_right, long_behind, most_behind, devices_of_report, parts_read, parts_said}
 use Rattle.audit.proofs.joined.audit_joined.Goals as goal
 
 pub returns-in-Err-clause-evidence : goal.returns-in-Err-clause-evidence
@@ -35,8 +35,10 @@ returns-in-Err-clause-devices g c =
     let kept : g.R.Source.failures c.trace_of_front.new.input ≡ g.R.Source.failures c.args.input.now = c.in_ok-trace.ensures.kept (λ e. cc) in
     devices_wider c.in-Err.fault _ ⊥ _ _ (λ h. h ∙ ap (λ n. n + 1) kept) (λ h. absurd h) c.in-Err.ensures.devices
 
-pub returns-in-Err-clause-faults : goal.returns-in-Err-clause-faults
-returns-in-Err-clause-faults g c = of_behind c.in-Err.fault c.in-Err.ensures.faults
+pub returns-in-Err-clause-kinds : goal.returns-in-Err-clause-kinds
+returns-in-Err-clause-kinds g c =
+    one_of-more (kind.evidence ∷ kind.memory ∷ kind.joined ∷ kind.input ∷ [])
+    (kind.trace ∷ kind.evidence ∷ kind.write ∷ kind.memory ∷ kind.joined ∷ kind.input ∷ []) refl c.in-Err.fault c.in-Err.ensures.kinds
 
 pub returns-in-Ok-found-clause-audits : goal.returns-in-Ok-found-clause-audits
 returns-in-Ok-found-clause-audits g c =
@@ -80,17 +82,22 @@ returns-clause-most g c = most_behind g.R.Source.given g.R.Source.ends c.args.in
 pub returns-clause-known : goal.returns-clause-known
 returns-clause-known g c = next-trans g.R.Source.given g.R.Source.ends g.R.Read.remaining c.args.input.now c.trace_of_front.new.input c.judgements_behind.new.input c.trace_of_front.ensures.known c.judgements_behind.ensures.known
 
-pub returns-in-Ok-found-clause-faults : goal.returns-in-Ok-found-clause-faults
-returns-in-Ok-found-clause-faults g c = IfErr-weaker c.tell_findings.result _ IsOfJoined (of_writing IsOfJoined tt (λ n. tt)) c.tell_findings.ensures.kinds
+pub returns-in-Ok-found-clause-kinds : goal.returns-in-Ok-found-clause-kinds
+returns-in-Ok-found-clause-kinds g c =
+    kinds-more (kind.write ∷ kind.memory ∷ []) (kind.trace ∷ kind.evidence ∷ kind.write ∷ kind.memory ∷ kind.joined ∷ kind.input ∷ [])
+    refl c.tell_findings.result c.tell_findings.ensures.kinds
 
 pub returns-in-Ok-found-clause-trace : goal.returns-in-Ok-found-clause-trace
-returns-in-Ok-found-clause-trace g c = λ f e. absurd (never_refused c.tell_findings.result (faults.Trace f) c.tell_findings.ensures.kinds e tt)
+returns-in-Ok-found-clause-trace g c = λ f e. 
+    absurd (never_answered (kind.write ∷ kind.memory ∷ []) c.tell_findings.result (faults.Trace f) refl c.tell_findings.ensures.kinds e)
 
 pub returns-in-Ok-found-clause-evidence : goal.returns-in-Ok-found-clause-evidence
-returns-in-Ok-found-clause-evidence g c = λ f e. absurd (never_refused c.tell_findings.result (faults.Evidence f) c.tell_findings.ensures.kinds e tt)
+returns-in-Ok-found-clause-evidence g c = λ f e. 
+    absurd (never_answered (kind.write ∷ kind.memory ∷ []) c.tell_findings.result (faults.Evidence f) refl c.tell_findings.ensures.kinds e)
 
 pub returns-in-Ok-found-clause-joined : goal.returns-in-Ok-found-clause-joined
-returns-in-Ok-found-clause-joined g c = λ e. absurd (never_refused c.tell_findings.result faults.Joined c.tell_findings.ensures.kinds e tt)
+returns-in-Ok-found-clause-joined g c = λ e. 
+    absurd (never_answered (kind.write ∷ kind.memory ∷ []) c.tell_findings.result faults.Joined refl c.tell_findings.ensures.kinds e)
 
 pub returns-in-Ok-found-clause-devices : goal.returns-in-Ok-found-clause-devices
 returns-in-Ok-found-clause-devices g c = devices_of_report c.tell_findings.result _ _ c.tell_findings.ensures.kinds c.tell_findings.ensures.failed

@@ -1,10 +1,12 @@
-use Rattle.std.proofs.Common.{Result, subst}
+use Rattle.std.proofs.Common.{Result, subst, [], ◌∷◌, refl}
 use Rattle.trace_lines.specs.Values.{TraceValue}
 use Rattle.audit.specs.Answers.{TraceRead}
 use Rattle.audit.specs.Devices.{reads, writer, writes}
 use Rattle.audit.specs.declared.plain.AuditFault.{AuditFault}
 use Rattle.audit.specs.Made.{AreRecords, MakesRecords, BreaksMaking}
-use Rattle.audit.proofs.Answering.{tells_of, trace_not_read, history_kinds}
+use Rattle.audit.specs.Kinds as kind
+use Rattle.audit.proofs.KindLemmas.{kinds-more}
+use Rattle.audit.proofs.Answering.{tells_of, trace_not_read}
 use Rattle.audit.proofs.made.make_records_listing.Goals as goal
 
 pub returns-in-Err-clause-told : goal.returns-in-Err-clause-told
@@ -20,4 +22,4 @@ returns-clause-told g c =
     (λ a text v n is says fails. (c.in-Ok.trace, is, text, v.items, says, fails))
 
 pub returns-clause-kinds : goal.returns-clause-kinds
-returns-clause-kinds g c = history_kinds _ (writes g.W.Sink.taken g.W.Sink.flushes g.W.Sink.failures g.W.Sink.idle g.W.Write.contents c.args.out.now c.tell_records-answer.new.out) c.tell_records-answer.result c.tell_records-answer.ensures
+returns-clause-kinds g c = kinds-more (kind.write ∷ kind.memory ∷ []) (kind.trace ∷ kind.write ∷ kind.memory ∷ []) refl c.tell_records-answer.result c.tell_records-answer.ensures.kinds

@@ -1,11 +1,13 @@
-use Rattle.std.proofs.Common.{◌∙◌, Result, Err, subst}
+use Rattle.std.proofs.Common.{◌∙◌, Result, Err, subst, [], ◌∷◌, refl}
 use Rattle.trace_lines.specs.Values.{TraceValue}
 use Rattle.audit.specs.Answers.{TraceRead}
 use Rattle.audit.specs.Devices.{reads, writer, writes}
 use Rattle.audit.specs.declared.plain.AuditFault.{AuditFault}
 use Rattle.audit.specs.declared.plain.AuditFault.TheVariants as faults
 use Rattle.audit.specs.MadeAudit.{AuditsMade, BreaksMade}
-use Rattle.audit.proofs.Answering.{as_report, history_kinds, told_no_memory, trace_not_read, tells_of}
+use Rattle.audit.specs.Kinds as kind
+use Rattle.audit.proofs.KindLemmas.{kinds-more}
+use Rattle.audit.proofs.Answering.{as_report, told_no_memory, trace_not_read, tells_of}
 use Rattle.audit.proofs.MadeAuditLemmas.{audited_made, made_fault}
 use Rattle.audit.proofs.made_audit.audit_made_by.Goals as goal
 
@@ -29,4 +31,4 @@ returns-in-Ok-found-clause-made g c =
     (as_report c.in-Ok.trace made.0 c.deref.result.now c.len-entries.result (writes g.W.Sink.taken g.W.Sink.flushes g.W.Sink.failures g.W.Sink.idle g.W.Write.contents c.args.out.now c.tell_findings.new.out) c.tell_findings.result (c.deref.ensures.value ∙ made.2) c.len-entries.ensures.count c.tell_findings.ensures)
 
 pub returns-in-Ok-found-clause-kinds : goal.returns-in-Ok-found-clause-kinds
-returns-in-Ok-found-clause-kinds g c = history_kinds _ (writes g.W.Sink.taken g.W.Sink.flushes g.W.Sink.failures g.W.Sink.idle g.W.Write.contents c.args.out.now c.tell_findings.new.out) c.tell_findings.result c.tell_findings.ensures
+returns-in-Ok-found-clause-kinds g c = kinds-more (kind.write ∷ kind.memory ∷ []) (kind.trace ∷ kind.write ∷ kind.memory ∷ []) refl c.tell_findings.result c.tell_findings.ensures.kinds

@@ -1,4 +1,4 @@
-use Rattle.std.proofs.Common.{◌≡◌, ◌∙◌, Result, subst}
+use Rattle.std.proofs.Common.{◌≡◌, ◌∙◌, Result, subst, [], ◌∷◌, refl}
 use Rattle.trace_lines.specs.Values.{TraceValue}
 use Rattle.findings.specs.declared.finding.Finding.{Finding}
 use Rattle.std.specs.declared.vec.Vec.{Vec}
@@ -6,7 +6,9 @@ use Rattle.std.specs.declared.alloc.Global.{Global}
 use Rattle.audit.specs.Answers.{TraceRead, EvidenceRead, AreFound}
 use Rattle.audit.specs.Devices.{reader, reads, writer, writes}
 use Rattle.audit.specs.declared.plain.AuditFault.{AuditFault}
-use Rattle.audit.proofs.Answering.{audited, audited_no_trace, audited_no_evidence, as_report, audit_kinds, told_by_bytes}
+use Rattle.audit.specs.Kinds as kind
+use Rattle.audit.proofs.KindLemmas.{kinds-more}
+use Rattle.audit.proofs.Answering.{audited, audited_no_trace, audited_no_evidence, as_report, told_by_bytes}
 use Rattle.audit.proofs.plain.audit_with.Goals as goal
 
 pub returns-in-Err-clause-audited : goal.returns-in-Err-clause-audited
@@ -33,7 +35,7 @@ returns-in-Ok-found-clause-audited g c =
     (as_report c.in-Ok.trace by.given.0 c.deref.result.now c.len-entries.result (writes g.W.Sink.taken g.W.Sink.flushes g.W.Sink.failures g.W.Sink.idle g.W.Write.contents c.args.out.now c.tell_findings.new.out) c.tell_findings.result (c.deref.ensures.value ∙ by.given.1) c.len-entries.ensures.count c.tell_findings.ensures)
 
 pub returns-in-Ok-found-clause-kinds : goal.returns-in-Ok-found-clause-kinds
-returns-in-Ok-found-clause-kinds g c = audit_kinds _ (writes g.W.Sink.taken g.W.Sink.flushes g.W.Sink.failures g.W.Sink.idle g.W.Write.contents c.args.out.now c.tell_findings.new.out) c.tell_findings.result c.tell_findings.ensures
+returns-in-Ok-found-clause-kinds g c = kinds-more (kind.write ∷ kind.memory ∷ []) (kind.trace ∷ kind.evidence ∷ kind.write ∷ kind.memory ∷ []) refl c.tell_findings.result c.tell_findings.ensures.kinds
 
 pub returns-in-Ok-found-clause-tells : goal.returns-in-Ok-found-clause-tells
 returns-in-Ok-found-clause-tells g c =

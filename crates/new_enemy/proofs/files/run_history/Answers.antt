@@ -2,9 +2,11 @@ use Rattle.json_lines.specs.Devices.{counted_inner}
 use Rattle.audit.specs.Devices.{writes}
 use Rattle.new_enemy.proofs.DeviceStatuses.{devices_of_trace}
 use Rattle.new_enemy.specs.declared.run.Ran.TheVariants as ran
-use Rattle.std.proofs.Common.{◌≡◌, ◌≤◌, inl, arith, refl}
-use Rattle.std.proofs.lemmas.Result.{IfErr-weaker, on_ok_weaker}
-use Rattle.audit.specs.History.{IsOfHistory, TellsHistory, BreaksHistory}
+use Rattle.std.proofs.Common.{◌≡◌, ◌≤◌, [], ◌∷◌, arith, refl}
+use Rattle.std.proofs.lemmas.Result.{on_ok_weaker}
+use Rattle.audit.specs.History.{TellsHistory, BreaksHistory}
+use Rattle.audit.specs.Kinds as kind
+use Rattle.audit.proofs.KindLemmas.{kinds-more}
 use Rattle.new_enemy.proofs.FileStatuses.{no_trace}
 use Rattle.new_enemy.proofs.MadeEvidence.{made_of}
 use Rattle.new_enemy.proofs.files.run_history.Goals as goal
@@ -15,7 +17,8 @@ returns-clause-refused g c =
     let s = c.status_told.result in
     no_trace c.new-trace.result answer.new.trace c.new-trace.ensures.moved c.new-trace.ensures.stops answer.result s
     (on_ok_weaker {P = s ≡ 0} {Q = s ≤ 1} answer.result (λ zero. omega (arith, zero)) c.status_told.ensures.done) c.status_told.ensures.fault
-    (IfErr-weaker answer.result IsOfHistory _ (λ e h. inl h) answer.ensures.kinds) answer.ensures.told.trace_refused
+    (kinds-more (kind.trace ∷ kind.write ∷ kind.memory ∷ [])
+    (kind.trace ∷ kind.write ∷ kind.memory ∷ kind.limits ∷ []) refl answer.result answer.ensures.kinds) answer.ensures.told.trace_refused
 
 pub returns-clause-devices : goal.returns-clause-devices
 returns-clause-devices g c =

@@ -2,9 +2,10 @@ use Rattle.json_lines.specs.Devices.{counted_inner}
 use Rattle.audit.specs.Devices.{writes}
 use Rattle.new_enemy.proofs.DeviceStatuses.{devices_of_trace}
 use Rattle.new_enemy.specs.declared.run.Ran.TheVariants as ran
-use Rattle.std.proofs.Common.{◌≡◌, ◌≤◌, inl, arith, refl}
-use Rattle.std.proofs.lemmas.Result.{IfErr-weaker, on_ok_weaker}
-use Rattle.audit.specs.History.{IsOfHistory}
+use Rattle.std.proofs.Common.{◌≡◌, ◌≤◌, [], ◌∷◌, arith, refl}
+use Rattle.std.proofs.lemmas.Result.{on_ok_weaker}
+use Rattle.audit.specs.Kinds as kind
+use Rattle.audit.proofs.KindLemmas.{kinds-more}
 use Rattle.audit.specs.Made.{MakesRecords, BreaksMaking}
 use Rattle.new_enemy.proofs.FileStatuses.{no_trace}
 use Rattle.new_enemy.proofs.MadeEvidence.{made_of}
@@ -20,7 +21,8 @@ pub returns-clause-refused : goal.returns-clause-refused
 returns-clause-refused g c =
     no_trace c.new-trace.result c.make_records_listing-answer.new.trace c.new-trace.ensures.moved c.new-trace.ensures.stops c.make_records_listing-answer.result c.status_made.result
     (on_ok_weaker {P = c.status_made.result ≡ 0} {Q = c.status_made.result ≤ 1} c.make_records_listing-answer.result (λ zero. omega (arith, zero)) c.status_made.ensures.done) c.status_made.ensures.fault
-    (IfErr-weaker c.make_records_listing-answer.result IsOfHistory _ (λ e h. inl h) c.make_records_listing-answer.ensures.kinds) c.make_records_listing-answer.ensures.told.trace_refused
+    (kinds-more (kind.trace ∷ kind.write ∷ kind.memory ∷ [])
+    (kind.trace ∷ kind.write ∷ kind.memory ∷ kind.limits ∷ []) refl c.make_records_listing-answer.result c.make_records_listing-answer.ensures.kinds) c.make_records_listing-answer.ensures.told.trace_refused
 
 pub returns-clause-devices : goal.returns-clause-devices
 returns-clause-devices g c =
