@@ -15,9 +15,10 @@ use Rattle.findings.specs.Report.{report_text}
 use Rattle.findings.specs.WrongReplies.{NamesOnlyWrongReplies}
 use Rattle.findings.specs.declared.finding.Finding.{Finding}
 use Rattle.findings.proofs.WrongReplies.{named_by_bytes}
-use Rattle.audit.specs.Answers.{TraceRead, EvidenceRead, Told, IsReport, AreFound, TellsOfTrace, Audited}
-use Rattle.audit.specs.Audit.{Audits, Breaks, RefusesEvidenceFor, IsOfBytes, IsOfNoDevice, verdict_of}
-use Rattle.audit.specs.Devices.{Reader, Reading, Writer, Writing, OfAll, OfAny, OfBoth, OfCame, GivesFew, GivesNext, ReaderFailed, ReaderHeld, FailsWriting}
+use Rattle.audit.specs.Answers.{TellsOfTrace, Audited}
+use Rattle.audit.specs.Parts.{TraceRead, EvidenceRead, Told, IsReport, AreFound}
+use Rattle.audit.specs.Audit.{Audits, Breaks, RefusesEvidenceFor, IsOfBytes, BlamesNoDevice, verdict_of}
+use Rattle.audit.specs.Devices.{Reader, Reading, Writer, Writing, OfAll, OfAny, OfBoth, OfCame, GivesFew, GivesNext, ReaderFailed, ReaderNeverFailed, FailsWriting}
 use Rattle.audit.specs.Kinds.{IsOneOf}
 use Rattle.audit.specs.Kinds as kind
 use Rattle.audit.specs.declared.plain.Verdict.{Verdict}
@@ -90,20 +91,20 @@ module _ (t : TraceValue) (r : Reading) where
   -- reading evidence stopped at this fault, which is told so
   pub evidence_stopped : {V : Type 0} (Says : List (Option (List StepValue)) → V → Type 0) (fault : EvidenceFault) (e : AuditFault) → OfAny r (λ b. RefusesEvidenceFor t b fault)
       → (fault.cause ≡ evidence_causes.Read → OfCame r (λ b. evidence_of t.entries false b ≡ Err fault)) → GivesFew r → GivesNext r
-      → (fault.cause ≡ evidence_causes.Read → ReaderFailed r) → (fault.cause ≢ evidence_causes.Read → ReaderHeld r)
-      → ((f : EvidenceFault) → e ≡ faults.Evidence f → f ≡ fault) → (IsOfNoDevice e → fault.cause ≢ evidence_causes.Read) → IsOneOf (kind.evidence ∷ kind.memory ∷ []) e → EvidenceRead {V = V} Says t r (Err e)
-  evidence_stopped {V} Says fault e refused cut few next failed held told device kinds =
+      → (fault.cause ≡ evidence_causes.Read → ReaderFailed r) → (fault.cause ≢ evidence_causes.Read → ReaderNeverFailed r)
+      → ((f : EvidenceFault) → e ≡ faults.Evidence f → f ≡ fault) → (BlamesNoDevice e → fault.cause ≢ evidence_causes.Read) → IsOneOf (kind.evidence ∷ kind.memory ∷ []) e → EvidenceRead {V = V} Says t r (Err e)
+  evidence_stopped {V} Says fault e refused cut most known failed kept told device kinds =
       let same = λ (f : EvidenceFault) (is : ◌≡◌ {A = Result V AuditFault} (Err e) (Err (faults.Evidence f))). told f (fault_same {V = V} e (faults.Evidence f) is) in
       record {
         given = tt;
         refused = λ f is. subst (λ (x : EvidenceFault). OfAny r (λ b. RefusesEvidenceFor t b x)) (sym (same f is)) refused;
         cut = λ f is read.
             subst (λ (x : EvidenceFault). OfCame r (λ b. evidence_of t.entries false b ≡ Err x)) (sym (same f is)) (cut (subst (λ (x : EvidenceFault). x.cause ≡ evidence_causes.Read) (same f is) read));
-        few = few;
-        next = next;
+        most = most;
+        known = known;
         failed = λ f is read. failed (subst (λ (x : EvidenceFault). x.cause ≡ evidence_causes.Read) (same f is) read);
-        held = tt;
-        unfailed = λ none. held (device none);
+        kept = tt;
+        unfailed = λ none. kept (device none);
         kinds = kinds;
       }
 
@@ -114,10 +115,10 @@ module _ (t : TraceValue) (r : Reading) where
           given = (h.given.0, f h.given.0 h.given.1, h.given.2);
           refused = λ g is. absurd (cc (is));
           cut = λ g is. absurd (cc (is));
-          few = h.few;
-          next = h.next;
+          most = h.most;
+          known = h.known;
           failed = λ g is. absurd (cc (is));
-          held = h.held;
+          kept = h.kept;
           unfailed = tt;
           kinds = tt;
         }
@@ -128,10 +129,10 @@ module _ (t : TraceValue) (r : Reading) where
           given = tt;
           refused = λ f is. h.refused f (ap (λ (y : AuditFault). Err y) (fault_same {V = X} e (faults.Evidence f) is));
           cut = λ f is. h.cut f (ap (λ (y : AuditFault). Err y) (fault_same {V = X} e (faults.Evidence f) is));
-          few = h.few;
-          next = h.next;
+          most = h.most;
+          known = h.known;
           failed = λ f is. h.failed f (ap (λ (y : AuditFault). Err y) (fault_same {V = X} e (faults.Evidence f) is));
-          held = tt;
+          kept = tt;
           unfailed = h.unfailed;
           kinds = h.kinds;
         }
@@ -143,11 +144,11 @@ module _ (t : TraceValue) (r : Reading) where
           given = tt;
           refused = λ f is. absurd (cc (is));
           cut = λ f is. absurd (cc (is));
-          few = h.few;
-          next = h.next;
+          most = h.most;
+          known = h.known;
           failed = λ f is. absurd (cc (is));
-          held = tt;
-          unfailed = λ none. h.held;
+          kept = tt;
+          unfailed = λ none. h.kept;
           kinds = (refl, tt);
         }
 
@@ -163,8 +164,8 @@ trace_not_read {V} Tells Breaks trace w e read =
       trace_cut = λ f is. read.cut f (ap (λ (x : AuditFault). Err x) (fault_same {V = V} e (faults.Trace f) is));
       write = λ n is. absurd (never_answered {V = V} (kind.trace ∷ kind.memory ∷ []) (Err e) (faults.Write n) refl read.kinds is);
       unwritten = λ is. refl;
-      most = read.few;
-      known = read.next;
+      most = read.most;
+      known = read.known;
       held = behind_at_rest w;
       devices =
           devices_of_reading e _ ⊥ _ (one_of-more (kind.trace ∷ kind.memory ∷ []) (kind.trace ∷ kind.evidence ∷ kind.memory ∷ []) refl e read.kinds)
@@ -189,11 +190,11 @@ tells_of Tells Breaks Says trace out t (Ok v) read told tells breaks =
       trace_cut = λ f is. absurd (cc (is));
       write = λ n is. absurd (cc (is));
       unwritten = tt;
-      most = read.few;
-      known = read.next;
+      most = read.most;
+      known = read.known;
       held = told.held;
       devices = tt;
-      kept = (read.held, told.kept);
+      kept = (read.kept, told.kept);
       unfailed = tt;
     }
 tells_of {V} Tells Breaks Says trace out t (Err e) read told tells breaks =
@@ -206,12 +207,12 @@ tells_of {V} Tells Breaks Says trace out t (Err e) read told tells breaks =
           let h = told.write n is in
           of_all-map trace (λ a. trace_of true a ≡ Ok t) (λ a. Breaks a out n) (λ a says. breaks a h.1 h.0 n says h.2 h.3) read.given;
       unwritten = told.unwritten;
-      most = read.few;
-      known = read.next;
+      most = read.most;
+      known = read.known;
       held = told.held;
       devices = devices_of_writing {V = V} (Err e) _ ⊥ _ told.kinds told.failed;
       kept = tt;
-      unfailed = λ none. (read.held, told.unfailed (unwritten_without_device e none));
+      unfailed = λ none. (read.kept, told.unfailed (unwritten_without_device e none));
     }
 
 -- the same call with another answer
@@ -290,8 +291,8 @@ audited_no_trace trace b w e read =
       evidence_cut = λ f is. absurd (never_answered {V = Verdict} (kind.trace ∷ kind.memory ∷ []) (Err e) (faults.Evidence f) refl read.kinds is);
       write = λ n is. absurd (never_answered {V = Verdict} (kind.trace ∷ kind.memory ∷ []) (Err e) (faults.Write n) refl read.kinds is);
       unwritten = λ is. refl;
-      most = (read.few, few_at_rest b);
-      known = (read.next, next_at_rest b);
+      most = (read.most, few_at_rest b);
+      known = (read.known, next_at_rest b);
       held = behind_at_rest w;
       devices =
           devices_of_reading e _ _ _ (one_of-more (kind.trace ∷ kind.memory ∷ []) (kind.trace ∷ kind.evidence ∷ kind.memory ∷ []) refl e read.kinds)
@@ -317,15 +318,15 @@ audited_no_evidence Says trace evidence w t e read given =
       evidence_cut = λ f is cut. cut_evidence trace evidence t read.given f (given.cut f (ap (λ (x : AuditFault). Err x) (same (faults.Evidence f) is)) cut);
       write = λ n is. absurd (never_answered {V = Verdict} (kind.evidence ∷ kind.memory ∷ []) (Err e) (faults.Write n) refl given.kinds is);
       unwritten = λ is. refl;
-      most = (read.few, given.few);
-      known = (read.next, given.next);
+      most = (read.most, given.most);
+      known = (read.known, given.known);
       held = behind_at_rest w;
       devices =
           devices_of_reading e _ _ _ (one_of-more (kind.evidence ∷ kind.memory ∷ []) (kind.trace ∷ kind.evidence ∷ kind.memory ∷ []) refl e given.kinds)
           (λ f is read_fails. absurd (never_answered {V = Verdict} (kind.evidence ∷ kind.memory ∷ []) (Err e) (faults.Trace f) refl given.kinds (ap (λ (x : AuditFault). Err x) is)))
           (λ f is. given.failed f (ap (λ (x : AuditFault). Err x) is));
       kept = tt;
-      unfailed = λ none. (read.held, given.unfailed none, (refl, refl));
+      unfailed = λ none. (read.kept, given.unfailed none, (refl, refl));
     }
 
 -- what was found was told
@@ -350,11 +351,11 @@ audited trace evidence out t found (Ok v) read by law told =
       evidence_cut = λ f is. absurd (cc (is));
       write = λ n is. absurd (cc (is));
       unwritten = tt;
-      most = (read.few, by.few);
-      known = (read.next, by.next);
+      most = (read.most, by.most);
+      known = (read.known, by.known);
       held = told.held;
       devices = tt;
-      kept = (read.held, by.held, told.kept);
+      kept = (read.kept, by.kept, told.kept);
       unfailed = tt;
     }
 audited trace evidence out t found (Err e) read by law told =
@@ -373,12 +374,12 @@ audited trace evidence out t found (Err e) read by law told =
           on_both trace evidence t read.given (λ a b. Breaks a b out n) given by.given.2
           (λ a b is says. (t, given, is, says, subst (λ (text : List ℕ). FailsWriting out n text) h.2.0 h.3));
       unwritten = told.unwritten;
-      most = (read.few, by.few);
-      known = (read.next, by.next);
+      most = (read.most, by.most);
+      known = (read.known, by.known);
       held = told.held;
       devices = devices_of_writing {V = Verdict} (Err e) _ _ _ told.kinds told.failed;
       kept = tt;
-      unfailed = λ none. (read.held, by.held, told.unfailed (unwritten_without_device e none));
+      unfailed = λ none. (read.kept, by.kept, told.unfailed (unwritten_without_device e none));
     }
 
 -- nothing was asked for that is within the limits, and nothing touched

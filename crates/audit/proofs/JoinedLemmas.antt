@@ -21,12 +21,12 @@ use Rattle.evidence_check.specs.Steps.{StepValue}
 use Rattle.findings.proofs.WrongReplies.{named_by_bytes}
 use Rattle.findings.specs.Headline.{IsRightAndFresh, IsTraceRightAndFresh}
 use Rattle.findings.specs.WrongReplies.{NamesOnlyWrongReplies}
-use Rattle.audit.specs.Audit.{Audits, Breaks, IsOfDevices, IsWrite, RefusesTrace}
+use Rattle.audit.specs.Audit.{Audits, Breaks, BlamesOnly, IsWrite, RefusesTrace}
 use Rattle.audit.specs.Kinds.{IsOneOf}
 use Rattle.audit.specs.Kinds as kind
 use Rattle.json_lines.specs.declared.lines.InputFault.{InputFault}
 use Rattle.json_lines.specs.declared.lines.InputFault.TheVariants as input
-use Rattle.audit.specs.Answers.{Told, IsReport}
+use Rattle.audit.specs.Parts.{Told, IsReport}
 use Rattle.audit.specs.Devices.{Writing, FailsWriting}
 use Rattle.audit.proofs.Readers.{devices_of_writing}
 use Rattle.audit.specs.Joined.{OfParts, HasNoParts, IsRead, of_input}
@@ -151,7 +151,7 @@ module _ {R : Type 0} (given : R → List ℕ) (ends : R → ℕ) (old new : R) 
 
 -- ---- the devices
 
-pub devices_wider : (e : AuditFault) (input out more_input more_out : Type 0) → (input → more_input) → (out → more_out) → IsOfDevices input ⊥ ⊥ out e → IsOfDevices more_input ⊥ ⊥ more_out e
+pub devices_wider : (e : AuditFault) (input out more_input more_out : Type 0) → (input → more_input) → (out → more_out) → BlamesOnly input ⊥ ⊥ out e → BlamesOnly more_input ⊥ ⊥ more_out e
 devices_wider (faults.Trace f) input out more_input more_out i o h = h
 devices_wider (faults.Evidence f) input out more_input more_out i o h = h
 devices_wider (faults.Write n) input out more_input more_out i o h = o h
@@ -165,6 +165,6 @@ joined_long input.TooLong e is h = refl
 joined_long input.OutOfMemory e is h = cc
 
 pub devices_of_report : (r : Result Verdict AuditFault) (input out : Type 0) → IfErr r (IsOneOf (kind.write ∷ kind.memory ∷ [])) → IfErr r (λ e. IsWrite e → out)
-    → IfErr r (IsOfDevices input ⊥ ⊥ out)
+    → IfErr r (BlamesOnly input ⊥ ⊥ out)
 devices_of_report r input out of at =
-    IfErr-weaker r (IsOfDevices ⊥ ⊥ ⊥ out) (IsOfDevices input ⊥ ⊥ out) (λ e h. devices_wider e ⊥ out input out (λ x. absurd x) (λ x. x) h) (devices_of_writing r ⊥ ⊥ out of at)
+    IfErr-weaker r (BlamesOnly ⊥ ⊥ ⊥ out) (BlamesOnly input ⊥ ⊥ out) (λ e h. devices_wider e ⊥ out input out (λ x. absurd x) (λ x. x) h) (devices_of_writing r ⊥ ⊥ out of at)

@@ -20,12 +20,14 @@ use Rattle.findings.specs.Headline.{IsRightAndFresh, IsTraceRightAndFresh}
 use Rattle.findings.proofs.EachFinding.{HoldsOfTokens, each_finding}
 use Rattle.findings.proofs.ToldFindings.{by_evidence, told}
 use Rattle.audit.specs.Made.{IsMade, AreMade}
-use Rattle.audit.specs.MadeAudit.{AuditsMade, BreaksMade, WhateverIsMade, IsOfMaker, AreOfMaker, IsSettled, MissesNoWrongReply, IsFoundMade, AuditedMade}
+use Rattle.audit.specs.Answers.{AuditedMade}
+use Rattle.audit.specs.MadeAudit.{AuditsMade, BreaksMade, WhateverIsMade, IsOfMaker, AreOfMaker, IsSettled, MissesNoWrongReply, IsFoundMade}
 use Rattle.audit.specs.Shared.{found_lines}
 use Rattle.audit.specs.declared.shared.Found.{Found}
 use Rattle.audit.specs.declared.plain.AuditFault.{AuditFault}
 use Rattle.audit.specs.declared.plain.Verdict.{Verdict}
-use Rattle.audit.specs.Answers.{TraceRead, Told, IsReport, TellsOfTrace}
+use Rattle.audit.specs.Answers.{TellsOfTrace}
+use Rattle.audit.specs.Parts.{TraceRead, Told, IsReport}
 use Rattle.audit.specs.Devices.{Reading, Writing, Writer, FailsWriting, OfAll}
 use Rattle.audit.proofs.Answering.{tells_of, told_clean}
 use Rattle.audit.proofs.Readers.{of_all-map}

@@ -10,7 +10,7 @@ use Rattle.evidence_check.specs.declared.cause.EvidenceCause.TheVariants as evid
 use Rattle.evidence_check.specs.declared.cause.EvidenceFault.{EvidenceFault}
 use Rattle.trace_lines.specs.declared.cause.Cause.TheVariants as causes
 use Rattle.trace_lines.specs.declared.cause.TraceFault.{TraceFault}
-use Rattle.audit.specs.Audit.{RefusesEvidence, RefusesEvidenceFor, CutsEvidence, IsOfDevices, IsOfNoDevice, IsUnwritten, IsWrite, verdict_of}
+use Rattle.audit.specs.Audit.{RefusesEvidence, RefusesEvidenceFor, CutsEvidence, BlamesOnly, BlamesNoDevice, IsUnwritten, IsWrite, verdict_of}
 use Rattle.audit.specs.Kinds.{IsOneOf}
 use Rattle.audit.specs.Kinds as kind
 use Rattle.audit.proofs.KindLemmas.{of_writing}
@@ -64,7 +64,7 @@ pub devices_of_reading : (e : AuditFault) (trace evidence out : Type 0)
     → IsOneOf (kind.trace ∷ kind.evidence ∷ kind.memory ∷ []) e
     → ((f : TraceFault) → e ≡ faults.Trace f → f.cause ≡ causes.Read → trace)
     → ((f : EvidenceFault) → e ≡ faults.Evidence f → f.cause ≡ evidence_causes.Read → evidence)
-    → IsOfDevices ⊥ trace evidence out e
+    → BlamesOnly ⊥ trace evidence out e
 devices_of_reading (faults.Trace f) trace evidence out of by_trace by_evidence = by_trace f refl
 devices_of_reading (faults.Evidence f) trace evidence out of by_trace by_evidence = by_evidence f refl
 devices_of_reading faults.OutOfMemory trace evidence out of by_trace by_evidence = tt
@@ -73,13 +73,13 @@ devices_of_reading _ trace evidence out of by_trace by_evidence = absurd (cc (of
 -- writing fails by the writer, and else where memory runs out
 pub devices_of_writing : {V : Type 0} (r : Result V AuditFault) (trace evidence out : Type 0)
     → IfErr r (IsOneOf (kind.write ∷ kind.memory ∷ [])) → IfErr r (λ e. IsWrite e → out)
-    → IfErr r (IsOfDevices ⊥ trace evidence out)
+    → IfErr r (BlamesOnly ⊥ trace evidence out)
 devices_of_writing (Ok v) trace evidence out of at = tt
 devices_of_writing (Err e) trace evidence out of at =
-    of_writing (λ (x : AuditFault). (IsWrite x → out) → IsOfDevices ⊥ trace evidence out x)
+    of_writing (λ (x : AuditFault). (IsWrite x → out) → BlamesOnly ⊥ trace evidence out x)
     (λ write. tt) (λ n write. write tt) e of at
 
-pub unwritten_without_device : (e : AuditFault) → IsOfNoDevice e → IsUnwritten e
+pub unwritten_without_device : (e : AuditFault) → BlamesNoDevice e → IsUnwritten e
 unwritten_without_device (faults.Write n) h = h
 unwritten_without_device _ h = tt
 

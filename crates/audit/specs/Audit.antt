@@ -73,22 +73,23 @@ Breaks a b out n =
 
 -- ---- the devices
 
--- The reader of the evidence failed, and the fault is of the line that its bytes had come to.
+-- the bytes say a trace; the reader of the evidence failed, and the fault is of the line that its bytes had come to
 abbrev pub CutsEvidence : List ℕ → List ℕ → EvidenceFault → Type 0
 CutsEvidence a came f = (t : TraceValue) × (trace_of true a ≡ Ok t) × (evidence_of t.entries false came ≡ Err f)
 
--- the fault of a device is answered only where that device failed
-abbrev pub IsOfDevices : (input trace evidence out : Type 0) → AuditFault → Type 0
-IsOfDevices input trace evidence out (faults.Trace f) = f.cause ≡ causes.Read → trace
-IsOfDevices input trace evidence out (faults.Evidence f) = f.cause ≡ evidence_causes.Read → evidence
-IsOfDevices input trace evidence out (faults.Write n) = out
-IsOfDevices input trace evidence out faults.Input = input
-IsOfDevices input trace evidence out _ = ⊤
+-- a device is blamed only where this holds of it: of the reader of joined input, of the trace, of the evidence, of
+-- the writer
+abbrev pub BlamesOnly : (input trace evidence out : Type 0) → AuditFault → Type 0
+BlamesOnly input trace evidence out (faults.Trace f) = f.cause ≡ causes.Read → trace
+BlamesOnly input trace evidence out (faults.Evidence f) = f.cause ≡ evidence_causes.Read → evidence
+BlamesOnly input trace evidence out (faults.Write n) = out
+BlamesOnly input trace evidence out faults.Input = input
+BlamesOnly input trace evidence out _ = ⊤
 
--- a fault that no device has
-abbrev pub IsOfNoDevice : AuditFault → Type 0
-IsOfNoDevice (faults.Trace f) = f.cause ≢ causes.Read
-IsOfNoDevice (faults.Evidence f) = f.cause ≢ evidence_causes.Read
-IsOfNoDevice (faults.Write n) = ⊥
-IsOfNoDevice faults.Input = ⊥
-IsOfNoDevice _ = ⊤
+-- the fault is of no device
+abbrev pub BlamesNoDevice : AuditFault → Type 0
+BlamesNoDevice (faults.Trace f) = f.cause ≢ causes.Read
+BlamesNoDevice (faults.Evidence f) = f.cause ≢ evidence_causes.Read
+BlamesNoDevice (faults.Write n) = ⊥
+BlamesNoDevice faults.Input = ⊥
+BlamesNoDevice _ = ⊤

@@ -7,5 +7,6 @@ pub mod Joined
 pub mod Kinds
 pub mod Made
 pub mod MadeAudit
+pub mod Parts
 pub mod Shared
 pub mod Told

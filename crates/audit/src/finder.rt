@@ -4,7 +4,7 @@ ghost use Rattle.std.specs.Prelude.{◌≡◌, ◌⊎◌, ℕ, true, List, Optio
 ghost use Rattle.trace_lines.specs.Values.{TraceValue};
 ghost use Rattle.evidence_check.specs.Reading.{evidence_of};
 ghost use Rattle.evidence_check.specs.Steps.{StepValue};
-ghost use Rattle.audit.specs.Answers.{AreFound, EvidenceRead};
+ghost use Rattle.audit.specs.Parts.{AreFound, EvidenceRead};
 ghost use Rattle.audit.specs.Devices.{reads, OfAll};
 
 use crate::plain::AuditFault;

@@ -9,8 +9,8 @@ ghost use Rattle.trace_lines.specs.declared.cause.TraceFault.{TraceFault};
 ghost use Rattle.evidence_check.specs.Judging.{GivesJudged};
 ghost use Rattle.evidence_check.specs.Reading.{evidence_of};
 ghost use Rattle.evidence_check.specs.declared.cause.EvidenceFault.{EvidenceFault};
-ghost use Rattle.audit.specs.Audit.{Audits, Breaks, RefusesTrace, RefusesEvidence, RefusesEvidenceFor, IsOfDevices, IsUnwritten};
-ghost use Rattle.audit.specs.Devices.{HasRisen, WriterHeld, writes};
+ghost use Rattle.audit.specs.Audit.{Audits, Breaks, RefusesTrace, RefusesEvidence, RefusesEvidenceFor, BlamesOnly, IsUnwritten};
+ghost use Rattle.audit.specs.Devices.{HasRisen, WriterNeverFailed, writes};
 ghost use Rattle.findings.specs.Headline.{IsTraceRightAndFresh};
 ghost use Rattle.audit.specs.Joined.{OfParts, HasNoParts, IsRead, of_input};
 ghost use Rattle.audit.specs.Kinds.{IsOneOf};
@@ -52,7 +52,7 @@ fn trace_of_front<R: Source>(alloc: Global, input: &mut R) -> Result<(Trace, Res
     ensures joined { result ≡ Err faults.Joined → OfInput R.given R.ends input.old input.new HasNoParts }
     ensures most { OfBytes R.given input.old input.new (λ came. length came ≤ MAX_INPUT + CHUNK) }
     ensures known { AreNext R.given R.ends R.remaining input.old input.new }
-    ensures devices { IfErr result (IsOfDevices (HasRisen (R.failures input.old) (R.failures input.new)) ⊥ ⊥ ⊥) }
+    ensures devices { IfErr result (BlamesOnly (HasRisen (R.failures input.old) (R.failures input.new)) ⊥ ⊥ ⊥) }
     ensures kept { result ≢ Err faults.Input → R.failures input.new ≡ R.failures input.old }
     ensures kinds { IfErr result (IsOneOf (kind.trace ∷ kind.memory ∷ kind.joined ∷ kind.input ∷ [])) }
 {
@@ -84,7 +84,7 @@ fn judgements_behind<R: Source>(
         → ComesPast rest.room (R.given input.old) (R.given input.new) rest.at_hand }
     ensures most { ComeAtMost (rest.room + CHUNK) (R.given input.old) (R.given input.new) rest.at_hand }
     ensures known { AreNext R.given R.ends R.remaining input.old input.new }
-    ensures devices { IfErr result (IsOfDevices (HasRisen (R.failures input.old) (R.failures input.new)) ⊥ ⊥ ⊥) }
+    ensures devices { IfErr result (BlamesOnly (HasRisen (R.failures input.old) (R.failures input.new)) ⊥ ⊥ ⊥) }
     ensures kept { result ≢ Err faults.Input → R.failures input.new ≡ R.failures input.old }
     ensures kinds { IfErr result (IsOneOf (kind.evidence ∷ kind.memory ∷ kind.joined ∷ kind.input ∷ [])) }
 {
@@ -114,9 +114,10 @@ pub fn audit_joined<R: Source, W: Sink>(
     // Whatever the verdict: a reply that a finding F10 calls wrong is wrong, as that of `audit_plain`.
     ensures wrong_replies { IfOk result
         (λ _. OfWhole R.given R.ends input.old input.new (OfParts NamesOnlyWrongReplies)) }
-    ensures trace { (f : TraceFault) → result ≡ Err (faults.Trace f)
+    // Of the whole input: a refused trace is told once the reader is at its end.
+    ensures trace_refused { (f : TraceFault) → result ≡ Err (faults.Trace f)
         → OfWhole R.given R.ends input.old input.new (OfParts (λ a b. RefusesTrace a f)) }
-    ensures evidence { (f : EvidenceFault) → result ≡ Err (faults.Evidence f)
+    ensures evidence_refused { (f : EvidenceFault) → result ≡ Err (faults.Evidence f)
         → OfWhole R.given R.ends input.old input.new (OfParts (λ a b. RefusesEvidence a b f)) }
     // Of every input that begins with the bytes that came.
     ensures joined { result ≡ Err faults.Joined → OfInput R.given R.ends input.old input.new HasNoParts }
@@ -129,14 +130,14 @@ pub fn audit_joined<R: Source, W: Sink>(
     // held.
     ensures known { AreNext R.given R.ends R.remaining input.old input.new }
     ensures held { StandBehind W.taken W.contents out.old out.new }
-    ensures devices { IfErr result (IsOfDevices (HasRisen (R.failures input.old) (R.failures input.new)) ⊥ ⊥
+    ensures devices { IfErr result (BlamesOnly (HasRisen (R.failures input.old) (R.failures input.new)) ⊥ ⊥
         (HasRisen (W.failures out.old) (W.failures out.new) ⊎ HasRisen (W.idle out.old) (W.idle out.new))) }
     // Any other answer comes only where no device failed.
     ensures kept { result ≢ Err faults.Input → R.failures input.new ≡ R.failures input.old }
     ensures out_kept { OnOk result
-        (WriterHeld (writes W.taken W.flushes W.failures W.idle W.contents out.old out.new)) }
+        (WriterNeverFailed (writes W.taken W.flushes W.failures W.idle W.contents out.old out.new)) }
     ensures out_unfailed { IfErr result (λ e. IsUnwritten e
-        → WriterHeld (writes W.taken W.flushes W.failures W.idle W.contents out.old out.new)) }
+        → WriterNeverFailed (writes W.taken W.flushes W.failures W.idle W.contents out.old out.new)) }
     ensures kinds { IfErr result
         (IsOneOf (kind.trace ∷ kind.evidence ∷ kind.write ∷ kind.memory ∷ kind.joined ∷ kind.input ∷ [])) }
 {

@@ -4,7 +4,8 @@ ghost use Rattle.std.specs.Prelude.{◌≡◌, ℕ, ◌<◌, ◌^◌, [], ◌∷
 ghost use Rattle.trace_lines.specs.Values.{EntryValue};
 ghost use Rattle.evidence_check.specs.Steps.{step_values};
 ghost use Rattle.record_text.specs.ReadBack.{IsTaken};
-ghost use Rattle.audit.specs.Answers.{Told, TellsOfTrace};
+ghost use Rattle.audit.specs.Answers.{TellsOfTrace};
+ghost use Rattle.audit.specs.Parts.{Told};
 ghost use Rattle.audit.specs.Devices.{reads, writes};
 ghost use Rattle.audit.specs.Kinds.{IsOneOf};
 ghost use Rattle.audit.specs.Kinds as kind;

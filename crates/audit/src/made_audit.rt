@@ -11,7 +11,8 @@ ghost use Rattle.audit.specs.Devices.{reads, writes};
 ghost use Rattle.audit.specs.Kinds.{IsOneOf};
 ghost use Rattle.audit.specs.Kinds as kind;
 ghost use Rattle.audit.specs.Made.{AreMade};
-ghost use Rattle.audit.specs.MadeAudit.{AuditedMade, IsJudgedMade, IsFoundMade};
+ghost use Rattle.audit.specs.Answers.{AuditedMade};
+ghost use Rattle.audit.specs.MadeAudit.{IsJudgedMade, IsFoundMade};
 ghost use Rattle.audit.specs.Shared.{has_finding, are_within_limits};
 ghost use Rattle.audit.specs.declared.plain.AuditFault.TheVariants as faults;
 

@@ -2,7 +2,8 @@
 
 ghost use Rattle.std.specs.Prelude.{◌≡◌, ◌⊎◌, [], ◌∷◌, Ok, IfErr};
 ghost use Rattle.evidence_check.specs.Evidences.{evidence_value};
-ghost use Rattle.audit.specs.Answers.{Audited, Told, IsReport};
+ghost use Rattle.audit.specs.Answers.{Audited};
+ghost use Rattle.audit.specs.Parts.{Told, IsReport};
 ghost use Rattle.audit.specs.Audit.{IsOfBytes};
 ghost use Rattle.audit.specs.Devices.{reads, writes, OfBoth};
 ghost use Rattle.audit.specs.Kinds.{IsOneOf};

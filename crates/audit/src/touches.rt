@@ -3,7 +3,8 @@
 ghost use Rattle.std.specs.Prelude.{◌≡◌, [], ◌∷◌, ◌++◌, length, IfOk, IfErr, OnOk, string_bytes};
 ghost use Rattle.std.specs.List.{flat_map};
 ghost use Rattle.version_chains.specs.Commits.{history_of};
-ghost use Rattle.audit.specs.Answers.{Told, TellsOfTrace};
+ghost use Rattle.audit.specs.Answers.{TellsOfTrace};
+ghost use Rattle.audit.specs.Parts.{Told};
 ghost use Rattle.audit.specs.Devices.{reads, writes};
 ghost use Rattle.audit.specs.History.{touch_text, history_text, TellsHistory, BreaksHistory};
 ghost use Rattle.audit.specs.Kinds.{IsOneOf};

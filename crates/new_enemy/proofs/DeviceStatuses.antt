@@ -6,7 +6,7 @@ use Rattle.json_lines.specs.declared.devices.Counted.{Counted}
 use Rattle.json_lines.specs.declared.lines.TheConstants.{CHUNK}
 use Rattle.json_lines.specs.declared.reading.TheConstants.{MAX_INPUT}
 use Rattle.audit.specs.Answers.{TellsOfTrace, Audited}
-use Rattle.audit.specs.Audit.{IsOfDevices, IsOfNoDevice, IsUnwritten}
+use Rattle.audit.specs.Audit.{BlamesOnly, BlamesNoDevice, IsUnwritten}
 use Rattle.audit.specs.Devices.{Writer, Writing, WriterFailed, reads, GivesFew}
 use Rattle.audit.specs.declared.plain.AuditFault.{AuditFault}
 use Rattle.audit.specs.declared.plain.AuditFault.TheVariants as faults
@@ -19,7 +19,7 @@ use Rattle.new_enemy.specs.declared.run.Ran.{Ran}
 use Rattle.new_enemy.specs.declared.run.Ran.TheVariants as ran
 
 -- a fault with the status of a device is one
-failed_by : (e : AuditFault) (s : ℕ) (trace evidence out : Type 0) → IsStatus e s → s ≡ 5 → IsOfDevices ⊥ trace evidence out e → (trace ⊎ evidence) ⊎ out
+failed_by : (e : AuditFault) (s : ℕ) (trace evidence out : Type 0) → IsStatus e s → s ≡ 5 → BlamesOnly ⊥ trace evidence out e → (trace ⊎ evidence) ⊎ out
 failed_by (faults.Trace f) s trace evidence out (inl p) five h = inl (inl (h p.0))
 failed_by (faults.Trace f) s trace evidence out (inr p) five h = absurd (omega (arith, five, p.1))
 failed_by (faults.Evidence f) s trace evidence out (inl p) five h = inl (inr (h p.0))
@@ -31,7 +31,7 @@ failed_by faults.Joined s trace evidence out is five h = absurd (omega (arith, f
 failed_by faults.Input s trace evidence out is five h = absurd h
 
 -- and any other is of no device
-of_no_device : (e : AuditFault) (s : ℕ) → IsStatus e s → s ≢ 5 → IsOfNoDevice e
+of_no_device : (e : AuditFault) (s : ℕ) → IsStatus e s → s ≢ 5 → BlamesNoDevice e
 of_no_device (faults.Trace f) s (inl p) other = absurd (other p.1)
 of_no_device (faults.Trace f) s (inr p) other = p.0
 of_no_device (faults.Evidence f) s (inl p) other = absurd (other p.1)

@@ -13,8 +13,8 @@ use Rattle.audit.proofs.KindLemmas.{kinds-more, never_answered, one_of-more}
 use Rattle.audit.proofs.JoinedLemmas.{devices_wider, evidence_read, joined_audited, joined_broken, joined_named, joined_right, long_behind, most_behind, devices_of_report, parts_read, parts_said}
 use Rattle.audit.proofs.joined.audit_joined.Goals as goal
 
-pub returns-in-Err-clause-evidence : goal.returns-in-Err-clause-evidence
-returns-in-Err-clause-evidence g c = λ f e.
+pub returns-in-Err-clause-evidence_refused : goal.returns-in-Err-clause-evidence_refused
+returns-in-Err-clause-evidence_refused g c = λ f e.
     let same : c.in-Err.fault ≡ faults.Evidence f = cc (e) in
     parts_read g.R.Source.given g.R.Source.ends c.args.input.now c.trace_of_front.new.input c.judgements_behind.new.input c.in_ok-trace.rest (λ a. trace_of true a ≡ Ok c.in_ok-trace.trace) c.in_ok-trace.ensures.given (λ b. RefusesEvidenceFor c.in_ok-trace.trace b f) (λ a b. RefusesEvidence a b f) c.in_ok-trace.ensures.ended
     (c.judgements_behind.ensures.evidence f (c.in-Err.is ∙ ap (λ (x : AuditFault). Err x) same)) (λ a b is by. (c.in_ok-trace.trace, is, by))
@@ -87,12 +87,12 @@ returns-in-Ok-found-clause-kinds g c =
     kinds-more (kind.write ∷ kind.memory ∷ []) (kind.trace ∷ kind.evidence ∷ kind.write ∷ kind.memory ∷ kind.joined ∷ kind.input ∷ [])
     refl c.tell_findings.result c.tell_findings.ensures.kinds
 
-pub returns-in-Ok-found-clause-trace : goal.returns-in-Ok-found-clause-trace
-returns-in-Ok-found-clause-trace g c = λ f e. 
+pub returns-in-Ok-found-clause-trace_refused : goal.returns-in-Ok-found-clause-trace_refused
+returns-in-Ok-found-clause-trace_refused g c = λ f e. 
     absurd (never_answered (kind.write ∷ kind.memory ∷ []) c.tell_findings.result (faults.Trace f) refl c.tell_findings.ensures.kinds e)
 
-pub returns-in-Ok-found-clause-evidence : goal.returns-in-Ok-found-clause-evidence
-returns-in-Ok-found-clause-evidence g c = λ f e. 
+pub returns-in-Ok-found-clause-evidence_refused : goal.returns-in-Ok-found-clause-evidence_refused
+returns-in-Ok-found-clause-evidence_refused g c = λ f e. 
     absurd (never_answered (kind.write ∷ kind.memory ∷ []) c.tell_findings.result (faults.Evidence f) refl c.tell_findings.ensures.kinds e)
 
 pub returns-in-Ok-found-clause-joined : goal.returns-in-Ok-found-clause-joined

@@ -1,6 +1,6 @@
 use Rattle.std.proofs.Common.{Result, subst, [], ◌∷◌, refl}
 use Rattle.trace_lines.specs.Values.{TraceValue}
-use Rattle.audit.specs.Answers.{TraceRead}
+use Rattle.audit.specs.Parts.{TraceRead}
 use Rattle.audit.specs.Devices.{reads, writer, writes}
 use Rattle.audit.specs.declared.plain.AuditFault.{AuditFault}
 use Rattle.audit.specs.Made.{AreRecords, MakesRecords, BreaksMaking}

@@ -3,7 +3,7 @@ use Rattle.trace_lines.specs.Values.{TraceValue}
 use Rattle.findings.specs.declared.finding.Finding.{Finding}
 use Rattle.std.specs.declared.vec.Vec.{Vec}
 use Rattle.std.specs.declared.alloc.Global.{Global}
-use Rattle.audit.specs.Answers.{TraceRead, EvidenceRead, AreFound}
+use Rattle.audit.specs.Parts.{TraceRead, EvidenceRead, AreFound}
 use Rattle.audit.specs.Devices.{reader, reads, writer, writes}
 use Rattle.audit.specs.declared.plain.AuditFault.{AuditFault}
 use Rattle.audit.specs.Kinds as kind

@@ -16,10 +16,10 @@ returns-in-Ok g c =
       );
       refused = λ f is. absurd (cc (is));
       cut = λ f is. absurd (cc (is));
-      few = c.read_evidence.ensures.most;
-      next = c.read_evidence.ensures.known;
+      most = c.read_evidence.ensures.most;
+      known = c.read_evidence.ensures.known;
       failed = λ f is. absurd (cc (is));
-      held = c.in-Ok.ensures.kept;
+      kept = c.in-Ok.ensures.kept;
       unfailed = tt;
       kinds = tt;
     }

@@ -13,10 +13,10 @@ returns-in-Ok g c =
       given = (h.1.2.0, h.1.2.2, (h.0, (h.1.0, h.1.1, h.1.2.1)));
       refused = λ f is. absurd (cc (is));
       cut = λ f is. absurd (cc (is));
-      few = c.judge_evidence.ensures.most;
-      next = c.judge_evidence.ensures.known;
+      most = c.judge_evidence.ensures.most;
+      known = c.judge_evidence.ensures.known;
       failed = λ f is. absurd (cc (is));
-      held = c.in-Ok.ensures.kept;
+      kept = c.in-Ok.ensures.kept;
       unfailed = tt;
       kinds = tt;
     }

@@ -1,7 +1,7 @@
 use Rattle.std.proofs.Common.{◌≡◌, inr, Result, subst}
 use Rattle.evidence_check.specs.Evidences.{evidence_value}
 use Rattle.evidence_check.specs.declared.evidence.Evidence.{Evidence}
-use Rattle.audit.specs.Answers.{EvidenceRead}
+use Rattle.audit.specs.Parts.{EvidenceRead}
 use Rattle.audit.specs.Devices.{reads}
 use Rattle.audit.specs.Early.{TellsEarly, state_of}
 use Rattle.audit.specs.declared.plain.AuditFault.{AuditFault}
