@@ -4,7 +4,6 @@ use Rattle.std.proofs.lemmas.Bool.{and_parts, or_cases}
 use Rattle.std.proofs.lemmas.Result.{IfErr-weaker}
 use Rattle.std.specs.List.{list_all}
 use Rattle.std.specs.Prelude.{IfErr}
-use Rattle.audit.specs.Audit.{IsWrite}
 use Rattle.audit.specs.Kinds.{Kind, kind_of, is_same, is_among, IsOneOf}
 use Rattle.audit.specs.Kinds as kind
 use Rattle.audit.specs.declared.plain.AuditFault.{AuditFault}
@@ -20,7 +19,8 @@ same_is kind.joined kind.joined h = refl
 same_is kind.input kind.input h = refl
 same_is _ _ h = absurd (cc (h))
 
-among_more : (ks ms : List Kind) → list_all (is_among ms) ks ≡ true → (k : Kind) → is_among ks k ≡ true → is_among ms k ≡ true
+among_more : (ks ms : List Kind) → list_all (is_among ms) ks ≡ true → (k : Kind) → is_among ks k ≡ true
+    → is_among ms k ≡ true
 among_more [] ms all k h = absurd (cc (h))
 among_more (x ∷ ks) ms all k h =
     let parts = and_parts (is_among ms x) (list_all (is_among ms) ks) all in
@@ -30,7 +30,8 @@ among_more (x ∷ ks) ms all k h =
     ]
 
 -- of these kinds, and so of more
-pub one_of-more : (ks ms : List Kind) → list_all (is_among ms) ks ≡ true → (e : AuditFault) → IsOneOf ks e → IsOneOf ms e
+pub one_of-more : (ks ms : List Kind) → list_all (is_among ms) ks ≡ true → (e : AuditFault) → IsOneOf ks e
+    → IsOneOf ms e
 one_of-more ks ms all e h = (among_more ks ms all (kind_of e) h.0, h.1)
 
 pub kinds-more : {V : Type 0} (ks ms : List Kind) → list_all (is_among ms) ks ≡ true → (r : Result V AuditFault)

@@ -12,6 +12,7 @@ use Rattle.trace_lines.specs.declared.cause.Cause.TheVariants as causes
 use Rattle.trace_lines.specs.declared.cause.TraceFault.{TraceFault}
 use Rattle.audit.specs.Audit.{RefusesEvidence, RefusesEvidenceFor, CutsEvidence, BlamesOnly, BlamesNoDevice, IsUnwritten, IsWrite, verdict_of}
 use Rattle.audit.specs.Kinds.{IsOneOf}
+use Rattle.audit.specs.Parts.{TraceRead, EvidenceRead}
 use Rattle.audit.specs.Kinds as kind
 use Rattle.audit.proofs.KindLemmas.{of_writing}
 use Rattle.std.proofs.KnownBytes.{Appends-nil}
@@ -41,23 +42,40 @@ next_at_rest r = next-refl (λ (s : Reader). s.given) (λ (s : Reader). s.ends) 
 pub behind_at_rest : (w : Writer) → StandsBehind (record { before = w; after = w })
 behind_at_rest w = ([], sym (append-nil w.taken), Appends-nil w.held)
 
+-- what was read, by what the answer is
+pub read_is : {trace : Reading} {r s : Result TraceValue AuditFault} → r ≡ s → TraceRead trace r → TraceRead trace s
+read_is {trace} {r} {s} is read = subst (λ (x : Result TraceValue AuditFault). TraceRead trace x) is read
+
+pub evidence_is : {V : Type 0} {Says : List (Option (List StepValue)) → V → Type 0} {t : TraceValue}
+    {evidence : Reading} {r s : Result V AuditFault} → r ≡ s → EvidenceRead Says t evidence r
+    → EvidenceRead Says t evidence s
+evidence_is {V} {Says} {t} {evidence} {r} {s} is read =
+    subst (λ (x : Result V AuditFault). EvidenceRead Says t evidence x) is read
+
 module _ (trace evidence : Reading) (t : TraceValue) (says : OfAll trace (λ a. trace_of true a ≡ Ok t)) where
-  pub refused_evidence : (f : EvidenceFault) → OfAny evidence (λ b. RefusesEvidenceFor t b f) → OfAll trace (λ a. OfAny evidence (λ b. RefusesEvidence a b f))
+  pub refused_evidence : (f : EvidenceFault) → OfAny evidence (λ b. RefusesEvidenceFor t b f)
+      → OfAll trace (λ a. OfAny evidence (λ b. RefusesEvidence a b f))
   refused_evidence f h =
       of_all-map trace (λ a. trace_of true a ≡ Ok t) (λ a. OfAny evidence (λ b. RefusesEvidence a b f))
-      (λ a is. of_any-map evidence (λ b. RefusesEvidenceFor t b f) (λ b. RefusesEvidence a b f) (λ b by. (t, is, by)) h) says
+      (λ a is. of_any-map evidence (λ b. RefusesEvidenceFor t b f) (λ b. RefusesEvidence a b f) (λ b by. (t, is, by))
+      h) says
 
-  pub cut_evidence : (f : EvidenceFault) → OfCame evidence (λ b. evidence_of t.entries false b ≡ Err f) → OfAll trace (λ a. OfCame evidence (λ b. CutsEvidence a b f))
+  pub cut_evidence : (f : EvidenceFault) → OfCame evidence (λ b. evidence_of t.entries false b ≡ Err f)
+      → OfAll trace (λ a. OfCame evidence (λ b. CutsEvidence a b f))
   cut_evidence f h =
       of_all-map trace (λ a. trace_of true a ≡ Ok t) (λ a. OfCame evidence (λ b. CutsEvidence a b f))
-      (λ a is. of_came-map evidence (λ b. evidence_of t.entries false b ≡ Err f) (λ b. CutsEvidence a b f) (λ b by. (t, is, by)) h) says
+      (λ a is. of_came-map evidence (λ b. evidence_of t.entries false b ≡ Err f) (λ b. CutsEvidence a b f)
+      (λ b by. (t, is, by)) h) says
 
   -- what the bytes of both say, where they are a trace and evidence for it
-  pub on_both : (P : List ℕ → List ℕ → Type 0) (given : List (Option (List StepValue))) → OfAll evidence (λ b. evidence_of t.entries true b ≡ Ok given)
-      → ((a b : List ℕ) → trace_of true a ≡ Ok t → evidence_of t.entries true b ≡ Ok given → P a b) → OfBoth trace evidence P
+  pub on_both : (P : List ℕ → List ℕ → Type 0) (given : List (Option (List StepValue)))
+      → OfAll evidence (λ b. evidence_of t.entries true b ≡ Ok given)
+      → ((a b : List ℕ) → trace_of true a ≡ Ok t → evidence_of t.entries true b ≡ Ok given → P a b)
+      → OfBoth trace evidence P
   on_both P given h f =
       of_all-map trace (λ a. trace_of true a ≡ Ok t) (λ a. OfAll evidence (λ b. P a b))
-      (λ a is. of_all-map evidence (λ b. evidence_of t.entries true b ≡ Ok given) (λ b. P a b) (λ b by. f a b is by) h) says
+      (λ a is. of_all-map evidence (λ b. evidence_of t.entries true b ≡ Ok given) (λ b. P a b) (λ b by. f a b is by)
+      h) says
 
 -- a fault of reading is of the reader that failed, or of no device
 pub devices_of_reading : (e : AuditFault) (trace evidence out : Type 0)
@@ -88,7 +106,8 @@ no_findings [] h = refl
 no_findings (f ∷ fs) h = cc
 
 -- a clean verdict is answered where nothing is found
-pub answered_clean : {E : Type 0} (v : Verdict) (fs : List Finding) → v ≡ verdict_of fs → ◌≡◌ {A = Result Verdict E} (Ok v) (Ok Clean) → fs ≡ []
+pub answered_clean : {E : Type 0} (v : Verdict) (fs : List Finding) → v ≡ verdict_of fs
+    → ◌≡◌ {A = Result Verdict E} (Ok v) (Ok Clean) → fs ≡ []
 answered_clean v fs is h =
     let clean : v ≡ Clean = cc in
     no_findings fs (sym is ∙ clean)

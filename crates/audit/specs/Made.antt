@@ -54,15 +54,19 @@ abbrev pub line_without : ℕ → Option (List StepValue) → List ℕ
 line_without line (Some steps) = []
 line_without line None = line ∷ []
 
--- the records of the entries that have one, in order
+-- what is told of each entry by its line and its steps, in order
+abbrev pub told_of_each : (ℕ → Option (List StepValue) → List ℕ)
+    → List EntryValue → List (Option (List StepValue)) → List ℕ
+told_of_each tell (e ∷ es) (o ∷ os) = tell e.line o ++ told_of_each tell es os
+told_of_each tell _ _ = []
+
+-- the records of the entries that have one
 abbrev pub records_text : List EntryValue → List (Option (List StepValue)) → List ℕ
-records_text (e ∷ es) (o ∷ os) = record_line e.line o ++ records_text es os
-records_text _ _ = []
+records_text es given = told_of_each record_line es given
 
 -- the lines of the entries that have none
 abbrev pub given_up_lines : List EntryValue → List (Option (List StepValue)) → List ℕ
-given_up_lines (e ∷ es) (o ∷ os) = line_without e.line o ++ given_up_lines es os
-given_up_lines _ _ = []
+given_up_lines es given = told_of_each line_without es given
 
 -- The text is the records that are made for the entries, and these lines are those of the entries without one. Read
 -- as evidence for the trace, where it is no longer than an input may be, it says just these steps.
