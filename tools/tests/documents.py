@@ -6,7 +6,7 @@ import subprocess
 import tempfile
 import threading
 import unittest
-from typing import Dict, List, Tuple
+from typing import Dict, List, Set, Tuple
 
 from tests.ports import free_port
 
@@ -25,6 +25,20 @@ TIME = re.compile(r"\d{4}-\d\d-\d\dT[\d:.]+Z")
 def read(*names: str) -> str:
     with open(os.path.join(TOP, *names), encoding="utf-8") as file:
         return file.read()
+
+
+def imported(*modules: Tuple[str, str]) -> Set[str]:
+    """The files of definitions to which some modules lead, each given by its crate and its name, with all that these import."""
+    found: Set[str] = set()
+    left = [os.path.join(TOP, "crates", crate, "specs", name + ".antt") for crate, name in modules]
+    while left:
+        path = left.pop()
+        if path in found or not os.path.exists(path):
+            continue
+        found.add(path)
+        for crate, kind, name in re.findall(r"^use Rattle\.(\w+)\.(specs|proofs)\.(\w+)", read(path), re.MULTILINE):
+            left.append(os.path.join(TOP, "crates", crate, kind, name + ".antt"))
+    return found
 
 
 def transcripts(text: str) -> List[Tuple[str, List[str]]]:

@@ -3,7 +3,7 @@ import glob
 import os
 import re
 
-from tests.documents import DOCUMENTS, PAGES, Shown, behind_dollars, in_blocks, read, transcripts
+from tests.documents import DOCUMENTS, PAGES, Shown, behind_dollars, imported, in_blocks, read, transcripts
 from tests.support import TOP, Case
 
 
@@ -121,6 +121,19 @@ class Names(Case):
             for word in definitions:
                 with self.subTest(crate=crate, word=word):
                     self.assertTrue(set(word.split(".")) <= named)
+
+    def test_the_length_of_the_reading_path(self):
+        """Its modules are counted, and their lines to a tenth; README says the same of the whole."""
+        path = read("docs", "MEANING.md").split("## The words")[0]
+        named = [(words_of(line)[0], word) for line in re.findall(r"^\d+\. .*", path, re.MULTILINE) for word in words_of(line.split(":")[0])[1:]]
+        shown = {os.path.join(TOP, "crates", crate, "specs", name + ".antt") for crate, name in named}
+        counted = [shown, imported(*named), imported(("findings", "Headline"))]
+        said = re.findall(r"(\d+) modules of some ([\d,]+)\s+lines", path)
+        self.assertEqual([int(modules) for modules, _ in said], [len(paths) for paths in counted])
+        for (_, lines), paths in zip(said, counted):
+            many = int(lines.replace(",", ""))
+            self.assertLess(abs(many - sum(read(path).count("\n") for path in paths)), many / 10)
+        self.assertIn("%s modules of some %s lines" % said[1], " ".join(read("README.md").split()))
 
     def test_calls(self):
         rows = [row for row in rows_of(read("docs", "PROMISES.md")) if len(row) == 4 and "::" in row[1]]

@@ -1,36 +1,41 @@
 -- What a call answers, by what its parts did.
-use Rattle.std.proofs.Common.{◌≡◌, ◌≢◌, ◌⊎◌, inl, inr, ℕ, true, false, List, [], ◌++◌, Option, Result, Ok, Err, refl, sym, ap, subst, ◌∙◌, length}
-use Rattle.std.specs.Prelude.{IfErr}
+use Rattle.std.proofs.Common.{◌≡◌, ◌≢◌, ◌⊎◌, inl, inr, ℕ, ◌+◌, true, false, List, [], ◌∷◌, ◌++◌, Option, Result, Ok, Err, refl, sym, ap, subst, ◌∙◌, length}
 use Rattle.std.specs.declared.vec.Vec.{Vec}
 use Rattle.std.specs.declared.alloc.Global.{Global}
 use Rattle.trace_lines.specs.Values.{TraceValue}
 use Rattle.trace_lines.specs.Traces.{trace_of}
+use Rattle.evidence_check.specs.Evidences.{evidence_value}
 use Rattle.evidence_check.specs.Reading.{evidence_of}
 use Rattle.evidence_check.specs.Steps.{StepValue}
 use Rattle.evidence_check.specs.declared.cause.EvidenceCause.TheVariants as evidence_causes
 use Rattle.evidence_check.specs.declared.cause.EvidenceFault.{EvidenceFault}
+use Rattle.evidence_check.specs.declared.evidence.Evidence.{Evidence}
 use Rattle.findings.specs.Findings.{findings_of}
 use Rattle.findings.specs.Headline.{IsRightAndFresh, IsTraceRightAndFresh}
 use Rattle.findings.specs.Report.{report_text}
 use Rattle.findings.specs.WrongReplies.{NamesOnlyWrongReplies}
 use Rattle.findings.specs.declared.finding.Finding.{Finding}
 use Rattle.findings.proofs.WrongReplies.{named_by_bytes}
-use Rattle.audit.specs.Answers.{TraceRead, EvidenceRead, Told, IsReport, AreFound, TellsOfTrace, Audited}
-use Rattle.audit.specs.Audit.{Audits, Breaks, RefusesEvidenceFor, IsOfAudit, IsOfBytes, IsOfEvidence, IsOfNoDevice, IsOfTrace, verdict_of}
-use Rattle.audit.specs.Devices.{Reader, Reading, Writer, Writing, OfAll, OfAny, OfBoth, OfCame, GivesFew, GivesNext, ReaderFailed, ReaderHeld, FailsWriting}
-use Rattle.audit.specs.History.{IsOfHistory}
+use Rattle.audit.specs.Answers.{TellsOfTrace, Audited}
+use Rattle.audit.specs.Parts.{TraceRead, EvidenceRead, Told, IsReport, AreFound}
+use Rattle.audit.specs.Audit.{Audits, Breaks, RefusesEvidenceFor, IsOfBytes, BlamesNoDevice, verdict_of}
+use Rattle.audit.specs.Devices.{Reader, Reading, Writer, Writing, OfAll, OfAny, OfBoth, OfCame, GivesFew, GivesNext, ReaderFailed, ReaderNeverFailed, WriterNeverFailed, FailsWriting, StandsBehind}
+use Rattle.audit.specs.Kinds.{IsOneOf}
+use Rattle.audit.specs.Kinds as kind
 use Rattle.audit.specs.declared.plain.Verdict.{Verdict}
 use Rattle.audit.specs.declared.plain.Verdict.TheVariants.{Clean}
 use Rattle.audit.specs.declared.plain.AuditFault.{AuditFault}
 use Rattle.audit.specs.declared.plain.AuditFault.TheVariants as faults
-use Rattle.audit.proofs.Readers.{of_all-map, few_at_rest, next_at_rest, behind_at_rest, refused_evidence, cut_evidence, on_both, of_writing, never_refused, devices_of_trace, devices_of_evidence, devices_of_writing, unwritten_without_device, answered_clean}
+use Rattle.audit.proofs.KindLemmas.{one_of-more, never_answered}
+use Rattle.audit.proofs.Readers.{of_all-map, few_at_rest, next_at_rest, behind_at_rest, refused_evidence, cut_evidence, on_both, devices_of_reading, devices_of_writing, unwritten_without_device, answered_clean}
 
 -- ---- what is told
 
 fault_same : {V : Type 0} (e f : AuditFault) → ◌≡◌ {A = Result V AuditFault} (Err e) (Err f) → e ≡ f
 fault_same e f is = cc
 
-pub told_no_memory : {V : Type 0} (Says : List ℕ → V → Type 0) (w : Writer) → Told Says (record { before = w; after = w }) (Err faults.OutOfMemory)
+pub told_no_memory : {V : Type 0} (Says : List ℕ → V → Type 0) (w : Writer)
+    → Told Says (record { before = w; after = w }) (Err faults.OutOfMemory)
 told_no_memory Says w =
     record {
       text = tt;
@@ -38,13 +43,14 @@ told_no_memory Says w =
       write = λ n is. absurd (cc (is));
       failed = λ is. absurd is;
       kept = tt;
-      kinds = inl refl;
+      kinds = (refl, tt);
       unwritten = λ is. refl;
       unfailed = λ is. (refl, refl);
       held = behind_at_rest w;
     }
 
-pub told-map : {V : Type 0} (P Q : List ℕ → V → Type 0) (out : Writing) (r : Result V AuditFault) → ((text : List ℕ) (v : V) → P text v → Q text v) → Told P out r → Told Q out r
+pub told-map : {V : Type 0} (P Q : List ℕ → V → Type 0) (out : Writing) (r : Result V AuditFault)
+    → ((text : List ℕ) (v : V) → P text v → Q text v) → Told P out r → Told Q out r
 told-map P Q out (Ok v) f told =
     record {
       text = (told.text.0, f told.text.0 v told.text.1, told.text.2);
@@ -71,14 +77,19 @@ told-map P Q out (Err e) f told =
     }
 
 -- the report of findings is that on a trace by the evidence that has them
-pub as_report : (t : TraceValue) (given : List (Option (List StepValue))) (found : List Finding) (n : ℕ) (out : Writing) (r : Result Verdict AuditFault) → found ≡ findings_of t given → n ≡ length t.entries
+pub as_report : (t : TraceValue) (given : List (Option (List StepValue))) (found : List Finding) (n : ℕ)
+    (out : Writing) (r : Result Verdict AuditFault) → found ≡ findings_of t given → n ≡ length t.entries
     → Told (λ text v. (text ≡ report_text found n) × (v ≡ verdict_of found)) out r → Told (IsReport t given) out r
 as_report t given found n out r same count told =
     told-map (λ text v. (text ≡ report_text found n) × (v ≡ verdict_of found)) (IsReport t given) out r
-    (λ text v h. (h.0 ∙ ap (λ (fs : List Finding). report_text fs n) same ∙ ap (report_text (findings_of t given)) count, h.1 ∙ ap verdict_of same)) told
+    (λ text v h. (
+      h.0 ∙ ap (λ (fs : List Finding). report_text fs n) same ∙ ap (report_text (findings_of t given)) count,
+      h.1 ∙ ap verdict_of same,
+    )) told
 
 -- a clean verdict is told where nothing is found
-pub told_clean : (t : TraceValue) (given : List (Option (List StepValue))) (out : Writing) (r : Result Verdict AuditFault) → Told (IsReport t given) out r → r ≡ Ok Clean → findings_of t given ≡ []
+pub told_clean : (t : TraceValue) (given : List (Option (List StepValue))) (out : Writing)
+    (r : Result Verdict AuditFault) → Told (IsReport t given) out r → r ≡ Ok Clean → findings_of t given ≡ []
 told_clean t given out (Ok v) told clean = answered_clean {E = AuditFault} v (findings_of t given) told.text.1.1 clean
 told_clean t given out (Err e) told clean = absurd (cc (clean))
 
@@ -86,39 +97,57 @@ told_clean t given out (Err e) told clean = absurd (cc (clean))
 
 module _ (t : TraceValue) (r : Reading) where
   -- reading evidence stopped at this fault, which is told so
-  pub evidence_stopped : {V : Type 0} (Says : List (Option (List StepValue)) → V → Type 0) (fault : EvidenceFault) (e : AuditFault) → OfAny r (λ b. RefusesEvidenceFor t b fault)
-      → (fault.cause ≡ evidence_causes.Read → OfCame r (λ b. evidence_of t.entries false b ≡ Err fault)) → GivesFew r → GivesNext r
-      → (fault.cause ≡ evidence_causes.Read → ReaderFailed r) → (fault.cause ≢ evidence_causes.Read → ReaderHeld r)
-      → ((f : EvidenceFault) → e ≡ faults.Evidence f → f ≡ fault) → (IsOfNoDevice e → fault.cause ≢ evidence_causes.Read) → IsOfEvidence e → EvidenceRead {V = V} Says t r (Err e)
-  evidence_stopped {V} Says fault e refused cut few next failed held told device kinds =
-      let same = λ (f : EvidenceFault) (is : ◌≡◌ {A = Result V AuditFault} (Err e) (Err (faults.Evidence f))). told f (fault_same {V = V} e (faults.Evidence f) is) in
+  pub evidence_stopped : {V : Type 0} (Says : List (Option (List StepValue)) → V → Type 0) (fault : EvidenceFault)
+      (e : AuditFault) → OfAny r (λ b. RefusesEvidenceFor t b fault)
+      → (fault.cause ≡ evidence_causes.Read → OfCame r (λ b. evidence_of t.entries false b ≡ Err fault)) → GivesFew r
+      → GivesNext r
+      → (fault.cause ≡ evidence_causes.Read → ReaderFailed r)
+      → (fault.cause ≢ evidence_causes.Read → ReaderNeverFailed r)
+      → ((f : EvidenceFault) → e ≡ faults.Evidence f → f ≡ fault)
+      → (BlamesNoDevice e → fault.cause ≢ evidence_causes.Read) → IsOneOf (kind.evidence ∷ kind.memory ∷ []) e
+      → EvidenceRead {V = V} Says t r (Err e)
+  evidence_stopped {V} Says fault e refused cut most known failed kept told device kinds =
+      let same =
+      λ (f : EvidenceFault) (is : ◌≡◌ {A = Result V AuditFault} (Err e) (Err (faults.Evidence f))). told f
+      (fault_same {V = V} e (faults.Evidence f) is) in
       record {
         given = tt;
-        refused = λ f is. subst (λ (x : EvidenceFault). OfAny r (λ b. RefusesEvidenceFor t b x)) (sym (same f is)) refused;
+        refused =
+            λ f is. subst (λ (x : EvidenceFault). OfAny r (λ b. RefusesEvidenceFor t b x)) (sym (same f is)) refused;
         cut = λ f is read.
-            subst (λ (x : EvidenceFault). OfCame r (λ b. evidence_of t.entries false b ≡ Err x)) (sym (same f is)) (cut (subst (λ (x : EvidenceFault). x.cause ≡ evidence_causes.Read) (same f is) read));
-        few = few;
-        next = next;
+            subst (λ (x : EvidenceFault). OfCame r (λ b. evidence_of t.entries false b ≡ Err x)) (sym (same f is))
+            (cut (subst (λ (x : EvidenceFault). x.cause ≡ evidence_causes.Read) (same f is) read));
+        most = most;
+        known = known;
         failed = λ f is read. failed (subst (λ (x : EvidenceFault). x.cause ≡ evidence_causes.Read) (same f is) read);
-        held = tt;
-        unfailed = λ none. held (device none);
+        kept = tt;
+        unfailed = λ none. kept (device none);
         kinds = kinds;
       }
 
-  module _ {V X : Type 0} (P : List (Option (List StepValue)) → V → Type 0) (Q : List (Option (List StepValue)) → X → Type 0) where
-    pub read-map : (v : V) (x : X) → ((given : List (Option (List StepValue))) → P given v → Q given x) → EvidenceRead P t r (Ok v) → EvidenceRead Q t r (Ok x)
+  -- reading evidence came to the reader's end
+  pub evidence_whole : {V : Type 0} (Says : List (Option (List StepValue)) → V → Type 0) (v : V)
+      (given : List (Option (List StepValue))) → Says given v → OfAll r (λ b. evidence_of t.entries true b ≡ Ok given)
+      → GivesFew r → GivesNext r → ReaderNeverFailed r → EvidenceRead Says t r (Ok v)
+  evidence_whole Says v given says whole most known kept =
+      record {
+        given = (given, says, whole);
+        refused = λ f is. absurd (cc (is));
+        cut = λ f is. absurd (cc (is));
+        most = most;
+        known = known;
+        failed = λ f is. absurd (cc (is));
+        kept = kept;
+        unfailed = tt;
+        kinds = tt;
+      }
+
+  module _ {V X : Type 0} (P : List (Option (List StepValue)) → V → Type 0)
+      (Q : List (Option (List StepValue)) → X → Type 0) where
+    pub read-map : (v : V) (x : X) → ((given : List (Option (List StepValue))) → P given v → Q given x)
+        → EvidenceRead P t r (Ok v) → EvidenceRead Q t r (Ok x)
     read-map v x f h =
-        record {
-          given = (h.given.0, f h.given.0 h.given.1, h.given.2);
-          refused = λ g is. absurd (cc (is));
-          cut = λ g is. absurd (cc (is));
-          few = h.few;
-          next = h.next;
-          failed = λ g is. absurd (cc (is));
-          held = h.held;
-          unfailed = tt;
-          kinds = tt;
-        }
+        evidence_whole Q x h.given.0 (f h.given.0 h.given.1) h.given.2 h.most h.known h.kept
 
     pub read_fault : (e : AuditFault) → EvidenceRead P t r (Err e) → EvidenceRead Q t r (Err e)
     read_fault e h =
@@ -126,10 +155,10 @@ module _ (t : TraceValue) (r : Reading) where
           given = tt;
           refused = λ f is. h.refused f (ap (λ (y : AuditFault). Err y) (fault_same {V = X} e (faults.Evidence f) is));
           cut = λ f is. h.cut f (ap (λ (y : AuditFault). Err y) (fault_same {V = X} e (faults.Evidence f) is));
-          few = h.few;
-          next = h.next;
+          most = h.most;
+          known = h.known;
           failed = λ f is. h.failed f (ap (λ (y : AuditFault). Err y) (fault_same {V = X} e (faults.Evidence f) is));
-          held = tt;
+          kept = tt;
           unfailed = h.unfailed;
           kinds = h.kinds;
         }
@@ -141,121 +170,122 @@ module _ (t : TraceValue) (r : Reading) where
           given = tt;
           refused = λ f is. absurd (cc (is));
           cut = λ f is. absurd (cc (is));
-          few = h.few;
-          next = h.next;
+          most = h.most;
+          known = h.known;
           failed = λ f is. absurd (cc (is));
-          held = tt;
-          unfailed = λ none. h.held;
-          kinds = tt;
+          kept = tt;
+          unfailed = λ none. h.kept;
+          kinds = (refl, tt);
         }
 
 -- ---- calls that read a trace alone
 
-never_of_trace : (e : AuditFault) → IsOfTrace e → (n : ℕ) → e ≡ faults.Write n → ⊥
-never_of_trace (faults.Trace f) of n is = absurd (cc (is))
-never_of_trace (faults.Evidence f) of n is = of
-never_of_trace (faults.Write k) of n is = of
-never_of_trace faults.OutOfMemory of n is = absurd (cc (is))
-never_of_trace faults.Limits of n is = of
-never_of_trace faults.Joined of n is = of
-never_of_trace faults.Input of n is = of
-
-never_evidence : (e : AuditFault) → IsOfTrace e → (f : EvidenceFault) → e ≡ faults.Evidence f → ⊥
-never_evidence (faults.Trace g) of f is = absurd (cc (is))
-never_evidence (faults.Evidence g) of f is = of
-never_evidence (faults.Write k) of f is = of
-never_evidence faults.OutOfMemory of f is = absurd (cc (is))
-never_evidence faults.Limits of f is = of
-never_evidence faults.Joined of f is = of
-never_evidence faults.Input of f is = of
-
-pub trace_not_read : {V : Type 0} (Tells : List ℕ → List ℕ → List ℕ → V → Type 0) (Breaks : List ℕ → Writing → ℕ → Type 0) (trace : Reading) (w : Writer) (e : AuditFault)
+pub trace_not_read : {V : Type 0} (Tells : List ℕ → List ℕ → List ℕ → V → Type 0)
+    (Breaks : List ℕ → Writing → ℕ → Type 0) (trace : Reading) (w : Writer) (e : AuditFault)
     → TraceRead trace (Err e) → TellsOfTrace Tells Breaks trace (record { before = w; after = w }) (Err e)
 trace_not_read {V} Tells Breaks trace w e read =
     record {
       told = tt;
       flushed = tt;
-      trace_refused = λ f is. read.refused f (ap (λ (x : AuditFault). Err x) (fault_same {V = V} e (faults.Trace f) is));
+      trace_refused =
+          λ f is. read.refused f (ap (λ (x : AuditFault). Err x) (fault_same {V = V} e (faults.Trace f) is));
       trace_cut = λ f is. read.cut f (ap (λ (x : AuditFault). Err x) (fault_same {V = V} e (faults.Trace f) is));
-      write = λ n is. absurd (never_of_trace e read.kinds n (fault_same {V = V} e (faults.Write n) is));
+      write =
+          λ n is. absurd
+          (never_answered {V = V} (kind.trace ∷ kind.memory ∷ []) (Err e) (faults.Write n) refl read.kinds is);
       unwritten = λ is. refl;
-      most = read.few;
-      known = read.next;
+      most = read.most;
+      known = read.known;
       held = behind_at_rest w;
-      devices = devices_of_trace e _ ⊥ _ read.kinds (λ f is. read.failed f (ap (λ (x : AuditFault). Err x) is));
+      devices =
+          devices_of_reading e _ ⊥ _
+          (one_of-more (kind.trace ∷ kind.memory ∷ []) (kind.trace ∷ kind.evidence ∷ kind.memory ∷ []) refl e
+          read.kinds)
+          (λ f is. read.failed f (ap (λ (x : AuditFault). Err x) is))
+          (λ f is read_fails. never_answered {V = V} (kind.trace ∷ kind.memory ∷ []) (Err e) (faults.Evidence f) refl
+          read.kinds (ap (λ (x : AuditFault). Err x) is));
       kept = tt;
       unfailed = λ none. (read.unfailed none, (refl, refl));
     }
 
-pub tells_of : {V : Type 0} (Tells : List ℕ → List ℕ → List ℕ → V → Type 0) (Breaks : List ℕ → Writing → ℕ → Type 0) (Says : List ℕ → V → Type 0) (trace : Reading) (out : Writing)
-    (t : TraceValue) (r : Result V AuditFault) → TraceRead trace (Ok t) → Told Says out r
-    → ((a text old new : List ℕ) (v : V) → trace_of true a ≡ Ok t → Says text v → new ≡ old ++ text → Tells a old new v)
-    → ((a text : List ℕ) (v : V) (n : ℕ) → trace_of true a ≡ Ok t → Says text v → FailsWriting out n text → Breaks a out n)
-    → TellsOfTrace Tells Breaks trace out r
-tells_of Tells Breaks Says trace out t (Ok v) read told tells breaks =
+-- it was told whole
+tells_whole : {V : Type 0} (Tells : List ℕ → List ℕ → List ℕ → V → Type 0)
+    (Breaks : List ℕ → Writing → ℕ → Type 0) (trace : Reading) (out : Writing) (v : V)
+    → OfAll trace (λ a. Tells a out.before.taken out.after.taken v) → out.after.flushes ≡ out.before.flushes + 1
+    → GivesFew trace → GivesNext trace → StandsBehind out → ReaderNeverFailed trace × WriterNeverFailed out
+    → TellsOfTrace Tells Breaks trace out (Ok v)
+tells_whole Tells Breaks trace out v told flushed most known held kept =
     record {
-      told =
-          of_all-map trace (λ a. trace_of true a ≡ Ok t) (λ a. Tells a out.before.taken out.after.taken v)
-          (λ a is. tells a told.text.0 out.before.taken out.after.taken v is told.text.1 told.text.2) read.given;
-      flushed = told.flushed;
+      told = told;
+      flushed = flushed;
       trace_refused = λ f is. absurd (cc (is));
       trace_cut = λ f is. absurd (cc (is));
       write = λ n is. absurd (cc (is));
       unwritten = tt;
-      most = read.few;
-      known = read.next;
-      held = told.held;
+      most = most;
+      known = known;
+      held = held;
       devices = tt;
-      kept = (read.held, told.kept);
+      kept = kept;
       unfailed = tt;
     }
+
+pub tells_of : {V : Type 0} (Tells : List ℕ → List ℕ → List ℕ → V → Type 0) (Breaks : List ℕ → Writing → ℕ → Type 0)
+    (Says : List ℕ → V → Type 0) (trace : Reading) (out : Writing)
+    (t : TraceValue) (r : Result V AuditFault) → TraceRead trace (Ok t) → Told Says out r
+    → ((a text old new : List ℕ) (v : V) → trace_of true a ≡ Ok t → Says text v → new ≡ old ++ text → Tells a old new v)
+    → ((a text : List ℕ) (v : V) (n : ℕ) → trace_of true a ≡ Ok t → Says text v → FailsWriting out n text
+    → Breaks a out n)
+    → TellsOfTrace Tells Breaks trace out r
+tells_of Tells Breaks Says trace out t (Ok v) read told tells breaks =
+    tells_whole Tells Breaks trace out v
+    (of_all-map trace (λ a. trace_of true a ≡ Ok t) (λ a. Tells a out.before.taken out.after.taken v)
+    (λ a is. tells a told.text.0 out.before.taken out.after.taken v is told.text.1 told.text.2) read.given)
+    told.flushed read.most read.known told.held (read.kept, told.kept)
 tells_of {V} Tells Breaks Says trace out t (Err e) read told tells breaks =
     record {
       told = tt;
       flushed = tt;
-      trace_refused = λ f is. absurd (never_refused (Err e) (faults.Trace f) told.kinds is tt);
-      trace_cut = λ f is. absurd (never_refused (Err e) (faults.Trace f) told.kinds is tt);
+      trace_refused =
+          λ f is. absurd
+          (never_answered {V = V} (kind.write ∷ kind.memory ∷ []) (Err e) (faults.Trace f) refl told.kinds is);
+      trace_cut =
+          λ f is. absurd
+          (never_answered {V = V} (kind.write ∷ kind.memory ∷ []) (Err e) (faults.Trace f) refl told.kinds is);
       write = λ n is.
           let h = told.write n is in
-          of_all-map trace (λ a. trace_of true a ≡ Ok t) (λ a. Breaks a out n) (λ a says. breaks a h.1 h.0 n says h.2 h.3) read.given;
+          of_all-map trace (λ a. trace_of true a ≡ Ok t) (λ a. Breaks a out n)
+          (λ a says. breaks a h.1 h.0 n says h.2 h.3) read.given;
       unwritten = told.unwritten;
-      most = read.few;
-      known = read.next;
+      most = read.most;
+      known = read.known;
       held = told.held;
       devices = devices_of_writing {V = V} (Err e) _ ⊥ _ told.kinds told.failed;
       kept = tt;
-      unfailed = λ none. (read.held, told.unfailed (unwritten_without_device e none));
+      unfailed = λ none. (read.kept, told.unfailed (unwritten_without_device e none));
     }
 
 -- the same call with another answer
-pub tells-map : {V X : Type 0} (Tells : List ℕ → List ℕ → List ℕ → V → Type 0) (Also : List ℕ → List ℕ → List ℕ → X → Type 0) (Breaks : List ℕ → Writing → ℕ → Type 0)
+pub tells-map : {V X : Type 0} (Tells : List ℕ → List ℕ → List ℕ → V → Type 0)
+    (Also : List ℕ → List ℕ → List ℕ → X → Type 0) (Breaks : List ℕ → Writing → ℕ → Type 0)
     (trace : Reading) (out : Writing) (v : V) (x : X) → ((a old new : List ℕ) → Tells a old new v → Also a old new x)
     → TellsOfTrace Tells Breaks trace out (Ok v) → TellsOfTrace Also Breaks trace out (Ok x)
 tells-map Tells Also Breaks trace out v x f h =
-    record {
-      told =
-          of_all-map trace (λ a. Tells a out.before.taken out.after.taken v) (λ a. Also a out.before.taken out.after.taken x)
-          (λ a. f a out.before.taken out.after.taken) h.told;
-      flushed = h.flushed;
-      trace_refused = λ f is. absurd (cc (is));
-      trace_cut = λ f is. absurd (cc (is));
-      write = λ n is. absurd (cc (is));
-      unwritten = tt;
-      most = h.most;
-      known = h.known;
-      held = h.held;
-      devices = tt;
-      kept = h.kept;
-      unfailed = tt;
-    }
+    tells_whole Also Breaks trace out x
+    (of_all-map trace (λ a. Tells a out.before.taken out.after.taken v)
+    (λ a. Also a out.before.taken out.after.taken x) (λ a. f a out.before.taken out.after.taken) h.told)
+    h.flushed h.most h.known h.held h.kept
 
-pub tells_fault : {V X : Type 0} (Tells : List ℕ → List ℕ → List ℕ → V → Type 0) (Also : List ℕ → List ℕ → List ℕ → X → Type 0) (Breaks : List ℕ → Writing → ℕ → Type 0)
-    (trace : Reading) (out : Writing) (e : AuditFault) → TellsOfTrace Tells Breaks trace out (Err e) → TellsOfTrace Also Breaks trace out (Err e)
+pub tells_fault : {V X : Type 0} (Tells : List ℕ → List ℕ → List ℕ → V → Type 0)
+    (Also : List ℕ → List ℕ → List ℕ → X → Type 0) (Breaks : List ℕ → Writing → ℕ → Type 0)
+    (trace : Reading) (out : Writing) (e : AuditFault) → TellsOfTrace Tells Breaks trace out (Err e)
+    → TellsOfTrace Also Breaks trace out (Err e)
 tells_fault {V} {X} Tells Also Breaks trace out e h =
     record {
       told = tt;
       flushed = tt;
-      trace_refused = λ f is. h.trace_refused f (ap (λ (x : AuditFault). Err x) (fault_same {V = X} e (faults.Trace f) is));
+      trace_refused =
+          λ f is. h.trace_refused f (ap (λ (x : AuditFault). Err x) (fault_same {V = X} e (faults.Trace f) is));
       trace_cut = λ f is. h.trace_cut f (ap (λ (x : AuditFault). Err x) (fault_same {V = X} e (faults.Trace f) is));
       write = λ n is. h.write n (ap (λ (x : AuditFault). Err x) (fault_same {V = X} e (faults.Write n) is));
       unwritten = h.unwritten;
@@ -267,8 +297,10 @@ tells_fault {V} {X} Tells Also Breaks trace out e h =
       unfailed = h.unfailed;
     }
 
-pub tells_at_rest : {V : Type 0} (Tells : List ℕ → List ℕ → List ℕ → V → Type 0) (Breaks : List ℕ → Writing → ℕ → Type 0) (a : Reader) (w : Writer)
-    → TellsOfTrace Tells Breaks (record { before = a; after = a }) (record { before = w; after = w }) (Err faults.Limits)
+pub tells_at_rest : {V : Type 0} (Tells : List ℕ → List ℕ → List ℕ → V → Type 0)
+    (Breaks : List ℕ → Writing → ℕ → Type 0) (a : Reader) (w : Writer)
+    → TellsOfTrace Tells Breaks (record { before = a; after = a }) (record { before = w; after = w })
+    (Err faults.Limits)
 tells_at_rest Tells Breaks a w =
     record {
       told = tt;
@@ -285,57 +317,15 @@ tells_at_rest Tells Breaks a w =
       unfailed = λ none. (refl, (refl, refl));
     }
 
-pub history_of_trace : (e : AuditFault) → IsOfTrace e → IsOfHistory e
-history_of_trace (faults.Trace f) h = h
-history_of_trace (faults.Evidence f) h = absurd h
-history_of_trace (faults.Write n) h = absurd h
-history_of_trace faults.OutOfMemory h = tt
-history_of_trace faults.Limits h = absurd h
-history_of_trace faults.Joined h = absurd h
-history_of_trace faults.Input h = absurd h
-
-pub history_kinds : {V : Type 0} (Says : List ℕ → V → Type 0) (out : Writing) (r : Result V AuditFault) → Told Says out r → IfErr r IsOfHistory
-history_kinds Says out (Ok v) told = tt
-history_kinds Says out (Err e) told = of_writing IsOfHistory tt (λ n. tt) e told.kinds
-
 -- ---- audits
-
-pub audit_kinds : {V : Type 0} (Says : List ℕ → V → Type 0) (out : Writing) (r : Result V AuditFault) → Told Says out r → IfErr r IsOfAudit
-audit_kinds Says out (Ok v) told = tt
-audit_kinds Says out (Err e) told = of_writing IsOfAudit tt (λ n. tt) e told.kinds
-
-pub kinds_of_trace : (e : AuditFault) → IsOfTrace e → IsOfAudit e
-kinds_of_trace (faults.Trace f) h = h
-kinds_of_trace (faults.Evidence f) h = absurd h
-kinds_of_trace (faults.Write n) h = absurd h
-kinds_of_trace faults.OutOfMemory h = tt
-kinds_of_trace faults.Limits h = absurd h
-kinds_of_trace faults.Joined h = absurd h
-kinds_of_trace faults.Input h = absurd h
-
-pub kinds_of_evidence : (e : AuditFault) → IsOfEvidence e → IsOfAudit e
-kinds_of_evidence (faults.Trace f) h = absurd h
-kinds_of_evidence (faults.Evidence f) h = h
-kinds_of_evidence (faults.Write n) h = absurd h
-kinds_of_evidence faults.OutOfMemory h = tt
-kinds_of_evidence faults.Limits h = absurd h
-kinds_of_evidence faults.Joined h = absurd h
-kinds_of_evidence faults.Input h = absurd h
-
-never_of_evidence : (e x : AuditFault) → IsOfEvidence e → e ≡ x → ((f : EvidenceFault) → faults.Evidence f ≡ x → ⊥) → faults.OutOfMemory ≢ x → ⊥
-never_of_evidence (faults.Trace f) x of is no_evidence no_memory = of
-never_of_evidence (faults.Evidence f) x of is no_evidence no_memory = no_evidence f is
-never_of_evidence (faults.Write n) x of is no_evidence no_memory = of
-never_of_evidence faults.OutOfMemory x of is no_evidence no_memory = no_memory is
-never_of_evidence faults.Limits x of is no_evidence no_memory = of
-never_of_evidence faults.Joined x of is no_evidence no_memory = of
-never_of_evidence faults.Input x of is no_evidence no_memory = of
 
 -- the trace was refused, and nothing else touched
 pub audited_no_trace : (trace : Reading) (b : Reader) (w : Writer) (e : AuditFault) → TraceRead trace (Err e)
     → Audited trace (record { before = b; after = b }) (record { before = w; after = w }) (Err e)
 audited_no_trace trace b w e read =
-    let same = λ (f : AuditFault) (is : ◌≡◌ {A = Result Verdict AuditFault} (Err e) (Err f)). fault_same {V = Verdict} e f is in
+    let same =
+    λ (f : AuditFault) (is : ◌≡◌ {A = Result Verdict AuditFault} (Err e) (Err f)). fault_same {V = Verdict} e f is
+    in
     record {
       audits = tt;
       flushed = tt;
@@ -343,69 +333,115 @@ audited_no_trace trace b w e read =
       wrong_replies = tt;
       trace_refused = λ f is. read.refused f (ap (λ (x : AuditFault). Err x) (same (faults.Trace f) is));
       trace_cut = λ f is. read.cut f (ap (λ (x : AuditFault). Err x) (same (faults.Trace f) is));
-      evidence_refused = λ f is. absurd (never_evidence e read.kinds f (same (faults.Evidence f) is));
-      evidence_cut = λ f is. absurd (never_evidence e read.kinds f (same (faults.Evidence f) is));
-      write = λ n is. absurd (never_of_trace e read.kinds n (same (faults.Write n) is));
+      evidence_refused =
+          λ f is. absurd
+          (never_answered {V = Verdict} (kind.trace ∷ kind.memory ∷ []) (Err e) (faults.Evidence f) refl read.kinds is);
+      evidence_cut =
+          λ f is. absurd
+          (never_answered {V = Verdict} (kind.trace ∷ kind.memory ∷ []) (Err e) (faults.Evidence f) refl read.kinds is);
+      write =
+          λ n is. absurd
+          (never_answered {V = Verdict} (kind.trace ∷ kind.memory ∷ []) (Err e) (faults.Write n) refl read.kinds is);
       unwritten = λ is. refl;
-      most = (read.few, few_at_rest b);
-      known = (read.next, next_at_rest b);
+      most = (read.most, few_at_rest b);
+      known = (read.known, next_at_rest b);
       held = behind_at_rest w;
-      devices = devices_of_trace e _ _ _ read.kinds (λ f is. read.failed f (ap (λ (x : AuditFault). Err x) is));
+      devices =
+          devices_of_reading e _ _ _
+          (one_of-more (kind.trace ∷ kind.memory ∷ []) (kind.trace ∷ kind.evidence ∷ kind.memory ∷ []) refl e
+          read.kinds)
+          (λ f is. read.failed f (ap (λ (x : AuditFault). Err x) is))
+          (λ f is read_fails. absurd
+          (never_answered {V = Verdict} (kind.trace ∷ kind.memory ∷ []) (Err e) (faults.Evidence f) refl
+          read.kinds (ap (λ (x : AuditFault). Err x) is)));
       kept = tt;
       unfailed = λ none. (read.unfailed none, refl, (refl, refl));
     }
 
 -- the evidence was refused, and nothing was written
-pub audited_no_evidence : {V : Type 0} (Says : List (Option (List StepValue)) → V → Type 0) (trace evidence : Reading) (w : Writer) (t : TraceValue) (e : AuditFault) → TraceRead trace (Ok t)
+pub audited_no_evidence : {V : Type 0} (Says : List (Option (List StepValue)) → V → Type 0) (trace evidence : Reading)
+    (w : Writer) (t : TraceValue) (e : AuditFault) → TraceRead trace (Ok t)
     → EvidenceRead Says t evidence (Err e) → Audited trace evidence (record { before = w; after = w }) (Err e)
 audited_no_evidence Says trace evidence w t e read given =
-    let same = λ (f : AuditFault) (is : ◌≡◌ {A = Result Verdict AuditFault} (Err e) (Err f)). fault_same {V = Verdict} e f is in
+    let same =
+    λ (f : AuditFault) (is : ◌≡◌ {A = Result Verdict AuditFault} (Err e) (Err f)). fault_same {V = Verdict} e f is
+    in
     record {
       audits = tt;
       flushed = tt;
       headline = λ is. absurd (cc (is));
       wrong_replies = tt;
-      trace_refused = λ f is. absurd (never_of_evidence e (faults.Trace f) given.kinds (same (faults.Trace f) is) (λ g h. cc (h)) (λ h. cc (h)));
-      trace_cut = λ f is. absurd (never_of_evidence e (faults.Trace f) given.kinds (same (faults.Trace f) is) (λ g h. cc (h)) (λ h. cc (h)));
-      evidence_refused = λ f is. refused_evidence trace evidence t read.given f (given.refused f (ap (λ (x : AuditFault). Err x) (same (faults.Evidence f) is)));
-      evidence_cut = λ f is cut. cut_evidence trace evidence t read.given f (given.cut f (ap (λ (x : AuditFault). Err x) (same (faults.Evidence f) is)) cut);
-      write = λ n is. absurd (never_of_evidence e (faults.Write n) given.kinds (same (faults.Write n) is) (λ g h. cc (h)) (λ h. cc (h)));
+      trace_refused =
+          λ f is. absurd
+          (never_answered {V = Verdict} (kind.evidence ∷ kind.memory ∷ []) (Err e) (faults.Trace f) refl given.kinds
+          is);
+      trace_cut =
+          λ f is. absurd
+          (never_answered {V = Verdict} (kind.evidence ∷ kind.memory ∷ []) (Err e) (faults.Trace f) refl given.kinds
+          is);
+      evidence_refused =
+          λ f is. refused_evidence trace evidence t read.given f
+          (given.refused f (ap (λ (x : AuditFault). Err x) (same (faults.Evidence f) is)));
+      evidence_cut =
+          λ f is cut. cut_evidence trace evidence t read.given f
+          (given.cut f (ap (λ (x : AuditFault). Err x) (same (faults.Evidence f) is)) cut);
+      write =
+          λ n is. absurd
+          (never_answered {V = Verdict} (kind.evidence ∷ kind.memory ∷ []) (Err e) (faults.Write n) refl given.kinds
+          is);
       unwritten = λ is. refl;
-      most = (read.few, given.few);
-      known = (read.next, given.next);
+      most = (read.most, given.most);
+      known = (read.known, given.known);
       held = behind_at_rest w;
-      devices = devices_of_evidence e _ _ _ given.kinds (λ f is. given.failed f (ap (λ (x : AuditFault). Err x) is));
+      devices =
+          devices_of_reading e _ _ _
+          (one_of-more (kind.evidence ∷ kind.memory ∷ []) (kind.trace ∷ kind.evidence ∷ kind.memory ∷ []) refl e
+          given.kinds)
+          (λ f is read_fails. absurd
+          (never_answered {V = Verdict} (kind.evidence ∷ kind.memory ∷ []) (Err e) (faults.Trace f) refl
+          given.kinds (ap (λ (x : AuditFault). Err x) is)))
+          (λ f is. given.failed f (ap (λ (x : AuditFault). Err x) is));
       kept = tt;
-      unfailed = λ none. (read.held, given.unfailed none, (refl, refl));
+      unfailed = λ none. (read.kept, given.unfailed none, (refl, refl));
     }
 
 -- what was found was told
-pub audited : (trace evidence : Reading) (out : Writing) (t : TraceValue) (found : Vec Finding Global) (r : Result Verdict AuditFault) → TraceRead trace (Ok t)
-    → (by : EvidenceRead (AreFound t) t evidence (Ok found)) → ((given : List (Option (List StepValue))) → findings_of t given ≡ [] → IsRightAndFresh t)
+pub audited : (trace evidence : Reading) (out : Writing) (t : TraceValue) (found : Vec Finding Global)
+    (r : Result Verdict AuditFault) → TraceRead trace (Ok t)
+    → (by : EvidenceRead (AreFound t) t evidence (Ok found))
+    → ((given : List (Option (List StepValue))) → findings_of t given ≡ [] → IsRightAndFresh t)
     → Told (IsReport t by.given.0) out r → Audited trace evidence out r
 audited trace evidence out t found (Ok v) read by law told =
     let given = by.given.0 in
     record {
       audits =
           on_both trace evidence t read.given (λ a b. Audits a b out.before.taken out.after.taken v) given by.given.2
-          (λ a b is says. (t, given, is, says, told.text.2 ∙ ap (λ (l : List ℕ). out.before.taken ++ l) told.text.1.0, told.text.1.1));
+          (λ a b is says. (
+            t,
+            given,
+            is,
+            says,
+            told.text.2 ∙ ap (λ (l : List ℕ). out.before.taken ++ l) told.text.1.0,
+            told.text.1.1,
+          ));
       flushed = told.flushed;
       headline = λ clean.
           of_all-map trace (λ a. trace_of true a ≡ Ok t) IsTraceRightAndFresh
           (λ a is. (t, is, law given (told_clean t given out (Ok v) told clean))) read.given;
       wrong_replies =
-          on_both trace evidence t read.given NamesOnlyWrongReplies given by.given.2 (λ a b is says. (t, given, is, says, named_by_bytes a t given is));
+          on_both trace evidence t read.given NamesOnlyWrongReplies given by.given.2
+          (λ a b is says. (t, given, is, says, named_by_bytes a t given is));
       trace_refused = λ f is. absurd (cc (is));
       trace_cut = λ f is. absurd (cc (is));
       evidence_refused = λ f is. absurd (cc (is));
       evidence_cut = λ f is. absurd (cc (is));
       write = λ n is. absurd (cc (is));
       unwritten = tt;
-      most = (read.few, by.few);
-      known = (read.next, by.next);
+      most = (read.most, by.most);
+      known = (read.known, by.known);
       held = told.held;
       devices = tt;
-      kept = (read.held, by.held, told.kept);
+      kept = (read.kept, by.kept, told.kept);
       unfailed = tt;
     }
 audited trace evidence out t found (Err e) read by law told =
@@ -415,26 +451,35 @@ audited trace evidence out t found (Err e) read by law told =
       flushed = tt;
       headline = λ is. absurd (cc (is));
       wrong_replies = tt;
-      trace_refused = λ f is. absurd (never_refused (Err e) (faults.Trace f) told.kinds is tt);
-      trace_cut = λ f is. absurd (never_refused (Err e) (faults.Trace f) told.kinds is tt);
-      evidence_refused = λ f is. absurd (never_refused (Err e) (faults.Evidence f) told.kinds is tt);
-      evidence_cut = λ f is. absurd (never_refused (Err e) (faults.Evidence f) told.kinds is tt);
+      trace_refused =
+          λ f is. absurd
+          (never_answered {V = Verdict} (kind.write ∷ kind.memory ∷ []) (Err e) (faults.Trace f) refl told.kinds is);
+      trace_cut =
+          λ f is. absurd
+          (never_answered {V = Verdict} (kind.write ∷ kind.memory ∷ []) (Err e) (faults.Trace f) refl told.kinds is);
+      evidence_refused =
+          λ f is. absurd
+          (never_answered {V = Verdict} (kind.write ∷ kind.memory ∷ []) (Err e) (faults.Evidence f) refl told.kinds is);
+      evidence_cut =
+          λ f is. absurd
+          (never_answered {V = Verdict} (kind.write ∷ kind.memory ∷ []) (Err e) (faults.Evidence f) refl told.kinds is);
       write = λ n is.
           let h = told.write n is in
           on_both trace evidence t read.given (λ a b. Breaks a b out n) given by.given.2
           (λ a b is says. (t, given, is, says, subst (λ (text : List ℕ). FailsWriting out n text) h.2.0 h.3));
       unwritten = told.unwritten;
-      most = (read.few, by.few);
-      known = (read.next, by.next);
+      most = (read.most, by.most);
+      known = (read.known, by.known);
       held = told.held;
       devices = devices_of_writing {V = Verdict} (Err e) _ _ _ told.kinds told.failed;
       kept = tt;
-      unfailed = λ none. (read.held, by.held, told.unfailed (unwritten_without_device e none));
+      unfailed = λ none. (read.kept, by.kept, told.unfailed (unwritten_without_device e none));
     }
 
 -- nothing was asked for that is within the limits, and nothing touched
 pub audited_at_rest : (a b : Reader) (w : Writer)
-    → Audited (record { before = a; after = a }) (record { before = b; after = b }) (record { before = w; after = w }) (Err faults.Limits)
+    → Audited (record { before = a; after = a }) (record { before = b; after = b }) (record { before = w; after = w })
+    (Err faults.Limits)
 audited_at_rest a b w =
     record {
       audits = tt;
@@ -456,16 +501,26 @@ audited_at_rest a b w =
     }
 
 -- what is told of evidence for a trace is told of the bytes of both
-pub told_by_bytes : (trace evidence : Reading) (t : TraceValue) (N : Type 0) (P : TraceValue → List (Option (List StepValue)) → Type 0) → OfAll trace (λ a. trace_of true a ≡ Ok t)
-    → N ⊎ OfAll evidence (λ b. (given : List (Option (List StepValue))) × (evidence_of t.entries true b ≡ Ok given) × P t given)
+pub told_by_bytes : {V : Type 0} {Says : List (Option (List StepValue)) → V → Type 0} {trace evidence : Reading}
+    {t : TraceValue} {r : Result V AuditFault} (N : Type 0) (P : TraceValue → List (Option (List StepValue)) → Type 0)
+    → TraceRead trace (Ok t) → EvidenceRead Says t evidence r
+    → N ⊎ OfAll evidence
+    (λ b. (given : List (Option (List StepValue))) × (evidence_of t.entries true b ≡ Ok given) × P t given)
     → N ⊎ OfBoth trace evidence (λ a b. IsOfBytes a b P)
-told_by_bytes trace evidence t N P says (inl not) = inl not
-told_by_bytes trace evidence t N P says (inr told) =
+told_by_bytes N P read by (inl not) = inl not
+told_by_bytes {trace = trace} {evidence = evidence} {t = t} N P read by (inr told) =
     inr
     (of_all-map trace (λ a. trace_of true a ≡ Ok t) (λ a. OfAll evidence (λ b. IsOfBytes a b P))
-    (λ a is. of_all-map evidence (λ b. (given : List (Option (List StepValue))) × (evidence_of t.entries true b ≡ Ok given) × P t given) (λ b. IsOfBytes a b P) (λ b h. (t, h.0, is, h.1, h.2)) told) says)
+    (λ a is. of_all-map evidence
+    (λ b. (given : List (Option (List StepValue))) × (evidence_of t.entries true b ≡ Ok given) × P t given)
+    (λ b. IsOfBytes a b P) (λ b h. (t, h.0, is, h.1, h.2)) told) read.given)
 
-pub told_of : (evidence : Reading) (t : TraceValue) (P : List (Option (List StepValue)) → Type 0) (given : List (Option (List StepValue))) → OfAll evidence (λ b. evidence_of t.entries true b ≡ Ok given) → P given
-    → OfAll evidence (λ b. (given : List (Option (List StepValue))) × (evidence_of t.entries true b ≡ Ok given) × P given)
-told_of evidence t P given says told =
-    of_all-map evidence (λ b. evidence_of t.entries true b ≡ Ok given) (λ b. (x : List (Option (List StepValue))) × (evidence_of t.entries true b ≡ Ok x) × P x) (λ b is. (given, is, told)) says
+-- what is told of evidence that was read is told of its bytes
+pub told_of : {t : TraceValue} {evidence : Reading} {v : Evidence} (P : List (Option (List StepValue)) → Type 0)
+    → EvidenceRead (λ given v. evidence_value v ≡ given) t evidence (Ok v) → P (evidence_value v)
+    → OfAll evidence
+    (λ b. (given : List (Option (List StepValue))) × (evidence_of t.entries true b ≡ Ok given) × P given)
+told_of {t} {evidence} P read told =
+    of_all-map evidence (λ b. evidence_of t.entries true b ≡ Ok read.given.0)
+    (λ b. (given : List (Option (List StepValue))) × (evidence_of t.entries true b ≡ Ok given) × P given)
+    (λ b is. (read.given.0, is, subst P read.given.1 told)) read.given.2

@@ -1,6 +1,7 @@
 pub mod Answering
 pub mod EarlyLemmas
 pub mod JoinedLemmas
+pub mod KindLemmas
 pub mod MadeRecords
 pub mod MadeReadBack
 pub mod MadeAuditLemmas

@@ -1,6 +1,6 @@
 -- What readers say and what a writer took, put together.
-use Rattle.std.proofs.Common.{◌≡◌, ◌⊎◌, inl, inr, ℕ, true, false, List, [], ◌∷◌, Option, Result, Ok, Err, arith, refl, subst, sym, ◌∙◌, append-nil}
-use Rattle.std.specs.Prelude.{IfErr, IsErrAnd}
+use Rattle.std.proofs.Common.{◌≡◌, ℕ, true, false, List, [], ◌∷◌, Option, Result, Ok, Err, arith, refl, subst, sym, ◌∙◌, append-nil}
+use Rattle.std.specs.Prelude.{IfErr}
 use Rattle.json_lines.proofs.Given.{of_bytes-map, of_whole-map, of_input-map, next-refl}
 use Rattle.trace_lines.specs.Values.{TraceValue}
 use Rattle.trace_lines.specs.Traces.{trace_of}
@@ -10,7 +10,11 @@ use Rattle.evidence_check.specs.declared.cause.EvidenceCause.TheVariants as evid
 use Rattle.evidence_check.specs.declared.cause.EvidenceFault.{EvidenceFault}
 use Rattle.trace_lines.specs.declared.cause.Cause.TheVariants as causes
 use Rattle.trace_lines.specs.declared.cause.TraceFault.{TraceFault}
-use Rattle.audit.specs.Audit.{RefusesEvidence, RefusesEvidenceFor, CutsEvidence, IsOfDevices, IsOfEvidence, IsOfTrace, IsOfNoDevice, IsUnwritten, IsWrite, verdict_of}
+use Rattle.audit.specs.Audit.{RefusesEvidence, RefusesEvidenceFor, CutsEvidence, BlamesOnly, BlamesNoDevice, IsUnwritten, IsWrite, verdict_of}
+use Rattle.audit.specs.Kinds.{IsOneOf}
+use Rattle.audit.specs.Parts.{TraceRead, EvidenceRead}
+use Rattle.audit.specs.Kinds as kind
+use Rattle.audit.proofs.KindLemmas.{of_writing}
 use Rattle.std.proofs.KnownBytes.{Appends-nil}
 use Rattle.audit.specs.Devices.{Reader, Reading, Writer, OfCame, OfAll, OfAny, OfBoth, GivesFew, GivesNext, StandsBehind}
 use Rattle.findings.specs.declared.finding.Finding.{Finding}
@@ -38,106 +42,72 @@ next_at_rest r = next-refl (λ (s : Reader). s.given) (λ (s : Reader). s.ends) 
 pub behind_at_rest : (w : Writer) → StandsBehind (record { before = w; after = w })
 behind_at_rest w = ([], sym (append-nil w.taken), Appends-nil w.held)
 
+-- what was read, by what the answer is
+pub read_is : {trace : Reading} {r s : Result TraceValue AuditFault} → r ≡ s → TraceRead trace r → TraceRead trace s
+read_is {trace} {r} {s} is read = subst (λ (x : Result TraceValue AuditFault). TraceRead trace x) is read
+
+pub evidence_is : {V : Type 0} {Says : List (Option (List StepValue)) → V → Type 0} {t : TraceValue}
+    {evidence : Reading} {r s : Result V AuditFault} → r ≡ s → EvidenceRead Says t evidence r
+    → EvidenceRead Says t evidence s
+evidence_is {V} {Says} {t} {evidence} {r} {s} is read =
+    subst (λ (x : Result V AuditFault). EvidenceRead Says t evidence x) is read
+
 module _ (trace evidence : Reading) (t : TraceValue) (says : OfAll trace (λ a. trace_of true a ≡ Ok t)) where
-  pub refused_evidence : (f : EvidenceFault) → OfAny evidence (λ b. RefusesEvidenceFor t b f) → OfAll trace (λ a. OfAny evidence (λ b. RefusesEvidence a b f))
+  pub refused_evidence : (f : EvidenceFault) → OfAny evidence (λ b. RefusesEvidenceFor t b f)
+      → OfAll trace (λ a. OfAny evidence (λ b. RefusesEvidence a b f))
   refused_evidence f h =
       of_all-map trace (λ a. trace_of true a ≡ Ok t) (λ a. OfAny evidence (λ b. RefusesEvidence a b f))
-      (λ a is. of_any-map evidence (λ b. RefusesEvidenceFor t b f) (λ b. RefusesEvidence a b f) (λ b by. (t, is, by)) h) says
+      (λ a is. of_any-map evidence (λ b. RefusesEvidenceFor t b f) (λ b. RefusesEvidence a b f) (λ b by. (t, is, by))
+      h) says
 
-  pub cut_evidence : (f : EvidenceFault) → OfCame evidence (λ b. evidence_of t.entries false b ≡ Err f) → OfAll trace (λ a. OfCame evidence (λ b. CutsEvidence a b f))
+  pub cut_evidence : (f : EvidenceFault) → OfCame evidence (λ b. evidence_of t.entries false b ≡ Err f)
+      → OfAll trace (λ a. OfCame evidence (λ b. CutsEvidence a b f))
   cut_evidence f h =
       of_all-map trace (λ a. trace_of true a ≡ Ok t) (λ a. OfCame evidence (λ b. CutsEvidence a b f))
-      (λ a is. of_came-map evidence (λ b. evidence_of t.entries false b ≡ Err f) (λ b. CutsEvidence a b f) (λ b by. (t, is, by)) h) says
+      (λ a is. of_came-map evidence (λ b. evidence_of t.entries false b ≡ Err f) (λ b. CutsEvidence a b f)
+      (λ b by. (t, is, by)) h) says
 
   -- what the bytes of both say, where they are a trace and evidence for it
-  pub on_both : (P : List ℕ → List ℕ → Type 0) (given : List (Option (List StepValue))) → OfAll evidence (λ b. evidence_of t.entries true b ≡ Ok given)
-      → ((a b : List ℕ) → trace_of true a ≡ Ok t → evidence_of t.entries true b ≡ Ok given → P a b) → OfBoth trace evidence P
+  pub on_both : (P : List ℕ → List ℕ → Type 0) (given : List (Option (List StepValue)))
+      → OfAll evidence (λ b. evidence_of t.entries true b ≡ Ok given)
+      → ((a b : List ℕ) → trace_of true a ≡ Ok t → evidence_of t.entries true b ≡ Ok given → P a b)
+      → OfBoth trace evidence P
   on_both P given h f =
       of_all-map trace (λ a. trace_of true a ≡ Ok t) (λ a. OfAll evidence (λ b. P a b))
-      (λ a is. of_all-map evidence (λ b. evidence_of t.entries true b ≡ Ok given) (λ b. P a b) (λ b by. f a b is by) h) says
+      (λ a is. of_all-map evidence (λ b. evidence_of t.entries true b ≡ Ok given) (λ b. P a b) (λ b by. f a b is by)
+      h) says
 
--- of the faults of writing
-pub of_writing : (P : AuditFault → Type 0) → P faults.OutOfMemory → ((n : ℕ) → P (faults.Write n)) → (e : AuditFault) → (e ≡ faults.OutOfMemory) ⊎ IsWrite e → P e
-of_writing P memory write (faults.Trace f) (inl e) = absurd cc
-of_writing P memory write (faults.Trace f) (inr w) = absurd w
-of_writing P memory write (faults.Evidence f) (inl e) = absurd cc
-of_writing P memory write (faults.Evidence f) (inr w) = absurd w
-of_writing P memory write (faults.Write n) h = write n
-of_writing P memory write faults.OutOfMemory h = memory
-of_writing P memory write faults.Limits (inl e) = absurd cc
-of_writing P memory write faults.Limits (inr w) = absurd w
-of_writing P memory write faults.Joined (inl e) = absurd cc
-of_writing P memory write faults.Joined (inr w) = absurd w
-of_writing P memory write faults.Input (inl e) = absurd cc
-of_writing P memory write faults.Input (inr w) = absurd w
-
--- a fault of the evidence is of its reader, where that failed, or else of no device
-pub devices_of_evidence : (e : AuditFault) (trace evidence out : Type 0) → IsOfEvidence e → ((f : EvidenceFault) → e ≡ faults.Evidence f → f.cause ≡ evidence_causes.Read → evidence) → IsOfDevices ⊥ trace evidence out e
-devices_of_evidence (faults.Trace f) trace evidence out of at = absurd of
-devices_of_evidence (faults.Evidence f) trace evidence out of at = at f refl
-devices_of_evidence (faults.Write n) trace evidence out of at = absurd of
-devices_of_evidence faults.OutOfMemory trace evidence out of at = tt
-devices_of_evidence faults.Limits trace evidence out of at = absurd of
-devices_of_evidence faults.Joined trace evidence out of at = absurd of
-devices_of_evidence faults.Input trace evidence out of at = absurd of
+-- a fault of reading is of the reader that failed, or of no device
+pub devices_of_reading : (e : AuditFault) (trace evidence out : Type 0)
+    → IsOneOf (kind.trace ∷ kind.evidence ∷ kind.memory ∷ []) e
+    → ((f : TraceFault) → e ≡ faults.Trace f → f.cause ≡ causes.Read → trace)
+    → ((f : EvidenceFault) → e ≡ faults.Evidence f → f.cause ≡ evidence_causes.Read → evidence)
+    → BlamesOnly ⊥ trace evidence out e
+devices_of_reading (faults.Trace f) trace evidence out of by_trace by_evidence = by_trace f refl
+devices_of_reading (faults.Evidence f) trace evidence out of by_trace by_evidence = by_evidence f refl
+devices_of_reading faults.OutOfMemory trace evidence out of by_trace by_evidence = tt
+devices_of_reading _ trace evidence out of by_trace by_evidence = absurd (cc (of.0))
 
 -- writing fails by the writer, and else where memory runs out
-pub devices_of_writing : {V : Type 0} (r : Result V AuditFault) (trace evidence out : Type 0) → IfErr r (λ e. (e ≡ faults.OutOfMemory) ⊎ IsWrite e) → IfErr r (λ e. IsWrite e → out)
-    → IfErr r (IsOfDevices ⊥ trace evidence out)
+pub devices_of_writing : {V : Type 0} (r : Result V AuditFault) (trace evidence out : Type 0)
+    → IfErr r (IsOneOf (kind.write ∷ kind.memory ∷ [])) → IfErr r (λ e. IsWrite e → out)
+    → IfErr r (BlamesOnly ⊥ trace evidence out)
 devices_of_writing (Ok v) trace evidence out of at = tt
-devices_of_writing (Err (faults.Trace f)) trace evidence out (inl e) at = absurd cc
-devices_of_writing (Err (faults.Trace f)) trace evidence out (inr w) at = absurd w
-devices_of_writing (Err (faults.Evidence f)) trace evidence out (inl e) at = absurd cc
-devices_of_writing (Err (faults.Evidence f)) trace evidence out (inr w) at = absurd w
-devices_of_writing (Err (faults.Write n)) trace evidence out of at = at tt
-devices_of_writing (Err faults.OutOfMemory) trace evidence out of at = tt
-devices_of_writing (Err faults.Limits) trace evidence out of at = tt
-devices_of_writing (Err faults.Joined) trace evidence out of at = tt
-devices_of_writing (Err faults.Input) trace evidence out (inl e) at = absurd cc
-devices_of_writing (Err faults.Input) trace evidence out (inr w) at = absurd w
+devices_of_writing (Err e) trace evidence out of at =
+    of_writing (λ (x : AuditFault). (IsWrite x → out) → BlamesOnly ⊥ trace evidence out x)
+    (λ write. tt) (λ n write. write tt) e of at
 
-pub unwritten_without_device : (e : AuditFault) → IsOfNoDevice e → IsUnwritten e
-unwritten_without_device (faults.Trace f) h = tt
-unwritten_without_device (faults.Evidence f) h = tt
+pub unwritten_without_device : (e : AuditFault) → BlamesNoDevice e → IsUnwritten e
 unwritten_without_device (faults.Write n) h = h
-unwritten_without_device faults.OutOfMemory h = tt
-unwritten_without_device faults.Limits h = tt
-unwritten_without_device faults.Joined h = tt
-unwritten_without_device faults.Input h = tt
-
-abbrev IsRefusal : AuditFault → Type 0
-IsRefusal (faults.Trace f) = Unit {0}
-IsRefusal (faults.Evidence f) = Unit {0}
-IsRefusal faults.Joined = Unit {0}
-IsRefusal _ = ⊥
-
--- writing never answers a refusal
-pub never_refused : {V : Type 0} (r : Result V AuditFault) (e : AuditFault) → IfErr r (λ x. (x ≡ faults.OutOfMemory) ⊎ IsWrite x) → r ≡ Err e → IsRefusal e → ⊥
-never_refused {V} r e h is =
-    of_writing (λ (x : AuditFault). IsRefusal x → ⊥) (λ x. x) (λ n x. x) e
-    (subst (λ (x : Result V AuditFault). IfErr x (λ y. (y ≡ faults.OutOfMemory) ⊎ IsWrite y)) is h)
-
--- a fault of the trace is of its reader, where that failed, or else of no device
-pub devices_of_trace : (e : AuditFault) (trace evidence out : Type 0) → IsOfTrace e → ((f : TraceFault) → e ≡ faults.Trace f → f.cause ≡ causes.Read → trace) → IsOfDevices ⊥ trace evidence out e
-devices_of_trace (faults.Trace f) trace evidence out of at = at f refl
-devices_of_trace (faults.Evidence f) trace evidence out of at = absurd of
-devices_of_trace (faults.Write n) trace evidence out of at = absurd of
-devices_of_trace faults.OutOfMemory trace evidence out of at = tt
-devices_of_trace faults.Limits trace evidence out of at = absurd of
-devices_of_trace faults.Joined trace evidence out of at = absurd of
-devices_of_trace faults.Input trace evidence out of at = absurd of
+unwritten_without_device _ h = tt
 
 no_findings : (fs : List Finding) → verdict_of fs ≡ Clean → fs ≡ []
 no_findings [] h = refl
 no_findings (f ∷ fs) h = cc
 
 -- a clean verdict is answered where nothing is found
-pub answered_clean : {E : Type 0} (v : Verdict) (fs : List Finding) → v ≡ verdict_of fs → ◌≡◌ {A = Result Verdict E} (Ok v) (Ok Clean) → fs ≡ []
+pub answered_clean : {E : Type 0} (v : Verdict) (fs : List Finding) → v ≡ verdict_of fs
+    → ◌≡◌ {A = Result Verdict E} (Ok v) (Ok Clean) → fs ≡ []
 answered_clean v fs is h =
     let clean : v ≡ Clean = cc in
     no_findings fs (sym is ∙ clean)
-
--- out of memory alone was told
-pub out_of_memory : {A : Type 0} (P : AuditFault → Type 0) → P faults.OutOfMemory → (r : Result A AuditFault) → IsErrAnd r (λ e. e ≡ faults.OutOfMemory) → IfErr r P
-out_of_memory P p (Ok a) h = tt
-out_of_memory P p (Err e) h = subst P (sym h) p

@@ -63,4 +63,6 @@ usersets_sync : IsSync usersets.the_row
 usersets_sync = search (sendable, crosses, maps.crosses, spans_sync) depth 40
 
 pub trace_sync : IsSync trace.the_row
-trace_sync = search (sendable, crosses, maps.crosses, rules_sync, chains_sync, sample_sync, places_sync, usersets_sync) depth 40 fits 100000
+trace_sync =
+    search (sendable, crosses, maps.crosses, rules_sync, chains_sync, sample_sync, places_sync, usersets_sync) depth
+    40 fits 100000

@@ -42,12 +42,15 @@ IsUnwritten _ = ⊤
 -- the bytes say a trace and evidence for it, and the report on them went out
 abbrev pub Audits : List ℕ → List ℕ → List ℕ → List ℕ → Verdict → Type 0
 Audits a b old new v =
-    (t : TraceValue) × (given : List (Option (List StepValue))) × (trace_of true a ≡ Ok t) × (evidence_of t.entries true b ≡ Ok given)
+    (t : TraceValue) × (given : List (Option (List StepValue)))
+    × (trace_of true a ≡ Ok t) × (evidence_of t.entries true b ≡ Ok given)
     × (new ≡ old ++ report_on t given) × (v ≡ verdict_of (findings_of t given))
 
 -- the bytes say a trace and evidence for it, of which P holds
 abbrev pub IsOfBytes : List ℕ → List ℕ → (TraceValue → List (Option (List StepValue)) → Type 0) → Type 0
-IsOfBytes a b P = (t : TraceValue) × (given : List (Option (List StepValue))) × (trace_of true a ≡ Ok t) × (evidence_of t.entries true b ≡ Ok given) × P t given
+IsOfBytes a b P =
+    (t : TraceValue) × (given : List (Option (List StepValue)))
+    × (trace_of true a ≡ Ok t) × (evidence_of t.entries true b ≡ Ok given) × P t given
 
 -- the fault is that of the bytes of a trace
 abbrev pub RefusesTrace : List ℕ → TraceFault → Type 0
@@ -64,70 +67,29 @@ RefusesEvidence a b f = (t : TraceValue) × (trace_of true a ≡ Ok t) × Refuse
 -- the bytes say a trace and evidence for it, and the report on them went out up to its first n bytes
 abbrev pub Breaks : List ℕ → List ℕ → Writing → ℕ → Type 0
 Breaks a b out n =
-    (t : TraceValue) × (given : List (Option (List StepValue))) × (trace_of true a ≡ Ok t) × (evidence_of t.entries true b ≡ Ok given)
+    (t : TraceValue) × (given : List (Option (List StepValue)))
+    × (trace_of true a ≡ Ok t) × (evidence_of t.entries true b ≡ Ok given)
     × FailsWriting out n (report_on t given)
 
 -- ---- the devices
 
--- The reader of the evidence failed, and the fault is of the line that its bytes had come to.
+-- the bytes say a trace; the reader of the evidence failed, and the fault is of the line that its bytes had come to
 abbrev pub CutsEvidence : List ℕ → List ℕ → EvidenceFault → Type 0
 CutsEvidence a came f = (t : TraceValue) × (trace_of true a ≡ Ok t) × (evidence_of t.entries false came ≡ Err f)
 
--- the fault of a device is answered only where that device failed
-abbrev pub IsOfDevices : (input trace evidence out : Type 0) → AuditFault → Type 0
-IsOfDevices input trace evidence out (faults.Trace f) = f.cause ≡ causes.Read → trace
-IsOfDevices input trace evidence out (faults.Evidence f) = f.cause ≡ evidence_causes.Read → evidence
-IsOfDevices input trace evidence out (faults.Write n) = out
-IsOfDevices input trace evidence out faults.Input = input
-IsOfDevices input trace evidence out _ = ⊤
+-- a device is blamed only where this holds of it: of the reader of joined input, of the trace, of the evidence, of
+-- the writer
+abbrev pub BlamesOnly : (input trace evidence out : Type 0) → AuditFault → Type 0
+BlamesOnly input trace evidence out (faults.Trace f) = f.cause ≡ causes.Read → trace
+BlamesOnly input trace evidence out (faults.Evidence f) = f.cause ≡ evidence_causes.Read → evidence
+BlamesOnly input trace evidence out (faults.Write n) = out
+BlamesOnly input trace evidence out faults.Input = input
+BlamesOnly input trace evidence out _ = ⊤
 
--- a fault that no device has
-abbrev pub IsOfNoDevice : AuditFault → Type 0
-IsOfNoDevice (faults.Trace f) = f.cause ≢ causes.Read
-IsOfNoDevice (faults.Evidence f) = f.cause ≢ evidence_causes.Read
-IsOfNoDevice (faults.Write n) = ⊥
-IsOfNoDevice faults.Input = ⊥
-IsOfNoDevice _ = ⊤
-
--- ---- which faults there are: out of memory is told as such, whatever it stopped
-
-abbrev pub IsOfTrace : AuditFault → Type 0
-IsOfTrace (faults.Trace f) = f.cause ≢ causes.OutOfMemory
-IsOfTrace faults.OutOfMemory = ⊤
-IsOfTrace _ = ⊥
-
-abbrev pub IsOfEvidence : AuditFault → Type 0
-IsOfEvidence (faults.Evidence f) = f.cause ≢ evidence_causes.OutOfMemory
-IsOfEvidence faults.OutOfMemory = ⊤
-IsOfEvidence _ = ⊥
-
--- a fault of an audit over two readers
-abbrev pub IsOfAudit : AuditFault → Type 0
-IsOfAudit (faults.Trace f) = f.cause ≢ causes.OutOfMemory
-IsOfAudit (faults.Evidence f) = f.cause ≢ evidence_causes.OutOfMemory
-IsOfAudit (faults.Write n) = ⊤
-IsOfAudit faults.OutOfMemory = ⊤
-IsOfAudit _ = ⊥
-
--- a fault of an audit of joined input
-abbrev pub IsOfJoined : AuditFault → Type 0
-IsOfJoined (faults.Trace f) = f.cause ≢ causes.OutOfMemory
-IsOfJoined (faults.Evidence f) = f.cause ≢ evidence_causes.OutOfMemory
-IsOfJoined faults.Limits = ⊥
-IsOfJoined _ = ⊤
-
--- a fault of reading the trace of joined input
-abbrev pub IsOfFront : AuditFault → Type 0
-IsOfFront (faults.Trace f) = f.cause ≢ causes.OutOfMemory
-IsOfFront faults.OutOfMemory = ⊤
-IsOfFront faults.Joined = ⊤
-IsOfFront faults.Input = ⊤
-IsOfFront _ = ⊥
-
--- a fault of reading the evidence behind it
-abbrev pub IsOfBehind : AuditFault → Type 0
-IsOfBehind (faults.Evidence f) = f.cause ≢ evidence_causes.OutOfMemory
-IsOfBehind faults.OutOfMemory = ⊤
-IsOfBehind faults.Joined = ⊤
-IsOfBehind faults.Input = ⊤
-IsOfBehind _ = ⊥
+-- the fault is of no device
+abbrev pub BlamesNoDevice : AuditFault → Type 0
+BlamesNoDevice (faults.Trace f) = f.cause ≢ causes.Read
+BlamesNoDevice (faults.Evidence f) = f.cause ≢ evidence_causes.Read
+BlamesNoDevice (faults.Write n) = ⊥
+BlamesNoDevice faults.Input = ⊥
+BlamesNoDevice _ = ⊤

@@ -5,8 +5,8 @@ use Rattle.json_lines.specs.Moves.{IsBrokenOff}
 use Rattle.json_lines.specs.declared.lines.TheConstants.{CHUNK}
 use Rattle.json_lines.specs.declared.reading.TheConstants.{MAX_INPUT}
 
--- a reader: all bytes that it gave, how often it was at its end and how often it failed, and what it has left where that
--- is known
+-- a reader: all bytes that it gave, how often it was at its end and how often it failed, and what it has left where
+-- that is known
 pub record Reader : Type 0 where
   pub given : List ℕ
   pub ends : ℕ
@@ -80,15 +80,15 @@ HasRisen old new = new ≡ old + 1
 abbrev pub ReaderFailed : Reading → Type 0
 ReaderFailed r = HasRisen r.before.failures r.after.failures
 
-abbrev pub ReaderHeld : Reading → Type 0
-ReaderHeld r = r.after.failures ≡ r.before.failures
+abbrev pub ReaderNeverFailed : Reading → Type 0
+ReaderNeverFailed r = r.after.failures ≡ r.before.failures
 
 -- it failed, or took none of some bytes
 abbrev pub WriterFailed : Writing → Type 0
 WriterFailed w = HasRisen w.before.failures w.after.failures ⊎ HasRisen w.before.idle w.after.idle
 
-abbrev pub WriterHeld : Writing → Type 0
-WriterHeld w = (w.after.failures ≡ w.before.failures) × (w.after.idle ≡ w.before.idle)
+abbrev pub WriterNeverFailed : Writing → Type 0
+WriterNeverFailed w = (w.after.failures ≡ w.before.failures) × (w.after.idle ≡ w.before.idle)
 
 -- ---- what a writer took
 

@@ -23,7 +23,8 @@ pub record IsEarlyLine (t : TraceValue) (evidence : List (Option (List StepValue
   pub found : on_line entry.line (found_on t evidence place entry) ≡ first ∷ others
   pub text : line ≡ codes "early " ++ line_text first
 
--- what a writer took, how often it failed or took none of some bytes, and how many calls came behind the last time that it did
+-- what a writer took, how often it failed or took none of some bytes, and how many calls came behind the last time
+-- that it did
 pub record WriterState : Type 0 where
   pub taken : List ℕ
   pub failures : ℕ
@@ -36,17 +37,19 @@ state_of taken failures idle since w = record { taken = taken w; failures = fail
 -- a writer failed once, or once took none of some bytes, and that was its last call
 abbrev pub WasLast : WriterState → WriterState → Type 0
 WasLast old new =
-    ((HasRisen old.failures new.failures × (new.idle ≡ old.idle)) ⊎ (HasRisen old.idle new.idle × (new.failures ≡ old.failures)))
+    ((HasRisen old.failures new.failures × (new.idle ≡ old.idle))
+    ⊎ (HasRisen old.idle new.idle × (new.failures ≡ old.failures)))
     × (new.since ≡ 0)
 
--- Lines of which P holds went out, and nothing else. The last may be cut where the writer was given up, as it failed once or took no byte:
--- then nothing more went there.
+-- Lines of which P holds went out, and nothing else. The last may be cut where the writer was given up, as it failed
+-- once or took no byte: then nothing more went there.
 pub record WentOut (P : List ℕ → Type 0) (old new : WriterState) (given_up : Bool) : Type 0 where
   pub lines : List (List ℕ)
   pub each : All P lines
   pub written : ℕ
   pub goes : new.taken ≡ old.taken ++ take written (flat_map (λ l. l) lines)
-  pub whole : given_up ≡ false → (length (flat_map (λ l. l) lines) ≡ written) × (new.failures ≡ old.failures) × (new.idle ≡ old.idle)
+  pub whole : given_up ≡ false
+      → (length (flat_map (λ l. l) lines) ≡ written) × (new.failures ≡ old.failures) × (new.idle ≡ old.idle)
   pub cut : given_up ≡ true → WasLast old new
 
 -- early lines of this trace and evidence went out

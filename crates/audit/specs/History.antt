@@ -1,15 +1,12 @@
 -- What is told of a tuple's history.
-use Rattle.std.specs.Prelude.{◌≡◌, ℕ, Bool, true, List, ◌++◌, length, codes, Ok, if◌then◌else◌, ⊤}
+use Rattle.std.specs.Prelude.{◌≡◌, ℕ, Bool, true, List, ◌++◌, length, codes, Ok, if◌then◌else◌}
 use Rattle.std.specs.Fmt.{decimal}
 use Rattle.std.specs.List.{flat_map}
 use Rattle.tuple_text.specs.Tuples.{TupleValue}
 use Rattle.version_chains.specs.Commits.{Commit, history_of}
 use Rattle.trace_lines.specs.Values.{TraceValue}
 use Rattle.trace_lines.specs.Traces.{trace_of}
-use Rattle.audit.specs.Audit.{IsOfTrace}
 use Rattle.audit.specs.Devices.{Writing, FailsWriting}
-use Rattle.audit.specs.declared.plain.AuditFault.{AuditFault}
-use Rattle.audit.specs.declared.plain.AuditFault.TheVariants as faults
 
 -- the timestamp of a touch, ` add` or ` remove`, and a newline
 abbrev pub touch_text : ℕ × Bool → List ℕ
@@ -21,13 +18,11 @@ history_text commits t = flat_map touch_text (history_of commits t)
 
 -- the bytes say a trace, the tuple's history in it went out, and has that many touches
 abbrev pub TellsHistory : List ℕ → TupleValue → List ℕ → List ℕ → ℕ → Type 0
-TellsHistory a tuple old new n = (t : TraceValue) × (trace_of true a ≡ Ok t) × (new ≡ old ++ history_text t.commits tuple) × (n ≡ length (history_of t.commits tuple))
+TellsHistory a tuple old new n =
+    (t : TraceValue) × (trace_of true a ≡ Ok t)
+    × (new ≡ old ++ history_text t.commits tuple) × (n ≡ length (history_of t.commits tuple))
 
 -- the bytes say a trace, and the tuple's history in it went out up to its first n bytes
 abbrev pub BreaksHistory : List ℕ → TupleValue → Writing → ℕ → Type 0
-BreaksHistory a tuple out n = (t : TraceValue) × (trace_of true a ≡ Ok t) × FailsWriting out n (history_text t.commits tuple)
-
--- a fault of telling a history
-abbrev pub IsOfHistory : AuditFault → Type 0
-IsOfHistory (faults.Write n) = ⊤
-IsOfHistory f = IsOfTrace f
+BreaksHistory a tuple out n =
+    (t : TraceValue) × (trace_of true a ≡ Ok t) × FailsWriting out n (history_text t.commits tuple)

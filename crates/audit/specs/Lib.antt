@@ -4,7 +4,9 @@ pub mod Devices
 pub mod Early
 pub mod History
 pub mod Joined
+pub mod Kinds
 pub mod Made
 pub mod MadeAudit
+pub mod Parts
 pub mod Shared
 pub mod Told

@@ -25,11 +25,13 @@ pub record IsRecorded (t : TraceValue) (e : EntryValue) (steps : List StepValue)
   pub facts : fact_count steps ≤ MAX_FACTS
   pub bytes : record_length e.line steps ≤ 2 ^ 20
 
--- one step is not enough, and the goal outgrows the maker's search, or the record of its whole cone is too long for a line
+-- one step is not enough, and the goal outgrows the maker's search, or the record of its whole cone is too long for a
+-- line
 abbrev pub IsOutOfReach : TraceValue → EntryValue → Type 0
 IsOutOfReach t e =
     (¬ IsOneStep t e)
-    × (IsOutgrown MAX_FACTS MAX_LINKS (rule_at t.declarations e.snapshot) (store_at t.commits e.snapshot) e.goal ⊎ IsTooLong t e)
+    × (IsOutgrown MAX_FACTS MAX_LINKS (rule_at t.declarations e.snapshot) (store_at t.commits e.snapshot) e.goal
+    ⊎ IsTooLong t e)
 
 -- what is made for an entry: the steps of its record, or none where the maker gave up
 abbrev pub IsMade : TraceValue → EntryValue → Option (List StepValue) → Type 0
@@ -52,28 +54,35 @@ abbrev pub line_without : ℕ → Option (List StepValue) → List ℕ
 line_without line (Some steps) = []
 line_without line None = line ∷ []
 
--- the records of the entries that have one, in order
+-- what is told of each entry by its line and its steps, in order
+abbrev pub told_of_each : (ℕ → Option (List StepValue) → List ℕ)
+    → List EntryValue → List (Option (List StepValue)) → List ℕ
+told_of_each tell (e ∷ es) (o ∷ os) = tell e.line o ++ told_of_each tell es os
+told_of_each tell _ _ = []
+
+-- the records of the entries that have one
 abbrev pub records_text : List EntryValue → List (Option (List StepValue)) → List ℕ
-records_text (e ∷ es) (o ∷ os) = record_line e.line o ++ records_text es os
-records_text _ _ = []
+records_text es given = told_of_each record_line es given
 
 -- the lines of the entries that have none
 abbrev pub given_up_lines : List EntryValue → List (Option (List StepValue)) → List ℕ
-given_up_lines (e ∷ es) (o ∷ os) = line_without e.line o ++ given_up_lines es os
-given_up_lines _ _ = []
+given_up_lines es given = told_of_each line_without es given
 
--- The text is the records that are made for the entries, and these lines are those of the entries without one. Read as evidence for the
--- trace, where it is no longer than an input may be, it says just these steps.
+-- The text is the records that are made for the entries, and these lines are those of the entries without one. Read
+-- as evidence for the trace, where it is no longer than an input may be, it says just these steps.
 abbrev pub AreRecords : TraceValue → List ℕ → List ℕ → Type 0
 AreRecords t text lines =
-    (given : List (Option (List StepValue))) × AreMade t t.entries given × (text ≡ records_text t.entries given) × (lines ≡ given_up_lines t.entries given)
+    (given : List (Option (List StepValue))) × AreMade t t.entries given
+    × (text ≡ records_text t.entries given) × (lines ≡ given_up_lines t.entries given)
     × (length text ≤ 2 ^ 30 → evidence_of t.entries true text ≡ Ok given)
 
 -- the bytes say a trace, and the records that are made for it went out
 abbrev pub MakesRecords : List ℕ → List ℕ → List ℕ → List ℕ → Type 0
-MakesRecords a old new lines = (t : TraceValue) × (trace_of true a ≡ Ok t) × (text : List ℕ) × AreRecords t text lines × (new ≡ old ++ text)
+MakesRecords a old new lines =
+    (t : TraceValue) × (trace_of true a ≡ Ok t) × (text : List ℕ) × AreRecords t text lines × (new ≡ old ++ text)
 
 -- the bytes say a trace, and the records that are made for it went out up to their first n bytes
 abbrev pub BreaksMaking : List ℕ → Writing → ℕ → Type 0
 BreaksMaking a out n =
-    (t : TraceValue) × (trace_of true a ≡ Ok t) × (text : List ℕ) × (lines : List ℕ) × AreRecords t text lines × FailsWriting out n text
+    (t : TraceValue) × (trace_of true a ≡ Ok t) × (text : List ℕ) × (lines : List ℕ) × AreRecords t text lines
+    × FailsWriting out n text

@@ -1,5 +1,5 @@
 -- What an audit says on evidence that is made for its trace.
-use Rattle.std.specs.Prelude.{◌≡◌, ◌⊎◌, ℕ, true, List, ◌++◌, Option, Some, Result, Ok, OnOk, slice_get, All, Contains, ⊤}
+use Rattle.std.specs.Prelude.{◌≡◌, ◌⊎◌, ℕ, true, List, ◌++◌, Option, Some, Ok, slice_get, All, Contains, ⊤}
 use Rattle.trace_lines.specs.Values.{TraceValue, EntryValue}
 use Rattle.trace_lines.specs.Traces.{trace_of}
 use Rattle.evidence_check.specs.Judged.{judged}
@@ -10,12 +10,7 @@ use Rattle.findings.specs.Findings.{found_where, findings_of}
 use Rattle.findings.specs.declared.finding.Finding.{Finding}
 use Rattle.findings.specs.declared.finding.What.{What}
 use Rattle.findings.specs.declared.finding.What.TheVariants.{NoEvidence, BadEvidence, Silent, WrongReply}
-use Rattle.audit.specs.Answers.{TellsOfTrace}
-use Rattle.audit.specs.Devices.{Reading, Writing, FailsWriting, OfAll}
-use Rattle.findings.specs.Headline.{IsTraceRightAndFresh}
-use Rattle.findings.specs.WrongReplies.{HasOnlyWrongRepliesNamed}
-use Rattle.audit.specs.declared.plain.AuditFault.{AuditFault}
-use Rattle.audit.specs.declared.plain.Verdict.TheVariants.{Clean}
+use Rattle.audit.specs.Devices.{Writing, FailsWriting}
 use Rattle.audit.specs.Audit.{report_on, verdict_of}
 use Rattle.audit.specs.Made.{IsMade, AreMade, IsOutOfReach}
 use Rattle.audit.specs.declared.shared.Found.{Found}
@@ -32,7 +27,9 @@ IsFoundMade t i found = (e : EntryValue) → slice_get t.entries i ≡ Some e
 
 -- the bytes say a trace, and P holds of it and of evidence that is made for it
 abbrev pub OfMade : (TraceValue → List (Option (List StepValue)) → Type 0) → List ℕ → Type 0
-OfMade P a = (t : TraceValue) × (given : List (Option (List StepValue))) × (trace_of true a ≡ Ok t) × AreMade t t.entries given × P t given
+OfMade P a =
+    (t : TraceValue) × (given : List (Option (List StepValue)))
+    × (trace_of true a ≡ Ok t) × AreMade t t.entries given × P t given
 
 -- the report on it went out, and the verdict is its last line
 abbrev pub AuditsMade : List ℕ → List ℕ → List ℕ → Verdict → Type 0
@@ -44,7 +41,9 @@ BreaksMade a out n = OfMade (λ t given. FailsWriting out n (report_on t given))
 
 -- the bytes say a trace, and whatever evidence is made for it, P holds of the findings
 abbrev pub WhateverIsMade : (TraceValue → List Finding → Type 0) → List ℕ → Type 0
-WhateverIsMade P a = (t : TraceValue) × (trace_of true a ≡ Ok t) × ((given : List (Option (List StepValue))) → AreMade t t.entries given → P t (findings_of t given))
+WhateverIsMade P a =
+    (t : TraceValue) × (trace_of true a ≡ Ok t)
+    × ((given : List (Option (List StepValue))) → AreMade t t.entries given → P t (findings_of t given))
 
 -- an entry that the maker gave up stands on the line
 pub record IsGivenUp (t : TraceValue) (line : ℕ) : Type 0 where
@@ -75,20 +74,3 @@ IsSettled t findings e =
 -- so it is with each entry: no wrong reply is missed among those that the maker settles
 abbrev pub MissesNoWrongReply : TraceValue → List Finding → Type 0
 MissesNoWrongReply t findings = All (IsSettled t findings) t.entries
-
--- An audit of a trace by evidence that is made for it.
-pub record AuditedMade (trace : Reading) (out : Writing) (result : Result Verdict AuditFault) : Type 0 where
-  -- the report on all that the reader gave, and on evidence that was made for it, went out whole, and the verdict is its
-  -- last line
-  pub tells : TellsOfTrace AuditsMade BreaksMade trace out result
-  -- A clean verdict says that each reply is what the rules mean over the tuples committed up to its snapshot, and that
-  -- no check is older than its zookie, nor than any access change committed before the content check of the version that
-  -- it names.
-  pub headline : result ≡ Ok Clean → OfAll trace IsTraceRightAndFresh
-  -- whatever the verdict: a reply that a finding F10 calls wrong is wrong
-  pub wrong_replies : OnOk result (OfAll trace (WhateverIsMade HasOnlyWrongRepliesNamed))
-  -- whatever the verdict: F7 is found only where the maker gave up, and F8 and F9 nowhere
-  pub given_up : OnOk result (OfAll trace (WhateverIsMade AreOfMaker))
-  -- whatever the verdict: a reply that is not what the rules mean has an F10, but for an entry that the maker gave up, which
-  -- has an F7
-  pub complete : OnOk result (OfAll trace (WhateverIsMade MissesNoWrongReply))

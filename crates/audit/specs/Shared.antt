@@ -12,14 +12,17 @@ use Rattle.audit.specs.declared.shared.TheConstants.{LARGEST_SLICE}
 
 -- 1 to 16 workers, and slices of 1 to 4,096 entries
 abbrev pub are_within_limits : ℕ → ℕ → Bool
-are_within_limits workers slice = (nat_le 1 workers && nat_le workers MOST_WORKERS) && (nat_le 1 slice && nat_le slice LARGEST_SLICE)
+are_within_limits workers slice =
+    (nat_le 1 workers && nat_le workers MOST_WORKERS) && (nat_le 1 slice && nat_le slice LARGEST_SLICE)
 
 abbrev pub nothing_found : Found
 nothing_found = record { line = 0; what = [] }
 
 -- what is found on entry i, and its line
 abbrev pub found_at : TraceValue → List (Option (List StepValue)) → ℕ → Found
-found_at t evidence i = option_map_or (λ e. record { line = e.line; what = found_on t evidence i e }) (slice_get t.entries i) nothing_found
+found_at t evidence i =
+    option_map_or (λ e. record { line = e.line; what = found_on t evidence i e })
+    (slice_get t.entries i) nothing_found
 
 -- that of each entry, in order
 abbrev pub all_found : TraceValue → List (Option (List StepValue)) → List Found

@@ -1,14 +1,16 @@
 //! The audit by several workers that tells of findings while it runs.
 
-ghost use Rattle.std.specs.Prelude.{◌≡◌, ◌⊎◌, ◌↔◌, ◌<◌, ◌≤◌, ◌+◌, ◌++◌, ℕ, Bool, List, Option, slice_get, true, false, length, Ok, Err, IfOk, IfErr, OnOk, string_bytes};
+ghost use Rattle.std.specs.Prelude.{◌≡◌, ◌⊎◌, ◌↔◌, ◌<◌, ◌≤◌, ◌+◌, [], ◌∷◌, ◌++◌, ℕ, Bool, List, Option, slice_get, true, false, length, Ok, Err, IfOk, IfErr, OnOk, string_bytes};
 ghost use Rattle.std.specs.List.{flat_map};
 ghost use Rattle.audit_slices.specs.Board.{IsNamedBy};
 ghost use Rattle.audit_slices.specs.Reports.{report_items};
 ghost use Rattle.evidence_check.specs.Evidences.{evidence_value};
 ghost use Rattle.audit.specs.Answers.{Audited};
-ghost use Rattle.audit.specs.Audit.{IsOfAudit, IsOfBytes};
+ghost use Rattle.audit.specs.Audit.{IsOfBytes};
 ghost use Rattle.audit.specs.Devices.{reads, writes, OfBoth};
 ghost use Rattle.audit.specs.Early.{WriterState, WentOut, TellsEarly, state_of};
+ghost use Rattle.audit.specs.Kinds.{IsOneOf};
+ghost use Rattle.audit.specs.Kinds as kind;
 ghost use Rattle.audit.specs.Shared.{found_at, has_finding, all_found, are_within_limits};
 ghost use Rattle.audit.specs.Told.{IsLineOf, line_for};
 ghost use Rattle.audit.specs.declared.plain.AuditFault.TheVariants as faults;
@@ -46,7 +48,8 @@ struct Teller<'e, E: Sink, N: Names<Found> + Begun> {
     alloc: Global,
     given_up: bool,
     names: PhantomData<N>,
-    ghost told: { ∥ WentOut (IsLineOf N.gives N.alerts) N.begun (state_of E.taken E.failures E.idle E.since early.now) given_up ∥₁ },
+    ghost told: { ∥ WentOut (IsLineOf N.gives N.alerts) N.begun
+        (state_of E.taken E.failures E.idle E.since early.now) given_up ∥₁ },
 }
 
 fn first_of(found: &Found) -> Option<Finding>
@@ -103,8 +106,10 @@ fn found_watched<N: Names<Found> + Sync, W: Watch<Found, N>, R: Threads + Wait +
 ) -> Result<Vec<SliceReport<Found>>, AllocError>
     requires workers { (0 < workers) × (workers ≤ 16) }
     requires size { 0 < size }
-    requires names { IsNamedBy (λ entry found. found ≡ found_at trace.now (evidence_value evidence.now) entry) has_finding N.gives N.alerts }
-    ensures found { IfOk result (λ v. flat_map report_items v.items ≡ all_found trace.now (evidence_value evidence.now)) }
+    requires names { IsNamedBy (λ entry found. found ≡ found_at trace.now (evidence_value evidence.now) entry)
+        has_finding N.gives N.alerts }
+    ensures found { IfOk result
+        (λ v. flat_map report_items v.items ≡ all_found trace.now (evidence_value evidence.now)) }
     ensures mark { W.mark watch.new ≡ W.mark watch.old }
 {
     let entries = trace.len();
@@ -138,10 +143,13 @@ fn found_early<N: Names<Found> + Begun + Sync, E: Sink, R: Threads + Wait + Sync
 ) -> Result<Vec<SliceReport<Found>>, AllocError>
     requires workers { (0 < workers) × (workers ≤ 16) }
     requires size { 0 < size }
-    requires names { IsNamedBy (λ entry found. found ≡ found_at trace.now (evidence_value evidence.now) entry) has_finding N.gives N.alerts }
+    requires names { IsNamedBy (λ entry found. found ≡ found_at trace.now (evidence_value evidence.now) entry)
+        has_finding N.gives N.alerts }
     requires begun { N.begun ≡ state_of E.taken E.failures E.idle E.since early.old }
-    ensures found { IfOk result (λ v. flat_map report_items v.items ≡ all_found trace.now (evidence_value evidence.now)) }
-    ensures early { (given_up : Bool) × ∥ WentOut (IsLineOf N.gives N.alerts) N.begun (state_of E.taken E.failures E.idle E.since early.new) given_up ∥₁ }
+    ensures found { IfOk result
+        (λ v. flat_map report_items v.items ≡ all_found trace.now (evidence_value evidence.now)) }
+    ensures early { (given_up : Bool) × ∥ WentOut (IsLineOf N.gives N.alerts) N.begun
+        (state_of E.taken E.failures E.idle E.since early.new) given_up ∥₁ }
 {
     let mut teller: Teller<'_, E, N> = Teller {
         early,
@@ -152,7 +160,8 @@ fn found_early<N: Names<Found> + Begun + Sync, E: Sink, R: Threads + Wait + Sync
     found_watched::<N, Teller<'_, E, N>, R>(rt, alloc, trace, evidence, &mut teller, workers, size)
 }
 
-/// The findings on each entry, in line order and by their numbers, by several workers, of which lines go to `early` as they come.
+/// The findings on each entry, in line order and by their numbers, by several workers, of which lines go to `early`
+/// as they come.
 fn findings_early<E: Sink, R: Threads + Wait + Sync>(
     rt: &R,
     alloc: Global,
@@ -165,7 +174,8 @@ fn findings_early<E: Sink, R: Threads + Wait + Sync>(
     requires workers { (0 < workers) × (workers ≤ 16) }
     requires size { 0 < size }
     ensures found { IfOk result (λ v. v.items ≡ findings_of trace.now (evidence_value evidence.now)) }
-    ensures early { TellsEarly trace.now (evidence_value evidence.now) (state_of E.taken E.failures E.idle E.since early.old) (state_of E.taken E.failures E.idle E.since early.new) }
+    ensures early { TellsEarly trace.now (evidence_value evidence.now)
+        (state_of E.taken E.failures E.idle E.since early.old) (state_of E.taken E.failures E.idle E.since early.new) }
 {
     let reports = found_early::<Brand, E, R>(rt, alloc, trace, evidence, early, workers, size)?;
     gathered(alloc, reports.as_slice())
@@ -190,7 +200,9 @@ impl<'r, 'e, B: Source, R: Threads + Wait + Sync, E: Sink> Finder<B> for Tellers
 
     ghost mark = { λ t. t.early.ghost_name };
 
-    ghost tells = { λ t given old new. TellsEarly t given (state_of E.taken E.failures E.idle E.since old.early.now) (state_of E.taken E.failures E.idle E.since new.early.now) };
+    ghost tells = { λ t given old new. TellsEarly t given
+        (state_of E.taken E.failures E.idle E.since old.early.now)
+        (state_of E.taken E.failures E.idle E.since new.early.now) };
 
     fn findings(
         &mut self,
@@ -218,11 +230,12 @@ impl<'r, 'e, B: Source, R: Threads + Wait + Sync, E: Sink> Finder<B> for Tellers
     }
 }
 
-/// Audits as [`audit`](crate::audit) does, and tells of findings as they come: for each alert that the pool shows, a line goes to
-/// `early`, which is `early ` and the report line of the first finding on an entry.
+/// Audits as [`audit`](crate::audit) does, and tells of findings as they come: for each alert that the pool shows, a
+/// line goes to `early`, which is `early ` and the report line of the first finding on an entry.
 ///
-/// The lines come in the order in which the workers find them, and each is flushed. A line that finds no memory is dropped. Where
-/// `early` fails or takes no byte nothing more is written there, and the audit goes on: its answer is that of `audit`.
+/// The lines come in the order in which the workers find them, and each is flushed. A line that finds no memory is
+/// dropped. Where `early` fails or takes no byte nothing more is written there, and the audit goes on: its answer is
+/// that of `audit`.
 pub fn audit_early<A: Source, B: Source, W: Sink, E: Sink, R: Threads + Wait + Sync>(
     rt: &R,
     alloc: Global,
@@ -236,7 +249,7 @@ pub fn audit_early<A: Source, B: Source, W: Sink, E: Sink, R: Threads + Wait + S
     ensures audited { Audited (reads A.given A.ends A.failures A.remaining trace.old trace.new)
         (reads B.given B.ends B.failures B.remaining evidence.old evidence.new)
         (writes W.taken W.flushes W.failures W.idle W.contents out.old out.new) result }
-    ensures kinds { IfErr result (λ e. IsOfAudit e ⊎ (e ≡ faults.Limits)) }
+    ensures kinds { IfErr result (IsOneOf (kind.trace ∷ kind.evidence ∷ kind.write ∷ kind.memory ∷ kind.limits ∷ [])) }
     ensures limits { result ≡ Err faults.Limits ↔ (are_within_limits workers slice ≡ false) }
     ensures unread { result ≡ Err faults.Limits →
         (trace.new ≡ trace.old) × (evidence.new ≡ evidence.old) × (out.new ≡ out.old) × (early.new ≡ early.old) }

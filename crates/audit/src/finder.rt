@@ -4,7 +4,7 @@ ghost use Rattle.std.specs.Prelude.{◌≡◌, ◌⊎◌, ℕ, true, List, Optio
 ghost use Rattle.trace_lines.specs.Values.{TraceValue};
 ghost use Rattle.evidence_check.specs.Reading.{evidence_of};
 ghost use Rattle.evidence_check.specs.Steps.{StepValue};
-ghost use Rattle.audit.specs.Answers.{AreFound, EvidenceRead};
+ghost use Rattle.audit.specs.Parts.{AreFound, EvidenceRead};
 ghost use Rattle.audit.specs.Devices.{reads, OfAll};
 
 use crate::plain::AuditFault;
@@ -35,7 +35,8 @@ pub(crate) trait Finder<B: Source> {
         ensures read { EvidenceRead (AreFound trace.now) trace.now
             (reads B.given B.ends B.failures B.remaining evidence.old evidence.new) result }
         ensures mark { mark self.new ≡ mark self.old }
-        ensures tells { (self.new ≡ self.old) ⊎ OfAll (reads B.given B.ends B.failures B.remaining evidence.old evidence.new)
+        ensures tells { (self.new ≡ self.old)
+            ⊎ OfAll (reads B.given B.ends B.failures B.remaining evidence.old evidence.new)
             (λ b. (given : List (Option (List StepValue))) × (evidence_of trace.now.entries true b ≡ Ok given)
             × tells trace.now given self.old self.new) };
 }

@@ -1,12 +1,14 @@
 //! Evidence for a whole trace, as text.
 
-ghost use Rattle.std.specs.Prelude.{◌≡◌, ℕ, ◌<◌, ◌^◌, ◌++◌, List, length, Some, IfOk, IfErr, OnOk, IfSome, option_map, slice_get, string_bytes};
+ghost use Rattle.std.specs.Prelude.{◌≡◌, ℕ, ◌<◌, ◌^◌, [], ◌∷◌, ◌++◌, List, length, Some, IfOk, IfErr, OnOk, IfSome, option_map, slice_get, string_bytes};
 ghost use Rattle.trace_lines.specs.Values.{EntryValue};
 ghost use Rattle.evidence_check.specs.Steps.{step_values};
 ghost use Rattle.record_text.specs.ReadBack.{IsTaken};
-ghost use Rattle.audit.specs.Answers.{Told, TellsOfTrace};
+ghost use Rattle.audit.specs.Answers.{TellsOfTrace};
+ghost use Rattle.audit.specs.Parts.{Told};
 ghost use Rattle.audit.specs.Devices.{reads, writes};
-ghost use Rattle.audit.specs.History.{IsOfHistory};
+ghost use Rattle.audit.specs.Kinds.{IsOneOf};
+ghost use Rattle.audit.specs.Kinds as kind;
 ghost use Rattle.audit.specs.Made.{IsMade, record_line, line_without, AreRecords, MakesRecords, BreaksMaking};
 
 use crate::plain::AuditFault;
@@ -19,7 +21,8 @@ use record_text::write_record;
 use std::alloc::{AllocError, Global};
 use trace_lines::Trace;
 
-/// The steps that are made for entry `i`, by what was found for another or by a search, or none where the maker gave up.
+/// The steps that are made for entry `i`, by what was found for another or by a search, or none where the maker gave
+/// up.
 pub(crate) fn steps_for(
     alloc: Global,
     trace: &Trace,
@@ -27,7 +30,8 @@ pub(crate) fn steps_for(
     found: Option<Found<'_>>,
 ) -> Result<Option<Steps>, AllocError>
     requires { i < length trace.now.entries }
-    ensures { IfOk result (λ o. (e : EntryValue) → slice_get trace.now.entries i ≡ Some e → IsMade trace.now e (option_map (λ v. step_values v.items) o)) }
+    ensures { IfOk result (λ o. (e : EntryValue) → slice_get trace.now.entries i ≡ Some e
+        → IsMade trace.now e (option_map (λ v. step_values v.items) o)) }
 {
     match make_after(alloc, trace, i, found) {
         Ok(steps) => Ok(Some(steps)),
@@ -43,7 +47,8 @@ fn push_record(
     text: &mut String,
     given_up: &mut Vec<u64>,
 ) -> Result<(), AllocError>
-    ensures text { OnOk result (string_bytes text.new ≡ string_bytes text.old ++ record_line line (option_map (λ v. step_values v.now.items) steps.entry)) }
+    ensures text { OnOk result (string_bytes text.new ≡ string_bytes text.old
+        ++ record_line line (option_map (λ v. step_values v.now.items) steps.entry)) }
     ensures given_up { OnOk result (given_up.new.items ≡ given_up.old.items
         ++ line_without line (option_map (λ v. step_values v.now.items) steps.entry)) }
     // As a line of evidence it says the same steps.
@@ -114,7 +119,7 @@ pub fn make_records_listing<A: Source, W: Sink>(
     ensures told { TellsOfTrace (λ a old new v. MakesRecords a old new v.items) BreaksMaking
         (reads A.given A.ends A.failures A.remaining trace.old trace.new)
         (writes W.taken W.flushes W.failures W.idle W.contents out.old out.new) result }
-    ensures kinds { IfErr result IsOfHistory }
+    ensures kinds { IfErr result (IsOneOf (kind.trace ∷ kind.write ∷ kind.memory ∷ [])) }
 {
     let trace = match trace_from(alloc, trace) {
         Ok(trace) => trace,
@@ -125,12 +130,13 @@ pub fn make_records_listing<A: Source, W: Sink>(
     answer
 }
 
-/// Writes evidence for a trace: a record for each entry in order, a line each. An entry that the maker gave up has none, and how many these are
-/// is the answer.
+/// Writes evidence for a trace: a record for each entry in order, a line each. An entry that the maker gave up has
+/// none, and how many these are is the answer.
 ///
-/// By its record each entry is supported or contradicted, so that an audit with this evidence finds `F7` on the entries that were given up, and `F8`
-/// and `F9` nowhere. The text is whole before its first byte is written, and a flush is asked for behind its last; nothing is written where
-/// the trace is refused or memory runs out. A trace is refused as by an audit.
+/// By its record each entry is supported or contradicted, so that an audit with this evidence finds `F7` on the
+/// entries that were given up, and `F8` and `F9` nowhere. The text is whole before its first byte is written, and a
+/// flush is asked for behind its last; nothing is written where the trace is refused or memory runs out. A trace is
+/// refused as by an audit.
 pub fn make_records<A: Source, W: Sink>(
     alloc: Global,
     trace: &mut A,
@@ -140,7 +146,7 @@ pub fn make_records<A: Source, W: Sink>(
         (λ a old new n. (lines : List ℕ) × MakesRecords a old new lines × (n ≡ length lines)) BreaksMaking
         (reads A.given A.ends A.failures A.remaining trace.old trace.new)
         (writes W.taken W.flushes W.failures W.idle W.contents out.old out.new) result }
-    ensures kinds { IfErr result IsOfHistory }
+    ensures kinds { IfErr result (IsOneOf (kind.trace ∷ kind.write ∷ kind.memory ∷ [])) }
 {
     match make_records_listing(alloc, trace, out) {
         Ok(given_up) => Ok(given_up.len() as u64),

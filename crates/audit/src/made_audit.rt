@@ -1,6 +1,6 @@
 //! The audit on evidence that is made for its trace.
 
-ghost use Rattle.std.specs.Prelude.{◌≡◌, ◌⊎◌, ◌↔◌, ◌<◌, ◌≤◌, ◌^◌, List, Option, Some, length, slice_get, false, Err, IfOk, IfErr};
+ghost use Rattle.std.specs.Prelude.{◌≡◌, ◌↔◌, ◌<◌, ◌≤◌, ◌^◌, [], ◌∷◌, List, Option, Some, length, slice_get, false, Err, IfOk, IfErr};
 ghost use Rattle.std.specs.List.{AllZip, flat_map, range_with_len};
 ghost use Rattle.trace_lines.specs.Values.{EntryValue};
 ghost use Rattle.audit_slices.specs.Board.{IsNamedBy};
@@ -8,9 +8,11 @@ ghost use Rattle.audit_slices.specs.Reports.{report_items};
 ghost use Rattle.evidence_check.specs.Steps.{StepValue};
 ghost use Rattle.findings.specs.Findings.{findings_of};
 ghost use Rattle.audit.specs.Devices.{reads, writes};
-ghost use Rattle.audit.specs.History.{IsOfHistory};
+ghost use Rattle.audit.specs.Kinds.{IsOneOf};
+ghost use Rattle.audit.specs.Kinds as kind;
 ghost use Rattle.audit.specs.Made.{AreMade};
-ghost use Rattle.audit.specs.MadeAudit.{AuditedMade, IsJudgedMade, IsFoundMade};
+ghost use Rattle.audit.specs.Answers.{AuditedMade};
+ghost use Rattle.audit.specs.MadeAudit.{IsJudgedMade, IsFoundMade};
 ghost use Rattle.audit.specs.Shared.{has_finding, are_within_limits};
 ghost use Rattle.audit.specs.declared.plain.AuditFault.TheVariants as faults;
 
@@ -79,7 +81,8 @@ fn found_making(alloc: Global, trace: &Trace, i: usize) -> Result<Found, AllocEr
 /// How evidence that is made for entry `i` judges it.
 fn judgement_made(alloc: Global, trace: &Trace, i: usize) -> Result<Judged, AllocError>
     requires { i < length trace.now.entries }
-    ensures { IfOk result (λ j. (e : EntryValue) → slice_get trace.now.entries i ≡ Some e → IsJudgedMade trace.now e j) }
+    ensures { IfOk result
+        (λ j. (e : EntryValue) → slice_get trace.now.entries i ≡ Some e → IsJudgedMade trace.now e j) }
 {
     match steps_for(alloc, trace, i, None)? {
         Some(steps) => judge_steps(trace, trace.entry(i), &steps),
@@ -98,7 +101,8 @@ fn found_made<N: Names<Found> + Sync, R: Threads + Wait + Sync>(
     requires workers { (0 < workers) × (workers ≤ 16) }
     requires size { 0 < size }
     requires names { IsNamedBy (IsFoundMade trace.now) has_finding N.gives N.alerts }
-    ensures { IfOk result (λ v. AllZip (IsFoundMade trace.now) (range_with_len 0 (length trace.now.entries)) (flat_map report_items v.items)) }
+    ensures { IfOk result (λ v. AllZip (IsFoundMade trace.now)
+        (range_with_len 0 (length trace.now.entries)) (flat_map report_items v.items)) }
 {
     let entries = trace.len();
     let check = MakingCheck {
@@ -129,7 +133,8 @@ fn findings_made<R: Threads + Wait + Sync>(
 ) -> Result<Vec<Finding>, AllocError>
     requires workers { (0 < workers) × (workers ≤ 16) }
     requires size { 0 < size }
-    ensures { IfOk result (λ v. (given : List (Option (List StepValue))) × AreMade trace.now trace.now.entries given × (v.items ≡ findings_of trace.now given)) }
+    ensures { IfOk result (λ v. (given : List (Option (List StepValue)))
+        × AreMade trace.now trace.now.entries given × (v.items ≡ findings_of trace.now given)) }
 {
     let reports = found_made::<Brand, R>(rt, alloc, trace, workers, size)?;
     gathered(alloc, reports.as_slice())
@@ -148,7 +153,7 @@ fn audit_made_by<A: Source, W: Sink, R: Threads + Wait + Sync>(
     requires size { 0 < size }
     ensures made { AuditedMade (reads A.given A.ends A.failures A.remaining trace.old trace.new)
         (writes W.taken W.flushes W.failures W.idle W.contents out.old out.new) result }
-    ensures kinds { IfErr result IsOfHistory }
+    ensures kinds { IfErr result (IsOneOf (kind.trace ∷ kind.write ∷ kind.memory ∷ [])) }
 {
     let trace = match trace_from(alloc, trace) {
         Ok(trace) => trace,
@@ -164,14 +169,16 @@ fn audit_made_by<A: Source, W: Sink, R: Threads + Wait + Sync>(
     }
 }
 
-/// Audits a trace by evidence that is made for it in place, and never written. The report is that of [`audit`](crate::audit) on such evidence: `F7`
-/// is found only on the line of an entry that the maker gave up, and `F8` and `F9` nowhere.
+/// Audits a trace by evidence that is made for it in place, and never written. The report is that of
+/// [`audit`](crate::audit) on such evidence: `F7` is found only on the line of an entry that the maker gave up, and
+/// `F8` and `F9` nowhere.
 ///
-/// 1 to 16 workers, the calling thread among them, share the entries, in slices of 1 to 4,096. Each makes the evidence for an entry, judges
-/// the entry by it and lets it go, so that no more of it stands in memory than one entry's for each worker.
+/// 1 to 16 workers, the calling thread among them, share the entries, in slices of 1 to 4,096. Each makes the
+/// evidence for an entry, judges the entry by it and lets it go, so that no more of it stands in memory than one
+/// entry's for each worker.
 ///
-/// `Limits` is answered where there are other numbers of workers or entries in a slice, and then nothing is read or written. A trace is refused
-/// as by [`audit`](crate::audit), and nothing is written where it is or memory runs out.
+/// `Limits` is answered where there are other numbers of workers or entries in a slice, and then nothing is read or
+/// written. A trace is refused as by [`audit`](crate::audit), and nothing is written where it is or memory runs out.
 pub fn audit_made<A: Source, W: Sink, R: Threads + Wait + Sync>(
     rt: &R,
     alloc: Global,
@@ -182,7 +189,7 @@ pub fn audit_made<A: Source, W: Sink, R: Threads + Wait + Sync>(
 ) -> Result<Verdict, AuditFault>
     ensures made { AuditedMade (reads A.given A.ends A.failures A.remaining trace.old trace.new)
         (writes W.taken W.flushes W.failures W.idle W.contents out.old out.new) result }
-    ensures kinds { IfErr result (λ e. IsOfHistory e ⊎ (e ≡ faults.Limits)) }
+    ensures kinds { IfErr result (IsOneOf (kind.trace ∷ kind.write ∷ kind.memory ∷ kind.limits ∷ [])) }
     ensures limits { result ≡ Err faults.Limits ↔ (are_within_limits workers slice ≡ false) }
     ensures unread { result ≡ Err faults.Limits → (trace.new ≡ trace.old) × (out.new ≡ out.old) }
 {

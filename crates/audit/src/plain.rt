@@ -1,10 +1,13 @@
 //! The audit on one thread.
 
-ghost use Rattle.std.specs.Prelude.{◌≡◌, ◌⊎◌, Ok, IfErr};
+ghost use Rattle.std.specs.Prelude.{◌≡◌, ◌⊎◌, [], ◌∷◌, Ok, IfErr};
 ghost use Rattle.evidence_check.specs.Evidences.{evidence_value};
-ghost use Rattle.audit.specs.Answers.{Audited, Told, IsReport};
-ghost use Rattle.audit.specs.Audit.{IsOfAudit, IsOfBytes};
+ghost use Rattle.audit.specs.Answers.{Audited};
+ghost use Rattle.audit.specs.Parts.{Told, IsReport};
+ghost use Rattle.audit.specs.Audit.{IsOfBytes};
 ghost use Rattle.audit.specs.Devices.{reads, writes, OfBoth};
+ghost use Rattle.audit.specs.Kinds.{IsOneOf};
+ghost use Rattle.audit.specs.Kinds as kind;
 ghost use Rattle.audit.specs.declared.plain.AuditFault.TheVariants as faults;
 ghost use Rattle.audit.specs.declared.plain.Verdict.TheVariants.{Clean};
 ghost use Rattle.findings.specs.Findings.{findings_of};
@@ -93,7 +96,7 @@ pub(crate) fn audit_with<A: Source, B: Source, W: Sink, F: Finder<B>>(
     ensures audited { Audited (reads A.given A.ends A.failures A.remaining trace.old trace.new)
         (reads B.given B.ends B.failures B.remaining evidence.old evidence.new)
         (writes W.taken W.flushes W.failures W.idle W.contents out.old out.new) result }
-    ensures kinds { IfErr result IsOfAudit }
+    ensures kinds { IfErr result (IsOneOf (kind.trace ∷ kind.evidence ∷ kind.write ∷ kind.memory ∷ [])) }
     ensures mark { F.mark finder.new ≡ F.mark finder.old }
     // It is asked once at most, by what the readers gave.
     ensures tells { (finder.new ≡ finder.old)
@@ -131,7 +134,7 @@ pub fn audit_plain<A: Source, B: Source, W: Sink>(
     ensures audited { Audited (reads A.given A.ends A.failures A.remaining trace.old trace.new)
         (reads B.given B.ends B.failures B.remaining evidence.old evidence.new)
         (writes W.taken W.flushes W.failures W.idle W.contents out.old out.new) result }
-    ensures kinds { IfErr result IsOfAudit }
+    ensures kinds { IfErr result (IsOneOf (kind.trace ∷ kind.evidence ∷ kind.write ∷ kind.memory ∷ [])) }
 {
     audit_with(alloc, trace, evidence, out, &mut OneThread)
 }

@@ -1,15 +1,17 @@
 //! What an audit reads.
 
-ghost use Rattle.std.specs.Prelude.{◌≡◌, ◌≢◌, List, Option};
+ghost use Rattle.std.specs.Prelude.{◌≡◌, ◌≢◌, List, [], ◌∷◌, Option};
 ghost use Rattle.trace_lines.specs.declared.cause.Cause.TheVariants as causes;
 ghost use Rattle.trace_lines.specs.declared.cause.TraceFault.{TraceFault};
 ghost use Rattle.evidence_check.specs.declared.cause.EvidenceCause.TheVariants as evidence_causes;
 ghost use Rattle.evidence_check.specs.declared.cause.EvidenceFault.{EvidenceFault};
 ghost use Rattle.evidence_check.specs.Evidences.{evidence_value};
 ghost use Rattle.evidence_check.specs.Judging.{AreJudged};
-ghost use Rattle.audit.specs.Answers.{TraceRead, EvidenceRead};
-ghost use Rattle.audit.specs.Audit.{IsOfNoDevice, IsOfTrace, IsOfEvidence};
+ghost use Rattle.audit.specs.Parts.{TraceRead, EvidenceRead};
+ghost use Rattle.audit.specs.Audit.{BlamesNoDevice};
 ghost use Rattle.audit.specs.Devices.{reads};
+ghost use Rattle.audit.specs.Kinds.{IsOneOf};
+ghost use Rattle.audit.specs.Kinds as kind;
 ghost use Rattle.audit.specs.declared.plain.AuditFault.TheVariants as faults;
 
 use crate::plain::AuditFault;
@@ -33,8 +35,8 @@ pub(crate) fn trace_from<R: Source>(alloc: Global, reader: &mut R) -> Result<Tra
 /// A fault of the trace, where out of memory is told as such.
 pub(crate) fn of_trace(fault: TraceFault) -> AuditFault
     ensures same { (f : TraceFault) → result ≡ faults.Trace f → f ≡ fault }
-    ensures device { IsOfNoDevice result → fault.cause ≢ causes.Read }
-    ensures kinds { IsOfTrace result }
+    ensures device { BlamesNoDevice result → fault.cause ≢ causes.Read }
+    ensures kinds { IsOneOf (kind.trace ∷ kind.memory ∷ []) result }
 {
     match fault.cause {
         Cause::OutOfMemory => AuditFault::OutOfMemory,
@@ -45,8 +47,8 @@ pub(crate) fn of_trace(fault: TraceFault) -> AuditFault
 /// A fault of the evidence, where out of memory is told as such.
 pub(crate) fn of_evidence(fault: EvidenceFault) -> AuditFault
     ensures same { (f : EvidenceFault) → result ≡ faults.Evidence f → f ≡ fault }
-    ensures device { IsOfNoDevice result → fault.cause ≢ evidence_causes.Read }
-    ensures kinds { IsOfEvidence result }
+    ensures device { BlamesNoDevice result → fault.cause ≢ evidence_causes.Read }
+    ensures kinds { IsOneOf (kind.evidence ∷ kind.memory ∷ []) result }
 {
     match fault.cause {
         EvidenceCause::OutOfMemory => AuditFault::OutOfMemory,

@@ -1,13 +1,14 @@
 //! The audit by several workers, who share the entries.
 
-ghost use Rattle.std.specs.Prelude.{◌≡◌, ◌⊎◌, ◌↔◌, ◌<◌, ◌≤◌, ◌^◌, ◌++◌, ℕ, List, Option, length, true, false, Err, IfOk, IfErr, OnOk, is_some};
+ghost use Rattle.std.specs.Prelude.{◌≡◌, ◌↔◌, ◌<◌, ◌≤◌, ◌^◌, [], ◌∷◌, ◌++◌, ℕ, List, Option, length, true, false, Err, IfOk, IfErr, OnOk, is_some};
 ghost use Rattle.std.specs.List.{flat_map, list_any};
 ghost use Rattle.audit_slices.specs.Board.{IsNamedBy};
 ghost use Rattle.audit_slices.specs.Reports.{report_items};
 ghost use Rattle.evidence_check.specs.Evidences.{evidence_value};
 ghost use Rattle.audit.specs.Answers.{Audited};
-ghost use Rattle.audit.specs.Audit.{IsOfAudit};
 ghost use Rattle.audit.specs.Devices.{reads, writes};
+ghost use Rattle.audit.specs.Kinds.{IsOneOf};
+ghost use Rattle.audit.specs.Kinds as kind;
 ghost use Rattle.audit.specs.Shared.{found_at, has_finding, all_found, found_lines, are_within_limits};
 ghost use Rattle.audit.specs.declared.plain.AuditFault.TheVariants as faults;
 ghost use Rattle.findings.specs.Findings.{findings_of};
@@ -106,7 +107,8 @@ fn found_by<N: Names<Found> + Sync, R: Threads + Wait + Sync>(
 ) -> Result<Vec<SliceReport<Found>>, AllocError>
     requires workers { (0 < workers) × (workers ≤ 16) }
     requires size { 0 < size }
-    requires names { IsNamedBy (λ entry found. found ≡ found_at trace.now (evidence_value evidence.now) entry) has_finding N.gives N.alerts }
+    requires names { IsNamedBy (λ entry found. found ≡ found_at trace.now (evidence_value evidence.now) entry)
+        has_finding N.gives N.alerts }
     ensures { IfOk result (λ v. flat_map report_items v.items ≡ all_found trace.now (evidence_value evidence.now)) }
 {
     let entries = trace.len();
@@ -206,11 +208,12 @@ impl<'r, B: Source, R: Threads + Wait + Sync> Finder<B> for Workers<'r, R> {
     }
 }
 
-/// Audits a trace by its evidence as [`audit_plain`](crate::audit_plain) does, on 1 to 16 workers: the calling thread, and threads of
-/// their own. They share the entries, cut into slices of 1 to 4,096; the report stands in the order of the entries, whatever the
-/// schedule.
+/// Audits a trace by its evidence as [`audit_plain`](crate::audit_plain) does, on 1 to 16 workers: the calling
+/// thread, and threads of their own. They share the entries, cut into slices of 1 to 4,096; the report stands in the
+/// order of the entries, whatever the schedule.
 ///
-/// `Limits` is answered where there are other numbers of workers or entries in a slice, and then nothing is read or written.
+/// `Limits` is answered where there are other numbers of workers or entries in a slice, and then nothing is read or
+/// written.
 pub fn audit<A: Source, B: Source, W: Sink, R: Threads + Wait + Sync>(
     rt: &R,
     alloc: Global,
@@ -223,7 +226,7 @@ pub fn audit<A: Source, B: Source, W: Sink, R: Threads + Wait + Sync>(
     ensures audited { Audited (reads A.given A.ends A.failures A.remaining trace.old trace.new)
         (reads B.given B.ends B.failures B.remaining evidence.old evidence.new)
         (writes W.taken W.flushes W.failures W.idle W.contents out.old out.new) result }
-    ensures kinds { IfErr result (λ e. IsOfAudit e ⊎ (e ≡ faults.Limits)) }
+    ensures kinds { IfErr result (IsOneOf (kind.trace ∷ kind.evidence ∷ kind.write ∷ kind.memory ∷ kind.limits ∷ [])) }
     ensures limits { result ≡ Err faults.Limits ↔ (are_within_limits workers slice ≡ false) }
     ensures unread { result ≡ Err faults.Limits →
         (trace.new ≡ trace.old) × (evidence.new ≡ evidence.old) × (out.new ≡ out.old) }

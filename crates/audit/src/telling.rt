@@ -1,7 +1,7 @@
 //! What an audit writes.
 
 ghost use Rattle.std.specs.Prelude.{◌≡◌};
-ghost use Rattle.audit.specs.Answers.{Told};
+ghost use Rattle.audit.specs.Parts.{Told};
 ghost use Rattle.audit.specs.Audit.{verdict_of};
 ghost use Rattle.audit.specs.Devices.{writes};
 ghost use Rattle.findings.specs.Report.{report_text};

@@ -1,11 +1,14 @@
 //! The history of a tuple.
 
-ghost use Rattle.std.specs.Prelude.{◌≡◌, ◌++◌, length, IfOk, IfErr, OnOk, string_bytes};
+ghost use Rattle.std.specs.Prelude.{◌≡◌, [], ◌∷◌, ◌++◌, length, IfOk, IfErr, OnOk, string_bytes};
 ghost use Rattle.std.specs.List.{flat_map};
 ghost use Rattle.version_chains.specs.Commits.{history_of};
-ghost use Rattle.audit.specs.Answers.{Told, TellsOfTrace};
+ghost use Rattle.audit.specs.Answers.{TellsOfTrace};
+ghost use Rattle.audit.specs.Parts.{Told};
 ghost use Rattle.audit.specs.Devices.{reads, writes};
-ghost use Rattle.audit.specs.History.{touch_text, history_text, TellsHistory, BreaksHistory, IsOfHistory};
+ghost use Rattle.audit.specs.History.{touch_text, history_text, TellsHistory, BreaksHistory};
+ghost use Rattle.audit.specs.Kinds.{IsOneOf};
+ghost use Rattle.audit.specs.Kinds as kind;
 
 use crate::plain::AuditFault;
 use crate::reading::trace_from;
@@ -41,7 +44,8 @@ fn push_touches(touches: History<'_>, text: &mut String) -> Result<u64, AllocErr
 
 /// The text of a tuple's history, and how many touches that has.
 fn history_in(alloc: Global, trace: &Trace, tuple: &Tuple) -> Result<(String, u64), AllocError>
-    ensures { IfOk result (λ r. (string_bytes r.0 ≡ history_text trace.now.commits tuple.now) × (r.1 ≡ length (history_of trace.now.commits tuple.now))) }
+    ensures { IfOk result (λ r. (string_bytes r.0 ≡ history_text trace.now.commits tuple.now)
+        × (r.1 ≡ length (history_of trace.now.commits tuple.now))) }
 {
     let mut text = String::new(alloc);
     let count = push_touches(trace.chains().history(tuple), &mut text)?;
@@ -63,10 +67,11 @@ fn tell_history<W: Sink>(
     tell(text.as_str(), count, out)
 }
 
-/// Writes the history of a tuple in a trace, `T add` or `T remove` a line, the newest touch first, and answers how many touches there are.
+/// Writes the history of a tuple in a trace, `T add` or `T remove` a line, the newest touch first, and answers how
+/// many touches there are.
 ///
-/// The text is whole before its first byte is written, and a flush is asked for behind its last; nothing is written where the trace is refused or
-/// memory runs out. A trace is refused as by an audit.
+/// The text is whole before its first byte is written, and a flush is asked for behind its last; nothing is written
+/// where the trace is refused or memory runs out. A trace is refused as by an audit.
 pub fn history<A: Source, W: Sink>(
     alloc: Global,
     trace: &mut A,
@@ -76,7 +81,7 @@ pub fn history<A: Source, W: Sink>(
     ensures told { TellsOfTrace (λ a. TellsHistory a tuple.now) (λ a. BreaksHistory a tuple.now)
         (reads A.given A.ends A.failures A.remaining trace.old trace.new)
         (writes W.taken W.flushes W.failures W.idle W.contents out.old out.new) result }
-    ensures kinds { IfErr result IsOfHistory }
+    ensures kinds { IfErr result (IsOneOf (kind.trace ∷ kind.write ∷ kind.memory ∷ [])) }
 {
     let trace = match trace_from(alloc, trace) {
         Ok(trace) => trace,

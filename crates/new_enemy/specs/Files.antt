@@ -14,10 +14,12 @@ use Rattle.new_enemy.specs.Run.{SayNoTrace, SayNoAudit, OfEveryInput}
 use Rattle.new_enemy.specs.declared.run.Ran.{Ran}
 use Rattle.new_enemy.specs.declared.run.Ran.TheVariants as ran
 
--- All that the two files gave, to their ends, is a trace and evidence for it, and what a writer took is the report on them, with this verdict.
+-- All that the two files gave, to their ends, is a trace and evidence for it, and what a writer took is the report on
+-- them, with this verdict.
 abbrev pub IsAudit : {F : Type 0} → Verdict → (List ℕ → Type 0) → Counted F → Counted F → List ℕ → List ℕ → Type 0
 IsAudit v OfTrace trace evidence old new =
-    (stops_of trace ≡ 1) × (stops_of evidence ≡ 1) × Audits (moved_by trace) (moved_by evidence) old new v × OfTrace (moved_by trace)
+    (stops_of trace ≡ 1) × (stops_of evidence ≡ 1)
+    × Audits (moved_by trace) (moved_by evidence) old new v × OfTrace (moved_by trace)
 
 -- and the trace is right and fresh
 abbrev pub IsCleanAudit : {F : Type 0} → Counted F → Counted F → List ℕ → List ℕ → Type 0
@@ -26,9 +28,11 @@ IsCleanAudit trace evidence old new = IsAudit Clean IsTraceRightAndFresh trace e
 abbrev pub IsDirtyAudit : {F : Type 0} → Counted F → Counted F → List ℕ → List ℕ → Type 0
 IsDirtyAudit trace evidence old new = IsAudit Dirty (λ a. ⊤) trace evidence old new
 
--- All that the file gave, to its end, is a trace, and what a writer took is the report on it and on evidence that was made for it, with this verdict.
+-- All that the file gave, to its end, is a trace, and what a writer took is the report on it and on evidence that was
+-- made for it, with this verdict.
 abbrev pub IsAuditMade : {F : Type 0} → Verdict → (List ℕ → Type 0) → Counted F → List ℕ → List ℕ → Type 0
-IsAuditMade v OfTrace trace old new = (stops_of trace ≡ 1) × AuditsMade (moved_by trace) old new v × OfTrace (moved_by trace)
+IsAuditMade v OfTrace trace old new =
+    (stops_of trace ≡ 1) × AuditsMade (moved_by trace) old new v × OfTrace (moved_by trace)
 
 -- and the trace is right and fresh
 abbrev pub IsCleanAuditMade : {F : Type 0} → Counted F → List ℕ → List ℕ → Type 0

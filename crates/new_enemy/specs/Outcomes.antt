@@ -1,11 +1,11 @@
--- What an exit status says of a run, by what it read. A writer took `new` in all, of which it had `old` before; what the status says of joined
--- input is handed in.
+-- What an exit status says of a run, by what it read. A writer took `new` in all, of which it had `old` before; what
+-- the status says of joined input is handed in.
 use Rattle.std.specs.Prelude.{◌≡◌, ◌≢◌, ◌⊎◌, List, [], length, ℕ, ◌+◌, ◌<◌, ◌≤◌, ⊤}
 use Rattle.json_lines.specs.Devices.{moved_by}
 use Rattle.json_lines.specs.declared.lines.TheConstants.{CHUNK}
 use Rattle.json_lines.specs.declared.reading.TheConstants.{MAX_INPUT}
 use Rattle.tuple_text.specs.Tuples.{TupleValue}
-use Rattle.audit.specs.Devices.{Writing, WriterFailed, WriterHeld, IsUntouched, StandsBehind}
+use Rattle.audit.specs.Devices.{Writing, WriterFailed, WriterNeverFailed, IsUntouched, StandsBehind}
 use Rattle.new_enemy.specs.Files.{OfFiles, file_failures, IsCleanAudit, IsDirtyAudit, IsCleanAuditMade, IsDirtyAuditMade, IsMadeEvidence, IsToldHistory, IsNoTrace, IsNoAudit}
 use Rattle.new_enemy.specs.declared.run.Ran.{Ran}
 use Rattle.new_enemy.specs.declared.run.Ran.TheVariants as ran
@@ -45,9 +45,10 @@ HasReadNothing _ = ⊥
 -- What a status says of the devices of a run: of its files, and of the writer that its answer goes to.
 pub record SaysOfDevices {F : Type 0} (status : ℕ) (run : Ran F) (out : Writing) : Type 0 where
   pub flushed : status ≤ 1 → out.after.flushes ≡ out.before.flushes + 1
-  -- it is 5 only where a device failed, took none of some bytes, or could not be opened, and any other only where none did
+  -- it is 5 only where a device failed, took none of some bytes, or could not be opened, and any other only where
+  -- none did
   pub device : status ≡ 5 → run ≢ ran.Nothing → (0 < file_failures run) ⊎ WriterFailed out
-  pub kept : status ≢ 5 → (file_failures run ≡ 0) × WriterHeld out
+  pub kept : status ≢ 5 → (file_failures run ≡ 0) × WriterNeverFailed out
   pub unwritten : 2 ≤ status → status ≤ 4 → IsUntouched out
   -- also of files that never end
   pub most : OfFiles run (λ file. length (moved_by file) ≤ MAX_INPUT + CHUNK)

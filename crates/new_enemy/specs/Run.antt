@@ -20,7 +20,8 @@ use Rattle.audit.specs.declared.plain.AuditFault.TheVariants as faults
 -- the exit status of a fault: 2 for refused input, 3 for limits, 4 for out of memory, 5 for a device that failed
 abbrev pub IsStatus : AuditFault → ℕ → Type 0
 IsStatus (faults.Trace f) s = ((f.cause ≡ causes.Read) × (s ≡ 5)) ⊎ ((f.cause ≢ causes.Read) × (s ≡ 2))
-IsStatus (faults.Evidence f) s = ((f.cause ≡ evidence_causes.Read) × (s ≡ 5)) ⊎ ((f.cause ≢ evidence_causes.Read) × (s ≡ 2))
+IsStatus (faults.Evidence f) s =
+    ((f.cause ≡ evidence_causes.Read) × (s ≡ 5)) ⊎ ((f.cause ≢ evidence_causes.Read) × (s ≡ 2))
 IsStatus (faults.Write n) s = s ≡ 5
 IsStatus faults.OutOfMemory s = s ≡ 4
 IsStatus faults.Limits s = s ≡ 3
@@ -49,15 +50,17 @@ IsRefused input = HasNoParts input ⊎ OfParts SayNoAudit input
 
 -- ---- the program on its devices, by all that they gave and took
 
--- A fact of every input that a device may have: the bytes that it gave, and behind them any others, but none where it was at its end.
+-- A fact of every input that a device may have: the bytes that it gave, and behind them any others, but none where it
+-- was at its end.
 abbrev pub OfEveryInput : {R : Type 0} → Counted R → (List ℕ → Type 0) → Type 0
 OfEveryInput input P = (rest : List ℕ) → (0 < stops_of input → rest ≡ []) → P (moved_by input ++ rest)
 
--- All that was read, to its end, is a trace and evidence for it. All that was written is the report on them, with this verdict, and a flush was
--- asked for.
+-- All that was read, to its end, is a trace and evidence for it. All that was written is the report on them, with
+-- this verdict, and a flush was asked for.
 abbrev pub IsRun : {R W : Type 0} → Verdict → (List ℕ → Type 0) → Counted R → Counted W → Type 0
 IsRun v OfTrace input out =
-    (stops_of input ≡ 1) × (flushes_of out ≡ 1) × OfParts (λ a b. Audits a b [] (moved_by out) v × OfTrace a) (moved_by input)
+    (stops_of input ≡ 1) × (flushes_of out ≡ 1)
+    × OfParts (λ a b. Audits a b [] (moved_by out) v × OfTrace a) (moved_by input)
 
 -- and the trace is right and fresh
 abbrev pub IsCleanRun : {R W : Type 0} → Counted R → Counted W → Type 0

@@ -47,7 +47,8 @@ IsOfCommand word (ran.Made trace) = word ≡ Some (codes "make")
 IsOfCommand word (ran.Told trace) = word ≡ Some (codes "history")
 IsOfCommand word ran.Nothing = ⊤
 
--- The run is what its words ask for: a writer took `new` in all, of which it had `old` before. A plain word does not begin with a hyphen.
+-- The run is what its words ask for: a writer took `new` in all, of which it had `old` before. A plain word does not
+-- begin with a hyphen.
 pub record IsAsked {F : Type 0} (words : List (List ℕ)) (old new : List ℕ) (status : ℕ) (run : Ran F) : Type 0 where
   pub audit : (t e : List ℕ) → words ≡ codes "audit" ∷ t ∷ e ∷ [] → is_plain_word t ≡ true → is_plain_word e ≡ true
       → RanAudit status run

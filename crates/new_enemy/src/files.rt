@@ -1,10 +1,11 @@
 //! The commands that read files, by what these gave.
 
-ghost use Rattle.std.specs.Prelude.{◌≡◌, ◌≢◌, ◌⊎◌, ◌↔◌, ◌≤◌, [], false, Err, IfErr, OnOk};
+ghost use Rattle.std.specs.Prelude.{◌≡◌, ◌≢◌, ◌↔◌, ◌≤◌, [], ◌∷◌, false, Err, IfErr, OnOk};
 ghost use Rattle.json_lines.specs.Devices.{moved_by};
 ghost use Rattle.audit.specs.Answers.{Audited};
-ghost use Rattle.audit.specs.Audit.{IsOfAudit};
 ghost use Rattle.audit.specs.Devices.{reads, writes};
+ghost use Rattle.audit.specs.Kinds.{IsOneOf};
+ghost use Rattle.audit.specs.Kinds as kind;
 ghost use Rattle.audit.specs.Shared.{are_within_limits};
 ghost use Rattle.audit.specs.declared.plain.AuditFault.TheVariants as faults;
 ghost use Rattle.new_enemy.specs.Run.{IsStatus, IsStatusOf};
@@ -56,7 +57,7 @@ fn audit_sharing<A: Source, B: Source, W: Sink, E: Sink, P: Threads + Wait + Syn
     ensures audited { Audited (reads A.given A.ends A.failures A.remaining trace.old trace.new)
         (reads B.given B.ends B.failures B.remaining evidence.old evidence.new)
         (writes W.taken W.flushes W.failures W.idle W.contents out.old out.new) result }
-    ensures kinds { IfErr result (λ e. IsOfAudit e ⊎ (e ≡ faults.Limits)) }
+    ensures kinds { IfErr result (IsOneOf (kind.trace ∷ kind.evidence ∷ kind.write ∷ kind.memory ∷ kind.limits ∷ [])) }
     ensures limits { result ≡ Err faults.Limits ↔ (are_within_limits sharing.workers sharing.slice ≡ false) }
     ensures unread { result ≡ Err faults.Limits → (trace.new ≡ trace.old) × (evidence.new ≡ evidence.old) }
 {
@@ -72,8 +73,8 @@ fn audit_sharing<A: Source, B: Source, W: Sink, E: Sink, P: Threads + Wait + Syn
     }
 }
 
-/// Audits a trace by its evidence, writes the report to `out`, and hands the two back with what they gave. Early alerts go to `err`, and a fault
-/// is told there in one line.
+/// Audits a trace by its evidence, writes the report to `out`, and hands the two back with what they gave. Early
+/// alerts go to `err`, and a fault is told there in one line.
 pub fn run_audit<F: Read, W: Sink, E: Sink, P: Threads + Wait + Sync>(
     rt: &P,
     alloc: Global,
@@ -83,8 +84,8 @@ pub fn run_audit<F: Read, W: Sink, E: Sink, P: Threads + Wait + Sync>(
     out: &mut W,
     err: &mut E,
 ) -> (u8, Counted<F>, Counted<F>)
-    // All that the trace's file gave, to its end, is a trace that is right and fresh, all that the evidence's gave is evidence for it, and
-    // the report on them went out whole.
+    // All that the trace's file gave, to its end, is a trace that is right and fresh, all that the evidence's gave is
+    // evidence for it, and the report on them went out whole.
     ensures clean { result.0 ≡ 0 → IsCleanAudit result.1 result.2 (W.taken out.old) (W.taken out.new) }
     ensures dirty { result.0 ≡ 1 → IsDirtyAudit result.1 result.2 (W.taken out.old) (W.taken out.new) }
     ensures limits { result.0 ≡ 3 ↔ (are_within_limits sharing.workers sharing.slice ≡ false) }
@@ -100,8 +101,8 @@ pub fn run_audit<F: Read, W: Sink, E: Sink, P: Threads + Wait + Sync>(
     (status_with(answer, err), trace, evidence)
 }
 
-/// The status of the answer of `make`. How many entries have no evidence is told to `err`, and with `list` before it the line of each; a fault
-/// is told there in one line.
+/// The status of the answer of `make`. How many entries have no evidence is told to `err`, and with `list` before it
+/// the line of each; a fault is told there in one line.
 fn status_made<E: Sink>(answer: Result<Vec<u64>, AuditFault>, list: bool, err: &mut E) -> u8
     ensures done { OnOk answer (result ≡ 0) }
     ensures fault { IfErr answer (λ e. IsStatus e result) }
@@ -119,8 +120,8 @@ fn status_made<E: Sink>(answer: Result<Vec<u64>, AuditFault>, list: bool, err: &
     }
 }
 
-/// Audits a trace by evidence that is made for it, writes the report to `out`, and hands the trace's file back with what it gave. A fault is told to
-/// `err` in one line; there are no early alerts.
+/// Audits a trace by evidence that is made for it, writes the report to `out`, and hands the trace's file back with
+/// what it gave. A fault is told to `err` in one line; there are no early alerts.
 pub fn run_audit_made<F: Read, W: Sink, E: Sink, P: Threads + Wait + Sync>(
     rt: &P,
     alloc: Global,
@@ -129,8 +130,8 @@ pub fn run_audit_made<F: Read, W: Sink, E: Sink, P: Threads + Wait + Sync>(
     out: &mut W,
     err: &mut E,
 ) -> (u8, Counted<F>)
-    // All that the trace's file gave, to its end, is a trace that is right and fresh, and the report on it and on evidence that was made for it went
-    // out whole.
+    // All that the trace's file gave, to its end, is a trace that is right and fresh, and the report on it and on
+    // evidence that was made for it went out whole.
     ensures clean { result.0 ≡ 0 → IsCleanAuditMade result.1 (W.taken out.old) (W.taken out.new) }
     ensures dirty { result.0 ≡ 1 → IsDirtyAuditMade result.1 (W.taken out.old) (W.taken out.new) }
     ensures limits { result.0 ≡ 3 ↔ (are_within_limits sharing.workers sharing.slice ≡ false) }
@@ -145,8 +146,8 @@ pub fn run_audit_made<F: Read, W: Sink, E: Sink, P: Threads + Wait + Sync>(
     (status_with(answer, err), trace)
 }
 
-/// Writes evidence for a trace to `out`, and hands the trace's file back with what it gave. How many entries have none is told to `err`, and with
-/// `list` before it the line of each; a fault is told there in one line.
+/// Writes evidence for a trace to `out`, and hands the trace's file back with what it gave. How many entries have
+/// none is told to `err`, and with `list` before it the line of each; a fault is told there in one line.
 pub fn run_make<F: Read, W: Sink, E: Sink>(
     alloc: Global,
     trace: F,
@@ -181,7 +182,8 @@ fn status_told<E: Sink>(answer: Result<u64, AuditFault>, err: &mut E) -> u8
     }
 }
 
-/// Writes a tuple's history in a trace to `out`, and hands the trace's file back with what it gave. A fault is told to `err` in one line.
+/// Writes a tuple's history in a trace to `out`, and hands the trace's file back with what it gave. A fault is told
+/// to `err` in one line.
 pub fn run_history<F: Read, W: Sink, E: Sink>(
     alloc: Global,
     trace: F,

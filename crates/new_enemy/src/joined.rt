@@ -24,11 +24,14 @@ pub fn run_joined<R: Source, W: Sink, E: Sink>(
     err: &mut E,
 ) -> u8
     // The report on the whole input went out, and the status is its verdict.
-    ensures clean { result ≡ 0 → OfWhole R.given R.ends input.old input.new (OfParts (λ a b. Audits a b (W.taken out.old) (W.taken out.new) Clean)) }
-    ensures dirty { result ≡ 1 → OfWhole R.given R.ends input.old input.new (OfParts (λ a b. Audits a b (W.taken out.old) (W.taken out.new) Dirty)) }
+    ensures clean { result ≡ 0 → OfWhole R.given R.ends input.old input.new
+        (OfParts (λ a b. Audits a b (W.taken out.old) (W.taken out.new) Clean)) }
+    ensures dirty { result ≡ 1 → OfWhole R.given R.ends input.old input.new
+        (OfParts (λ a b. Audits a b (W.taken out.old) (W.taken out.new) Dirty)) }
     ensures flushed { result ≤ 1 → W.flushes out.new ≡ W.flushes out.old + 1 }
     // Status 0 says that the trace is right and fresh, as the headline of an audit.
-    ensures headline { result ≡ 0 → OfWhole R.given R.ends input.old input.new (OfParts (λ a b. IsTraceRightAndFresh a)) }
+    ensures headline { result ≡ 0
+        → OfWhole R.given R.ends input.old input.new (OfParts (λ a b. IsTraceRightAndFresh a)) }
     // Of every input that begins with the bytes that came.
     ensures refused { result ≡ 2 → OfInput R.given R.ends input.old input.new IsRefused }
     ensures device { result ≡ 5 → HasRisen (R.failures input.old) (R.failures input.new)
@@ -40,7 +43,8 @@ pub fn run_joined<R: Source, W: Sink, E: Sink>(
     ensures unwritten { 2 ≤ result → result ≤ 4 → W.taken out.new ≡ W.taken out.old }
     // Also of input that never ends.
     ensures most { OfBytes R.given input.old input.new (λ came. length came ≤ MAX_INPUT + CHUNK) }
-    // Of devices in memory: what came is what the reader had left, and what went out stands behind what the writer held.
+    // Of devices in memory: what came is what the reader had left, and what went out stands behind what the writer
+    // held.
     ensures known { AreNext R.given R.ends R.remaining input.old input.new }
     ensures held { StandBehind W.taken W.contents out.old out.new }
     ensures statuses { (result ≤ 5) × (result ≢ 3) }

@@ -151,12 +151,12 @@ fn history_in_path<W: Sink, E: Sink, P: Files>(
     (status, Ran::Told(trace))
 }
 
-/// Runs the program on the words after its name, and answers its exit status and what it read: 0 for clean, for evidence that is made, for a
-/// history that is told and for help that went out, 1 for dirty, 2 for refused input, 3 for usage, 4 for out of memory, 5 for a device that failed
-/// and a file that could not be opened.
+/// Runs the program on the words after its name, and answers its exit status and what it read: 0 for clean, for
+/// evidence that is made, for a history that is told and for help that went out, 1 for dirty, 2 for refused input, 3
+/// for usage, 4 for out of memory, 5 for a device that failed and a file that could not be opened.
 ///
-/// Without words it audits joined input. A report, evidence, a history or the text of help goes to `out`; a fault is told to `err` in one line, and a
-/// failure of `err` changes nothing else.
+/// Without words it audits joined input. A report, evidence, a history or the text of help goes to `out`; a fault is
+/// told to `err` in one line, and a failure of `err` changes nothing else.
 pub fn run_words<R: Source, W: Sink, E: Sink, P: Files + Threads + Wait + Sync>(
     rt: &P,
     alloc: Global,
@@ -170,17 +170,20 @@ pub fn run_words<R: Source, W: Sink, E: Sink, P: Files + Threads + Wait + Sync>(
     ensures asked { IsAsked (map string_bytes words.now) (W.taken out.old) (W.taken out.new) result.0 result.1 }
     // The report on all that was read went out, its verdict is clean, and the trace is right and fresh.
     ensures clean { result.0 ≡ 0 → HasSucceeded
-        (OfWhole R.given R.ends input.old input.new (OfParts (λ a b. Audits a b (W.taken out.old) (W.taken out.new) Clean))
+        (OfWhole R.given R.ends input.old input.new
+        (OfParts (λ a b. Audits a b (W.taken out.old) (W.taken out.new) Clean))
         × OfWhole R.given R.ends input.old input.new (OfParts (λ a b. IsTraceRightAndFresh a)))
         (W.taken out.old) (W.taken out.new) result.1 }
     ensures dirty { result.0 ≡ 1 → HasFoundDirty
-        (OfWhole R.given R.ends input.old input.new (OfParts (λ a b. Audits a b (W.taken out.old) (W.taken out.new) Dirty)))
+        (OfWhole R.given R.ends input.old input.new
+        (OfParts (λ a b. Audits a b (W.taken out.old) (W.taken out.new) Dirty)))
         (W.taken out.old) (W.taken out.new) result.1 }
     ensures flushed { result.0 ≤ 1 → W.flushes out.new ≡ W.flushes out.old + 1 }
     // Of every input that begins with the bytes that came.
     ensures refused { result.0 ≡ 2 → HasRefused (OfInput R.given R.ends input.old input.new IsRefused) result.1 }
     ensures used { result.0 ≡ 3 → HasReadNothing result.1 }
-    ensures device { result.0 ≡ 5 → result.1 ≢ ran.Nothing → (HasRisen (R.failures input.old) (R.failures input.new) ⊎ (0 < file_failures result.1))
+    ensures device { result.0 ≡ 5 → result.1 ≢ ran.Nothing
+        → (HasRisen (R.failures input.old) (R.failures input.new) ⊎ (0 < file_failures result.1))
         ⊎ (HasRisen (W.failures out.old) (W.failures out.new) ⊎ HasRisen (W.idle out.old) (W.idle out.new)) }
     // Any other status comes only where no device failed, and no write took nothing.
     ensures kept { result.0 ≢ 5 → (R.failures input.new ≡ R.failures input.old) × (file_failures result.1 ≡ 0)
@@ -189,8 +192,10 @@ pub fn run_words<R: Source, W: Sink, E: Sink, P: Files + Threads + Wait + Sync>(
     ensures unread { result.1 ≢ ran.Joined → input.new ≡ input.old }
     ensures unwritten { 2 ≤ result.0 → result.0 ≤ 4 → W.taken out.new ≡ W.taken out.old }
     // Also of input that never ends.
-    ensures most { OfBytes R.given input.old input.new (λ came. length came ≤ MAX_INPUT + CHUNK) × OfFiles result.1 (λ file. length (moved_by file) ≤ MAX_INPUT + CHUNK) }
-    // Of devices in memory: what came is what the reader had left, and what went out stands behind what the writer held.
+    ensures most { OfBytes R.given input.old input.new (λ came. length came ≤ MAX_INPUT + CHUNK)
+        × OfFiles result.1 (λ file. length (moved_by file) ≤ MAX_INPUT + CHUNK) }
+    // Of devices in memory: what came is what the reader had left, and what went out stands behind what the writer
+    // held.
     ensures known { AreNext R.given R.ends R.remaining input.old input.new }
     ensures held { StandBehind W.taken W.contents out.old out.new }
     ensures statuses { result.0 ≤ 5 }
@@ -256,18 +261,20 @@ pub fn run_on<R: Read, W: Write, E: Write, P: Files + Threads + Wait + Sync>(
     ensures joined { result.1 ≡ ran.Joined ↔ words.now ≡ [] }
     // Words that name an audit are run as one, and so on: status 0 where nothing was read is help alone.
     ensures asked { IsAsked (map string_bytes words.now) [] (moved_by result.2.1) result.0 result.1 }
-    // All that was read, to its end, is a trace and evidence for it, all that was written is the report on them, and the trace is right
-    // and fresh.
+    // All that was read, to its end, is a trace and evidence for it, all that was written is the report on them, and
+    // the trace is right and fresh.
     ensures clean { result.0 ≡ 0 → HasSucceeded (IsCleanRun result.2.0 result.2.1) [] (moved_by result.2.1) result.1 }
     ensures dirty { result.0 ≡ 1 → HasFoundDirty (IsDirtyRun result.2.0 result.2.1) [] (moved_by result.2.1) result.1 }
     ensures refused { result.0 ≡ 2 → HasRefused (OfEveryInput result.2.0 IsRefused) result.1 }
     ensures used { result.0 ≡ 3 → HasReadNothing result.1 }
-    ensures device { result.0 ≡ 5 → result.1 ≢ ran.Nothing → 0 < (failures_of result.2.0 + file_failures result.1) + (failures_of result.2.1 + stops_of result.2.1) }
+    ensures device { result.0 ≡ 5 → result.1 ≢ ran.Nothing
+        → 0 < (failures_of result.2.0 + file_failures result.1) + (failures_of result.2.1 + stops_of result.2.1) }
     ensures kept { result.0 ≢ 5 → (failures_of result.2.0 ≡ 0) × (file_failures result.1 ≡ 0)
         × (failures_of result.2.1 ≡ 0) × (stops_of result.2.1 ≡ 0) }
     ensures unread { result.1 ≢ ran.Joined → (moved_by result.2.0 ≡ []) × (failures_of result.2.0 ≡ 0) }
     ensures unwritten { 2 ≤ result.0 → result.0 ≤ 4 → moved_by result.2.1 ≡ [] }
-    ensures most { (length (moved_by result.2.0) ≤ MAX_INPUT + CHUNK) × OfFiles result.1 (λ file. length (moved_by file) ≤ MAX_INPUT + CHUNK) }
+    ensures most { (length (moved_by result.2.0) ≤ MAX_INPUT + CHUNK)
+        × OfFiles result.1 (λ file. length (moved_by file) ≤ MAX_INPUT + CHUNK) }
     ensures statuses { result.0 ≤ 5 }
 {
     let mut input = Counted::new(input);

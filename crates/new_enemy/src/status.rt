@@ -79,8 +79,8 @@ pub fn tell_path<E: Sink>(err: &mut E, path: &str) {
     let _ = send(err, b"\n");
 }
 
-/// Writes how many entries have no evidence, where there are any, and with `list` before it the line of each. A failure of the writer
-/// changes nothing else.
+/// Writes how many entries have no evidence, where there are any, and with `list` before it the line of each. A
+/// failure of the writer changes nothing else.
 pub fn tell_given_up<E: Sink>(err: &mut E, lines: &[u64], list: bool) {
     if list {
         for line in lines {

@@ -9,14 +9,19 @@ use Rattle.audit.proofs.SharedLemmas.{found_are_findings}
 use Rattle.audit.proofs.early.findings_early.Goals as goal
 
 pub returns-in_err-reports-clause-early : goal.returns-in_err-reports-clause-early
-returns-in_err-reports-clause-early g c = of_entries c.args.trace.now (evidence_value c.args.evidence.now) _ _ c.found_early.ensures.early.0 c.found_early.ensures.early.1
+returns-in_err-reports-clause-early g c =
+    of_entries c.args.trace.now (evidence_value c.args.evidence.now) _ _ c.found_early.ensures.early.0
+    c.found_early.ensures.early.1
 
 pub returns-clause-early : goal.returns-clause-early
-returns-clause-early g c = of_entries c.args.trace.now (evidence_value c.args.evidence.now) _ _ c.found_early.ensures.early.0 c.found_early.ensures.early.1
+returns-clause-early g c =
+    of_entries c.args.trace.now (evidence_value c.args.evidence.now) _ _ c.found_early.ensures.early.0
+    c.found_early.ensures.early.1
 
 pub returns-clause-found : goal.returns-clause-found
 returns-clause-found g c =
     let t = c.args.trace.now in
     let evidence = evidence_value c.args.evidence.now in
     IfOk-weaker c.gathered.result _ (λ v. v.items ≡ findings_of t evidence)
-    (λ v is. found_are_findings t evidence _ v.items is (ap (flat_map report_items) c.as_slice.ensures.value ∙ c.in_ok-reports.ensures.found)) c.gathered.ensures
+    (λ v is. found_are_findings t evidence _ v.items is
+    (ap (flat_map report_items) c.as_slice.ensures.value ∙ c.in_ok-reports.ensures.found)) c.gathered.ensures

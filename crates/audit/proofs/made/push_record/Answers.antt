@@ -6,5 +6,7 @@ use Rattle.audit.proofs.made.push_record.Goals as goal
 
 pub returns-in_ok-write_record-in-Some-clause-taken : goal.returns-in_ok-write_record-in-Some-clause-taken
 returns-in_ok-write_record-in-Some-clause-taken c =
-    let taken = subst (λ (l : List Step). IsTaken c.args.line (step_values l)) c.deref.ensures.value c.in_ok-write_record-in-Some.ensures.taken in
+    let taken =
+    subst (λ (l : List Step). IsTaken c.args.line (step_values l)) c.deref.ensures.value
+    c.in_ok-write_record-in-Some.ensures.taken in
     rw c.in-Some.is taken

@@ -11,8 +11,11 @@ use Rattle.audit.proofs.made_audit.found_made.Goals as goal
 pub returns : goal.returns
 returns g c =
     let t = c.args.trace.now in
-    IfOk-weaker c.run_pool.result _ (λ v. AllZip (IsFoundMade t) (range_with_len 0 (length t.entries)) (flat_map report_items v.items))
-    (λ v each. subst (λ (entries : List ℕ). AllZip (IsFoundMade t) entries (flat_map report_items v.items)) (c.in_ok-slices.ensures.entries ∙ ap (range_with_len 0) c.len-entries.ensures.count) each) c.run_pool.ensures.all
+    IfOk-weaker c.run_pool.result _
+    (λ v. AllZip (IsFoundMade t) (range_with_len 0 (length t.entries)) (flat_map report_items v.items))
+    (λ v each. subst (λ (entries : List ℕ). AllZip (IsFoundMade t) entries (flat_map report_items v.items))
+    (c.in_ok-slices.ensures.entries ∙ ap (range_with_len 0) c.len-entries.ensures.count) each)
+    c.run_pool.ensures.all
 
 pub run_pool-requires-sync-C : goal.run_pool-requires-sync-C
 run_pool-requires-sync-C g c = λ κs h. search (sendable, crosses, trace_sync) depth 40

@@ -12,4 +12,5 @@ returns g c =
     let t = c.args.trace.now in
     let evidence = evidence_value c.args.evidence.now in
     IfOk-weaker c.gathered.result _ (λ v. v.items ≡ findings_of t evidence)
-    (λ v is. found_are_findings t evidence _ v.items is (ap (flat_map report_items) c.as_slice.ensures.value ∙ c.in_ok-reports.ensures)) c.gathered.ensures
+    (λ v is. found_are_findings t evidence _ v.items is
+    (ap (flat_map report_items) c.as_slice.ensures.value ∙ c.in_ok-reports.ensures)) c.gathered.ensures

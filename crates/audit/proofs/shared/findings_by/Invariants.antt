@@ -5,4 +5,6 @@ use Rattle.audit.proofs.shared.findings_by.Given as goal
 
 -- what may be given to an entry is what is found on it in this trace, by this evidence
 abbrev pub ghosts-found_by : goal.ghosts-found_by
-ghosts-found_by g a = record { gives = λ entry found. found ≡ found_at a.trace.now (evidence_value a.evidence.now) entry; alerts = has_finding }
+ghosts-found_by g a =
+    record
+    { gives = λ entry found. found ≡ found_at a.trace.now (evidence_value a.evidence.now) entry; alerts = has_finding }

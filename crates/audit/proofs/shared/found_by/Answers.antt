@@ -15,7 +15,9 @@ returns g c =
     let t = c.args.trace.now in
     let evidence = evidence_value c.args.evidence.now in
     IfOk-weaker c.run_pool.result _ (λ v. flat_map report_items v.items ≡ all_found t evidence)
-    (λ v each. all_are_found t evidence _ (flat_map report_items v.items) (c.in_ok-slices.ensures.entries ∙ ap (range_with_len 0) c.len-entries.ensures.count) each) c.run_pool.ensures.all
+    (λ v each. all_are_found t evidence _ (flat_map report_items v.items)
+    (c.in_ok-slices.ensures.entries ∙ ap (range_with_len 0) c.len-entries.ensures.count) each)
+    c.run_pool.ensures.all
 
 pub run_pool-requires-sync-C : goal.run_pool-requires-sync-C
 run_pool-requires-sync-C g c = λ κs h. search (sendable, crosses, trace_sync) depth 40 fits 100000

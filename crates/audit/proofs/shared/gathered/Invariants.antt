@@ -5,4 +5,6 @@ use Rattle.audit.specs.Shared.{found_lines}
 use Rattle.audit.proofs.shared.gathered.Given as goal
 
 abbrev pub invariant-loop-report : goal.invariant-loop-report
-invariant-loop-report l = l.findings.items ++ found_lines (flat_map report_items (drop l.report-index l.reports)) ≡ found_lines (flat_map report_items l.reports)
+invariant-loop-report l =
+    l.findings.items ++ found_lines (flat_map report_items (drop l.report-index l.reports)) ≡ found_lines
+    (flat_map report_items l.reports)
