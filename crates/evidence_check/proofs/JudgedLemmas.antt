@@ -22,7 +22,7 @@ use Rattle.namespaces.proofs.AlikeLemmas.{alike_back}
 use Rattle.judgement.specs.Asked.{Does}
 use Rattle.judgement.specs.Judgement.{KnownValue, Established, Refuted}
 use Rattle.judgement.proofs.AlikeLemmas.{alike_established, alike_refuted}
-use Rattle.evidence_check.specs.Accepted.{nothing_known, IsDisproved, IsAccepted, AreAccepted, after_step, after_steps, IsTrueOf}
+use Rattle.evidence_check.specs.Accepted.{nothing_known, IsAccepted, AreAccepted, after_step, after_steps, IsTrueOf}
 use Rattle.evidence_check.specs.Decided.{decided, dec_accepted}
 use Rattle.evidence_check.specs.Judged.{is_accepted, first_bad, is_among, by_reply, by_goal, by_steps, judged}
 use Rattle.evidence_check.specs.Laws.{HasValidStrataAt}

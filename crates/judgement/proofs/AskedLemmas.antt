@@ -1,10 +1,10 @@
 -- What follows for a rule from what was asked of its parts.
-use Rattle.std.proofs.Common.{◌≡◌, ℕ, Bool, true, false, not, ◌||◌, ◌&&◌, IsTrue, ◌↔◌, List, [], ◌∷◌, ◌++◌, refl, sym, ◌∙◌, subst, inl, inr, arith, true≢false}
+use Rattle.std.proofs.Common.{◌≡◌, ℕ, Bool, true, false, not, ◌||◌, ◌&&◌, IsTrue, ◌↔◌, List, [], ◌∷◌, ◌++◌, refl, sym, ◌∙◌, ap, subst, inl, inr, arith, true≢false}
 use mathlib.Core.Bool.{beq}
 use Rattle.std.proofs.lemmas.List.Elements.{Contains-append_left, Contains-append_right, Contains-append_cases}
-use Rattle.std.specs.Prelude.{Contains, ◌⊎◌}
+use Rattle.std.specs.Prelude.{Contains}
 use Rattle.tuple_text.specs.Tuples.{FactValue}
-use Rattle.namespaces.specs.Alike.{Leaves, gives, bars}
+use Rattle.namespaces.specs.Alike.{Leaves}
 use Rattle.namespaces.specs.Expression.{Expression, union, inter, minus}
 use Rattle.namespaces.specs.Lookup.{rule_at}
 use Rattle.namespaces.specs.Parts.{part_at}
@@ -78,6 +78,23 @@ goes_on true false rest h = refl
 goes_on false true rest h = refl
 goes_on false false rest h = absurd (h refl)
 
+stops_behind : (stop d : Bool) → joined_does stop d stop ≡ stop
+stops_behind true true = refl
+stops_behind true false = refl
+stops_behind false true = refl
+stops_behind false false = refl
+
+-- one that stops decides, wherever it stands
+pub joined_stops : (l : Leaves) (stop g : Bool) (es : List Expression) (e : Expression) → Contains es e → does l g e ≡ stop
+    → does l g (joined_of stop g es) ≡ stop
+joined_stops l stop g [] e there is = absurd (omega (arith, there.1))
+joined_stops l stop g (x ∷ xs) e there is =
+    joined_step l stop g x xs ∙ elim (Contains-cons_cases x xs e there) [
+      | inl same ↦
+          ap (λ d. joined_does stop d (does l g (joined_of stop g xs))) (subst (λ y. does l g y ≡ stop) (sym same) is) ∙ stops stop (does l g (joined_of stop g xs))
+      | inr rest ↦ ap (joined_does stop (does l g x)) (joined_stops l stop g xs e rest is) ∙ stops_behind stop (does l g x)
+    ]
+
 pub union_joins : (g : Bool) (es : List Expression) → joined_of g g es ≡ union (children es)
 union_joins true es = refl
 union_joins false es = refl
@@ -139,6 +156,11 @@ module _ (trace : TraceValue) (at : ℕ) (known : KnownValue) (f : FactValue) wh
     right = one_more parts old a is;
     follows = λ l agrees. agrees a (Contains-append_right old (a ∷ []) a (0, omega arith, refl));
   }
+
+  -- nothing more is asked where what was asked decides
+  pub tells_at_once : (parts : List Expression) (asked : List Asked) (g : Bool) (e : Expression) (r : Bool) → Follows parts asked g e r
+      → Tells trace at known f parts asked asked g e r
+  tells_at_once parts asked g e r follows = record { more = λ b c. c; right = λ h. h; follows = follows }
 
   -- ---- nodes, one after the other: what is left decides
 

@@ -1,7 +1,7 @@
 -- What a pass over the stored usersets of a userset shows.
-use Rattle.std.proofs.Common.{◌≡◌, ℕ, ◌+◌, ◌<◌, length, arith, Bool, true, false, List, [], ◌∷◌, Option, ◌⊎◌, inl, inr, ◌↔◌, refl, sym, ◌∙◌, ap, subst, ◌||◌}
+use Rattle.std.proofs.Common.{map, option_map, ◌≡◌, ℕ, ◌+◌, ◌<◌, length, arith, Bool, true, false, List, [], ◌∷◌, Option, ◌⊎◌, inl, inr, ◌↔◌, refl, sym, ◌∙◌, ap, subst, ◌||◌}
 use Rattle.std.proofs.Math.Nat.{eq-or-lt_of_le}
-use Rattle.std.proofs.lemmas.Option.{slice_get_within, slice_get_read, get_or_from_slice_get}
+use Rattle.std.proofs.lemmas.Option.{slice_get_within, slice_get_read, slice_get-map, get_or_from_slice_get}
 use Rattle.std.specs.Prelude.{Contains, slice_get, Some}
 use Rattle.std.specs.List.{list_any}
 use Rattle.tuple_text.specs.Sets.{SetValue, set_eq}
@@ -64,6 +64,11 @@ element_at names k c h = (k, slice_get_within names k c h, get_or_from_slice_get
 
 pub place_of_element : {X : Type 0} (names : List X) (c : X) → Contains names c → (k : ℕ) × (k < length names) × (slice_get names k ≡ Some c)
 place_of_element names c (k, within, is) = (k, within, slice_get_read names (length names) k c refl within (sym is))
+
+pub mapped_element : {X Y : Type 0} (f : X → Y) (names : List X) (c : X) → Contains names c → Contains (map f names) (f c)
+mapped_element f names c there =
+    let p = place_of_element names c there in
+    element_at (map f names) p.0 (f c) (slice_get-map f names p.0 ∙ ap (option_map f) p.2)
 
 -- where each place was looked at, so was each element
 pub each_element : {X : Type 0} (P : X → Type 0) (names : List X) → ((k : ℕ) (c : X) → k < length names → slice_get names k ≡ Some c → P c)

@@ -1,20 +1,19 @@
 -- What is read through one tupleset.
-use Rattle.std.proofs.Common.{◌≡◌, ℕ, zero, suc, List, [], ◌∷◌, Option, None, Some, ◌↔◌, refl, inl, inr, map, arith, String, Global}
-use Rattle.std.specs.Prelude.{Contains, ◌⊎◌, string_bytes}
+use Rattle.std.proofs.Common.{◌≡◌, ℕ, zero, suc, List, [], ◌∷◌, None, Some, ◌↔◌, refl, inl, inr, map, arith, String, Global}
+use Rattle.std.specs.Prelude.{Contains, string_bytes}
 use Rattle.tuple_text.specs.Sets.{SetValue}
 use Rattle.tuple_text.specs.Tuples.{TupleValue, FactValue}
 use Rattle.namespaces.specs.Declaration.{Declaration}
 use Rattle.namespaces.specs.Expression.{Expression, tuple_to}
 use Rattle.namespaces.specs.InForce.{names_in_force}
-use Rattle.namespaces.specs.Lookup.{Lookup, Rule, rule_at, rule_of}
-use Rattle.namespaces.specs.Parts.{computed_names, each_shown, through_expression}
+use Rattle.namespaces.specs.Lookup.{Lookup, rule_at, rule_of}
+use Rattle.namespaces.specs.Parts.{computed_names, through_expression}
 use Rattle.namespaces.specs.View.{children}
 use Rattle.namespaces.specs.declared.parts.Through.{Through}
 use Rattle.strata.specs.Meaning.{with_relation}
-use Rattle.strata.proofs.Lists.{Contains-cons_cases}
 use Rattle.judgement.specs.Decided.{dec_undeclared}
 use Rattle.judgement.specs.Judgement.{KnownValue, Established, SomeEstablished, Refuted, EachRefuted}
-use Rattle.judgement.specs.Passes.{AreBarred, BarsId, BarsNames, IsLedByName, IsBarred, IsLed, target}
+use Rattle.judgement.specs.Passes.{AreBarred, BarsId, BarsNames, IsLedByName, IsLed, target}
 
 -- ---- the relations of a userset's namespace are enough to look at
 

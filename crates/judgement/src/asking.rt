@@ -1,10 +1,11 @@
 //! Rules that are judged by their parts, each of which is asked for once for a fact.
 
-ghost use Rattle.std.specs.Prelude.{◌↔◌, IsTrue, IfOk};
+ghost use Rattle.std.specs.Prelude.{◌↔◌, IsTrue, List, IfOk};
 ghost use Rattle.tuple_text.specs.Refs.{set_value};
 ghost use Rattle.tuple_text.specs.Tuples.{fact_of};
+ghost use Rattle.namespaces.specs.Expression.{Expression};
 ghost use Rattle.namespaces.specs.Parts.{part_at, parts_shown, node_expression, nodes_shown};
-ghost use Rattle.judgement.specs.Asked.{Does, Tells, joined_of};
+ghost use Rattle.judgement.specs.Asked.{Does, Follows, Tells, joined_of};
 
 use crate::answers::{Answers, Asked};
 use crate::fact::KnownFact;
@@ -78,7 +79,25 @@ pub(crate) fn ask<F: KnownFact>(
     Ok(answer)
 }
 
-/// Whether some of the nodes gives a fact, or rules it out; or where `stop` is false, whether each does. It looks no further than is needed.
+/// Whether one of the nodes is a part that was asked for, and its answer is the one that decides.
+fn is_decided(nodes: &Vec<Node>, stop: bool, is_given: bool, answers: &Answers) -> bool
+    ensures { IsTrue result → (parts : List Expression)
+        → Follows parts answers.now is_given (joined_of stop is_given (nodes_shown parts nodes.now.items)) stop }
+{
+    for node in nodes {
+        if let Node::Part(part) = node {
+            if let Some(answer) = answers.find(*part, is_given) {
+                if answer == stop {
+                    return true;
+                }
+            }
+        }
+    }
+    false
+}
+
+/// Whether some of the nodes gives a fact, or rules it out; or where `stop` is false, whether each does. It looks no further than is needed,
+/// and asks for nothing where what was asked for decides.
 #[cycle(node)]
 fn nodes_do<F: KnownFact>(
     parts: &[Part],
@@ -95,6 +114,9 @@ fn nodes_do<F: KnownFact>(
     ensures { IfOk result (λ r. Tells trace.now at known.now (fact_of (set_value set.entry.set) user) (parts_shown parts.now)
         answers.old answers.new is_given (joined_of stop is_given (nodes_shown (parts_shown parts.now) nodes.now.items)) r) }
 {
+    if is_decided(nodes, stop, is_given, answers) {
+        return Ok(stop);
+    }
     for node in nodes {
         let does = node_does(parts, node, is_given, set, user, trace, at, known, answers)?;
         if does == stop {

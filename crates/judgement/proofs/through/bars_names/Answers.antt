@@ -1,4 +1,4 @@
-use Rattle.std.proofs.Common.{◌≡◌, ℕ, List, Some, ◌∙◌, sym, refl, arith}
+use Rattle.std.proofs.Common.{Some, ◌∙◌, sym, refl, arith}
 use Rattle.std.specs.Prelude.{Contains}
 use Rattle.tuple_text.specs.Refs.{set_value}
 use Rattle.namespaces.specs.InForce.{names_in_force}
