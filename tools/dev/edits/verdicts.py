@@ -1,6 +1,8 @@
 """What a check with several edits says of each."""
 import re
 
+from edits.texts import modules_of
+
 REFUSED, PROVED, UNREAD, UNTOLD = "refused", "NOT REFUSED", "BAD EDIT", "not told"
 # A file of proofs names what the edit took away, and nothing else refuses it.
 NAMED = "REFUSED FOR A NAME"
@@ -16,13 +18,16 @@ LEFT = re.compile(r"fn \S+: no proof: expected answers in (?:\./)?proofs/(?:(\S+
 # Where a file of proofs names what is gone, the refusal shows nothing of a contract.
 NAMES = re.compile(r"has no field|is not in scope|has no `|was not admitted|is no name|\(nearest: ")
 CODE = re.compile(r"error\[[\w-]+\]")
-ENDS = re.compile(r"^(?:logic=|rattle: no verdict)", re.M)
+# The last line of a check, and the one where all that it was asked for is proved.
+ENDS = re.compile(r"^(?:logic=|only=|rattle: no verdict)", re.M)
+PROVES = re.compile(r"^(?:logic=proved|only=(\d+) proved=\1$)", re.M)
+
+# A function that a check was asked for by a name that is none of a single function.
+UNKNOWN = re.compile(r"^rattle: error: (?:several functions are named|`\w+` has no function) `", re.M)
 
 
-def module_of(file):
-    """The folder of proofs that goes with a file: of src/a/b.rt it is a/b, of the root file none."""
-    inner = file[len("src/"): -len(".rt")]
-    return "" if inner in ("lib", "main") else inner
+def is_unknown(text):
+    return bool(UNKNOWN.search(text))
 
 
 def stands_at(function, line):
@@ -33,7 +38,7 @@ def stands_at(function, line):
     proof = LEFT.match(line) or PROOF.match(line)
     if not proof or proof.re is PROOF and NAMES.search(proof[3]):
         return False
-    module, folder = module_of(function.file), proof[1] or ""
+    module, folder = "/".join(modules_of(function.file)), proof[1] or ""
     return proof[2] == function.proof and (not module or folder == module or folder.startswith(module + "/"))
 
 
@@ -68,7 +73,7 @@ def verdicts(edits, text):
     if not ENDS.search(text):
         faults = unread(edits, lines)
         return {it.path: (UNREAD, faults[it.path]) if it.path in faults else (UNTOLD, "") for it in edits}
-    if re.search(r"^logic=proved", text, re.M):
+    if PROVES.search(text):
         return {it.path: (PROVED, "") for it in edits}
     found = {it.path: refusal_of(it, lines, len(edits) == 1) for it in edits}
     return {path: (REFUSED, line) if line else (UNTOLD, "") for path, line in found.items()}
