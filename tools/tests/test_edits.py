@@ -151,6 +151,11 @@ class Edits(Case):
                 "`search` did not prove `returns`\n")
         self.assertEqual(self.word(bare + NOT_PROVED, "half_is_all", "lost_is_done"), [REFUSED, UNTOLD])
 
+    def test_another_method_of_that_name(self):
+        answers = "./proofs/lists/ListsOrd/done/Answers.antt:3:9: error: `returns`: the two types differ\n"
+        self.assertEqual(self.word(answers + NOT_PROVED, "done_is_lost", "half_is_all"), [UNTOLD, UNTOLD])
+        self.assertEqual(self.word(answers.replace("ListsOrd", "Lists") + NOT_PROVED, "done_is_lost", "half_is_all"), [REFUSED, UNTOLD])
+
     def test_refused_with_its_cycle(self):
         answers = "./proofs/lists/+parity/Answers.antt:3:9: error: `returns`: the two types differ\n"
         self.assertEqual(self.word(answers + NOT_PROVED, "even_is_odd", "half_is_all"), [REFUSED, UNTOLD])
@@ -162,6 +167,10 @@ class Edits(Case):
     def test_names_that_are_gone_show_nothing(self):
         gone = "./proofs/lists/half/Answers.antt:3:9: error: `returns`: `c.count` is not in scope\n"
         self.assertEqual(self.word(gone + NOT_PROVED, "half_is_all"), [UNTOLD])
+        rest = "./proofs/lists/half/Answers.antt:9:5: error: 1 declaration that depends on `returns`, which was rejected, was not checked: m\n"
+        self.assertEqual(self.word(rest + NOT_PROVED, "half_is_all"), [UNTOLD])
+        broken = "./proofs/lists/half/Answers.antt:3:9: error: `returns`: record `Rattle.low.After-half`\n  has no field `count`\n"
+        self.assertEqual(self.word(broken + NOT_PROVED, "half_is_all"), [UNTOLD])
 
     def test_a_lemma_refuses_an_edit_that_is_alone(self):
         lemma = "./proofs/Halves.antt:7:3: error: `half_of`: the two types differ\n"
