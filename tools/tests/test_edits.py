@@ -159,6 +159,9 @@ class Edits(Case):
     def test_refused_with_its_cycle(self):
         answers = "./proofs/lists/+parity/Answers.antt:3:9: error: `returns`: the two types differ\n"
         self.assertEqual(self.word(answers + NOT_PROVED, "even_is_odd", "half_is_all"), [REFUSED, UNTOLD])
+        # the place is that of the first attribute
+        place = "note: src/lists.rt:26:1: it is not proved that what the function ensures holds when it returns (`returns`)\n"
+        self.assertEqual(self.word(place + NOT_PROVED, "even_is_odd", "half_is_all"), [REFUSED, UNTOLD])
 
     def test_what_only_calls_shows_nothing(self):
         calls = "fn low::lists::half: no proof: it calls `low::lists::Lists::done`, which is not proved\n"

@@ -3,7 +3,7 @@ import os
 import re
 from dataclasses import dataclass, field
 
-FUNCTION = re.compile(r"^( *)(?:pub(?:\([a-z]+\))? )?(?:const |unsafe )*fn (\w+)", re.M)
+FUNCTION = re.compile(r"(?:^ *#\[.*\n)*^( *)(?:pub(?:\([a-z]+\))? )?(?:const |unsafe )*fn (\w+)", re.M)
 CYCLE = re.compile(r"#\[cycle\((\w+)\)\]")
 # What methods stand in: a trait, what is implemented, and the type or trait itself.
 HOLDER = re.compile(r"^(?:impl(?:<.*?>)?|(?:pub )?trait) (?:(\w+)(?:<(.*)>)? for )?(\w+)", re.M)
@@ -13,8 +13,8 @@ INNER = re.compile(r"<[^<>]*>|'\w+")
 
 @dataclass
 class Function:
-    """A function of a file of `src`: its name, that of its proof, the lines from its head to its closing brace, and its path as a check
-    names it.
+    """A function of a file of `src`: its name, that of its proof, the lines from its attributes to its closing brace, and its path as a
+    check names it.
 
     Functions that call one another have one proof, by the name of their cycle."""
 
@@ -53,8 +53,7 @@ def functions_of(file, text):
     for head in FUNCTION.finditer(text):
         end = re.compile("^%s}" % head[1], re.M).search(text, head.end())
         last = text.count("\n", 0, end.end() if end else len(text)) + 1
-        # its attributes stand behind the last empty line
-        cycle = CYCLE.search(text, text.rfind("\n\n", 0, head.start()) + 1, head.start())
+        cycle = CYCLE.search(head[0])
         path = "::".join([*modules_of(file), *(holder_of(text[: head.start()]) if head[1] else []), head[2]])
         found.append(Function(file, head[2], cycle[1] if cycle else head[2], text.count("\n", 0, head.start()) + 1, last, path))
     return found
