@@ -280,6 +280,9 @@ class Edits(Case):
         lines = self.more_edits(how, "--built", "low/done_is_lost")[1]
         self.assertEqual((lines[0], lines[-1]), (AGAIN + "there is no dist/provenance", "1 passed, 0 failed"))
         self.built()
+        os.remove(self.path("bin/rattle"))
+        lines = self.more_edits(how, "--built", "low/done_is_lost")[1]
+        self.assertEqual((lines[0], lines[-1]), (AGAIN + "there is no %s" % os.path.realpath(self.path("bin/rattle")), "1 passed, 0 failed"))
         self.put("crates/new_enemy/src/main.rt", "fn main() {\n}\n")
         lines = self.more_edits(how, "--built", "low/done_is_lost")[1]
         self.assertEqual((lines[0], lines[-1]), (AGAIN + "PROVED is of other sources than stand here", "1 passed, 0 failed"))

@@ -13,6 +13,8 @@ def lacking(top, names):
     said = subprocess.run(["bash", "-c", asks], cwd=top, stdout=subprocess.PIPE, text=True)
     if said.returncode or said.stdout:
         return said.stdout.strip() or "there is no dist/provenance"
+    if not os.path.isfile(compiler()):
+        return "there is no %s" % compiler()
     used = uses(top)
     own = [it for name in names for it in below(used, name) if not is_of_gate(library(top, it))]
     return "the library of %s is not of `rt ci`" % own[0] if own else ""
@@ -43,12 +45,17 @@ def below(used, name):
     return found
 
 
+def compiler():
+    """The kit's compiler, which stands beside the command that everybody calls."""
+    return os.path.join(os.path.dirname(os.path.realpath(shutil.which("rt") or "rt")), "rattle")
+
+
 def command(top, name):
-    """The words that check a crate over these libraries, as `rt` gives them to the kit's compiler."""
-    kit = os.path.dirname(os.path.dirname(os.path.realpath(shutil.which("rt") or "rt")))
+    """The words that check a crate over these libraries, as `rt` gives them to the compiler."""
+    kit = os.path.dirname(os.path.dirname(compiler()))
     used, of_kit = uses(top), os.path.join(kit, "rlibs")
     root = "src/main.rt" if os.path.exists(os.path.join(top, "crates", name, "src", "main.rt")) else "src/lib.rt"
-    words = [os.path.join(kit, "bin", "rattle"), "check", "--crate-name", name, root, "-L", "dependency=" + of_kit]
+    words = [compiler(), "check", "--crate-name", name, root, "-L", "dependency=" + of_kit]
     for it in ["std", *used[name]]:
         words += ["--extern", "%s=%s" % (it, library(top, it) if it in used else os.path.join(of_kit, it + ".rlib"))]
     for it in below(used, name):
