@@ -102,7 +102,7 @@ class Trial:
 
 class OverBuilt(Trial):
     """The same over the libraries that `rt ci` built: since the crate is proved as it stands, a check proves no more than the functions
-    that the edits change, and those that they call."""
+    that the edits change, and those that they call. Where they change none, it is of the whole crate."""
 
     def begin(self):
         return ""
