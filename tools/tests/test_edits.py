@@ -241,6 +241,16 @@ class Edits(Case):
         status, lines, said = self.more_edits(how, "--listed")
         self.assertEqual((status, lines, said[-1]), (3, [], "more_edits: no such edits: low/done_is_gone, low"))
 
+    def test_what_the_list_names_stands_there(self):
+        with open(os.path.join(DEV, "edits", "in_the_gate"), encoding="utf-8") as file:
+            names = [it for it in file.read().splitlines() if not it.startswith("#")]
+        self.assertEqual(names, sorted(set(names)))
+        for it in names:
+            crate, edit = it.split("/")
+            folder = os.path.join(TOP, "crates", crate)
+            found = edit_of(os.path.join(folder, "more-edits", edit + ".edit"), folder)
+            self.assertEqual((it, found.fault, bool(found.functions)), (it, "", True))
+
     def built(self):
         """What `rt ci` and ./check leave: the program, of what it was proved, and the library below it."""
         self.put("crates/new_enemy/out/new_enemy", "the program")
