@@ -309,9 +309,10 @@ class Compared(Checkout):
 class Gate(Checkout):
     """What ./check does with dist/, where all else is a stand-in that says what it was called with."""
 
-    STAND_INS = ("tools/dev/formatted", "rows/run", "tools/dev/test", "tools/dev/fuzz", "tools/dev/refuse_growth", "tools/dev/refuse_growth_of_calls")
-    # formatted, rt ci, release --compare, rows/run, test, fuzz, four kinds of calls, and the calls of tests.
-    ALL = 5 + 10
+    OF_TOOLS = ("formatted", "more_edits", "test", "fuzz", "refuse_growth", "refuse_growth_of_calls")
+    STAND_INS = ("rows/run", *("tools/dev/" + it for it in OF_TOOLS))
+    # formatted, rt ci, more_edits, release --compare, rows/run, test, fuzz, four kinds of calls, and the calls of tests.
+    ALL = 5 + 11
 
     def setUp(self):
         super().setUp()
@@ -343,6 +344,7 @@ class Gate(Checkout):
         run = self.check()
         self.assertEqual((run.returncode, run.stdout.splitlines()[-1]), (0, "%d passed, 0 failed" % self.ALL))
         self.assertEqual(run.stdout.count("called rows/run"), 1)
+        self.assertEqual(run.stdout.count("called tools/dev/more_edits --built --listed --at-once "), 1)
         self.assertIn("commit %s\n" % self.commit, self.kept())
         self.assertNotIn("--release", self.kept())
 
@@ -366,6 +368,7 @@ class Gate(Checkout):
         self.assertEqual(run.returncode, 1)
         self.assertEqual(self.git("status", "--porcelain", "--untracked-files=no").stdout, "")
         self.assertNotIn("--release", self.kept())
+        self.assertNotIn("more_edits", run.stdout)
 
     def test_another_kit(self):
         """The worked cases run on the program of dist/ too."""

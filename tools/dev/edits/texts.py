@@ -3,13 +3,18 @@ import os
 import re
 from dataclasses import dataclass, field
 
-FUNCTION = re.compile(r"^( *)(?:pub(?:\([a-z]+\))? )?(?:const |unsafe )*fn (\w+)", re.M)
+FUNCTION = re.compile(r"(?:^ *#\[.*\n)*^( *)(?:pub(?:\([a-z]+\))? )?(?:const |unsafe )*fn (\w+)", re.M)
 CYCLE = re.compile(r"#\[cycle\((\w+)\)\]")
+# What methods stand in: a trait, what is implemented, and the type or trait itself.
+HOLDER = re.compile(r"^(?:impl(?:<.*?>)?|(?:pub )?trait) (?:(\w+)(?:<(.*)>)? for )?(\w+)", re.M)
+# A lifetime, or what stands in `<>` within an argument.
+INNER = re.compile(r"<[^<>]*>|'\w+")
 
 
 @dataclass
 class Function:
-    """A function of a file of `src`: its name, that of its proof, and the lines from its head to its closing brace.
+    """A function of a file of `src`: its name, that of its proof, the lines from its attributes to its closing brace, and its path as a
+    check names it.
 
     Functions that call one another have one proof, by the name of their cycle."""
 
@@ -18,6 +23,7 @@ class Function:
     proof: str
     first: int
     last: int
+    path: str
 
 
 @dataclass
@@ -47,10 +53,24 @@ def functions_of(file, text):
     for head in FUNCTION.finditer(text):
         end = re.compile("^%s}" % head[1], re.M).search(text, head.end())
         last = text.count("\n", 0, end.end() if end else len(text)) + 1
-        # its attributes stand behind the last empty line
-        cycle = CYCLE.search(text, text.rfind("\n\n", 0, head.start()) + 1, head.start())
-        found.append(Function(file, head[2], cycle[1] if cycle else head[2], text.count("\n", 0, head.start()) + 1, last))
+        cycle = CYCLE.search(head[0])
+        path = "::".join([*modules_of(file), *(holder_of(text[: head.start()]) if head[1] else []), head[2]])
+        found.append(Function(file, head[2], cycle[1] if cycle else head[2], text.count("\n", 0, head.start()) + 1, last, path))
     return found
+
+
+def modules_of(file):
+    """The modules that lead to what stands in a file: of src/a/b.rt they are a and b, of the root file none."""
+    inner = file[len("src/"): -len(".rt")]
+    return [] if inner in ("lib", "main") else inner.split("/")
+
+
+def holder_of(before):
+    """How a check names what methods behind this text stand in, in a list: as `Users`, or `UsersIterator` where they are of a trait.
+
+    Its arguments are a part of the name, but for type parameters, which have one letter."""
+    found = list(HOLDER.finditer(before))[-1:]
+    return ["".join([it[3], it[1] or "", *re.findall(r"\w\w+", INNER.sub("", it[2] or ""))]) for it in found]
 
 
 def edit_of(path, crate):

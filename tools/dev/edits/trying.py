@@ -3,8 +3,9 @@ import os
 import shutil
 import subprocess
 
-from edits.texts import apply, edit_of, groups_of
-from edits.verdicts import NAMED, REFUSED, UNREAD, UNTOLD, verdicts
+from edits.built import command
+from edits.texts import apply, edit_of, groups_of, modules_of
+from edits.verdicts import NAMED, REFUSED, UNREAD, UNTOLD, is_unknown, verdicts
 
 PARTS = ("src", "specs", "proofs")
 
@@ -24,18 +25,27 @@ class Trial:
     """The edits of one crate, in a copy of the repository in the folder `room`."""
 
     def __init__(self, top, room, name, paths, jobs):
-        self.name, self.jobs = name, jobs
+        self.top, self.name, self.jobs = top, name, jobs
         self.crate, self.copy = os.path.join(top, "crates", name), os.path.join(room, "crates", name)
         self.kept, self.seed = os.path.join(self.copy, "out", "incremental"), os.path.join(room, "seed-" + name)
         self.edits = [edit_of(it, self.crate) for it in paths]
+        # of the processor, by its checks until now
+        self.seconds = 0.0
 
     def run(self, *words):
         how = {"cwd": self.copy, "stdout": subprocess.PIPE, "stderr": subprocess.STDOUT, "errors": "replace", "text": True}
-        run = subprocess.run(["rt", *words], env={**os.environ, **({"RT_JOBS": self.jobs} if self.jobs else {})}, **how)
-        return run.returncode, run.stdout
+        with subprocess.Popen(words, env={**os.environ, **({"RT_JOBS": self.jobs} if self.jobs else {})}, **how) as process:
+            said = process.stdout.read()
+            _, status, used = os.wait4(process.pid, 0)
+            process.returncode = os.waitstatus_to_exitcode(status)
+        self.seconds += used.ru_utime + used.ru_stime
+        return process.returncode, said
 
     def checked(self):
-        return self.run("check", *(["--jobs", self.jobs] if self.jobs else []))
+        return self.run("rt", "check", *self.jobs_given())
+
+    def jobs_given(self):
+        return ["--jobs", self.jobs] if self.jobs else []
 
     def begin(self):
         """Proves the crate as it stands, and keeps that for each check to begin with. What is said where it is not proved."""
@@ -45,13 +55,17 @@ class Trial:
         shutil.copytree(self.kept, self.seed)
         return ""
 
-    def check(self, edits):
-        """A word for each of these edits by its path, and the line that it goes by."""
+    def said_of(self, edits):
+        """What a check with these edits says."""
         shutil.rmtree(self.kept)
         shutil.copytree(self.seed, self.kept)
+        return self.checked()[1]
+
+    def check(self, edits):
+        """A word for each of these edits by its path, and the line that it goes by."""
         self.put_back()
         apply(edits, self.copy)
-        found = verdicts(edits, self.checked()[1])
+        found = verdicts(edits, self.said_of(edits))
         self.put_back()
         others = [it for it in edits if found[it.path][0] == UNTOLD]
         if others and len(others) < len(edits) and any(word == UNREAD for word, _ in found.values()):
@@ -70,7 +84,7 @@ class Trial:
         os.makedirs(folder)
         for edit in edits:
             shutil.copy(edit.path, folder)
-        said = self.run("must-fail", self.name)[1].split("\n")
+        said = self.run("rt", "must-fail", self.name)[1].split("\n")
         shutil.rmtree(folder)
         return {edit.path: word_of(said, "must-fail %s/%s.edit: " % (self.name, edit.name)) for edit in edits}
 
@@ -84,6 +98,27 @@ class Trial:
         if left:
             found.update(self.alone(left))
         return [(it, *found[it.path]) for it in self.edits]
+
+
+class OverBuilt(Trial):
+    """The same over the libraries that `rt ci` built: since the crate is proved as it stands, a check proves no more than the functions
+    that the edits change, and those that they call. Where they change none, it is of the whole crate."""
+
+    def begin(self):
+        return ""
+
+    def said_of(self, edits):
+        said = self.check_of({it.path for edit in edits for it in edit.functions})
+        if is_unknown(said):
+            said = self.check_of({"::".join(modules_of(edit.file)) for edit in edits})
+        return said
+
+    def check_of(self, paths):
+        only = [word for it in sorted(paths) for word in ("--only", it)]
+        return self.run(*command(self.top, self.name), "--incremental", self.kept, *self.jobs_given(), *only)[1]
+
+    def alone(self, edits):
+        return {path: word for edit in edits for path, word in self.check([edit]).items()}
 
 
 def word_of(said, label):

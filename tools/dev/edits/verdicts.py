@@ -1,6 +1,8 @@
 """What a check with several edits says of each."""
 import re
 
+from edits.texts import modules_of
+
 REFUSED, PROVED, UNREAD, UNTOLD = "refused", "NOT REFUSED", "BAD EDIT", "not told"
 # A file of proofs names what the edit took away, and nothing else refuses it.
 NAMED = "REFUSED FOR A NAME"
@@ -13,16 +15,21 @@ PROOF = re.compile(r"(?:\./)?proofs/(?:(\S+)/)?\+?(\w+)/\w+\.antt:\d+:\d+: error
 LEMMA = re.compile(r"(?:\./)?proofs/\S+\.antt:\d+:\d+: error: (.*)")
 # A function with no file of proofs, some of whose own goals are left. What it only calls stands in other words.
 LEFT = re.compile(r"fn \S+: no proof: expected answers in (?:\./)?proofs/(?:(\S+)/)?\+?(\w+)/\w+\.antt; `search` did not prove (.*)")
-# Where a file of proofs names what is gone, the refusal shows nothing of a contract.
-NAMES = re.compile(r"has no field|is not in scope|has no `|was not admitted|is no name|\(nearest: ")
+# Where a file of proofs names what is gone, the refusal shows nothing of a contract, nor of what rests on it. It may say so in the line
+# behind.
+NAMES = re.compile(r"has no field|is not in scope|has no `|was not admitted|is no name|\(nearest: |not checked: ")
+BROKEN = re.compile(r"\n +(?=has no field)")
 CODE = re.compile(r"error\[[\w-]+\]")
-ENDS = re.compile(r"^(?:logic=|rattle: no verdict)", re.M)
+# The last line of a check, and the one where all that it was asked for is proved.
+ENDS = re.compile(r"^(?:logic=|only=|rattle: no verdict)", re.M)
+PROVES = re.compile(r"^(?:logic=proved|only=(\d+) proved=\1$)", re.M)
+
+# A function that a check was asked for by a name that is none of a single function.
+UNKNOWN = re.compile(r"^rattle: error: (?:several functions are named|`\w+` has no function) `", re.M)
 
 
-def module_of(file):
-    """The folder of proofs that goes with a file: of src/a/b.rt it is a/b, of the root file none."""
-    inner = file[len("src/"): -len(".rt")]
-    return "" if inner in ("lib", "main") else inner
+def is_unknown(text):
+    return bool(UNKNOWN.search(text))
 
 
 def stands_at(function, line):
@@ -33,8 +40,9 @@ def stands_at(function, line):
     proof = LEFT.match(line) or PROOF.match(line)
     if not proof or proof.re is PROOF and NAMES.search(proof[3]):
         return False
-    module, folder = module_of(function.file), proof[1] or ""
-    return proof[2] == function.proof and (not module or folder == module or folder.startswith(module + "/"))
+    # a cycle's proof stands with its module, and that of a function with what it is a method of
+    within = function.path.split("::")[:-1] if function.proof == function.name else modules_of(function.file)
+    return proof[2] == function.proof and (proof[1] or "") == "/".join(within)
 
 
 def is_refusal(line):
@@ -64,11 +72,11 @@ def unread(edits, lines):
 
 def verdicts(edits, text):
     """A word for each edit by its path, and the line that it goes by."""
-    lines = text.split("\n")
+    lines = BROKEN.sub(" ", text).split("\n")
     if not ENDS.search(text):
         faults = unread(edits, lines)
         return {it.path: (UNREAD, faults[it.path]) if it.path in faults else (UNTOLD, "") for it in edits}
-    if re.search(r"^logic=proved", text, re.M):
+    if PROVES.search(text):
         return {it.path: (PROVED, "") for it in edits}
     found = {it.path: refusal_of(it, lines, len(edits) == 1) for it in edits}
     return {path: (REFUSED, line) if line else (UNTOLD, "") for path, line in found.items()}
