@@ -161,8 +161,7 @@ impl Rules {
         ensures { ArePlain (option_map (λ r. expression_of r.now.rewrite) result)
             (option_map (λ r. r.expression) (rule_of (rule_at self.now at) (set_value set.entry))) }
     {
-        let relation = self.declared_at(set, at)?;
-        Some(&relation.plain)
+        self.plain_in(self.body_place(set, at)?)
     }
 
     /// Where the rule stands that `body` gives, or `None` where it gives none. A place is that of one rule for good.
