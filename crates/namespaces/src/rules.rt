@@ -154,9 +154,8 @@ impl Rules {
         Some(&relation.rewrite)
     }
 
-    /// A plain form of the rule that `body` gives: it gives and rules out what that rule does, whatever its leaves do;
-    /// it has the leaves of that rule, none at more places; and it has neither a union in a union, nor an intersection
-    /// in an intersection, nor the same child twice. Where it has many places, its parts stand beside it. `None` where `body` has none.
+    /// A plain form of the rule that `body` gives: it gives and rules out what that rule does, whatever its leaves do, and it has the leaves
+    /// of that rule, none at more places. Where it has many places, its parts stand beside it. `None` where `body` has none.
     pub fn plain_body(&self, set: SetRef<'_>, at: u64) -> Option<&PlainRule>
         ensures { ArePlain (option_map (λ r. expression_of r.now.rewrite) result)
             (option_map (λ r. r.expression) (rule_of (rule_at self.now at) (set_value set.entry))) }
