@@ -11,14 +11,24 @@ VIEWERS = [None, PARENTS, {"union": [THIS, PARENTS]}, {"intersection": [{"union"
 FOLDERS = [None, {"union": [THIS, PARENTS]}]
 GROUPS = [None, {"union": [THIS, {"computed": "owner"}]}]
 OPEN = {"exclusion": {"base": {"computed": "viewer"}, "subtract": {"computed": "banned"}}}
+# What a wide rule of doc:ID#viewer is made of, and one of doc:ID#open.
+LEAVES = [THIS, PARENTS, MEMBERS, {"computed": "banned"}, *({"tuple_to": {"tupleset": "parent", "computed": name}} for name in ("owner", "m", "none"))]
+EXCLUSIONS = [OPEN, {"exclusion": {"base": THIS, "subtract": PARENTS}}, {"exclusion": {"base": PARENTS, "subtract": {"computed": "banned"}}}]
 
 
 def relation(name: str, rewrite: Optional[Dict[str, Any]]) -> Dict[str, Any]:
     return {"name": name} if rewrite is None else {"name": name, "rewrite": rewrite}
 
 
+def wide(random: Random, leaves: List[Dict[str, Any]]) -> Dict[str, Any]:
+    """A rule of many places, most of which are judged by their parts."""
+    inner, outer = random.sample(["union", "intersection"], 2)
+    return {outer: [{inner: random.sample(leaves, random.randint(2, 4))} for _ in range(random.randint(6, 14))]}
+
+
 class CrowdedTrace:
-    """The lines of a trace by a seeded source of chance. Some usersets are of a namespace that is declared late or never."""
+    """The lines of a trace by a seeded source of chance. Some usersets are of a namespace that is declared late or never, and some rules
+    are wide, or change."""
 
     def __init__(self, random: Random) -> None:
         self.random = random
@@ -30,16 +40,28 @@ class CrowdedTrace:
         self.values: List[Dict[str, Any]] = [
             {"kind": "namespace", "name": "group", "relations": [relation("owner", None), relation("member", random.choice(GROUPS))]},
             {"kind": "namespace", "name": "folder", "relations": [relation("parent", None), relation("viewer", random.choice(FOLDERS))]},
-            {"kind": "namespace", "name": "doc", "relations": [
-                relation("parent", None), relation("banned", None), relation("viewer", random.choice(VIEWERS)),
-                {**relation("open", OPEN), "stratum": 1}]}]
-        declares = random.random() < 0.6
+            self.rules()]
+        declares, changes = random.random() < 0.6, random.random() < 0.4
         for _ in range(random.randint(3, 14)):
             self.commit()
             if declares and random.random() < 0.15:
                 declares = False
-                self.values.append({"kind": "namespace", "name": "ghost", "at": self.at, "relations": [relation("m", None), relation("viewer", None)]})
+                self.change({"kind": "namespace", "name": "ghost", "relations": [relation("m", None), relation("viewer", None)]})
+            if changes and random.random() < 0.2:
+                self.change(self.rules())
             self.values += [self.check() for _ in range(random.randint(0, 5))]
+
+    def change(self, rules: Dict[str, Any]) -> None:
+        self.at += 1
+        self.values.append({**rules, "at": self.at})
+
+    def rules(self) -> Dict[str, Any]:
+        """The rules of documents."""
+        random = self.random
+        viewer = wide(random, LEAVES) if random.random() < 0.4 else random.choice(VIEWERS)
+        opened = wide(random, LEAVES[:3] + EXCLUSIONS) if random.random() < 0.3 else OPEN
+        relations = [relation("parent", None), relation("banned", None), relation("viewer", viewer), {**relation("open", opened), "stratum": 1}]
+        return {"kind": "namespace", "name": "doc", "relations": relations}
 
     def user(self) -> int:
         return 1 + self.random.randrange(self.users)
