@@ -37,6 +37,7 @@ KIND is one of
   wide_records   as `wide_pairs`, with a record of one fact for each check
   wide_turns     as `wide_pairs`, behind two leaves that deny the users in turn
   wide_users     as `wide_through`, and users that are let in by the last of the relations
+  wide_crowd     as `wide_through`, where a hundred usersets are stored, and a hundred namespaces are declared
   wide_folders   as `wide_through`, and each fact is of another object, in whose tupleset a userset is stored
   ring           groups in a circle, and checks that each of many strangers is not in it: for `make`
   wide_make      a rule of many places that compute one relation, and objects in a chain of such rules: for `make`
@@ -479,13 +480,13 @@ def wide_leaves(size):
     return wide_intersections(size, lambda one, other: [one, other, THIS])
 
 
-def through_many(size, *more):
-    """Rules of many relations through one tupleset, those of these names declared and the last ones."""
+def through_many(size, *more, names=0):
+    """Rules of many relations through one tupleset, those of these names declared and the last ones; and so many further namespaces."""
     count = min(size // 3, LINE * 8 // 10) // 52
-    names = ["c%x" % k for k in range(count)] + list(more)
-    rule = nested([{"tuple_to": {"tupleset": "parent", "computed": name}} for name in names])
-    given = Input(size, [{"name": "doc", "relations": [relation("parent"), *map(relation, more), relation("viewer", rule)]}])
-    given.bytes = len(given.lines[0])
+    rule = nested([{"tuple_to": {"tupleset": "parent", "computed": name}} for name in ["c%x" % k for k in range(count)] + list(more)])
+    others = [{"name": f"n{k}", "relations": [relation("m")]} for k in range(names)]
+    given = Input(size, [{"name": "doc", "relations": [relation("parent"), *map(relation, more), relation("viewer", rule)]}, *others])
+    given.bytes = sum(map(len, given.lines))
     return given
 
 
@@ -523,6 +524,13 @@ def wide_users(size):
         given.check(f"doc:a#viewer@{user}", True, [{"yes": f"doc:{goal}@{one}"} for one in users for goal in ("p#last", "a#viewer")])
         user += 100
     return given
+
+
+def wide_crowd(size):
+    """The tupleset stores a hundred usersets, and a hundred namespaces are declared."""
+    given = through_many(size, names=100)
+    given.commit([f"doc:a#parent@doc:p{k}#parent" for k in range(100)])
+    return asked_of_many(given)
 
 
 def wide_folders(size):
@@ -672,6 +680,7 @@ KINDS = {
     "wide_records": wide_records,
     "wide_turns": wide_turns,
     "wide_users": wide_users,
+    "wide_crowd": wide_crowd,
     "wide_folders": wide_folders,
     "ring": ring,
     "wide_make": wide_make,

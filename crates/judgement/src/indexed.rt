@@ -17,7 +17,7 @@ use userset_index::{Alive, UsersetIndex};
 use version_chains::MarkedSet;
 
 /// How many namespaces there are at most.
-const MOST_NAMESPACES: u16 = 256;
+pub(crate) const MOST_NAMESPACES: u16 = 256;
 
 /// Whether a touch of the changelog is not of a userset that is stored in a set and has a target that may hold a user.
 fn is_touch_out<F: KnownFact>(
@@ -51,7 +51,7 @@ fn is_touch_out<F: KnownFact>(
 }
 
 /// Whether that holds of each of some touches.
-fn are_out<F: KnownFact>(
+pub(crate) fn are_out<F: KnownFact>(
     trace: &Trace,
     at: u64,
     known: &Known<F>,

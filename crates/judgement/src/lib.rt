@@ -25,6 +25,7 @@
 mod answers;
 mod asked_rule;
 mod asking;
+mod crowded;
 mod fact;
 mod facts;
 mod indexed;

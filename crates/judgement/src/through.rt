@@ -10,6 +10,7 @@ ghost use Rattle.version_chains.specs.Commits.{store_at};
 ghost use Rattle.judgement.specs.Judgement.{Established, Refuted};
 ghost use Rattle.judgement.specs.Passes.{AreBarred, BarsId, BarsNames, EachSet, IsLed, IsLedByName, LeadsByName, SomeSet};
 
+use crate::crowded::are_barred_by_index;
 use crate::fact::KnownFact;
 use crate::facts::SetsOfUser;
 use crate::known::Known;
@@ -199,7 +200,7 @@ fn are_barred_one_by_one<F: KnownFact>(
     true
 }
 
-/// The same. Where many relations are read and few usersets are stored, it goes over these once for all relations.
+/// The same. Where many relations are read, it goes over what is stored once for all of them.
 fn are_barred<F: KnownFact>(
     trace: &Trace,
     at: u64,
@@ -212,8 +213,12 @@ fn are_barred<F: KnownFact>(
         ↔ AreBarred (rule_at trace.now.declarations at) (store_at trace.now.commits at) known.now (set_value set.entry.set)
         (computed_names through.now) user }
 {
-    if through.computed.len() <= FEW_RELATIONS || trace.usersets().is_crowded(set) {
+    if through.computed.len() <= FEW_RELATIONS {
         return are_barred_one_by_one(trace, at, known, through, set, user);
+    }
+    let index = trace.usersets();
+    if index.is_crowded(set) {
+        return are_barred_by_index(trace, index, at, known, through, set, user);
     }
     let sets = trace.chains().usersets(set, at);
     each_bars_names(trace.rules(), at, known, through, sets, user)
