@@ -41,6 +41,7 @@ KIND is one of
   wide_folders   as `wide_through`, and each fact is of another object, in whose tupleset a userset is stored
   ring           groups in a circle, and checks that each of many strangers is not in it: for `make`
   wide_make      a rule of many places that compute one relation, and objects in a chain of such rules: for `make`
+  nested_make    a rule of many intersections, and objects in a chain of such rules: for `make`
   toggled        one tuple added and removed in every other commit, and checks at old snapshots
   ids            one group of users alone, and checks that a stranger is not in it
   chain          records of one chain of groups each, as long as a record may be: from the last group on
@@ -568,6 +569,23 @@ def wide_make(size):
     return given
 
 
+def nested_make(size):
+    """A rule of many intersections, no two alike, and objects in a chain that each read the next one's."""
+    names = [f"r{k}" for k in range(40)]
+    pairs = [{"intersection": [{"computed": one}, {"computed": other}]} for k, one in enumerate(names) for other in names[:k]]
+    places = pairs[:max(size // 3 // len(text(pairs[-1])), 1)]
+    rule = nested(places + [{"tuple_to": {"tupleset": "parent", "computed": "viewer"}}])
+    given = Input(size, [{"name": "doc", "relations": [relation("parent"), *map(relation, names), relation("viewer", rule)]}])
+    given.bytes = len(given.lines[0])
+    k = 0
+    while not given.is_full():
+        given.commit([f"doc:{j}#parent@doc:{j + 1}#parent" for j in range(k, k + 20)])
+        k += 20
+    given.check("doc:0#viewer@7", False, [])
+    given.records.clear()
+    return given
+
+
 def toggled(size):
     given = Input(size, [{"name": "doc", "relations": [relation("viewer")]}])
     goal = "doc:readme#viewer@10"
@@ -684,6 +702,7 @@ KINDS = {
     "wide_folders": wide_folders,
     "ring": ring,
     "wide_make": wide_make,
+    "nested_make": nested_make,
     "toggled": toggled,
     "ids": ids,
     "chain": lambda size: rings(size, 1, False),
@@ -698,7 +717,7 @@ KINDS = {
 }
 
 # Those whose evidence the auditor makes: they have none.
-FOR_MAKE = ("ring", "wide_make")
+FOR_MAKE = ("ring", "wide_make", "nested_make")
 
 
 def main():

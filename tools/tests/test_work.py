@@ -38,9 +38,9 @@ class Counted(Case):
         self.assertRegex(said[0], r"\(too much: [34]\.\d\d times as many a byte at the large size\)$")
 
     def test_a_kind_of_the_table(self) -> None:
-        status, said = self.work("size * size", "wide_turns")
+        status, said = self.work("size * size", "nested_make")
         self.assertEqual((status, said[-1]), (0, "1 passed, 0 failed"))
-        self.assertRegex(said[0], r"^wide_turns: 0\.01 MB [\d,]+ a byte, 0\.04 MB [\d,]+ a byte \(allowed: ")
+        self.assertRegex(said[0], r"^nested_make: 0\.01 MB [\d,]+ a byte, 0\.04 MB [\d,]+ a byte \(allowed: ")
 
     def test_growth_py(self) -> None:
         words = (os.path.join("bench", "growth.py"), "--count", "program", "hostile", "0.1", "0.4", "toggled")
