@@ -534,6 +534,40 @@ def wide_crowd(size):
     return asked_of_many(given)
 
 
+def few_through(size):
+    """A rule of a few relations through a tupleset that stores usersets of 250 namespaces, none of which declares one of them."""
+    rule = {"union": [{"tuple_to": {"tupleset": "parent", "computed": f"c{k}"}} for k in range(14)]}
+    own = [relation(name) for name in ["parent", *(f"c{k}" for k in range(14))]]
+    others = [{"name": f"n{k}", "relations": [relation("m")]} for k in range(250)]
+    given = Input(size, [{"name": "doc", "relations": [*own, relation("viewer", rule)]}, *others])
+    given.bytes = sum(map(len, given.lines))
+    given.commit([f"doc:a#parent@n{k}:p#m" for k in range(250)])
+    return asked_of_many(given)
+
+
+def many_names(size):
+    """30 relations through a tupleset that stores 12 usersets of a namespace with 250 relations, none of which is one of them."""
+    names = [f"c{k}" for k in range(30)]
+    rule = {"union": [{"tuple_to": {"tupleset": "parent", "computed": name}} for name in names]}
+    other = {"name": "other", "relations": [relation(f"m{k}") for k in range(250)]}
+    given = Input(size, [{"name": "doc", "relations": [*map(relation, ["parent", *names]), relation("viewer", rule)]}, other])
+    given.bytes = sum(map(len, given.lines))
+    given.commit([f"doc:a#parent@other:p{k}#m0" for k in range(12)])
+    return asked_of_many(given)
+
+
+def many_tuplesets(size):
+    """A rule through 200 tuplesets, each of which stores 20 usersets, and so many namespaces as there may be."""
+    sets = [f"p{k}" for k in range(200)]
+    rule = nested([{"tuple_to": {"tupleset": name, "computed": "m"}} for name in sets])
+    others = [{"name": f"n{k}", "relations": [relation("r")]} for k in range(250)]
+    given = Input(size, [{"name": "doc", "relations": [*map(relation, [*sets, "m"]), relation("viewer", rule)]}, *others])
+    given.bytes = sum(map(len, given.lines))
+    for name in sets:
+        given.commit([f"doc:a#{name}@n{k}:p#r" for k in range(20)])
+    return asked_of_many(given)
+
+
 def wide_folders(size):
     given = through_many(size)
     k = 0
@@ -699,6 +733,9 @@ KINDS = {
     "wide_turns": wide_turns,
     "wide_users": wide_users,
     "wide_crowd": wide_crowd,
+    "few_through": few_through,
+    "many_names": many_names,
+    "many_tuplesets": many_tuplesets,
     "wide_folders": wide_folders,
     "ring": ring,
     "wide_make": wide_make,

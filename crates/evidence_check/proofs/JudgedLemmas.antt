@@ -2,7 +2,6 @@
 use Rattle.std.proofs.Common.{◌≡◌, ℕ, ◌+◌, Bool, true, false, not, ◌&&◌, cond, nat_eq, IsTrue, ◌↔◌, List, [], ◌∷◌, ◌++◌, Option, None, Some, refl, sym, ◌∙◌, ap, subst, inl, inr, arith}
 use Rattle.std.proofs.lemmas.List.Elements.{Contains-append_cases}
 use Rattle.strata.proofs.Lists.{Contains-cons_cases}
-use Rattle.namespaces.specs.Declaration.{Declaration}
 use Rattle.namespaces.specs.declared.number.RulePlace.{RulePlace}
 use Rattle.evidence_check.specs.declared.asked_rules.PlacedRule.{PlacedRule}
 use Rattle.std.proofs.lemmas.Bool.{eqb-true}
@@ -13,7 +12,7 @@ use Rattle.tuple_text.specs.OrderLaws.{fact_equiv}
 use Rattle.tuple_text.proofs.ValueLemmas.{fact_eq-same}
 use Rattle.namespaces.specs.Alike.{IsAlike, AreAlike}
 use Rattle.namespaces.specs.Expression.{Expression}
-use Rattle.namespaces.specs.Lookup.{Rule, Lookup, expression_in, rule_at, rule_of}
+use Rattle.namespaces.specs.Lookup.{Rule, Lookup, rule_at, rule_of}
 use Rattle.namespaces.specs.Plain.{ArePlain}
 use Rattle.version_chains.specs.Commits.{store_at}
 use Rattle.strata.proofs.Rounds.{stable_law, closed_law}
@@ -27,7 +26,7 @@ use Rattle.evidence_check.specs.Decided.{decided, dec_accepted}
 use Rattle.evidence_check.specs.Judged.{is_accepted, first_bad, is_among, by_reply, by_goal, by_steps, judged}
 use Rattle.evidence_check.specs.Laws.{HasValidStrataAt}
 use Rattle.evidence_check.specs.Members.{IsRight, IsWrong}
-use Rattle.evidence_check.specs.Rules.{ArePlaced, IsRuleOf, IsSettled}
+use Rattle.evidence_check.specs.Rules.{ArePlaced, IsPlaced, IsRuleOf, IsSettled}
 use Rattle.evidence_check.specs.Steps.{StepValue}
 use Rattle.evidence_check.specs.declared.judged.Judged.{Judged}
 use Rattle.evidence_check.specs.declared.judged.Judged.TheVariants.{Silent}
@@ -80,12 +79,12 @@ same_place p q h =
     let both = and_both (nat_eq p.line q.line) (nat_eq p.relation q.relation) h in
     λ i. record { line = eqb-true p.line q.line both.0 i; relation = eqb-true p.relation q.relation both.1 i }
 
-pub one_placed_more : (ds : List Declaration) (rules : List PlacedRule) (p : PlacedRule) → ArePlaced ds rules
-    → AreAlike (Some p.rule) (expression_in p.place ds) → ArePlaced ds (rules ++ p ∷ [])
-one_placed_more ds rules p are alike q there =
+pub one_placed_more : (trace : TraceValue) (rules : List PlacedRule) (p : PlacedRule) → ArePlaced trace rules → IsPlaced trace p
+    → ArePlaced trace (rules ++ p ∷ [])
+one_placed_more trace rules p are is q there =
     elim (Contains-append_cases rules (p ∷ []) q there) [
       | inl before ↦ are q before
-      | inr last ↦ subst (λ (x : PlacedRule). AreAlike (Some x.rule) (expression_in x.place ds)) (only q last) alike
+      | inr last ↦ subst (IsPlaced trace) (only q last) is
     ]
   where
     only : (q : PlacedRule) → Contains (p ∷ []) q → p ≡ q

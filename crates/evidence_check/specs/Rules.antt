@@ -10,6 +10,7 @@ use Rattle.namespaces.specs.Expression.{Expression}
 use Rattle.namespaces.specs.Lookup.{Lookup, expression_in, rule_at, rule_of}
 use Rattle.namespaces.specs.Parts.{rule_shown}
 use Rattle.namespaces.specs.View.{expression_of}
+use Rattle.trace_lines.specs.Values.{TraceValue}
 use Rattle.judgement.specs.Judgement.{KnownValue}
 use Rattle.evidence_check.specs.Accepted.{IsProved, IsDisproved}
 use Rattle.evidence_check.specs.declared.asked_rules.PlacedRule.{PlacedRule}
@@ -32,9 +33,13 @@ IsInForce declarations at g (RuleInForce.Narrow r) = IsRuleOf declarations at g 
 IsInForce declarations at g (RuleInForce.Wide place r) =
     IsRuleOf declarations at g (Some (rule_shown r.now)) × (expression_in place declarations ≡ ruled declarations at g)
 
--- each says what the rule says that stands at its place
-abbrev pub ArePlaced : List Declaration → List PlacedRule → Type 0
-ArePlaced declarations rules = (p : PlacedRule) → Contains rules p → AreAlike (Some p.rule) (expression_in p.place declarations)
+-- it is asked over a trace, and says what the rule of the trace says that stands at its place
+pub record IsPlaced (trace : TraceValue) (p : PlacedRule) : Type 0 where
+  pub over : p.rule.trace ≡ trace
+  pub says : AreAlike (Some p.rule.expression) (expression_in p.place trace.declarations)
+
+abbrev pub ArePlaced : TraceValue → List PlacedRule → Type 0
+ArePlaced trace rules = (p : PlacedRule) → Contains rules p → IsPlaced trace p
 
 -- where there is a rule by which a fact was judged last, it is that of its userset
 abbrev pub IsLast : List Declaration → ℕ → Option LastRule → Type 0

@@ -9,7 +9,7 @@ ghost use Rattle.judgement.specs.Asked.{Does};
 ghost use Rattle.judgement.specs.Facts.{marked_fact};
 
 use judgement::{AskedRule, Known, MarkedFact};
-use namespaces::{PartedRule, RulePlace, Rules};
+use namespaces::{PartedRule, RulePlace};
 use std::alloc::{AllocError, Global};
 use std::collections::BTreeMap;
 use std::marker::Model;
@@ -22,29 +22,28 @@ pub(crate) struct PlacedRule<'t> {
     rule: AskedRule<'t>,
 }
 
-/// Rules of many places, each with what was asked of it in all records so far. Contracts see the declarations that they stand in.
+/// Rules of many places, each with what was asked of it in all records so far. Contracts see the trace over which they are asked.
 #[derive(Drop)]
 pub(crate) struct AskedRules<'t> {
     alloc: Global,
-    rules: &'t Rules,
+    trace: &'t Trace,
     asked: Vec<PlacedRule<'t>>,
     // by its place, where a rule may be found: it is the one only where its place says so
     numbers: BTreeMap<u64, usize>,
 }
 
 impl<'t> Model for AskedRules<'t> {
-    ghost use Rattle.std.specs.Prelude.{List};
-    ghost use Rattle.std.specs.Coded.{coded_list};
-    ghost use Rattle.namespaces.specs.Declaration.{Declaration, declaration_code};
+    ghost use Rattle.trace_lines.specs.TraceCode.{trace_code};
+    ghost use Rattle.trace_lines.specs.Values.{TraceValue};
     ghost use Rattle.evidence_check.specs.Rules.{ArePlaced};
 
-    ghost Value = { List Declaration };
+    ghost Value = { TraceValue };
 
-    ghost coded = { coded_list declaration_code };
+    ghost coded = { trace_code };
 
-    ghost view = { λ s. s.rules.now };
+    ghost view = { λ s. s.trace.now };
 
-    ghost invariant = { λ s. ArePlaced s.rules.now s.asked.items };
+    ghost invariant = { λ s. ArePlaced s.trace.now s.asked.items };
 }
 
 /// A number for a place: there are 256 relations at most in a declaration.
@@ -56,12 +55,12 @@ fn key(place: RulePlace) -> u64 {
 
 impl<'t> AskedRules<'t> {
     /// Nothing was asked.
-    pub(crate) fn new(alloc: Global, rules: &'t Rules) -> AskedRules<'t>
-        ensures { result ≡ rules.now }
+    pub(crate) fn new(alloc: Global, trace: &'t Trace) -> AskedRules<'t>
+        ensures { result ≡ trace.now }
     {
         AskedRules {
             alloc,
-            rules,
+            trace,
             asked: Vec::new(alloc),
             numbers: BTreeMap::new(alloc),
         }
@@ -73,14 +72,13 @@ impl<'t> AskedRules<'t> {
         place: RulePlace,
         parted: &'t PartedRule,
         is_given: bool,
-        trace: &Trace,
         at: u64,
         known: &Known<MarkedFact<'_>>,
         fact: MarkedFact<'_>,
     ) -> Result<bool, AllocError>
-        requires { AreAlike (Some (rule_shown parted.now)) (expression_in place self.old) }
+        requires { AreAlike (Some (rule_shown parted.now)) (expression_in place self.old.declarations) }
         ensures rules { self.new ≡ self.old }
-        ensures does { IfOk result (λ r. IsTrue r ↔ Does trace.now at known.now (marked_fact fact.entry) is_given (rule_shown parted.now)) }
+        ensures does { IfOk result (λ r. IsTrue r ↔ Does self.old at known.now (marked_fact fact.entry) is_given (rule_shown parted.now)) }
     {
         let number = self
             .numbers
@@ -90,10 +88,10 @@ impl<'t> AskedRules<'t> {
         if number < self.asked.len() && self.asked[number].place == place {
             return self.asked[number]
                 .rule
-                .does(is_given, fact.set, fact.user, trace, at, known);
+                .does(is_given, fact.set, fact.user, at, known);
         }
-        let mut rule = AskedRule::new(self.alloc, parted)?;
-        let does = rule.does(is_given, fact.set, fact.user, trace, at, known)?;
+        let mut rule = AskedRule::new(self.alloc, self.trace, parted)?;
+        let does = rule.does(is_given, fact.set, fact.user, at, known)?;
         let number = self.asked.len();
         self.asked.push(PlacedRule { place, rule })?;
         let _ = self.numbers.insert(key(place), number)?;

@@ -128,7 +128,7 @@ fn settles<'t>(
     fact: MarkedFact<'_>,
 ) -> Result<bool, AllocError>
     requires rule { IsInForce trace.now.declarations at (marked_fact fact).set rule }
-    requires asked { asked.old ≡ trace.now.declarations }
+    requires asked { asked.old ≡ trace.now }
     ensures asked { asked.new ≡ asked.old }
     ensures settles { IfOk result (λ r. IsTrue r
         ↔ IsSettled (rule_at trace.now.declarations at) (store_at trace.now.commits at) known.now is_given (marked_fact fact.entry)) }
@@ -142,7 +142,7 @@ fn settles<'t>(
                 Ok(refuted(rule, fact.set, fact.user, trace, at, known))
             }
         }
-        RuleInForce::Wide(place, rule) => asked.does(place, rule, is_given, trace, at, known, fact),
+        RuleInForce::Wide(place, rule) => asked.does(place, rule, is_given, at, known, fact),
     }
 }
 
@@ -156,7 +156,7 @@ fn is_settled<'t, 'a>(
     known: &Known<MarkedFact<'a>>,
     fact: MarkedFact<'a>,
 ) -> Result<bool, AllocError>
-    requires asked { asked.old ≡ trace.now.declarations }
+    requires asked { asked.old ≡ trace.now }
     requires last { IsLast trace.now.declarations at last.old }
     ensures asked { asked.new ≡ asked.old }
     ensures last { IsLast trace.now.declarations at last.new }
@@ -179,7 +179,7 @@ fn are_disproved<'t, 'a>(
     known: &Known<MarkedFact<'a>>,
     facts: &[MarkedFact<'a>],
 ) -> Result<bool, AllocError>
-    requires asked { asked.old ≡ trace.now.declarations }
+    requires asked { asked.old ≡ trace.now }
     requires last { IsLast trace.now.declarations at last.old }
     ensures asked { asked.new ≡ asked.old }
     ensures last { IsLast trace.now.declarations at last.new }
@@ -239,7 +239,7 @@ fn take_yes<'t, 'a>(
     known: &mut Known<MarkedFact<'a>>,
     fact: MarkedFact<'a>,
 ) -> Result<bool, AllocError>
-    requires asked { asked.old ≡ trace.now.declarations }
+    requires asked { asked.old ≡ trace.now }
     requires last { IsLast trace.now.declarations at last.old }
     requires borne { IsBorneOut (rule_at trace.now.declarations at) (store_at trace.now.commits at) known.old }
     ensures asked { asked.new ≡ asked.old }
@@ -270,7 +270,7 @@ fn take_no<'t, 'a>(
     fresh: &mut Vec<MarkedFact<'a>>,
     facts: &[FactRef<'a>],
 ) -> Result<bool, AllocError>
-    requires asked { asked.old ≡ trace.now.declarations }
+    requires asked { asked.old ≡ trace.now }
     requires last { IsLast trace.now.declarations at last.old }
     requires borne { IsBorneOut (rule_at trace.now.declarations at) (store_at trace.now.commits at) known.old }
     ensures asked { asked.new ≡ asked.old }
@@ -296,7 +296,7 @@ fn take_step<'t, 'a>(
     fresh: &mut Vec<MarkedFact<'a>>,
     step: &StepRef<'a>,
 ) -> Result<bool, AllocError>
-    requires asked { asked.old ≡ trace.now.declarations }
+    requires asked { asked.old ≡ trace.now }
     requires last { AreLast trace.now.declarations at rules.old }
     requires borne { IsBorneOut (rule_at trace.now.declarations at) (store_at trace.now.commits at) known.old }
     ensures asked { asked.new ≡ asked.old }
@@ -329,7 +329,7 @@ fn first_bad<'t, 'a>(
     known: &mut Known<MarkedFact<'a>>,
     steps: &[StepRef<'a>],
 ) -> Result<Option<u64>, AllocError>
-    requires asked { asked.old ≡ trace.now.declarations }
+    requires asked { asked.old ≡ trace.now }
     requires borne { IsBorneOut (rule_at trace.now.declarations at) (store_at trace.now.commits at) known.old }
     ensures asked { asked.new ≡ asked.old }
     ensures first { IfOk result (λ r. r
@@ -398,7 +398,7 @@ pub(crate) fn judge_borrowed<'t>(
     entry: &Entry,
     steps: &[StepRef<'_>],
 ) -> Result<Judged, AllocError>
-    requires { asked.old ≡ trace.now.declarations }
+    requires { asked.old ≡ trace.now }
     ensures asked { asked.new ≡ asked.old }
     ensures judged { IfOk result (λ j. j ≡ judged trace.now (entry_value entry.now) (Some (borrowed_steps steps.now))) }
 {
@@ -414,7 +414,7 @@ pub fn judge_steps(trace: &Trace, entry: &Entry, steps: &Steps) -> Result<Judged
     ensures { IfOk result (λ j. j ≡ judged trace.now (entry_value entry.now) (Some (step_values steps.now.items))) }
 {
     let alloc = *steps.allocator();
-    let mut asked = AskedRules::new(alloc, trace.rules());
+    let mut asked = AskedRules::new(alloc, trace);
     judge_borrowed(
         alloc,
         &mut asked,

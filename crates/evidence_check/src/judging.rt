@@ -39,7 +39,7 @@ impl<'t> Model for Judging<'t> {
 
     ghost view = { λ j. record { trace = j.trace.now; lines = j.lines; judgements = j.judgements.items } };
 
-    ghost invariant = { λ j. j.asked ≡ j.trace.now.declarations };
+    ghost invariant = { λ j. j.asked ≡ j.trace.now };
 }
 
 fn none_judged(alloc: Global, count: usize) -> Result<Vec<Judged>, AllocError>
@@ -59,7 +59,7 @@ impl<'t> Judging<'t> {
             trace,
             lines,
             judgements,
-            asked: AskedRules::new(alloc, trace.rules()),
+            asked: AskedRules::new(alloc, trace),
         })
     }
 

@@ -1,7 +1,9 @@
 pub mod AlikeLemmas
 pub mod AskedLemmas
+pub mod DeclaringLemmas
 pub mod IndexLemmas
 pub mod LedLemmas
 pub mod MarkedLemmas
+pub mod PartLemmas
 pub mod PassLemmas
 pub mod ThroughLemmas

@@ -12,6 +12,16 @@ use Rattle.judgement.specs.Judgement.{KnownValue, Established, Refuted}
 use Rattle.judgement.specs.declared.answers.Asked.{Asked}
 use Rattle.judgement.specs.declared.paths.Path.{Path}
 
+-- the parts of a rule, and the trace over which they are asked
+pub record PartsValue : Type 0 where
+  pub trace : TraceValue
+  pub parts : List Expression
+
+-- a rule, and the trace over which it is asked
+pub record RuleValue : Type 0 where
+  pub trace : TraceValue
+  pub expression : Expression
+
 -- whether an expression gives the fact, or whether it rules it out, where its leaves do as they do
 abbrev pub does : Leaves → Bool → Expression → Bool
 does l true e = gives l e

@@ -3,15 +3,15 @@
 ghost use Rattle.std.specs.Prelude.{◌≡◌, ◌↔◌, IsTrue, IfOk};
 ghost use Rattle.tuple_text.specs.Refs.{set_value};
 ghost use Rattle.tuple_text.specs.Tuples.{fact_of};
-ghost use Rattle.namespaces.specs.Parts.{parts_shown, rule_shown};
+ghost use Rattle.namespaces.specs.Parts.{rule_shown};
 ghost use Rattle.judgement.specs.Asked.{AreRight, Does};
 
 use crate::answers::Answers;
-use crate::asking::{ask, node_does};
+use crate::asking::{Parts, node_does};
 use crate::fact::KnownFact;
 use crate::known::Known;
 use crate::paths::{Paths, Reached};
-use namespaces::{Node, Part, PartedRule};
+use namespaces::{Node, PartedRule};
 use std::alloc::{AllocError, Global};
 use std::marker::Model;
 use trace_lines::Trace;
@@ -24,23 +24,25 @@ use version_chains::MarkedSet;
 #[derive(Drop)]
 pub struct AskedRule<'r> {
     rule: &'r PartedRule,
+    parts: Parts<'r>,
     answers: Answers,
     paths: Paths,
 }
 
 impl<'r> Model for AskedRule<'r> {
-    ghost use Rattle.namespaces.specs.Expression.{Expression};
-    ghost use Rattle.namespaces.specs.ExpressionCode.{expression_code};
     ghost use Rattle.namespaces.specs.Parts.{parts_shown, rule_shown};
-    ghost use Rattle.judgement.specs.Asked.{AreRightPaths};
+    ghost use Rattle.judgement.specs.Asked.{AreRightPaths, RuleValue};
+    ghost use Rattle.judgement.specs.KnownCode.{rule_code};
+    ghost use Rattle.std.specs.Prelude.{◌≡◌};
 
-    ghost Value = { Expression };
+    ghost Value = { RuleValue };
 
-    ghost coded = { expression_code };
+    ghost coded = { rule_code };
 
-    ghost view = { λ r. rule_shown r.rule.now };
+    ghost view = { λ r. record { trace = r.parts.trace; expression = rule_shown r.rule.now } };
 
-    ghost invariant = { λ r. AreRightPaths (parts_shown r.rule.now.parts.items) (rule_shown r.rule.now) r.paths };
+    ghost invariant = { λ r. (r.parts.parts ≡ parts_shown r.rule.now.parts.items)
+        × AreRightPaths (parts_shown r.rule.now.parts.items) (rule_shown r.rule.now) r.paths };
 }
 
 /// How many places some nodes have.
@@ -67,36 +69,41 @@ fn places_below(node: &Node) -> usize {
 /// Asks what was asked for facts before, as far as the answers lead. A path asks each question once at most.
 fn ask_again<F: KnownFact>(
     paths: &Paths,
-    parts: &[Part],
+    parts: &mut Parts<'_>,
     is_given: bool,
     set: MarkedSet<'_>,
     user: u64,
-    trace: &Trace,
     at: u64,
     known: &Known<F>,
     answers: &mut Answers,
 ) -> Result<Reached, AllocError>
-    ensures { IfOk result (λ _. AreRight trace.now at known.now (fact_of (set_value set.entry.set) user) (parts_shown parts.now) answers.old
-        → AreRight trace.now at known.now (fact_of (set_value set.entry.set) user) (parts_shown parts.now) answers.new) }
+    ensures same { parts.new ≡ parts.old }
+    ensures right { IfOk result (λ _. AreRight parts.old.trace at known.now (fact_of (set_value set.entry.set) user) parts.old.parts answers.old
+        → AreRight parts.old.trace at known.now (fact_of (set_value set.entry.set) user) parts.old.parts answers.new) }
 {
     let mut reached = paths.first(is_given);
     for _ in 0..paths.most() {
         let Some((part, gives)) = paths.question(reached) else {
             return Ok(reached);
         };
-        let answer = ask(parts, part, gives, set, user, trace, at, known, answers)?;
+        let answer = parts.ask(part, gives, set, user, at, known, answers)?;
         reached = paths.after(reached, answer);
     }
     Ok(reached)
 }
 
 impl<'r> AskedRule<'r> {
-    /// A rule, of which nothing was asked.
-    pub fn new(alloc: Global, rule: &'r PartedRule) -> Result<AskedRule<'r>, AllocError>
-        ensures { IfOk result (λ r. r ≡ rule_shown rule.now) }
+    /// A rule that is asked over a trace, and of which nothing was asked.
+    pub fn new(
+        alloc: Global,
+        trace: &'r Trace,
+        rule: &'r PartedRule,
+    ) -> Result<AskedRule<'r>, AllocError>
+        ensures { IfOk result (λ r. r ≡ record { trace = trace.now; expression = rule_shown rule.now }) }
     {
         Ok(AskedRule {
             rule,
+            parts: Parts::of(alloc, trace, &rule.parts)?,
             answers: Answers::new(alloc, rule.parts.len())?,
             paths: Paths::new(alloc, places_below(&rule.top)),
         })
@@ -109,33 +116,23 @@ impl<'r> AskedRule<'r> {
         is_given: bool,
         set: MarkedSet<'_>,
         user: u64,
-        trace: &Trace,
         at: u64,
         known: &Known<F>,
     ) -> Result<bool, AllocError>
         ensures rule { self.new ≡ self.old }
-        ensures does { IfOk result (λ r. IsTrue r ↔ Does trace.now at known.now (fact_of (set_value set.entry.set) user) is_given self.old) }
+        ensures does { IfOk result (λ r. IsTrue r
+            ↔ Does self.old.trace at known.now (fact_of (set_value set.entry.set) user) is_given self.old.expression) }
     {
         self.answers.clear();
-        let parts = self.rule.parts.as_slice();
+        let parts = &mut self.parts;
         let answers = &mut self.answers;
-        let reached = ask_again(
-            &self.paths,
-            parts,
-            is_given,
-            set,
-            user,
-            trace,
-            at,
-            known,
-            answers,
-        )?;
+        let reached = ask_again(&self.paths, parts, is_given, set, user, at, known, answers)?;
         if let Some(answer) = self.paths.answer(reached, is_given, answers) {
             return Ok(answer);
         }
         let depth = answers.as_slice().len();
         let top = &self.rule.top;
-        let answer = node_does(parts, top, is_given, set, user, trace, at, known, answers)?;
+        let answer = node_does(parts, top, is_given, set, user, at, known, answers)?;
         self.paths
             .keep(reached, depth, answers.as_slice(), is_given, answer)?;
         Ok(answer)

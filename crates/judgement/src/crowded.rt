@@ -9,10 +9,11 @@ ghost use Rattle.version_chains.specs.Commits.{store_at};
 ghost use Rattle.version_chains.specs.Marks.{pair_mark, set_mark};
 ghost use Rattle.userset_index.specs.Index.{IsUsersetIndex, is_crowded};
 ghost use Rattle.userset_index.specs.Lives.{touches_alive};
+ghost use Rattle.judgement.specs.Declaring.{AreDeclaring};
 ghost use Rattle.judgement.specs.Passes.{AreBarred, AreThroughOut, IsTouchOut};
 
 use crate::fact::KnownFact;
-use crate::indexed::{MOST_NAMESPACES, are_out};
+use crate::indexed::are_out;
 use crate::known::Known;
 use namespaces::Through;
 use trace_lines::Trace;
@@ -91,7 +92,6 @@ fn is_namespace_out<F: KnownFact>(
 ) -> bool
     ensures out { IsTrue result → (c : List ℕ) → Contains (computed_names through.now) c
         → AreThroughOut trace.now.declarations trace.now.commits at index.now.through known.now (set_value set.entry.set) c user number }
-    ensures few { IsTrue result → length (namespace_names trace.now.declarations) ≤ 256 }
     ensures barred { AreBarred (rule_at trace.now.declarations at) (store_at trace.now.commits at) known.now (set_value set.entry.set)
         (computed_names through.now) user → IsTrue result }
 {
@@ -107,8 +107,8 @@ fn is_namespace_out<F: KnownFact>(
     )
 }
 
-/// Whether no userset that is stored in a crowded set may have the user under a relation that is read. It goes over the namespaces, of
-/// which there are 256 at most.
+/// Whether no userset that is stored in a crowded set may have the user under a relation that is read. It goes over the namespaces that
+/// declare one, of which there are 256 at most.
 pub(crate) fn are_barred_by_index<F: KnownFact>(
     trace: &Trace,
     index: &UsersetIndex,
@@ -117,16 +117,17 @@ pub(crate) fn are_barred_by_index<F: KnownFact>(
     through: &Through,
     set: MarkedSet<'_>,
     user: u64,
+    numbers: &[u16],
 ) -> bool
     requires index { IsUsersetIndex trace.now.declarations trace.now.commits index.now }
     requires crowded { (index.now.is_whole && is_crowded index.now.crowds (set_mark (set_value set.set))) ≡ true }
+    requires numbers { AreDeclaring trace.now.declarations (computed_names through.now) numbers.now }
     ensures { IsTrue result
         ↔ AreBarred (rule_at trace.now.declarations at) (store_at trace.now.commits at) known.now (set_value set.entry.set)
         (computed_names through.now) user }
 {
-    for before in 0..MOST_NAMESPACES {
-        let number = before + 1;
-        if !is_namespace_out(trace, index, at, known, through, set, user, number) {
+    for number in numbers {
+        if !is_namespace_out(trace, index, at, known, through, set, user, *number) {
             return false;
         }
     }

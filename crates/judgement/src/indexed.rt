@@ -8,6 +8,7 @@ ghost use Rattle.version_chains.specs.Marks.{set_mark};
 ghost use Rattle.userset_index.specs.Index.{IsUsersetIndex, is_crowded};
 ghost use Rattle.judgement.specs.Passes.{AreThroughOut, IsTouchOut, IsBarred};
 
+use crate::declaring::MOST_NAMESPACES;
 use crate::fact::KnownFact;
 use crate::known::Known;
 use crate::stored::is_out;
@@ -15,9 +16,6 @@ use trace_lines::Trace;
 use tuple_text::{SetRef, UserRef};
 use userset_index::{Alive, UsersetIndex};
 use version_chains::MarkedSet;
-
-/// How many namespaces there are at most.
-pub(crate) const MOST_NAMESPACES: u16 = 256;
 
 /// Whether a touch of the changelog is not of a userset that is stored in a set and has a target that may hold a user.
 fn is_touch_out<F: KnownFact>(

@@ -1,6 +1,6 @@
 //! What is read through one tupleset.
 
-ghost use Rattle.std.specs.Prelude.{◌≡◌, ◌↔◌, ◌⊎◌, ℕ, List, Some, Contains, IsTrue, true, false, option_map, slice_get};
+ghost use Rattle.std.specs.Prelude.{◌≡◌, ◌↔◌, ◌⊎◌, ℕ, List, Some, Contains, IsTrue, true, false, option_map, slice_get, IfOk};
 ghost use Rattle.tuple_text.specs.Refs.{set_value};
 ghost use Rattle.tuple_text.specs.Tuples.{fact_of};
 ghost use Rattle.namespaces.specs.InForce.{names_in_force};
@@ -8,14 +8,17 @@ ghost use Rattle.namespaces.specs.Lookup.{rule_at};
 ghost use Rattle.namespaces.specs.Parts.{computed_names, through_expression};
 ghost use Rattle.version_chains.specs.Commits.{store_at};
 ghost use Rattle.judgement.specs.Judgement.{Established, Refuted};
+ghost use Rattle.judgement.specs.Declaring.{AreDeclaring, AreKept};
 ghost use Rattle.judgement.specs.Passes.{AreBarred, BarsId, BarsNames, EachSet, IsLed, IsLedByName, LeadsByName, SomeSet};
 
 use crate::crowded::are_barred_by_index;
+use crate::declaring::{declaring, is_among, name_at};
 use crate::fact::KnownFact;
 use crate::facts::SetsOfUser;
 use crate::known::Known;
 use crate::stored::{is_barred, is_led, is_out, under};
 use namespaces::{Rules, Through};
+use std::alloc::{AllocError, Global};
 use trace_lines::Trace;
 use tuple_text::SetRef;
 use version_chains::{MarkedSet, Usersets};
@@ -54,9 +57,14 @@ fn bars_names<F: KnownFact>(
     through: &Through,
     set: MarkedSet<'_>,
     user: u64,
+    numbers: &[u16],
 ) -> bool
+    requires { AreDeclaring rules.now (computed_names through.now) numbers.now }
     ensures { IsTrue result ↔ BarsNames (rule_at rules.now at) known.now (computed_names through.now) user (set_value set.entry.set) }
 {
+    if !is_among(rules, set.set.namespace, numbers) {
+        return true;
+    }
     for k in 0..rules.count_in_force(set.set.namespace, at) {
         if !bars_name_at(rules, at, known, through, set, user, k) {
             return false;
@@ -73,23 +81,17 @@ fn each_bars_names<F: KnownFact>(
     through: &Through,
     sets: Usersets<'_>,
     user: u64,
+    numbers: &[u16],
 ) -> bool
+    requires { AreDeclaring rules.now (computed_names through.now) numbers.now }
     ensures { IsTrue result ↔ EachSet (BarsNames (rule_at rules.now at) known.now (computed_names through.now) user) sets.entry }
 {
     for set in sets {
-        if !bars_names(rules, at, known, through, set, user) {
+        if !bars_names(rules, at, known, through, set, user, numbers) {
             return false;
         }
     }
     true
-}
-
-/// The name of a relation that is read, by its place.
-fn name_at(through: &Through, k: usize) -> Option<&str>
-    ensures { option_map (λ s. s.now) result ≡ slice_get (computed_names through.now) k }
-{
-    let (name, _) = through.computed.get_index(k)?;
-    Some(name.as_str())
 }
 
 /// Whether some userset that is stored in a set has the user under relation number `k` that is read.
@@ -200,7 +202,7 @@ fn are_barred_one_by_one<F: KnownFact>(
     true
 }
 
-/// The same. Where many relations are read, it goes over what is stored once for all of them.
+/// The same. Where the set is crowded, or many relations are read, it goes over what is stored once for all of them.
 fn are_barred<F: KnownFact>(
     trace: &Trace,
     at: u64,
@@ -208,20 +210,22 @@ fn are_barred<F: KnownFact>(
     through: &Through,
     set: MarkedSet<'_>,
     user: u64,
+    numbers: &[u16],
 ) -> bool
+    requires { AreDeclaring trace.now.declarations (computed_names through.now) numbers.now }
     ensures { IsTrue result
         ↔ AreBarred (rule_at trace.now.declarations at) (store_at trace.now.commits at) known.now (set_value set.entry.set)
         (computed_names through.now) user }
 {
+    let index = trace.usersets();
+    if index.is_crowded(set) {
+        return are_barred_by_index(trace, index, at, known, through, set, user, numbers);
+    }
     if through.computed.len() <= FEW_RELATIONS {
         return are_barred_one_by_one(trace, at, known, through, set, user);
     }
-    let index = trace.usersets();
-    if index.is_crowded(set) {
-        return are_barred_by_index(trace, index, at, known, through, set, user);
-    }
     let sets = trace.chains().usersets(set, at);
-    each_bars_names(trace.rules(), at, known, through, sets, user)
+    each_bars_names(trace.rules(), at, known, through, sets, user, numbers)
 }
 
 /// Whether what is read through a tupleset gives a fact.
@@ -241,17 +245,45 @@ pub(crate) fn through_gives<F: KnownFact>(
 }
 
 /// Whether all that is read through a tupleset rules a fact out.
-pub(crate) fn through_bars<F: KnownFact>(
+fn through_bars<F: KnownFact>(
     through: &Through,
     set: MarkedSet<'_>,
     user: u64,
     trace: &Trace,
     at: u64,
     known: &Known<F>,
+    numbers: &[u16],
 ) -> bool
+    requires { AreDeclaring trace.now.declarations (computed_names through.now) numbers.now }
     ensures { IsTrue result ↔ Refuted (rule_at trace.now.declarations at) (store_at trace.now.commits at) known.now
         (fact_of (set_value set.entry.set) user) (through_expression through.now) }
 {
     let tupleset = MarkedSet::of(under(set.set, through.tupleset.as_str()));
-    are_barred(trace, at, known, through, tupleset, user)
+    are_barred(trace, at, known, through, tupleset, user, numbers)
+}
+
+/// The same. The namespaces that matter are looked for once, and kept.
+pub(crate) fn through_bars_by<F: KnownFact>(
+    alloc: Global,
+    through: &Through,
+    set: MarkedSet<'_>,
+    user: u64,
+    trace: &Trace,
+    at: u64,
+    known: &Known<F>,
+    kept: &mut Option<Vec<u16>>,
+) -> Result<bool, AllocError>
+    requires { AreKept trace.now.declarations through.now kept.old }
+    ensures kept { AreKept trace.now.declarations through.now kept.new }
+    ensures bars { IfOk result (λ r. IsTrue r
+        ↔ Refuted (rule_at trace.now.declarations at) (store_at trace.now.commits at) known.now
+        (fact_of (set_value set.entry.set) user) (through_expression through.now)) }
+{
+    if let Some(numbers) = kept {
+        return Ok(through_bars(through, set, user, trace, at, known, numbers));
+    }
+    let numbers = declaring(alloc, trace.rules(), through)?;
+    let bars = through_bars(through, set, user, trace, at, known, &numbers);
+    *kept = Some(numbers);
+    Ok(bars)
 }

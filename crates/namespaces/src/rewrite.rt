@@ -28,6 +28,9 @@ pub enum Rewrite {
     Minus(Box<Rewrite>, Box<Rewrite>),
 }
 
+/// As how many places one that goes through a tupleset counts: what is stored there may be of all namespaces.
+const PLACES_THROUGH: usize = 6;
+
 /// How many places a rule has, as far as it has no more than some.
 #[cycle(places_up_to)]
 fn places_up_to(rewrite: &Rewrite, most: usize) -> usize
@@ -37,7 +40,8 @@ fn places_up_to(rewrite: &Rewrite, most: usize) -> usize
         return 0;
     }
     match rewrite {
-        Rewrite::This | Rewrite::Computed(_) | Rewrite::TupleTo { .. } => 1,
+        Rewrite::This | Rewrite::Computed(_) => 1,
+        Rewrite::TupleTo { .. } => most.min(PLACES_THROUGH),
         Rewrite::Union(children) | Rewrite::Inter(children) => {
             let mut places = 1;
             for child in children {

@@ -17,4 +17,4 @@ invariant-loop-k l =
     × (after_steps l.known (borrowed_steps (drop l.k l.steps)) ≡ after_steps l.fn.known (borrowed_steps l.steps))
     × IsBorneOut (rule_at l.trace.declarations l.at) (store_at l.trace.commits l.at) l.known
     × AreLast l.trace.declarations l.at l.rules
-    × (l.asked ≡ l.trace.declarations)
+    × (l.asked ≡ l.trace)

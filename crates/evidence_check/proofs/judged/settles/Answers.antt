@@ -34,4 +34,4 @@ returns-in-Wide-clause-settles c =
     let x = rule_shown c.in-Wide.rule.now in
     let wide = rw c.in-Wide.is at c.requires.rule in
     let both = settled_by_rule c.args.trace.now c.args.at c.args.known.now f c.args.is_given x wide.0 in
-    IfOk-weaker c.does.result _ _ (λ r d. (λ t. both.0 (d.0 t), λ s. d.1 (both.1 s))) c.does.ensures.does
+    IfOk-weaker c.does.result _ _ (λ r d. (λ t. both.0 (d.0 t), λ s. d.1 (both.1 s))) (rw c.requires.asked at c.does.ensures.does)

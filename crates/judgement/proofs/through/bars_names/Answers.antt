@@ -1,4 +1,4 @@
-use Rattle.std.proofs.Common.{Some, ◌∙◌, sym, refl, arith}
+use Rattle.std.proofs.Common.{Some, ◌∙◌, sym, refl, inl, arith}
 use Rattle.std.specs.Prelude.{Contains}
 use Rattle.tuple_text.specs.Refs.{set_value}
 use Rattle.namespaces.specs.InForce.{names_in_force}
@@ -8,6 +8,12 @@ use Rattle.judgement.specs.Passes.{BarsId}
 use Rattle.judgement.proofs.PassLemmas.{each_element, next_element}
 use Rattle.judgement.proofs.ThroughLemmas.{names_enough}
 use Rattle.judgement.proofs.through.bars_names.Goals as goal
+
+pub returns-then-not-is_among : goal.returns-then-not-is_among
+returns-then-not-is_among g c = (
+  λ t name named. inl (c.is_among.ensures c.if-not-is_among.true (computed_names c.args.through.now) c.requires c.args.at name c.ranges.at.fits named),
+  λ b. refl,
+)
 
 pub returns-then-not-bars_name_at : goal.returns-then-not-bars_name_at
 returns-then-not-bars_name_at g c = (λ t. cc, λ b. sym c.if-not-bars_name_at.true ∙ c.bars_name_at.ensures.none b)

@@ -1,4 +1,4 @@
-use Rattle.std.proofs.Common.{◌≡◌, arith}
+use Rattle.std.proofs.Common.{arith}
 use Rattle.tuple_text.specs.Refs.{set_value}
 use Rattle.tuple_text.specs.Tuples.{fact_of}
 use Rattle.namespaces.specs.Parts.{parts_shown, rule_shown}
@@ -11,30 +11,38 @@ returns-in-Some-clause-does g c =
     let s = c.self.inside in
     let f = fact_of (set_value c.args.set.set) c.args.user in
     let parts = parts_shown s.rule.now.parts.items in
-    let none : AreRight c.args.trace.now c.args.at c.args.known.now f parts c.clear.new.self = rw c.clear.ensures (λ a there. absurd (omega (arith, there.1))) in
-    let right : AreRight c.args.trace.now c.args.at c.args.known.now f parts c.ask_again.new.answers = (rw c.as_slice-parts.ensures.value at c.in_ok-reached.ensures) none in
+    let trace = s.parts.trace in
+    let none : AreRight trace c.args.at c.args.known.now f parts c.clear.new.self = rw c.clear.ensures (λ a there. absurd (omega (arith, there.1))) in
+    let right : AreRight trace c.args.at c.args.known.now f parts c.ask_again.new.answers = (rw c.self.invariant.0 at c.in_ok-reached.ensures.right) none in
     rw (← c.self.view_is)
-    (right_then c.args.trace.now c.args.at c.args.known.now f parts c.ask_again.new.answers c.args.is_given (rule_shown s.rule.now) c.in-Some.answer right
-    (c.in-Some.ensures parts (rule_shown s.rule.now) c.self.invariant))
+    (right_then trace c.args.at c.args.known.now f parts c.ask_again.new.answers c.args.is_given (rule_shown s.rule.now) c.in-Some.answer right
+    (c.in-Some.ensures parts (rule_shown s.rule.now) c.self.invariant.1))
 
 pub returns-clause-does : goal.returns-clause-does
 returns-clause-does g c =
     let s = c.self.inside in
     let f = fact_of (set_value c.args.set.set) c.args.user in
     let parts = parts_shown s.rule.now.parts.items in
-    let none : AreRight c.args.trace.now c.args.at c.args.known.now f parts c.clear.new.self = rw c.clear.ensures (λ a there. absurd (omega (arith, there.1))) in
-    let right : AreRight c.args.trace.now c.args.at c.args.known.now f parts c.ask_again.new.answers = (rw c.as_slice-parts.ensures.value at c.in_ok-reached.ensures) none in
-    let told = rw c.as_slice-parts.ensures.value at c.in_ok-answer.ensures in
+    let trace = s.parts.trace in
+    let none : AreRight trace c.args.at c.args.known.now f parts c.clear.new.self = rw c.clear.ensures (λ a there. absurd (omega (arith, there.1))) in
+    let right : AreRight trace c.args.at c.args.known.now f parts c.ask_again.new.answers = (rw c.self.invariant.0 at c.in_ok-reached.ensures.right) none in
+    let told = rw (c.in_ok-reached.ensures.same, c.self.invariant.0) at c.in_ok-answer.ensures.tells in
     rw (← c.self.view_is)
-    (right_then c.args.trace.now c.args.at c.args.known.now f parts c.node_does.new.answers c.args.is_given (rule_shown s.rule.now) c.in_ok-answer.answer
+    (right_then trace c.args.at c.args.known.now f parts c.node_does.new.answers c.args.is_given (rule_shown s.rule.now) c.in_ok-answer.answer
     (told.right right) told.follows)
 
 pub invariant_of-self-in_err-keep : goal.invariant_of-self-in_err-keep
 invariant_of-self-in_err-keep g c =
-    let told = rw c.as_slice-parts.ensures.value at c.in_ok-answer.ensures in
-    c.keep.ensures (parts_shown c.self.inside.rule.now.parts.items) (rule_shown c.self.inside.rule.now) c.self.invariant (rw c.as_slice.ensures told.follows)
+    let s = c.self.inside in
+    let told = rw (c.in_ok-reached.ensures.same, c.self.invariant.0) at c.in_ok-answer.ensures.tells in (
+      rw (c.in_ok-answer.ensures.same, c.in_ok-reached.ensures.same) c.self.invariant.0,
+      c.keep.ensures (parts_shown s.rule.now.parts.items) (rule_shown s.rule.now) c.self.invariant.1 (rw c.as_slice.ensures told.follows),
+    )
 
 pub invariant_of-self-2 : goal.invariant_of-self-2
 invariant_of-self-2 g c =
-    let told = rw c.as_slice-parts.ensures.value at c.in_ok-answer.ensures in
-    c.keep.ensures (parts_shown c.self.inside.rule.now.parts.items) (rule_shown c.self.inside.rule.now) c.self.invariant (rw c.as_slice.ensures told.follows)
+    let s = c.self.inside in
+    let told = rw (c.in_ok-reached.ensures.same, c.self.invariant.0) at c.in_ok-answer.ensures.tells in (
+      rw (c.in_ok-answer.ensures.same, c.in_ok-reached.ensures.same) c.self.invariant.0,
+      c.keep.ensures (parts_shown s.rule.now.parts.items) (rule_shown s.rule.now) c.self.invariant.1 (rw c.as_slice.ensures told.follows),
+    )
