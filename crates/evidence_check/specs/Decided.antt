@@ -4,7 +4,7 @@ use Rattle.std.specs.List.{AllByRecursion}
 use Rattle.std.proofs.Common.{subst}
 use Rattle.tuple_text.specs.Tuples.{TupleValue, FactValue}
 use Rattle.namespaces.specs.Lookup.{Rule, Lookup, rule_of}
-use Rattle.strata.proofs.Lists.{dec_both, dec_either, dec_same}
+use Rattle.strata.specs.Decisions.{dec_both, dec_either, dec_same}
 use Rattle.judgement.specs.Judgement.{KnownValue, Established, Refuted}
 use Rattle.judgement.specs.Decided.{dec_undeclared, dec_established, dec_refuted}
 use Rattle.evidence_check.specs.Accepted.{with_no, IsDisproved, IsAccepted}

@@ -6,8 +6,7 @@ use Rattle.tuple_text.specs.declared.users.User.TheVariants.{Id, Set}
 use Rattle.namespaces.specs.Expression.{Expression, this, computed, tuple_to, union, inter, minus, Expressions, no_child, child}
 use Rattle.namespaces.specs.Lookup.{Rule, Lookup, rule_of}
 use Rattle.strata.specs.Meaning.{with_relation, same_user, IsStored}
-use Rattle.strata.proofs.Decided.{same_set, same_tuple, dec_some_stored}
-use Rattle.strata.proofs.Lists.{dec_not, dec_both, dec_either, dec_same, dec_contains}
+use Rattle.strata.specs.Decisions.{same_set, same_tuple, dec_some_stored, dec_not, dec_both, dec_either, dec_same, dec_contains}
 use Rattle.std.proofs.Math.Decide.{ℕ_discrete}
 use Rattle.std.proofs.Common.{ap}
 use Rattle.judgement.specs.Judgement.{KnownValue, IsOut, Established, SomeEstablished, EachEstablished, Refuted, EachRefuted, SomeRefuted}

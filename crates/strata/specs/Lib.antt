@@ -1,4 +1,5 @@
 pub mod Changes
+pub mod Decisions
 pub mod Edges
 pub mod Laws
 pub mod Meaning
