@@ -24,29 +24,34 @@ never : (ds : List Declaration) (namespace relation : List ℕ) → rule_at ds l
     → (at : ℕ) → at < 2 ^ 64 → rule_at ds at namespace relation ≡ None
 never ds namespace relation none at small = undeclared_before ds (object namespace relation) at last (omega (arith, small)) none
 
+-- where the last declaration has none, none before has one
+pub none_before : (ds : List Declaration) (names : List (List ℕ)) (namespace : List ℕ) → DeclaresNone ds last names namespace
+    → (at : ℕ) → at < 2 ^ 64 → DeclaresNone ds at names namespace
+none_before ds names namespace none at small relation named = never ds namespace relation (none relation named) at small
+
 -- asked for each relation that is read
-pub none_by_names : (ds : List Declaration) (names : List (List ℕ)) (namespace : List ℕ)
-    → ((k : ℕ) (relation : List ℕ) → k < length names → slice_get names k ≡ Some relation → rule_at ds last namespace relation ≡ None)
-    → DeclaresNone ds names namespace
-none_by_names ds names namespace each at relation small named =
-    never ds namespace relation (each_element (λ r. rule_at ds last namespace r ≡ None) names each relation named) at small
+pub none_by_names : (ds : List Declaration) (at : ℕ) (names : List (List ℕ)) (namespace : List ℕ)
+    → ((k : ℕ) (relation : List ℕ) → k < length names → slice_get names k ≡ Some relation → rule_at ds at namespace relation ≡ None)
+    → DeclaresNone ds at names namespace
+none_by_names ds at names namespace each relation named = each_element (λ r. rule_at ds at namespace r ≡ None) names each relation named
 
 -- asked for each that is declared
-pub none_by_declared : (ds : List Declaration) (names : List (List ℕ)) (namespace : List ℕ)
-    → ((relation : List ℕ) → ¬ (rule_at ds last namespace relation ≡ None) → Contains (names_in_force last namespace ds) relation)
-    → ((k : ℕ) (relation : List ℕ) → k < length (names_in_force last namespace ds) → slice_get (names_in_force last namespace ds) k ≡ Some relation
+pub none_by_declared : (ds : List Declaration) (at : ℕ) (names : List (List ℕ)) (namespace : List ℕ)
+    → ((relation : List ℕ) → ¬ (rule_at ds at namespace relation ≡ None) → Contains (names_in_force at namespace ds) relation)
+    → ((k : ℕ) (relation : List ℕ) → k < length (names_in_force at namespace ds) → slice_get (names_in_force at namespace ds) k ≡ Some relation
     → ¬ Contains names relation)
-    → DeclaresNone ds names namespace
-none_by_declared ds names namespace whole each at relation small named = by (dec_undeclared (rule_at ds last namespace relation))
+    → DeclaresNone ds at names namespace
+none_by_declared ds at names namespace whole each relation named = by (dec_undeclared (rule_at ds at namespace relation))
   where
-    by : Dec (rule_at ds last namespace relation ≡ None) → rule_at ds at namespace relation ≡ None
-    by (yes none) = never ds namespace relation none at small
-    by (no declared) = absurd (each_element (λ r. ¬ Contains names r) (names_in_force last namespace ds) each relation (whole relation declared) named)
+    by : Dec (rule_at ds at namespace relation ≡ None) → rule_at ds at namespace relation ≡ None
+    by (yes none) = none
+    by (no declared) = absurd (each_element (λ r. ¬ Contains names r) (names_in_force at namespace ds) each relation (whole relation declared) named)
 
 -- a namespace whose number is not among them
-pub none_apart : (ds : List Declaration) (names : List (List ℕ)) (numbers : List ℕ) (namespace : List ℕ) → AreDeclaring ds names numbers
-    → ((n : ℕ) → place_of namespace (namespace_names ds) ≡ Some n → ¬ Contains numbers n) → DeclaresNone ds names namespace
-none_apart ds names numbers namespace are apart at relation small named = by (dec_undeclared (rule_at ds at namespace relation))
+pub none_apart : (ds : List Declaration) (names : List (List ℕ)) (numbers : List ℕ) (namespace : List ℕ) (at : ℕ) → at < 2 ^ 64
+    → AreDeclaring ds names numbers → ((n : ℕ) → place_of namespace (namespace_names ds) ≡ Some n → ¬ Contains numbers n)
+    → DeclaresNone ds at names namespace
+none_apart ds names numbers namespace at small are apart relation named = by (dec_undeclared (rule_at ds at namespace relation))
   where
     by : Dec (rule_at ds at namespace relation ≡ None) → rule_at ds at namespace relation ≡ None
     by (yes none) = none

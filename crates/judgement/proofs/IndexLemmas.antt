@@ -17,7 +17,7 @@ use Rattle.strata.specs.Meaning.{with_relation, IsStored}
 use Rattle.version_chains.specs.Commits.{Commit, Touch, changelog, is_stored, store_at}
 use Rattle.version_chains.specs.Marks.{pair_mark, set_mark}
 use Rattle.version_chains.proofs.StoreLemmas.{store_at-iff}
-use Rattle.userset_index.specs.Index.{IndexValue, IsLastTouch, IsWhole, is_crowded, object_mark}
+use Rattle.userset_index.specs.Index.{IndexValue, IsFound, IsLastTouch, IsWhole, is_crowded, object_mark}
 use Rattle.userset_index.specs.Lives.{touches_alive}
 use Rattle.userset_index.proofs.CallerLemmas.{each_found, stored_by_touch}
 use Rattle.judgement.specs.Decided.{dec_undeclared}
@@ -90,6 +90,21 @@ module _ (ds : List Declaration) (commits : List Commit) (at : ℕ) (small : at 
   crowded_there : (x : Touch) (g : SetValue) → x.tuple ≡ tuple_of set (Set g) → is_crowded v.crowds (set_mark x.tuple.set) ≡ true
   crowded_there x g same = ap (λ (t : TupleValue). is_crowded v.crowds (set_mark t.set)) same ∙ crowded
 
+  -- it is found by the number of its namespace
+  through_there : (g : SetValue) (n : ℕ) → place_of g.namespace (namespace_names ds) ≡ Some n
+      → (i : ℕ) (x : Touch) → IsLastTouch (changelog commits) at i x → x.tuple ≡ tuple_of set (Set g) → IsFound v.through (pair_mark (set_mark set) n) at i
+  through_there g n place i x last same =
+      let mark : pair_mark (set_mark set) n ≡ pair_mark (set_mark x.tuple.set) n = ap (λ (t : TupleValue). pair_mark (set_mark t.set) n) (sym same) in
+      is.through i at (pair_mark (set_mark set) n) x g last (ap (λ (t : TupleValue). t.user) same) (crowded_there x g same) small (n, place, mark)
+
+  -- so where nothing is found, none is stored
+  pub none_through : (g : SetValue) (n : ℕ) → place_of g.namespace (namespace_names ds) ≡ Some n
+      → touches_alive (pair_mark (set_mark set) n) at v.through (length v.through) ≡ [] → ¬ IsStored (store_at commits at) set (Set g)
+  none_through g n place none stored =
+      let w = of_stored g stored in
+      each_found (λ (i : ℕ). ⊥) v.through (pair_mark (set_mark set) n) at w.0 (through_there g n place w.0 w.1 w.2 w.3)
+      (rw none (λ k d less. absurd (omega (arith, less))))
+
   pub apart_by_objects : (other : SetValue) → All (IsTouchApart commits at set other) (touches_alive (object_mark set other) at v.objects (length v.objects))
       → ¬ IsObjectStored (store_at commits at) set other
   apart_by_objects other all o =
@@ -119,7 +134,8 @@ module _ (ds : List Declaration) (commits : List Commit) (at : ℕ) (small : at 
             of_touch None g stored w.0 w.1 w.2 w.3 (each_found (IsTouchOut (rule_at ds at) commits at known set None id) v.own (set_mark set) at w.0 found all)
 
     pub barred_by_through : length (namespace_names ds) ≤ 256 → (relation : List ℕ)
-        → ((n : ℕ) → n < 256 → AreThroughOut ds commits at v.through known set relation id (suc n))
+        → ((n : ℕ) (g : SetValue) → n < 256 → IsStored (store_at commits at) set (Set g) → place_of g.namespace (namespace_names ds) ≡ Some (suc n)
+        → ¬ (rule_at ds at g.namespace relation ≡ None) → AreThroughOut ds commits at v.through known set relation id (suc n))
         → IsBarred (rule_at ds at) (store_at commits at) known set (Some relation) id
     barred_by_through few relation all g stored = by_rule (dec_undeclared (rule_at ds at g.namespace relation))
       where
@@ -128,8 +144,7 @@ module _ (ds : List Declaration) (commits : List Commit) (at : ℕ) (small : at 
         by_rule (no declared) =
             let n = numbered ds at g.namespace relation declared few in
             let w = of_stored g stored in
-            let mark : pair_mark (set_mark set) (suc n.0) ≡ pair_mark (set_mark w.1.tuple.set) (suc n.0) = ap (λ (t : TupleValue). pair_mark (set_mark t.set) (suc n.0)) (sym w.3) in
-            let found = is.through w.0 at (pair_mark (set_mark set) (suc n.0)) w.1 g w.2 (ap (λ (t : TupleValue). t.user) w.3) (crowded_there w.1 g w.3) small (suc n.0, n.2, mark) in
+            let found = through_there g (suc n.0) n.2 w.0 w.1 w.2 w.3 in
             of_touch (Some relation) g stored w.0 w.1 w.2 w.3
             (each_found (IsTouchOut (rule_at ds at) commits at known set (Some relation) id) v.through (pair_mark (set_mark set) (suc n.0)) at w.0 found
-            (all n.0 n.1 g.namespace n.3 declared))
+            (all n.0 g n.1 stored n.2 declared g.namespace n.3 declared))

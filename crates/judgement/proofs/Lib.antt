@@ -3,6 +3,7 @@ pub mod AskedLemmas
 pub mod DeclaringLemmas
 pub mod IndexLemmas
 pub mod LedLemmas
+pub mod LiveLemmas
 pub mod MarkedLemmas
 pub mod PartLemmas
 pub mod PassLemmas

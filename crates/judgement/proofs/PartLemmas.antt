@@ -3,8 +3,7 @@ use Rattle.std.proofs.Common.{◌≡◌, ◌≤◌, ℕ, List, Option, None, Som
 use Rattle.std.proofs.lemmas.Option.{slice_get-map, slice_get_past}
 use Rattle.std.specs.Prelude.{slice_get, slice_set, unwrap_or}
 use Rattle.std.specs.declared.alloc.Global.{Global}
-use Rattle.std.specs.declared.vec.Vec.{Vec}
-use Rattle.namespaces.specs.Declaration.{Declaration}
+use Rattle.std.specs.declared.boxed.Box.{Box}
 use Rattle.namespaces.specs.Expression.{Expression, union, no_child}
 use Rattle.namespaces.specs.Parts.{part_at, part_expression, parts_shown}
 use Rattle.namespaces.specs.declared.parts.Part.{Part}
@@ -13,8 +12,9 @@ use Rattle.version_chains.proofs.PlacedLemmas.{length-set, slice_get-set}
 use Rattle.tuple_text.specs.Tuples.{FactValue}
 use Rattle.trace_lines.specs.Values.{TraceValue}
 use Rattle.judgement.specs.Asked.{Does}
-use Rattle.judgement.specs.Declaring.{AreKept, AreKeptByPart}
+use Rattle.judgement.specs.Declaring.{AreKeptByPart, MayBeKept}
 use Rattle.judgement.specs.Judgement.{KnownValue}
+use Rattle.judgement.specs.declared.kept.Kept.{Kept}
 
 pub part_there : (ps : List Part) (n : ℕ) (p : Part) → slice_get ps n ≡ Some p → part_at (parts_shown ps) n ≡ part_expression p
 part_there ps n p h = ap (λ (o : Option Expression). unwrap_or o (union no_child)) (slice_get-map part_expression ps n ∙ ap (option_map part_expression) h)
@@ -23,24 +23,24 @@ pub no_part_there : (ps : List Part) (n : ℕ) → length ps ≤ n → part_at (
 no_part_there ps n past =
     ap (λ (o : Option Expression). unwrap_or o (union no_child)) (slice_get-map part_expression ps n ∙ ap (option_map part_expression) (slice_get_past ps n past))
 
-pub none_kept : (ds : List Declaration) (parts : List Part) (kept : List (Option (Vec ℕ Global))) → length kept ≡ length parts
-    → ((k : ℕ) (one : Option (Vec ℕ Global)) → slice_get kept k ≡ Some one → one ≡ None) → AreKeptByPart ds parts kept
-none_kept ds parts kept room none = record {
+pub none_kept : (trace : TraceValue) (parts : List Part) (kept : List (Option (Box Kept Global))) → length kept ≡ length parts
+    → ((k : ℕ) (one : Option (Box Kept Global)) → slice_get kept k ≡ Some one → one ≡ None) → AreKeptByPart trace parts kept
+none_kept trace parts kept room none = record {
   room = room;
   each = λ k through one at there numbers is. let bad : None ≡ Some numbers = sym (none k one there) ∙ is in cc;
 }
 
 -- it is kept of one part
-pub one_kept : (ds : List Declaration) (parts : List Part) (kept : List (Option (Vec ℕ Global))) (n : ℕ) (through : Through) (one : Option (Vec ℕ Global))
-    → AreKeptByPart ds parts kept → slice_get parts n ≡ Some (Part.Through through) → AreKept ds through one → AreKeptByPart ds parts (slice_set kept n one)
-one_kept ds parts kept n through one are at is = record {
+pub one_kept : (trace : TraceValue) (parts : List Part) (kept : List (Option (Box Kept Global))) (n : ℕ) (through : Through) (one : Option (Box Kept Global))
+    → AreKeptByPart trace parts kept → slice_get parts n ≡ Some (Part.Through through) → MayBeKept trace through one → AreKeptByPart trace parts (slice_set kept n one)
+one_kept trace parts kept n through one are at is = record {
   room = length-set kept n one ∙ are.room;
   each = λ k t o there within.
       elim (slice_get-set kept n k o one within) [
         | inl here ↦
             let same : Some (Part.Through t) ≡ Some (Part.Through through) = sym there ∙ ap (slice_get parts) here.0 ∙ at in
             let through_is : through ≡ t = cc in
-            subst (AreKept ds t) here.1 (subst (λ (x : Through). AreKept ds x one) through_is is)
+            subst (MayBeKept trace t) here.1 (subst (λ (x : Through). MayBeKept trace x one) through_is is)
         | inr other ↦ are.each k t o there other.1
       ];
 }

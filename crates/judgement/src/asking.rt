@@ -3,18 +3,19 @@
 ghost use Rattle.std.specs.Prelude.{◌≡◌, ◌↔◌, IsTrue, List, IfOk};
 ghost use Rattle.tuple_text.specs.Refs.{set_value};
 ghost use Rattle.tuple_text.specs.Tuples.{fact_of};
-ghost use Rattle.namespaces.specs.Declaration.{Declaration};
 ghost use Rattle.namespaces.specs.Expression.{Expression};
 ghost use Rattle.namespaces.specs.Parts.{part_at, parts_shown, node_expression, nodes_shown};
 ghost use Rattle.namespaces.specs.View.{expression_of};
+ghost use Rattle.trace_lines.specs.Values.{TraceValue};
 ghost use Rattle.judgement.specs.Asked.{Does, Follows, Tells, joined_of};
 ghost use Rattle.judgement.specs.Declaring.{AreKeptByPart};
 
 use crate::answers::{Answers, Asked};
 use crate::fact::KnownFact;
+use crate::kept::{Kept, through_bars};
 use crate::known::Known;
 use crate::table::{established, refuted};
-use crate::through::{through_bars_by, through_gives};
+use crate::through::through_gives;
 use namespaces::{Node, Part, Rewrite};
 use std::alloc::{AllocError, Global};
 use std::marker::Model;
@@ -27,8 +28,8 @@ pub(crate) struct Parts<'r> {
     alloc: Global,
     trace: &'r Trace,
     parts: &'r [Part],
-    // of each part by its number, which namespaces matter to it
-    kept: Vec<Option<Vec<u16>>>,
+    // of each part by its number
+    kept: Vec<Option<Box<Kept>>>,
 }
 
 impl<'r> Model for Parts<'r> {
@@ -43,7 +44,7 @@ impl<'r> Model for Parts<'r> {
 
     ghost view = { λ p. record { trace = p.trace.now; parts = parts_shown p.parts.now } };
 
-    ghost invariant = { λ p. AreKeptByPart p.trace.now.declarations p.parts.now p.kept.items };
+    ghost invariant = { λ p. AreKeptByPart p.trace.now p.parts.now p.kept.items };
 }
 
 /// Whether a part without children gives a fact, or whether it rules the fact out.
@@ -65,8 +66,8 @@ fn leaf_does<F: KnownFact>(
     }
 }
 
-fn nothing_kept(alloc: Global, parts: &[Part]) -> Result<Vec<Option<Vec<u16>>>, AllocError>
-    ensures { (ds : List Declaration) → IfOk result (λ v. AreKeptByPart ds parts.now v.items) }
+fn nothing_kept(alloc: Global, parts: &[Part]) -> Result<Vec<Option<Box<Kept>>>, AllocError>
+    ensures { (trace : TraceValue) → IfOk result (λ v. AreKeptByPart trace parts.now v.items) }
 {
     let mut kept = Vec::with_capacity(alloc, parts.len())?;
     while kept.len() < parts.len() {
@@ -112,7 +113,7 @@ impl<'r> Parts<'r> {
                 if is_given {
                     return Ok(through_gives(through, set, user, trace, at, known));
                 }
-                through_bars_by(
+                through_bars(
                     self.alloc,
                     through,
                     set,

@@ -9,7 +9,7 @@ ghost use Rattle.version_chains.specs.Commits.{store_at};
 ghost use Rattle.version_chains.specs.Marks.{pair_mark, set_mark};
 ghost use Rattle.userset_index.specs.Index.{IsUsersetIndex, is_crowded};
 ghost use Rattle.userset_index.specs.Lives.{touches_alive};
-ghost use Rattle.judgement.specs.Declaring.{AreDeclaring};
+ghost use Rattle.judgement.specs.Declaring.{AreLive};
 ghost use Rattle.judgement.specs.Passes.{AreBarred, AreThroughOut, IsTouchOut};
 
 use crate::fact::KnownFact;
@@ -107,8 +107,8 @@ fn is_namespace_out<F: KnownFact>(
     )
 }
 
-/// Whether no userset that is stored in a crowded set may have the user under a relation that is read. It goes over the namespaces that
-/// declare one, of which there are 256 at most.
+/// Whether no userset that is stored in a crowded set may have the user under a relation that is read. It goes over the namespaces of which
+/// something matters that is stored, of which there are 256 at most.
 pub(crate) fn are_barred_by_index<F: KnownFact>(
     trace: &Trace,
     index: &UsersetIndex,
@@ -121,7 +121,7 @@ pub(crate) fn are_barred_by_index<F: KnownFact>(
 ) -> bool
     requires index { IsUsersetIndex trace.now.declarations trace.now.commits index.now }
     requires crowded { (index.now.is_whole && is_crowded index.now.crowds (set_mark (set_value set.set))) ≡ true }
-    requires numbers { AreDeclaring trace.now.declarations (computed_names through.now) numbers.now }
+    requires numbers { AreLive trace.now.declarations trace.now.commits at (set_value set.set) (computed_names through.now) numbers.now }
     ensures { IsTrue result
         ↔ AreBarred (rule_at trace.now.declarations at) (store_at trace.now.commits at) known.now (set_value set.entry.set)
         (computed_names through.now) user }

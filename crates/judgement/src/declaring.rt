@@ -20,9 +20,9 @@ pub(crate) fn name_at(through: &Through, k: usize) -> Option<&str>
     Some(name.as_str())
 }
 
-/// Whether a namespace declares one of the relations that are read, asked for these.
-fn declares_name(rules: &Rules, through: &Through, namespace: &str) -> bool
-    ensures { result ≡ false → DeclaresNone rules.now (computed_names through.now) namespace.now }
+/// Whether a namespace declares, at a timestamp, one of the relations that are read, asked for these.
+fn declares_name(rules: &Rules, through: &Through, namespace: &str, at: u64) -> bool
+    ensures { result ≡ false → DeclaresNone rules.now at (computed_names through.now) namespace.now }
 {
     for k in 0..through.computed.len() {
         if let Some(relation) = name_at(through, k) {
@@ -31,7 +31,7 @@ fn declares_name(rules: &Rules, through: &Through, namespace: &str) -> bool
                 id: "",
                 relation,
             };
-            if rules.body(set, u64::MAX).is_some() {
+            if rules.body(set, at).is_some() {
                 return true;
             }
         }
@@ -40,11 +40,11 @@ fn declares_name(rules: &Rules, through: &Through, namespace: &str) -> bool
 }
 
 /// The same, asked for those that it declares, of which there are 256 at most.
-fn declares_read(rules: &Rules, through: &Through, namespace: &str) -> bool
-    ensures { result ≡ false → DeclaresNone rules.now (computed_names through.now) namespace.now }
+fn declares_read(rules: &Rules, through: &Through, namespace: &str, at: u64) -> bool
+    ensures { result ≡ false → DeclaresNone rules.now at (computed_names through.now) namespace.now }
 {
-    for k in 0..rules.count_in_force(namespace, u64::MAX) {
-        if let Some(name) = rules.name_in_force(namespace, u64::MAX, k) {
+    for k in 0..rules.count_in_force(namespace, at) {
+        if let Some(name) = rules.name_in_force(namespace, at, k) {
             if through.reads(name) {
                 return true;
             }
@@ -53,15 +53,22 @@ fn declares_read(rules: &Rules, through: &Through, namespace: &str) -> bool
     false
 }
 
-/// The same, asked for the shorter of both lists. What is declared stays declared, so the last declaration tells.
-fn declares_some(rules: &Rules, through: &Through, namespace: &str) -> bool
-    ensures { result ≡ false → DeclaresNone rules.now (computed_names through.now) namespace.now }
+/// The same, asked for the shorter of both lists.
+pub(crate) fn declares_some(rules: &Rules, through: &Through, namespace: &str, at: u64) -> bool
+    ensures { result ≡ false → DeclaresNone rules.now at (computed_names through.now) namespace.now }
 {
-    if through.computed.len() < rules.relation_count(namespace) {
-        declares_name(rules, through, namespace)
+    if through.computed.len() < rules.count_in_force(namespace, at) {
+        declares_name(rules, through, namespace, at)
     } else {
-        declares_read(rules, through, namespace)
+        declares_read(rules, through, namespace, at)
     }
+}
+
+/// Whether it ever does. What is declared stays declared, so the last declaration tells.
+fn declares_ever(rules: &Rules, through: &Through, namespace: &str) -> bool
+    ensures { result ≡ false → (at : ℕ) → at < 2 ^ 64 → DeclaresNone rules.now at (computed_names through.now) namespace.now }
+{
+    declares_some(rules, through, namespace, u64::MAX)
 }
 
 /// The numbers of the namespaces that declare a relation that is read, at whatever time.
@@ -76,7 +83,7 @@ pub(crate) fn declaring(
     for before in 0..MOST_NAMESPACES {
         let number = before + 1;
         if let Some(namespace) = rules.namespace(number) {
-            if declares_some(rules, through, namespace) {
+            if declares_ever(rules, through, namespace) {
                 numbers.push(number)?;
             }
         }
@@ -86,8 +93,8 @@ pub(crate) fn declaring(
 
 /// Whether the namespace of this name is among some.
 pub(crate) fn is_among(rules: &Rules, namespace: &str, numbers: &[u16]) -> bool
-    ensures { result ≡ false → (names : List (List ℕ)) → AreDeclaring rules.now names numbers.now
-        → DeclaresNone rules.now names namespace.now }
+    ensures { result ≡ false → (names : List (List ℕ)) (at : ℕ) → AreDeclaring rules.now names numbers.now → at < 2 ^ 64
+        → DeclaresNone rules.now at names namespace.now }
 {
     match rules.namespace_number(namespace) {
         Some(number) => numbers.contains(&number),

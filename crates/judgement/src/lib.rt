@@ -15,7 +15,7 @@
 //! passed over by the trace's index of them, so that those that are dead or undeclared then are not looked at; and whether one of them
 //! leads to a known fact is found from the shorter of two lists, the stored usersets and the user's known facts. An `AskedRule` asks for each
 //! part once for a fact, and goes over the rule only where its parts have other answers than they had for each fact that it remembers. Of a
-//! part that reads through a tupleset it remembers which namespaces declare what is read: what is stored of others has nobody.
+//! part that reads through a tupleset it remembers which namespaces matter: what is stored of others has nobody.
 //!
 //! ```text
 //! known.add_yes(fact)?;
@@ -31,8 +31,10 @@ mod declaring;
 mod fact;
 mod facts;
 mod indexed;
+mod kept;
 mod known;
 mod leading;
+mod live;
 mod paths;
 mod stored;
 mod table;

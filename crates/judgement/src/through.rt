@@ -1,24 +1,23 @@
 //! What is read through one tupleset.
 
-ghost use Rattle.std.specs.Prelude.{◌≡◌, ◌↔◌, ◌⊎◌, ℕ, List, Some, Contains, IsTrue, true, false, option_map, slice_get, IfOk};
+ghost use Rattle.std.specs.Prelude.{◌≡◌, ◌↔◌, ◌⊎◌, ℕ, List, Some, Contains, IsTrue, true, false, option_map, slice_get};
 ghost use Rattle.tuple_text.specs.Refs.{set_value};
 ghost use Rattle.tuple_text.specs.Tuples.{fact_of};
 ghost use Rattle.namespaces.specs.InForce.{names_in_force};
 ghost use Rattle.namespaces.specs.Lookup.{rule_at};
 ghost use Rattle.namespaces.specs.Parts.{computed_names, through_expression};
 ghost use Rattle.version_chains.specs.Commits.{store_at};
-ghost use Rattle.judgement.specs.Judgement.{Established, Refuted};
-ghost use Rattle.judgement.specs.Declaring.{AreDeclaring, AreKept};
+ghost use Rattle.judgement.specs.Judgement.{Established};
+ghost use Rattle.judgement.specs.Declaring.{AreDeclaring, AreLive};
 ghost use Rattle.judgement.specs.Passes.{AreBarred, BarsId, BarsNames, EachSet, IsLed, IsLedByName, LeadsByName, SomeSet};
 
 use crate::crowded::are_barred_by_index;
-use crate::declaring::{declaring, is_among, name_at};
+use crate::declaring::{is_among, name_at};
 use crate::fact::KnownFact;
 use crate::facts::SetsOfUser;
 use crate::known::Known;
 use crate::stored::{is_barred, is_led, is_out, under};
 use namespaces::{Rules, Through};
-use std::alloc::{AllocError, Global};
 use trace_lines::Trace;
 use tuple_text::SetRef;
 use version_chains::{MarkedSet, Usersets};
@@ -57,12 +56,12 @@ fn bars_names<F: KnownFact>(
     through: &Through,
     set: MarkedSet<'_>,
     user: u64,
-    numbers: &[u16],
+    declaring: &[u16],
 ) -> bool
-    requires { AreDeclaring rules.now (computed_names through.now) numbers.now }
+    requires { AreDeclaring rules.now (computed_names through.now) declaring.now }
     ensures { IsTrue result ↔ BarsNames (rule_at rules.now at) known.now (computed_names through.now) user (set_value set.entry.set) }
 {
-    if !is_among(rules, set.set.namespace, numbers) {
+    if !is_among(rules, set.set.namespace, declaring) {
         return true;
     }
     for k in 0..rules.count_in_force(set.set.namespace, at) {
@@ -81,13 +80,13 @@ fn each_bars_names<F: KnownFact>(
     through: &Through,
     sets: Usersets<'_>,
     user: u64,
-    numbers: &[u16],
+    declaring: &[u16],
 ) -> bool
-    requires { AreDeclaring rules.now (computed_names through.now) numbers.now }
+    requires { AreDeclaring rules.now (computed_names through.now) declaring.now }
     ensures { IsTrue result ↔ EachSet (BarsNames (rule_at rules.now at) known.now (computed_names through.now) user) sets.entry }
 {
     for set in sets {
-        if !bars_names(rules, at, known, through, set, user, numbers) {
+        if !bars_names(rules, at, known, through, set, user, declaring) {
             return false;
         }
     }
@@ -203,29 +202,34 @@ fn are_barred_one_by_one<F: KnownFact>(
 }
 
 /// The same. Where the set is crowded, or many relations are read, it goes over what is stored once for all of them.
-fn are_barred<F: KnownFact>(
+pub(crate) fn are_barred<F: KnownFact>(
     trace: &Trace,
     at: u64,
     known: &Known<F>,
     through: &Through,
     set: MarkedSet<'_>,
     user: u64,
-    numbers: &[u16],
+    declaring: &[u16],
+    live: &[u16],
 ) -> bool
-    requires { AreDeclaring trace.now.declarations (computed_names through.now) numbers.now }
+    requires declaring { AreDeclaring trace.now.declarations (computed_names through.now) declaring.now }
+    requires live { AreLive trace.now.declarations trace.now.commits at (set_value set.set) (computed_names through.now) live.now }
     ensures { IsTrue result
         ↔ AreBarred (rule_at trace.now.declarations at) (store_at trace.now.commits at) known.now (set_value set.entry.set)
         (computed_names through.now) user }
 {
+    if live.is_empty() {
+        return true;
+    }
     let index = trace.usersets();
     if index.is_crowded(set) {
-        return are_barred_by_index(trace, index, at, known, through, set, user, numbers);
+        return are_barred_by_index(trace, index, at, known, through, set, user, live);
     }
     if through.computed.len() <= FEW_RELATIONS {
         return are_barred_one_by_one(trace, at, known, through, set, user);
     }
     let sets = trace.chains().usersets(set, at);
-    each_bars_names(trace.rules(), at, known, through, sets, user, numbers)
+    each_bars_names(trace.rules(), at, known, through, sets, user, declaring)
 }
 
 /// Whether what is read through a tupleset gives a fact.
@@ -242,48 +246,4 @@ pub(crate) fn through_gives<F: KnownFact>(
 {
     let tupleset = MarkedSet::of(under(set.set, through.tupleset.as_str()));
     is_led_by_name(trace, at, known, through, tupleset, user)
-}
-
-/// Whether all that is read through a tupleset rules a fact out.
-fn through_bars<F: KnownFact>(
-    through: &Through,
-    set: MarkedSet<'_>,
-    user: u64,
-    trace: &Trace,
-    at: u64,
-    known: &Known<F>,
-    numbers: &[u16],
-) -> bool
-    requires { AreDeclaring trace.now.declarations (computed_names through.now) numbers.now }
-    ensures { IsTrue result ↔ Refuted (rule_at trace.now.declarations at) (store_at trace.now.commits at) known.now
-        (fact_of (set_value set.entry.set) user) (through_expression through.now) }
-{
-    let tupleset = MarkedSet::of(under(set.set, through.tupleset.as_str()));
-    are_barred(trace, at, known, through, tupleset, user, numbers)
-}
-
-/// The same. The namespaces that matter are looked for once, and kept.
-pub(crate) fn through_bars_by<F: KnownFact>(
-    alloc: Global,
-    through: &Through,
-    set: MarkedSet<'_>,
-    user: u64,
-    trace: &Trace,
-    at: u64,
-    known: &Known<F>,
-    kept: &mut Option<Vec<u16>>,
-) -> Result<bool, AllocError>
-    requires { AreKept trace.now.declarations through.now kept.old }
-    ensures kept { AreKept trace.now.declarations through.now kept.new }
-    ensures bars { IfOk result (λ r. IsTrue r
-        ↔ Refuted (rule_at trace.now.declarations at) (store_at trace.now.commits at) known.now
-        (fact_of (set_value set.entry.set) user) (through_expression through.now)) }
-{
-    if let Some(numbers) = kept {
-        return Ok(through_bars(through, set, user, trace, at, known, numbers));
-    }
-    let numbers = declaring(alloc, trace.rules(), through)?;
-    let bars = through_bars(through, set, user, trace, at, known, &numbers);
-    *kept = Some(numbers);
-    Ok(bars)
 }

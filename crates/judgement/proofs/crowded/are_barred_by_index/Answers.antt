@@ -24,14 +24,14 @@ returns g c =
     let trace = c.args.trace.now in
     let at = c.args.at in
     let set = set_value c.args.set.set in
-    let numbers = c.requires.numbers in
+    let live = c.requires.numbers in
     let v = c.args.index.now in (
       λ t name named.
           barred_by_through trace.declarations trace.commits at c.ranges.at.fits v (c.requires.index (and-left v.is_whole (is_crowded v.crowds (set_mark set)) c.requires.crowded)) set
-          (and-right v.is_whole (is_crowded v.crowds (set_mark set)) c.requires.crowded) c.args.known.now c.args.user numbers.few name
-          (λ n less namespace is declared.
-          let there = numbers.all n at namespace name less c.ranges.at.fits is named declared in
+          (and-right v.is_whole (is_crowded v.crowds (set_mark set)) c.requires.crowded) c.args.known.now c.args.user live.few name
+          (λ n h less stored place declared.
+          let there = live.all (suc n) h name stored place named declared in
           let p = place_of_element c.args.numbers.now (suc n) there in
-          c.loop-number.invariant p.0 (suc n) (omega (arith, p.1, c.loop-number-test.false)) p.2 name named namespace is declared),
+          c.loop-number.invariant p.0 (suc n) (omega (arith, p.1, c.loop-number-test.false)) p.2 name named),
       λ b. refl,
     )

@@ -1,4 +1,5 @@
-use Rattle.std.proofs.Common.{◌≡◌, List, subst, None}
+use Rattle.std.proofs.Common.{◌≡◌, ◌∙◌, List, [], length, subst, sym, None, refl, eqb-true}
+use Rattle.std.proofs.lemmas.List.{nil_from_length}
 use Rattle.std.specs.List.{list_any}
 use Rattle.tuple_text.specs.Refs.{set_value}
 use Rattle.tuple_text.specs.Sets.{set_eq}
@@ -8,8 +9,18 @@ use Rattle.namespaces.specs.Lookup.{rule_at}
 use Rattle.namespaces.specs.Parts.{computed_names}
 use Rattle.version_chains.specs.Commits.{Commit, is_stored}
 use Rattle.judgement.specs.Passes.{BarsNames}
+use Rattle.judgement.proofs.LiveLemmas.{none_live}
 use Rattle.judgement.proofs.PassLemmas.{each_by_sets}
 use Rattle.judgement.proofs.through.are_barred.Goals as goal
+
+pub returns-then-is_empty : goal.returns-then-is_empty
+returns-then-is_empty g c =
+    let trace = c.args.trace.now in
+    let set = set_value c.args.set.set in
+    let names = computed_names c.args.through.now in
+    let none : c.args.live.now ≡ [] =
+    nil_from_length c.args.live.now (eqb-true (length c.args.live.now) 0 (sym c.is_empty.ensures ∙ c.if-is_empty.true)) in
+    (λ t. none_live trace.declarations trace.commits c.args.at set names c.args.known.now c.args.user (rw none at c.requires.live), λ b. refl)
 
 pub returns : goal.returns
 returns g c =

@@ -11,7 +11,7 @@ use Rattle.judgement.proofs.through.bars_names.Goals as goal
 
 pub returns-then-not-is_among : goal.returns-then-not-is_among
 returns-then-not-is_among g c = (
-  λ t name named. inl (c.is_among.ensures c.if-not-is_among.true (computed_names c.args.through.now) c.requires c.args.at name c.ranges.at.fits named),
+  λ t name named. inl (c.is_among.ensures c.if-not-is_among.true (computed_names c.args.through.now) c.args.at c.requires c.ranges.at.fits name named),
   λ b. refl,
 )
 

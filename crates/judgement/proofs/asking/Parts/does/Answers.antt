@@ -9,8 +9,8 @@ use Rattle.namespaces.specs.declared.parts.Part.{Part}
 use Rattle.judgement.proofs.PartLemmas.{part_there, no_part_there, one_kept, none_does}
 use Rattle.judgement.proofs.asking.Parts.does.Goals as goal
 
-pub through_bars_by-requires : goal.through_bars_by-requires
-through_bars_by-requires g c =
+pub through_bars-requires : goal.through_bars-requires
+through_bars-requires g c =
     let s = c.self.inside in
     let lookup = c.in-Some-Through.ensures.lookup in
     let within : c.args.part < length s.parts.now = ltb-true c.args.part (length s.parts.now) (sym lookup.0) in
@@ -27,7 +27,7 @@ invariant_of-self g c =
     let at : slice_get s.parts.now c.args.part ≡ Some (Part.Through c.in-Some-Through.through) =
     slice_get_read s.parts.now (length s.parts.now) c.args.part c.in-Some-Through.field-0.now refl (ltb-true c.args.part (length s.parts.now) (sym lookup.0)) lookup.1
     ∙ ap (λ (p : Part). Some p) c.in-Some-Through.field-0-is in
-    one_kept s.trace.now.declarations s.parts.now s.kept.items c.args.part c.in-Some-Through.through c.through_bars_by.new.kept c.self.invariant at c.through_bars_by.ensures.kept
+    one_kept s.trace.now s.parts.now s.kept.items c.args.part c.in-Some-Through.through c.through_bars.new.kept c.self.invariant at c.through_bars.ensures.kept
 
 pub returns-in-Some-Leaf-clause-does : goal.returns-in-Some-Leaf-clause-does
 returns-in-Some-Leaf-clause-does g c =
@@ -43,7 +43,7 @@ returns-else-is_given-clause-does g c =
     let lookup = c.in-Some-Through.ensures.lookup in
     let at = slice_get_read s.parts.now (length s.parts.now) c.args.part c.in-Some-Through.field-0.now refl (ltb-true c.args.part (length s.parts.now) (sym lookup.0)) lookup.1 in
     let is : part_at (parts_shown s.parts.now) c.args.part ≡ part_expression c.in-Some-Through.field-0.now = part_there s.parts.now c.args.part c.in-Some-Through.field-0.now at in
-    rw (← c.self.view_is) (rw (is, c.in-Some-Through.field-0-is, c.if-is_given.false) c.through_bars_by.ensures.bars)
+    rw (← c.self.view_is) (rw (is, c.in-Some-Through.field-0-is, c.if-is_given.false) c.through_bars.ensures.bars)
 
 pub returns-in-None-clause-does : goal.returns-in-None-clause-does
 returns-in-None-clause-does g c =

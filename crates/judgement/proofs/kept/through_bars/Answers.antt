@@ -5,13 +5,22 @@ use Rattle.namespaces.specs.Lookup.{rule_at}
 use Rattle.strata.specs.Meaning.{with_relation}
 use Rattle.version_chains.specs.Commits.{store_at}
 use Rattle.judgement.proofs.ThroughLemmas.{through_barred}
-use Rattle.judgement.proofs.through.through_bars.Goals as goal
+use Rattle.judgement.proofs.kept.through_bars.Goals as goal
 
-pub returns : goal.returns
-returns g c =
+pub returns-then-is_of-clause-bars : goal.returns-then-is_of-clause-bars
+returns-then-is_of-clause-bars g c =
     let t = c.args.through.now in
     let set : set_value c.of-tupleset.result.set ≡ with_relation (set_value c.args.set.set) (string_bytes t.tupleset) = search rules in
     let both = through_barred (rule_at c.args.trace.now.declarations c.args.at) (store_at c.args.trace.now.commits c.args.at) c.args.known.now
     (fact_of (set_value c.args.set.set) c.args.user) t in
-    let told = rw set at c.are_barred.ensures in
+    let told = rw set at c.bars.ensures in
+    (λ h. both.0 (told.0 h), λ e. told.1 (both.1 e))
+
+pub returns-clause-bars : goal.returns-clause-bars
+returns-clause-bars g c =
+    let t = c.args.through.now in
+    let set : set_value c.of-tupleset.result.set ≡ with_relation (set_value c.args.set.set) (string_bytes t.tupleset) = search rules in
+    let both = through_barred (rule_at c.args.trace.now.declarations c.args.at) (store_at c.args.trace.now.commits c.args.at) c.args.known.now
+    (fact_of (set_value c.args.set.set) c.args.user) t in
+    let told = rw set at c.bars-is_barred.ensures in
     (λ h. both.0 (told.0 h), λ e. told.1 (both.1 e))

@@ -1,0 +1,28 @@
+use Rattle.std.proofs.Common.{rules, ◌≡◌, ◌∙◌, [], Some, sym}
+use Rattle.tuple_text.specs.Refs.{set_value}
+use Rattle.namespaces.specs.Lookup.{namespace_numbered}
+use Rattle.namespaces.specs.Parts.{computed_names}
+use Rattle.version_chains.specs.Marks.{set_mark}
+use Rattle.version_chains.proofs.PlacedLemmas.{and-left, and-right}
+use Rattle.userset_index.specs.Index.{is_crowded}
+use Rattle.judgement.proofs.IndexLemmas.{none_through}
+use Rattle.judgement.proofs.LiveLemmas.{none_of_number}
+use Rattle.judgement.proofs.live.is_live.Goals as goal
+
+pub returns-then-is_none : goal.returns-then-is_none
+returns-then-is_none c _ g stored place =
+    let trace = c.args.trace.now in
+    let set = set_value c.args.set.set in
+    let v = c.args.index.now in
+    let none : c.through-touches.result ≡ [] = search rules in
+    absurd (none_through trace.declarations trace.commits c.args.at c.ranges.at.fits v
+    (c.requires.index (and-left v.is_whole (is_crowded v.crowds (set_mark set)) c.requires.crowded)) set
+    (and-right v.is_whole (is_crowded v.crowds (set_mark set)) c.requires.crowded) g c.args.number place (sym c.through-touches.ensures ∙ none) stored)
+
+pub returns-in-Some : goal.returns-in-Some
+returns-in-Some c absent g stored place =
+    let ds = c.args.trace.now.declarations in
+    let is : namespace_numbered c.args.number ds ≡ Some c.in-Some.namespace.now =
+    rw c.rules.ensures.declarations at (sym c.in-Some.ensures.value) in
+    none_of_number ds c.args.at (computed_names c.args.through.now) c.args.number c.in-Some.namespace.now g.namespace c.requires.few is
+    (rw c.rules-in-Some.ensures.declarations at (c.declares_some.ensures absent)) place
