@@ -112,7 +112,7 @@ pub fn make_after(
     let cone = explore(alloc, trace, entry.snapshot, &entry.goal)?;
     let mut gates = Gates::of(alloc, trace, entry.snapshot, &cone)?;
     let steps = settle(alloc, trace, entry.snapshot, &cone, &mut gates)?;
-    let short = slice(alloc, &gates, &steps)?;
+    let short = slice(alloc, &mut gates, &steps)?;
     if is_record(trace, entry, &short)? {
         return Ok(short);
     }

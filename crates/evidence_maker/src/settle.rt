@@ -185,7 +185,7 @@ pub(crate) fn settle(
     trace: &Trace,
     at: u64,
     cone: &[Fact],
-    gates: &mut Gates,
+    gates: &mut Gates<'_>,
 ) -> Result<Steps, AllocError>
     ensures { IfOk result (λ v. HasItsPremises (rule_at trace.now.declarations at) (store_at trace.now.commits at) cone.now → AreDistinct cone.now →
         IsMade (rule_at trace.now.declarations at) (store_at trace.now.commits at) cone.now (step_values v.items)) }
