@@ -8,7 +8,7 @@ ghost use Rattle.namespaces.specs.Parts.{rule_shown};
 ghost use Rattle.judgement.specs.Asked.{Does};
 ghost use Rattle.judgement.specs.Facts.{marked_fact};
 
-use judgement::{AskedRule, Known, MarkedFact};
+use judgement::{AskedRule, Known, KnownFact, MarkedFact};
 use namespaces::{PartedRule, RulePlace, Rules};
 use std::alloc::{AllocError, Global};
 use std::collections::BTreeMap;
@@ -24,7 +24,7 @@ pub(crate) struct PlacedRule<'t> {
 
 /// Rules of many places, each with what was asked of it in all records so far. Contracts see the declarations that they stand in.
 #[derive(Drop)]
-pub(crate) struct AskedRules<'t> {
+pub struct AskedRules<'t> {
     alloc: Global,
     rules: &'t Rules,
     asked: Vec<PlacedRule<'t>>,
@@ -56,7 +56,7 @@ fn key(place: RulePlace) -> u64 {
 
 impl<'t> AskedRules<'t> {
     /// Nothing was asked.
-    pub(crate) fn new(alloc: Global, rules: &'t Rules) -> AskedRules<'t>
+    pub fn new(alloc: Global, rules: &'t Rules) -> AskedRules<'t>
         ensures { result ≡ rules.now }
     {
         AskedRules {
@@ -68,14 +68,14 @@ impl<'t> AskedRules<'t> {
     }
 
     /// Whether the rule at a place gives a fact, or whether it rules the fact out.
-    pub(crate) fn does(
+    pub(crate) fn does<F: KnownFact>(
         &mut self,
         place: RulePlace,
         parted: &'t PartedRule,
         is_given: bool,
         trace: &Trace,
         at: u64,
-        known: &Known<MarkedFact<'_>>,
+        known: &Known<F>,
         fact: MarkedFact<'_>,
     ) -> Result<bool, AllocError>
         requires { AreAlike (Some (rule_shown parted.now)) (expression_in place self.old) }

@@ -11,7 +11,7 @@ use Rattle.evidence_check.proofs.JudgedLemmas.{does_alike, one_placed_more, same
 use Rattle.evidence_check.proofs.asked_rules.AskedRules.does.Goals as goal
 
 pub returns-then-eq-clause-does : goal.returns-then-eq-clause-does
-returns-then-eq-clause-does c =
+returns-then-eq-clause-does g c =
     let s = c.self.inside in
     let items = s.asked.items in
     let n = c.unwrap_or-number.result in
@@ -29,7 +29,7 @@ returns-then-eq-clause-does c =
     IfOk-weaker c.does.result _ _ (λ r d. (λ t. both.0 (d.0 t), λ u. d.1 (both.1 u))) c.does.ensures.does
 
 pub invariant_of-self-in_err-insert : goal.invariant_of-self-in_err-insert
-invariant_of-self-in_err-insert c =
+invariant_of-self-in_err-insert g c =
     let s = c.self.inside in
     let p : PlacedRule = record { place = c.args.place; rule = rule_shown c.args.parted.now } in
     let is : c.push.new.self.items ≡ s.asked.items ++ p ∷ [] = rw (c.in_ok-push.ensures.items, c.does-2.ensures.rule, c.in_ok-rule.ensures) refl in
@@ -37,7 +37,7 @@ invariant_of-self-in_err-insert c =
     rw is (one_placed_more s.rules.now s.asked.items p c.self.invariant asked)
 
 pub invariant_of-self-2 : goal.invariant_of-self-2
-invariant_of-self-2 c =
+invariant_of-self-2 g c =
     let s = c.self.inside in
     let p : PlacedRule = record { place = c.args.place; rule = rule_shown c.args.parted.now } in
     let is : c.push.new.self.items ≡ s.asked.items ++ p ∷ [] = rw (c.in_ok-push.ensures.items, c.does-2.ensures.rule, c.in_ok-rule.ensures) refl in
