@@ -6,7 +6,7 @@
 //! (`wide`). Nothing here is trusted: each fact is looked at again by its rule.
 
 use crate::leaning::Leaning;
-use crate::links::{Ends, Link, Links, Way, small};
+use crate::links::{Ends, Links, Way, small};
 use crate::wide::{Reached, WideRules};
 use namespaces::{Part, PartedRule, Rewrite, Through};
 use std::alloc::{AllocError, Global};
@@ -17,7 +17,7 @@ use version_chains::{MarkedSet, Places, Usersets};
 
 /// What a gate waits for, of those that feed it.
 #[derive(Clone, Copy, Drop)]
-enum Wants {
+pub(crate) enum Wants {
     Some,
     Each,
     /// The one that feeds it, where the gate of the subtracted side stays shut.
@@ -29,29 +29,29 @@ enum Wants {
 /// A gate: how many openings it waits for and of which gates, the links to those that it feeds and from those that feed it, how many gates
 /// had opened when it had, itself among them, and the one that opened it.
 #[derive(Clone, Copy, Drop)]
-struct Gate {
-    wanted: u32,
-    wants: Wants,
-    feeds: Ends,
-    fed_by: Ends,
-    opened_at: u32,
-    opened_by: Option<u32>,
+pub(crate) struct Gate {
+    pub(crate) wanted: u32,
+    pub(crate) wants: Wants,
+    pub(crate) feeds: Ends,
+    pub(crate) fed_by: Ends,
+    pub(crate) opened_at: u32,
+    pub(crate) opened_by: Option<u32>,
 }
 
 /// An exclusion: its own gate, that of its subtracted side, and the place of the fact whose rule it is in.
 #[derive(Clone, Copy, Drop)]
-struct Exclusion {
-    gate: usize,
-    subtract: usize,
-    place: usize,
+pub(crate) struct Exclusion {
+    pub(crate) gate: usize,
+    pub(crate) subtract: usize,
+    pub(crate) place: usize,
 }
 
 /// A fact of a rule of many places: its gate, how far it has come, and whether it waits to be looked at.
 #[derive(Clone, Copy, Drop)]
-struct WideFact {
-    gate: usize,
-    reached: Reached,
-    waits: bool,
+pub(crate) struct WideFact {
+    pub(crate) gate: usize,
+    pub(crate) reached: Reached,
+    pub(crate) waits: bool,
 }
 
 /// The gates of a cone. Those of its facts come first, each at its fact's place.
@@ -62,17 +62,17 @@ pub(crate) struct Gates<'t> {
     cone: &'t [Fact],
     // the facts of the cone by the marks of their usersets: they are all of one user
     places: Places,
-    gates: Vec<Gate>,
-    links: Links,
-    exclusions: Vec<Exclusion>,
-    rules: WideRules<'t>,
-    wide: Vec<WideFact>,
+    pub(crate) gates: Vec<Gate>,
+    pub(crate) links: Links,
+    pub(crate) exclusions: Vec<Exclusion>,
+    pub(crate) rules: WideRules<'t>,
+    pub(crate) wide: Vec<WideFact>,
     // the facts of rules of many places of which a part opened, to be looked at
-    waiting: VecDeque<usize>,
+    pub(crate) waiting: VecDeque<usize>,
     // the gates that opened, in order; how many of them were let feed others, and how many were told
-    open: Vec<usize>,
-    fed: usize,
-    told: usize,
+    pub(crate) open: Vec<usize>,
+    pub(crate) fed: usize,
+    pub(crate) told: usize,
 }
 
 /// Where links lead that are made for a fact: to a gate, for a part of its rule.
@@ -186,7 +186,7 @@ impl<'t> Gates<'t> {
     }
 
     /// A gate waits for one opening less.
-    fn lower(&mut self, gate: usize, by: Option<u32>) -> Result<(), AllocError> {
+    pub(crate) fn lower(&mut self, gate: usize, by: Option<u32>) -> Result<(), AllocError> {
         if let Some(found) = self.gates.get_mut(gate) {
             if found.wanted == 1 {
                 self.open.push(gate)?;
@@ -198,7 +198,7 @@ impl<'t> Gates<'t> {
         Ok(())
     }
 
-    fn is_open(&self, gate: usize) -> bool {
+    pub(crate) fn is_open(&self, gate: usize) -> bool {
         match self.gates.get(gate) {
             Some(gate) => gate.wanted == 0,
             None => false,
@@ -367,314 +367,5 @@ impl<'t> Gates<'t> {
             Some(place) => self.feed(Some(place), site.gate, site.part),
             None => Ok(()),
         }
-    }
-
-    /// Lets each gate that opened feed the others, once, and looks at facts of which parts opened, until there is nothing to do.
-    fn drain(&mut self) -> Result<(), AllocError> {
-        let most = self.gates.len().saturating_add(self.links.len());
-        for _ in 0..most.saturating_add(self.wide.len()).saturating_add(1) {
-            if let Some(gate) = self.open.get(self.fed).copied() {
-                self.fed = self.fed.saturating_add(1);
-                self.pass_on(gate)?;
-            } else if let Some(number) = self.waiting.pop_front() {
-                self.look_at(number)?;
-            } else {
-                return Ok(());
-            }
-        }
-        Ok(())
-    }
-
-    fn pass_on(&mut self, gate: usize) -> Result<(), AllocError> {
-        let Some(found) = self.gates.get(gate).copied() else {
-            return Ok(());
-        };
-        let mut next = self.links.first(found.feeds);
-        for _ in 0..self.links.len() {
-            let Some(link) = next else {
-                return Ok(());
-            };
-            self.pass(link)?;
-            next = self.links.after(link, Way::Feeds);
-        }
-        Ok(())
-    }
-
-    /// The gate that a link leads from has opened.
-    fn pass(&mut self, link: Link) -> Result<(), AllocError> {
-        let to = link.to as usize;
-        match self.gates.get(to).copied() {
-            Some(
-                Gate {
-                    wants: Wants::Parts(_),
-                    ..
-                },
-            ) => self.open_part(to, link.part as usize),
-            _ => self.lower(to, link.from),
-        }
-    }
-
-    /// The number of the fact of a gate, where its rule has many places.
-    fn wide_number(&self, gate: usize) -> Option<usize> {
-        match self.gates.get(gate)?.wants {
-            Wants::Parts(number) => Some(number as usize),
-            _ => None,
-        }
-    }
-
-    /// A part of a fact opens. What opens once the fact itself has opened is not looked at: it may lean on the fact.
-    fn open_part(&mut self, gate: usize, part: usize) -> Result<(), AllocError> {
-        let Some(number) = self.wide_number(gate) else {
-            return Ok(());
-        };
-        if self.is_open(gate) {
-            return Ok(());
-        }
-        if let Some(fact) = self.wide.get_mut(number) {
-            let stage = self.rules.after(fact.reached, part)?;
-            if stage != fact.reached.stage {
-                fact.reached.stage = stage;
-                self.wait(number)?;
-            }
-        }
-        Ok(())
-    }
-
-    /// A fact of a rule of many places is to be looked at.
-    fn wait(&mut self, number: usize) -> Result<(), AllocError> {
-        if let Some(fact) = self.wide.get_mut(number) {
-            if !fact.waits {
-                fact.waits = true;
-                self.waiting.push_back(number)?;
-            }
-        }
-        Ok(())
-    }
-
-    /// Opens the gate of a fact of a rule of many places, where its rule does by the parts that have opened.
-    fn look_at(&mut self, number: usize) -> Result<(), AllocError> {
-        let Some(fact) = self.wide.get_mut(number) else {
-            return Ok(());
-        };
-        fact.waits = false;
-        let gate = fact.gate;
-        if self.rules.opens(fact.reached) {
-            self.lower(gate, None)?;
-        }
-        Ok(())
-    }
-
-    /// Tells the exclusions of the facts of a stratum that stand at places of their rules.
-    fn tell_exclusions(&mut self, strata: &[Option<u8>], stratum: u16) -> Result<(), AllocError> {
-        for k in 0..self.exclusions.len() {
-            let Some(exclusion) = self.exclusions.get(k).copied() else {
-                break;
-            };
-            if is_of(strata, exclusion.place, stratum) && !self.is_open(exclusion.subtract) {
-                self.lower(exclusion.gate, None)?;
-                self.drain()?;
-            }
-        }
-        Ok(())
-    }
-
-    /// Tells those of the facts of a stratum whose rules have many places.
-    fn tell_wide(&mut self, strata: &[Option<u8>], stratum: u16) -> Result<(), AllocError> {
-        for number in 0..self.wide.len() {
-            let Some(fact) = self.wide.get_mut(number) else {
-                break;
-            };
-            if is_of(strata, fact.gate, stratum) && self.rules.has_exclusions(fact.reached) {
-                let gate = fact.gate;
-                fact.reached.is_told = true;
-                if !self.is_open(gate) {
-                    self.wait(number)?;
-                }
-            }
-        }
-        self.drain()
-    }
-
-    /// The places of the facts that turn out to hold where the exclusions of a stratum are told, those of the lower strata being told.
-    pub(crate) fn tell(
-        &mut self,
-        strata: &[Option<u8>],
-        stratum: u16,
-    ) -> Result<Vec<usize>, AllocError> {
-        self.drain()?;
-        self.tell_exclusions(strata, stratum)?;
-        self.tell_wide(strata, stratum)?;
-        let mut places = Vec::new(*self.open.allocator());
-        for k in self.told..self.open.len() {
-            if let Some(gate) = self.open.get(k).copied() {
-                places.push(gate)?;
-            }
-        }
-        self.told = self.open.len();
-        Ok(places)
-    }
-
-    /// Which gates the first fact leans on, itself among them: an open one on those that opened it, and one that is shut on enough of
-    /// those that keep it shut.
-    pub(crate) fn leaning(&mut self) -> Result<Leaning, AllocError> {
-        let mut leaning = Leaning::new(*self.open.allocator(), self.gates.len())?;
-        leaning.add(0)?;
-        for _ in 0..self.gates.len() {
-            let Some(gate) = leaning.next() else {
-                break;
-            };
-            self.lean(gate, &mut leaning)?;
-        }
-        Ok(leaning)
-    }
-
-    fn lean(&mut self, gate: usize, leaning: &mut Leaning) -> Result<(), AllocError> {
-        let Some(found) = self.gates.get(gate).copied() else {
-            return Ok(());
-        };
-        let is_open = found.wanted == 0;
-        match found.wants {
-            Wants::Some if is_open => match found.opened_by {
-                Some(by) => leaning.add(by as usize),
-                None => Ok(()),
-            },
-            Wants::Some => self.lean_on_each(found, leaning),
-            Wants::Each if is_open => self.lean_on_each(found, leaning),
-            Wants::Each => self.lean_on_one(found, leaning),
-            Wants::Without(outer) if is_open => {
-                leaning.add(outer as usize)?;
-                self.lean_on_each(found, leaning)
-            }
-            Wants::Without(outer) if self.is_open(outer as usize) => leaning.add(outer as usize),
-            Wants::Without(_) => self.lean_on_each(found, leaning),
-            Wants::Parts(number) => self.lean_on_parts(found, number as usize, leaning),
-        }
-    }
-
-    fn lean_on_each(&self, gate: Gate, leaning: &mut Leaning) -> Result<(), AllocError> {
-        let mut next = self.links.first(gate.fed_by);
-        for _ in 0..self.links.len() {
-            let Some(link) = next else {
-                break;
-            };
-            if let Some(from) = link.from {
-                leaning.add(from as usize)?;
-            }
-            next = self.links.after(link, Way::FedBy);
-        }
-        Ok(())
-    }
-
-    /// One that is shut is enough to keep a gate shut that waits for each: one that is kept already, and else the first.
-    fn lean_on_one(&self, gate: Gate, leaning: &mut Leaning) -> Result<(), AllocError> {
-        let mut first = None;
-        let mut next = self.links.first(gate.fed_by);
-        for _ in 0..self.links.len() {
-            let Some(link) = next else {
-                break;
-            };
-            if let Some(from) = link.from {
-                let from = from as usize;
-                if !self.is_open(from) {
-                    if leaning.has(from) {
-                        return Ok(());
-                    }
-                    if first.is_none() {
-                        first = Some(from);
-                    }
-                }
-            }
-            next = self.links.after(link, Way::FedBy);
-        }
-        match first {
-            Some(from) => leaning.add(from),
-            None => Ok(()),
-        }
-    }
-
-    /// How many gates had opened when that had from which a link comes: 0 where it comes from none, and no number where the gate is shut.
-    fn opening(&self, link: Link) -> Option<u32> {
-        let Some(from) = link.from else {
-            return Some(0);
-        };
-        let gate = self.gates.get(from as usize)?;
-        if gate.wanted == 0 {
-            Some(gate.opened_at)
-        } else {
-            None
-        }
-    }
-
-    /// The least of these for each part that is open.
-    fn openings(&self, gate: Gate, parts: usize) -> Result<Vec<Option<u32>>, AllocError> {
-        let mut first = vec![in *self.open.allocator(); None; parts]?;
-        let mut next = self.links.first(gate.fed_by);
-        for _ in 0..self.links.len() {
-            let Some(link) = next else {
-                break;
-            };
-            if let (Some(opening), Some(part)) = (
-                self.opening(link),
-                first.get_mut(link.part as usize),
-            ) {
-                *part = Some(part.unwrap_or(opening).min(opening));
-            }
-            next = self.links.after(link, Way::FedBy);
-        }
-        Ok(first)
-    }
-
-    /// Where a link of a part leads from, if the part leans on that: one that is open on the first gate that opened it, and one that is
-    /// shut on each that feeds it.
-    fn leans_on(&self, link: Link, first: &[Option<u32>]) -> Option<usize> {
-        if first.get(link.part as usize).copied() == Some(self.opening(link)) {
-            Some(link.from? as usize)
-        } else {
-            None
-        }
-    }
-
-    /// The gates on which the parts of a fact lean that are kept.
-    fn lean_on_kept(
-        &self,
-        gate: Gate,
-        kept: &[bool],
-        leaning: &mut Leaning,
-    ) -> Result<(), AllocError> {
-        let first = self.openings(gate, kept.len())?;
-        let mut next = self.links.first(gate.fed_by);
-        for _ in 0..self.links.len() {
-            let Some(link) = next else {
-                break;
-            };
-            if kept.get(link.part as usize).copied() == Some(true) {
-                if let Some(from) = self.leans_on(link, &first) {
-                    leaning.add(from)?;
-                }
-            }
-            next = self.links.after(link, Way::FedBy);
-        }
-        Ok(())
-    }
-
-    fn lean_on_parts(
-        &mut self,
-        gate: Gate,
-        number: usize,
-        leaning: &mut Leaning,
-    ) -> Result<(), AllocError> {
-        let Some(fact) = self.wide.get(number).copied() else {
-            return Ok(());
-        };
-        self.rules.find_leaning(fact.reached)?;
-        self.lean_on_kept(gate, self.rules.leaning(fact.reached), leaning)
-    }
-}
-
-/// Whether a fact of the cone is of a stratum.
-fn is_of(strata: &[Option<u8>], place: usize, stratum: u16) -> bool {
-    match strata.get(place).copied() {
-        Some(Some(found)) => found as u16 == stratum,
-        _ => false,
     }
 }

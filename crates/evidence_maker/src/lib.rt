@@ -25,6 +25,7 @@ mod leaning;
 mod like;
 mod links;
 mod maker;
+mod opening;
 mod settle;
 mod slice;
 mod wide;

@@ -11,8 +11,7 @@ there c = let same : c.in_ok-fact.fact ≡ c.in-Some.fact.now = search rules in 
 
 pub loop-next-init : goal.loop-next-init
 loop-next-init c =
-    let seen : c.add.new.self ≡ c.args.goal.now ∷ [] = search rules in
-    (
+    let seen : c.add.new.self ≡ c.args.goal.now ∷ [] = search rules in (
       rw seen (searching_start (rule_at c.args.trace.now.declarations c.args.at) (store_at c.args.trace.now.commits c.args.at) 4194304 c.args.goal.now),
       rw c.new-leaves.ensures (λ p there. absurd (not_in_nil p there)),
     )
@@ -34,10 +33,12 @@ returns-in_err-see_read-clause-outgrown c = λ e.
     (c.in_err-see_read.ensures.stuck (search rules))
 
 pub loop-next-preserved : goal.loop-next-preserved
-loop-next-preserved c =
-    (searching_step (rule_at c.args.trace.now.declarations c.args.at) (store_at c.args.trace.now.commits c.args.at) 4194304 c.args.goal.now
-    c.loop-next.seen c.loop-next.next c.loop-next.room c.loop-next.invariant.0 c.in_ok-fact.fact (there (goal.at.loop-next-preserved c).In_ok-fact)
-    c.see_read.new.seen c.see_read.new.room c.in_ok-see_read.ensures.seen c.in_ok-see_read.ensures.links, c.in_ok-see_read.ensures.placed)
+loop-next-preserved c = (
+  searching_step (rule_at c.args.trace.now.declarations c.args.at) (store_at c.args.trace.now.commits c.args.at) 4194304 c.args.goal.now
+      c.loop-next.seen c.loop-next.next c.loop-next.room c.loop-next.invariant.0 c.in_ok-fact.fact (there (goal.at.loop-next-preserved c).In_ok-fact)
+      c.see_read.new.seen c.see_read.new.room c.in_ok-see_read.ensures.seen c.in_ok-see_read.ensures.links,
+  c.in_ok-see_read.ensures.placed,
+)
 
 pub returns-clause-outgrown : goal.returns-clause-outgrown
 returns-clause-outgrown c = λ e.

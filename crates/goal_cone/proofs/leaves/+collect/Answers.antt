@@ -7,7 +7,6 @@ use Rattle.namespaces.specs.Plain.{leaves, leaves_of_all}
 use Rattle.namespaces.specs.View.{expression_of, expressions_of}
 use Rattle.namespaces.specs.declared.rewrite.Rewrite.{Rewrite, the_lemmas}
 use Rattle.namespaces.proofs.Walks.{children_step}
-use Rattle.goal_cone.specs.Leaves.{leaves_in}
 use Rattle.goal_cone.proofs.OnceLemmas.{collects_leaf, collects_on, collects_both, collects_done}
 use Rattle.goal_cone.proofs.leaves.+collect.Goals as goal
 
