@@ -7,9 +7,10 @@ use namespaces::{Node, PartedRule, RulePlace};
 use std::alloc::{AllocError, Global};
 use std::collections::BTreeMap;
 
-/// Some parts of a rule that opened one after the other: the last one, and the stage before it.
+/// Some parts of a rule that opened one after the other: how many, the last one, and the stage before it.
 #[derive(Clone, Copy, Drop)]
 struct Stage {
+    count: usize,
     last: Option<Turn>,
     // whether the rule is open, where its exclusions are not told yet, and where they are
     opens_untold: Option<bool>,
@@ -43,8 +44,8 @@ struct WideRule<'t> {
     turns: BTreeMap<(usize, usize), usize>,
     // by a stage, and whether exclusions are told, which parts the rule leans on
     leaning: BTreeMap<(usize, bool), Vec<bool>>,
-    // which parts are open, while the rule is looked at; else none
-    open: Vec<bool>,
+    // while the rule is looked at, as which the parts opened, counted from 1; else, and where one is shut, 0
+    open: Vec<usize>,
 }
 
 /// The rules of many places that facts of a cone have, by their numbers.
@@ -55,17 +56,13 @@ pub(crate) struct WideRules<'t> {
     numbers: BTreeMap<(usize, usize), usize>,
 }
 
-fn flags(alloc: Global, count: usize) -> Result<Vec<bool>, AllocError> {
-    vec![in alloc; false; count]
-}
-
 fn is_set(flags: &[bool], at: usize) -> bool {
     flags.get(at).copied() == Some(true)
 }
 
-fn set_flag(flags: &mut [bool], at: usize, to: bool) {
+fn set_flag(flags: &mut [bool], at: usize) {
     if let Some(flag) = flags.get_mut(at) {
-        *flag = to;
+        *flag = true;
     }
 }
 
@@ -88,11 +85,21 @@ fn has_exclusions(node: &Node) -> bool {
     }
 }
 
-/// The parts that are open, and whether exclusions are told.
+/// As which the parts opened, 0 where one is shut, and whether exclusions are told.
 #[derive(Clone, Copy)]
 struct Sight<'a> {
-    open: &'a [bool],
+    open: &'a [usize],
     is_told: bool,
+}
+
+impl<'a> Sight<'a> {
+    /// As which a part opened, or `None` where it is shut.
+    fn opening(self, part: usize) -> Option<usize> {
+        match self.open.get(part).copied() {
+            Some(0) | None => None,
+            Some(opening) => Some(opening),
+        }
+    }
 }
 
 /// The first of the nodes that is open, or that is shut.
@@ -110,7 +117,7 @@ fn first_of(nodes: &Vec<Node>, is_open: bool, sight: Sight<'_>) -> Option<usize>
 #[cycle(opens)]
 fn opens(node: &Node, sight: Sight<'_>) -> bool {
     match node {
-        Node::Part(part) => is_set(sight.open, *part),
+        Node::Part(part) => sight.opening(*part).is_some(),
         Node::Union(nodes) => first_of(nodes, true, sight).is_some(),
         Node::Inter(nodes) => first_of(nodes, false, sight).is_none(),
         Node::Minus(base, subtract) => {
@@ -119,11 +126,52 @@ fn opens(node: &Node, sight: Sight<'_>) -> bool {
     }
 }
 
-/// Whether one of the nodes is a part that is leaned on already, and is open or shut as is asked for.
-fn has_kept(nodes: &Vec<Node>, is_open: bool, sight: Sight<'_>, kept: &[bool]) -> bool {
+/// With which part a node opened, or `None` where it is shut.
+#[cycle(opened)]
+fn opened_with(node: &Node, sight: Sight<'_>) -> Option<usize> {
+    match node {
+        Node::Part(part) => sight.opening(*part),
+        Node::Union(nodes) => {
+            let (_, opening) = first_opened(nodes, sight)?;
+            Some(opening)
+        }
+        Node::Inter(nodes) => {
+            let mut last = 0;
+            for node in nodes {
+                last = opened_with(node, sight)?.max(last);
+            }
+            Some(last)
+        }
+        Node::Minus(base, subtract) => {
+            if sight.is_told && !opens(subtract, sight) {
+                opened_with(base, sight)
+            } else {
+                None
+            }
+        }
+    }
+}
+
+/// The node that opened first, and with which part.
+#[cycle(opened)]
+fn first_opened(nodes: &Vec<Node>, sight: Sight<'_>) -> Option<(usize, usize)> {
+    let mut first = None;
+    for k in 0..nodes.len() {
+        if let Some(opening) = opened_with(&nodes[k], sight) {
+            first = match first {
+                Some((_, before)) if before <= opening => first,
+                _ => Some((k, opening)),
+            };
+        }
+    }
+    first
+}
+
+/// Whether one of the nodes is a part that is shut and is leaned on already.
+fn has_kept(nodes: &Vec<Node>, sight: Sight<'_>, kept: &[bool]) -> bool {
     for node in nodes {
         if let Node::Part(part) = node {
-            if is_set(kept, *part) && is_set(sight.open, *part) == is_open {
+            if is_set(kept, *part) && sight.opening(*part).is_none() {
                 return true;
             }
         }
@@ -131,15 +179,25 @@ fn has_kept(nodes: &Vec<Node>, is_open: bool, sight: Sight<'_>, kept: &[bool]) -
     false
 }
 
-/// One node is enough: a part that is leaned on already, and else the first.
+/// One node that is shut is enough: a part that is leaned on already, and else the first.
 #[cycle(lean)]
-fn lean_on_one(nodes: &Vec<Node>, is_open: bool, sight: Sight<'_>, kept: &mut [bool]) {
-    if has_kept(nodes, is_open, sight, kept) {
+fn lean_on_shut(nodes: &Vec<Node>, sight: Sight<'_>, kept: &mut [bool]) {
+    if has_kept(nodes, sight, kept) {
         return;
     }
-    if let Some(first) = first_of(nodes, is_open, sight) {
+    if let Some(first) = first_of(nodes, false, sight) {
         if first < nodes.len() {
-            lean(&nodes[first], is_open, sight, kept);
+            lean(&nodes[first], false, sight, kept);
+        }
+    }
+}
+
+/// One node that is open is enough: the one that opened first.
+#[cycle(lean)]
+fn lean_on_open(nodes: &Vec<Node>, sight: Sight<'_>, kept: &mut [bool]) {
+    if let Some((first, _)) = first_opened(nodes, sight) {
+        if first < nodes.len() {
+            lean(&nodes[first], true, sight, kept);
         }
     }
 }
@@ -155,10 +213,10 @@ fn lean_on_each(nodes: &Vec<Node>, is_open: bool, sight: Sight<'_>, kept: &mut [
 #[cycle(lean)]
 fn lean(node: &Node, is_open: bool, sight: Sight<'_>, kept: &mut [bool]) {
     match node {
-        Node::Part(part) => set_flag(kept, *part, true),
+        Node::Part(part) => set_flag(kept, *part),
         Node::Union(nodes) => {
             if is_open {
-                lean_on_one(nodes, is_open, sight, kept);
+                lean_on_open(nodes, sight, kept);
             } else {
                 lean_on_each(nodes, is_open, sight, kept);
             }
@@ -167,7 +225,7 @@ fn lean(node: &Node, is_open: bool, sight: Sight<'_>, kept: &mut [bool]) {
             if is_open {
                 lean_on_each(nodes, is_open, sight, kept);
             } else {
-                lean_on_one(nodes, is_open, sight, kept);
+                lean_on_shut(nodes, sight, kept);
             }
         }
         Node::Minus(base, subtract) => {
@@ -187,6 +245,7 @@ impl<'t> WideRule<'t> {
     fn new(alloc: Global, rule: &'t PartedRule) -> Result<WideRule<'t>, AllocError> {
         let mut stages = Vec::new(alloc);
         stages.push(Stage {
+            count: 0,
             last: None,
             opens_untold: None,
             opens_told: None,
@@ -197,13 +256,21 @@ impl<'t> WideRule<'t> {
             stages,
             turns: BTreeMap::new(alloc),
             leaning: BTreeMap::new(alloc),
-            open: flags(alloc, rule.parts.len())?,
+            open: vec![in alloc; 0usize; rule.parts.len()]?,
         })
     }
 
     /// The part that opened last at a stage, and the stage before it.
     fn last_turn(&self, stage: usize) -> Option<Turn> {
         self.stages.get(stage)?.last
+    }
+
+    /// How many parts are open at a stage.
+    fn count_at(&self, stage: usize) -> usize {
+        match self.stages.get(stage) {
+            Some(found) => found.count,
+            None => 0,
+        }
     }
 
     /// Whether the part is open at the stage.
@@ -229,7 +296,9 @@ impl<'t> WideRule<'t> {
         let mut next = stage;
         if !self.has(stage, part) {
             next = self.stages.len();
+            let count = self.count_at(stage).saturating_add(1);
             self.stages.push(Stage {
+                count,
                 last: Some(Turn { stage, part }),
                 opens_untold: None,
                 opens_told: None,
@@ -239,14 +308,17 @@ impl<'t> WideRule<'t> {
         Ok(next)
     }
 
-    /// From now on the parts of a stage are among the open ones, or no more.
-    fn set_parts(&mut self, stage: usize, to: bool) {
+    /// From now on the parts of a stage are open as they opened, or shut.
+    fn set_parts(&mut self, stage: usize, to_open: bool) {
         let mut stage = stage;
         for _ in 0..self.stages.len() {
             let Some(turn) = self.last_turn(stage) else {
                 return;
             };
-            set_flag(&mut self.open, turn.part, to);
+            let opening = if to_open { self.count_at(stage) } else { 0 };
+            if let Some(part) = self.open.get_mut(turn.part) {
+                *part = opening;
+            }
             stage = turn.stage;
         }
     }
@@ -291,7 +363,7 @@ impl<'t> WideRule<'t> {
         if self.leaning.contains_key(&(stage, is_told)) {
             return Ok(());
         }
-        let mut kept = flags(alloc, self.rule.parts.len())?;
+        let mut kept = vec![in alloc; false; self.rule.parts.len()]?;
         let is_open = self.opens(stage, is_told);
         self.set_parts(stage, true);
         let sight = Sight {
