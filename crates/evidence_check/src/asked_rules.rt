@@ -8,7 +8,7 @@ ghost use Rattle.namespaces.specs.Parts.{rule_shown};
 ghost use Rattle.judgement.specs.Asked.{Does};
 ghost use Rattle.judgement.specs.Facts.{marked_fact};
 
-use judgement::{AskedRule, Known, MarkedFact};
+use judgement::{AskedRule, Known, KnownFact, MarkedFact};
 use namespaces::{PartedRule, RulePlace};
 use std::alloc::{AllocError, Global};
 use std::collections::BTreeMap;
@@ -24,7 +24,7 @@ pub(crate) struct PlacedRule<'t> {
 
 /// Rules of many places, each with what was asked of it in all records so far. Contracts see the trace over which they are asked.
 #[derive(Drop)]
-pub(crate) struct AskedRules<'t> {
+pub struct AskedRules<'t> {
     alloc: Global,
     trace: &'t Trace,
     asked: Vec<PlacedRule<'t>>,
@@ -55,7 +55,7 @@ fn key(place: RulePlace) -> u64 {
 
 impl<'t> AskedRules<'t> {
     /// Nothing was asked.
-    pub(crate) fn new(alloc: Global, trace: &'t Trace) -> AskedRules<'t>
+    pub fn new(alloc: Global, trace: &'t Trace) -> AskedRules<'t>
         ensures { result ≡ trace.now }
     {
         AskedRules {
@@ -67,13 +67,13 @@ impl<'t> AskedRules<'t> {
     }
 
     /// Whether the rule at a place gives a fact, or whether it rules the fact out.
-    pub(crate) fn does(
+    pub(crate) fn does<F: KnownFact>(
         &mut self,
         place: RulePlace,
         parted: &'t PartedRule,
         is_given: bool,
         at: u64,
-        known: &Known<MarkedFact<'_>>,
+        known: &Known<F>,
         fact: MarkedFact<'_>,
     ) -> Result<bool, AllocError>
         requires { AreAlike (Some (rule_shown parted.now)) (expression_in place self.old.declarations) }

@@ -45,23 +45,6 @@ pub enum Judged {
     Missing,
 }
 
-/// Whether the fact's relation is declared, and its rule gives the fact from what is known.
-pub fn is_proved<F: KnownFact>(trace: &Trace, at: u64, known: &Known<F>, fact: &Fact) -> bool
-    ensures { IsTrue result ↔ IsProved (rule_at trace.now.declarations at) (store_at trace.now.commits at) known.now fact.now }
-{
-    is_given(trace, at, known, MarkedFact::of(fact.as_ref()))
-}
-
-/// The same of a fact whose mark is at hand.
-fn is_given<F: KnownFact>(trace: &Trace, at: u64, known: &Known<F>, fact: MarkedFact<'_>) -> bool
-    ensures { IsTrue result ↔ IsProved (rule_at trace.now.declarations at) (store_at trace.now.commits at) known.now (marked_fact fact.entry) }
-{
-    match trace.rules().plain_body(fact.set.set, at) {
-        Some(rule) => established(&rule.rewrite, fact.set, fact.user, trace, at, known),
-        None => false,
-    }
-}
-
 /// The rule of a relation that is in force at a timestamp, in its plain form. A wide one is asked by its parts.
 #[derive(Clone, Copy, Drop)]
 enum RuleInForce<'t> {
@@ -118,13 +101,13 @@ fn rule_after<'t>(
 }
 
 /// Whether a fact is proved by its rule, or disproved.
-fn settles<'t>(
+fn settles<'t, F: KnownFact>(
     rule: RuleInForce<'t>,
     asked: &mut AskedRules<'t>,
     is_given: bool,
     trace: &Trace,
     at: u64,
-    known: &Known<MarkedFact<'_>>,
+    known: &Known<F>,
     fact: MarkedFact<'_>,
 ) -> Result<bool, AllocError>
     requires rule { IsInForce trace.now.declarations at (marked_fact fact).set rule }
@@ -146,7 +129,33 @@ fn settles<'t>(
     }
 }
 
-/// The same, by the rule of the fact before where it is of the same relation.
+/// Whether the fact's relation is declared, and its rule gives the fact from what is known. What is asked of a rule of many places for it is
+/// kept for the facts behind.
+pub fn is_proved_by<'t, F: KnownFact>(
+    asked: &mut AskedRules<'t>,
+    trace: &'t Trace,
+    at: u64,
+    known: &Known<F>,
+    fact: &Fact,
+) -> Result<bool, AllocError>
+    requires { asked.old ≡ trace.now }
+    ensures asked { asked.new ≡ asked.old }
+    ensures proved { IfOk result (λ r. IsTrue r
+        ↔ IsProved (rule_at trace.now.declarations at) (store_at trace.now.commits at) known.now fact.now) }
+{
+    let rule = rule_in_force(trace.rules(), at, fact.set());
+    settles(
+        rule,
+        asked,
+        true,
+        trace,
+        at,
+        known,
+        MarkedFact::of(fact.as_ref()),
+    )
+}
+
+/// Whether a fact is settled, by the rule of the fact before where it is of the same relation.
 fn is_settled<'t, 'a>(
     asked: &mut AskedRules<'t>,
     last: &mut Option<LastRule<'t, 'a>>,

@@ -29,10 +29,11 @@ mod records;
 mod step;
 mod steps;
 
+pub use asked_rules::AskedRules;
 pub use behind::judge_evidence_behind;
 pub use cause::{EvidenceCause, EvidenceFault};
 pub use evidence::Evidence;
-pub use judged::{Judged, is_proved, judge_entry, judge_steps};
+pub use judged::{Judged, is_proved_by, judge_entry, judge_steps};
 pub use read::{judge_evidence, read_evidence};
 pub use records::{MAX_FACTS, has_too_many};
 pub use step::{Step, Steps};

@@ -1,278 +1,262 @@
 //! Which facts of a cone hold, in which order that shows, and on which of them the goal leans.
 //!
 //! These are the counters of Dowling and Gallier, over an and/or graph: each fact has a gate, and so has each place of its rule's plain
-//! form. A gate opens once as many of those that feed it as it waits for have opened, so that each link is looked at once. Nothing here
-//! is trusted: each fact is looked at again by its rule.
+//! form. A gate opens once as many of those that feed it as it waits for have opened, so that each link is looked at once. A rule of many
+//! places has no gates for these: what its parts read feeds the fact's own gate, and as a part opens, the rule says whether the gate does
+//! (`wide`). Nothing here is trusted: each fact is looked at again by its rule.
 
-use namespaces::Rewrite;
+use crate::leaning::Leaning;
+use crate::links::{Ends, Links, Way, small};
+use crate::wide::{Reached, WideRules};
+use namespaces::{Part, PartedRule, Rewrite, Through};
 use std::alloc::{AllocError, Global};
-use std::collections::BTreeMap;
-use std::mem;
+use std::collections::VecDeque;
 use trace_lines::Trace;
-use tuple_text::{Fact, SetRef, TupleFault, Userset};
-use version_chains::{MarkedSet, Usersets};
+use tuple_text::{Fact, SetRef};
+use version_chains::{MarkedSet, Places, Usersets};
 
 /// What a gate waits for, of those that feed it.
 #[derive(Clone, Copy, Drop)]
-enum Wants {
+pub(crate) enum Wants {
     Some,
     Each,
     /// The one that feeds it, where the gate of the subtracted side stays shut.
-    Without(usize),
+    Without(u32),
+    /// What its rule of many places wants; the number of the fact among those of such rules.
+    Parts(u32),
 }
 
-/// A gate: how many openings it waits for and of which gates, the gates that it feeds, and the one that opened it.
-#[derive(Drop)]
-struct Gate {
-    wanted: usize,
-    wants: Wants,
-    feeds: Vec<usize>,
-    fed_by: Vec<usize>,
-    opened_by: Option<usize>,
+/// A gate: how many openings it waits for and of which gates, the links to those that it feeds and from those that feed it, how many gates
+/// had opened when it had, itself among them, and the one that opened it.
+#[derive(Clone, Copy, Drop)]
+pub(crate) struct Gate {
+    pub(crate) wanted: u32,
+    pub(crate) wants: Wants,
+    pub(crate) feeds: Ends,
+    pub(crate) fed_by: Ends,
+    pub(crate) opened_at: u32,
+    pub(crate) opened_by: Option<u32>,
 }
 
 /// An exclusion: its own gate, that of its subtracted side, and the place of the fact whose rule it is in.
 #[derive(Clone, Copy, Drop)]
-struct Exclusion {
-    gate: usize,
-    subtract: usize,
-    place: usize,
+pub(crate) struct Exclusion {
+    pub(crate) gate: usize,
+    pub(crate) subtract: usize,
+    pub(crate) place: usize,
+}
+
+/// A fact of a rule of many places: its gate, how far it has come, and whether it waits to be looked at.
+#[derive(Clone, Copy, Drop)]
+pub(crate) struct WideFact {
+    pub(crate) gate: usize,
+    pub(crate) reached: Reached,
+    pub(crate) waits: bool,
 }
 
 /// The gates of a cone. Those of its facts come first, each at its fact's place.
 #[derive(Drop)]
-pub(crate) struct Gates {
-    alloc: Global,
-    places: BTreeMap<Userset, usize>,
-    gates: Vec<Gate>,
-    exclusions: Vec<Exclusion>,
+pub(crate) struct Gates<'t> {
+    trace: &'t Trace,
+    at: u64,
+    cone: &'t [Fact],
+    // the facts of the cone by the marks of their usersets: they are all of one user
+    places: Places,
+    pub(crate) gates: Vec<Gate>,
+    pub(crate) links: Links,
+    pub(crate) exclusions: Vec<Exclusion>,
+    pub(crate) rules: WideRules<'t>,
+    pub(crate) wide: Vec<WideFact>,
+    // the facts of rules of many places of which a part opened, to be looked at
+    pub(crate) waiting: VecDeque<usize>,
     // the gates that opened, in order; how many of them were let feed others, and how many were told
-    open: Vec<usize>,
-    fed: usize,
-    told: usize,
+    pub(crate) open: Vec<usize>,
+    pub(crate) fed: usize,
+    pub(crate) told: usize,
 }
 
-/// The gates that are kept, and the order in which they came.
-#[derive(Drop)]
-struct Leaning {
-    kept: Vec<bool>,
-    todo: Vec<usize>,
-}
-
-impl Leaning {
-    fn new(alloc: Global, gates: usize) -> Result<Leaning, AllocError> {
-        let mut kept = Vec::new(alloc);
-        for _ in 0..gates {
-            kept.push(false)?;
-        }
-        Ok(Leaning {
-            kept,
-            todo: Vec::new(alloc),
-        })
-    }
-
-    fn has(&self, gate: usize) -> bool {
-        match self.kept.get(gate) {
-            Some(kept) => *kept,
-            None => false,
-        }
-    }
-
-    fn add(&mut self, gate: usize) -> Result<(), AllocError> {
-        if let Some(kept) = self.kept.get_mut(gate) {
-            if !*kept {
-                *kept = true;
-                self.todo.push(gate)?;
-            }
-        }
-        Ok(())
-    }
-
-    fn add_all(&mut self, gates: &[usize]) -> Result<(), AllocError> {
-        for gate in gates {
-            self.add(*gate)?;
-        }
-        Ok(())
-    }
-}
-
-/// The gates of one rule while they are made.
+/// Where links lead that are made for a fact: to a gate, for a part of its rule.
 #[derive(Clone, Copy)]
 struct Site<'a> {
-    trace: &'a Trace,
-    at: u64,
-    set: SetRef<'a>,
-    user: u64,
+    fact: &'a Fact,
     place: usize,
+    gate: usize,
+    part: usize,
 }
 
-/// The userset of these parts, where they are in form.
-fn userset_of(alloc: Global, set: SetRef<'_>) -> Result<Option<Userset>, AllocError> {
-    match Userset::of(alloc, set) {
-        Ok(set) => Ok(Some(set)),
-        Err(TupleFault::OutOfMemory) => Err(AllocError),
-        Err(_) => Ok(None),
+impl<'a> Site<'a> {
+    /// The same object under another relation.
+    fn under(&self, relation: &'a str) -> SetRef<'a> {
+        SetRef {
+            relation,
+            ..self.fact.set()
+        }
+    }
+
+    /// The same fact, to another gate.
+    fn to(&self, gate: usize) -> Site<'a> {
+        Site { gate, ..*self }
     }
 }
 
-impl Gates {
+impl<'t> Gates<'t> {
     /// The gates of a cone.
     pub(crate) fn of(
         alloc: Global,
-        trace: &Trace,
+        trace: &'t Trace,
         at: u64,
-        cone: &[Fact],
-    ) -> Result<Gates, AllocError> {
+        cone: &'t [Fact],
+    ) -> Result<Gates<'t>, AllocError> {
         let mut gates = Gates {
-            alloc,
-            places: BTreeMap::new(alloc),
-            gates: Vec::new(alloc),
+            trace,
+            at,
+            cone,
+            places: Places::with_room(alloc, cone.len())?,
+            gates: Vec::with_capacity(alloc, cone.len())?,
+            links: Links::new(alloc),
             exclusions: Vec::new(alloc),
+            rules: WideRules::new(alloc),
+            wide: Vec::new(alloc),
+            waiting: VecDeque::new(alloc),
             open: Vec::new(alloc),
             fed: 0,
             told: 0,
         };
         for fact in cone {
-            gates.number(fact)?;
+            gates.places.push(MarkedSet::of(fact.set()).mark)?;
+            gates.add(1, Wants::Some)?;
         }
         for place in 0..cone.len() {
-            gates.add_rule(trace, at, place, &cone[place])?;
+            gates.add_rule(place, &cone[place])?;
         }
         Ok(gates)
     }
 
     /// The place of a userset in the cone.
-    fn place_of(&self, set: SetRef<'_>) -> Result<Option<usize>, AllocError> {
-        let Some(set) = userset_of(self.alloc, set)? else {
-            return Ok(None);
-        };
-        Ok(self.places.get(&set).copied())
+    fn place_of(&self, set: SetRef<'_>) -> Option<usize> {
+        let mut next = self.places.newest(MarkedSet::of(set).mark);
+        for _ in 0..self.cone.len() {
+            let place = next.checked_sub(1)?;
+            if self.cone.get(place)?.set() == set {
+                return Some(place);
+            }
+            next = self.places.older(place);
+        }
+        None
     }
 
     /// Whether the gate of a fact is among those that are kept.
-    pub(crate) fn is_kept(&self, kept: &[bool], fact: &Fact) -> Result<bool, AllocError> {
-        match self.place_of(fact.set())? {
-            Some(place) => Ok(kept.get(place).copied() == Some(true)),
-            None => Ok(false),
+    pub(crate) fn is_kept(&self, leaning: &Leaning, fact: &Fact) -> bool {
+        match self.place_of(fact.set()) {
+            Some(place) => leaning.has(place),
+            None => false,
         }
-    }
-
-    fn number(&mut self, fact: &Fact) -> Result<(), AllocError> {
-        let place = self.add(1, Wants::Some)?;
-        if let Some(set) = userset_of(self.alloc, fact.set())? {
-            self.places.insert(set, place)?;
-        }
-        Ok(())
     }
 
     /// A new gate that waits for so many openings.
     fn add(&mut self, wanted: usize, wants: Wants) -> Result<usize, AllocError> {
         let gate = self.gates.len();
         self.gates.push(Gate {
-            wanted,
+            wanted: small(wanted)?,
             wants,
-            feeds: Vec::new(self.alloc),
-            fed_by: Vec::new(self.alloc),
+            feeds: Ends::none(),
+            fed_by: Ends::none(),
+            opened_at: 0,
             opened_by: None,
         })?;
         Ok(gate)
     }
 
-    /// From now on the one gate feeds the other.
-    fn feed(&mut self, from: usize, to: usize) -> Result<(), AllocError> {
-        if let Some(gate) = self.gates.get_mut(from) {
-            gate.feeds.push(to)?;
+    /// From now on the one gate feeds the other, or what is fed was open from the first.
+    fn feed(&mut self, from: Option<usize>, to: usize, part: usize) -> Result<(), AllocError> {
+        let feeder = match from {
+            Some(from) => Some(small(from)?),
+            None => None,
+        };
+        let number = self.links.add(feeder, small(to)?, small(part)?)?;
+        if let Some(from) = from {
+            if let Some(gate) = self.gates.get_mut(from) {
+                self.links.append(&mut gate.feeds, Way::Feeds, number);
+            }
         }
         if let Some(gate) = self.gates.get_mut(to) {
-            gate.fed_by.push(from)?;
+            self.links.append(&mut gate.fed_by, Way::FedBy, number);
         }
         Ok(())
     }
 
     /// A gate waits for one opening less.
-    fn lower(&mut self, gate: usize, by: Option<usize>) -> Result<(), AllocError> {
+    pub(crate) fn lower(&mut self, gate: usize, by: Option<u32>) -> Result<(), AllocError> {
         if let Some(found) = self.gates.get_mut(gate) {
             if found.wanted == 1 {
-                found.opened_by = by;
                 self.open.push(gate)?;
+                found.opened_by = by;
+                found.opened_at = small(self.open.len())?;
             }
-            if found.wanted > 0 {
-                found.wanted -= 1;
-            }
+            found.wanted = found.wanted.saturating_sub(1);
         }
         Ok(())
     }
 
-    fn is_open(&self, gate: usize) -> bool {
+    pub(crate) fn is_open(&self, gate: usize) -> bool {
         match self.gates.get(gate) {
             Some(gate) => gate.wanted == 0,
             None => false,
         }
     }
 
-    fn add_rule(
-        &mut self,
-        trace: &Trace,
-        at: u64,
-        place: usize,
-        fact: &Fact,
-    ) -> Result<(), AllocError> {
+    fn add_rule(&mut self, place: usize, fact: &Fact) -> Result<(), AllocError> {
         let site = Site {
-            trace,
-            at,
-            set: fact.set(),
-            user: fact.user(),
+            fact,
             place,
+            gate: place,
+            part: 0,
         };
-        match trace.rules().plain_body(fact.set(), at) {
-            Some(rule) => self.add_place(site, &rule.rewrite, place),
+        let rules = self.trace.rules();
+        let Some(stands) = rules.body_place(fact.set(), self.at) else {
+            return Ok(());
+        };
+        match rules.plain_in(stands) {
+            Some(rule) => match &rule.parted {
+                Some(parted) => {
+                    let reached = self.rules.start(stands, parted)?;
+                    self.add_parts(site, reached, parted)
+                }
+                None => self.add_place(site, &rule.rewrite),
+            },
             None => Ok(()),
         }
     }
 
-    /// The gate of a place of a rule, which feeds another.
+    /// The gate of a place of a rule, which feeds that of the site.
     #[cycle(add_place)]
-    fn add_place(
-        &mut self,
-        site: Site<'_>,
-        rewrite: &Rewrite,
-        to: usize,
-    ) -> Result<(), AllocError> {
+    fn add_place(&mut self, site: Site<'_>, rewrite: &Rewrite) -> Result<(), AllocError> {
         match rewrite {
-            Rewrite::This => self.add_this(site, to),
-            Rewrite::Computed(relation) => {
-                let set = SetRef {
-                    relation: relation.as_str(),
-                    ..site.set
-                };
-                self.add_premise(set, to)
+            Rewrite::This => {
+                let gate = self.add(1, Wants::Some)?;
+                self.feed(Some(gate), site.gate, 0)?;
+                if self.stores_user(site) {
+                    self.lower(gate, None)?;
+                }
+                self.add_targets(site.to(gate), site.fact.set(), None)
             }
+            Rewrite::Computed(relation) => self.add_premise(site, site.under(relation.as_str())),
             Rewrite::TupleTo { tupleset, computed } => {
                 let gate = self.add(1, Wants::Some)?;
-                self.feed(gate, to)?;
-                let set = SetRef {
-                    relation: tupleset.as_str(),
-                    ..site.set
-                };
-                let sets = site.trace.chains().usersets(MarkedSet::of(set), site.at);
-                self.add_targets(sets, Some(computed.as_str()), gate)
+                self.feed(Some(gate), site.gate, 0)?;
+                let tupleset = site.under(tupleset.as_str());
+                self.add_targets(site.to(gate), tupleset, Some(computed.as_str()))
             }
-            Rewrite::Union(children) => {
-                let gate = self.add(1, Wants::Some)?;
-                self.feed(gate, to)?;
-                self.add_places(site, children, gate)
-            }
+            Rewrite::Union(children) => self.add_places(site, children, 1, Wants::Some),
             Rewrite::Inter(children) => {
-                let gate = self.add(children.len(), Wants::Each)?;
-                self.feed(gate, to)?;
-                self.add_places(site, children, gate)
+                self.add_places(site, children, children.len(), Wants::Each)
             }
             Rewrite::Minus(base, subtract) => {
                 let outer = self.add(1, Wants::Some)?;
-                let gate = self.add(2, Wants::Without(outer))?;
-                self.feed(gate, to)?;
-                self.add_place(site, base, gate)?;
-                self.add_place(site, subtract, outer)?;
+                let gate = self.add(2, Wants::Without(small(outer)?))?;
+                self.feed(Some(gate), site.gate, 0)?;
+                self.add_place(site.to(gate), base)?;
+                self.add_place(site.to(outer), subtract)?;
                 self.exclusions.push(Exclusion {
                     gate,
                     subtract: outer,
@@ -283,174 +267,104 @@ impl Gates {
         }
     }
 
+    /// A gate that some places of a rule feed.
     #[cycle(add_place)]
     fn add_places(
         &mut self,
         site: Site<'_>,
         children: &Vec<Rewrite>,
-        to: usize,
+        wanted: usize,
+        wants: Wants,
     ) -> Result<(), AllocError> {
+        let gate = self.add(wanted, wants)?;
+        self.feed(Some(gate), site.gate, 0)?;
         for child in children {
-            self.add_place(site, child, to)?;
+            self.add_place(site.to(gate), child)?;
         }
         Ok(())
     }
 
-    fn add_this(&mut self, site: Site<'_>, to: usize) -> Result<(), AllocError> {
-        let gate = self.add(1, Wants::Some)?;
-        self.feed(gate, to)?;
-        let set = MarkedSet::of(site.set);
-        if site.trace.chains().has_id(set, site.user, site.at) {
-            self.lower(gate, None)?;
+    /// Links for each part of a rule of many places.
+    fn add_parts(
+        &mut self,
+        site: Site<'_>,
+        reached: Reached,
+        rule: &PartedRule,
+    ) -> Result<(), AllocError> {
+        let number = small(self.wide.len())?;
+        self.wide.push(WideFact {
+            gate: site.gate,
+            reached,
+            waits: false,
+        })?;
+        if let Some(gate) = self.gates.get_mut(site.gate) {
+            gate.wants = Wants::Parts(number);
         }
-        let sets = site.trace.chains().usersets(set, site.at);
-        self.add_targets(sets, None, gate)
+        for part in 0..rule.parts.len() {
+            self.add_part(Site { part, ..site }, &rule.parts[part])?;
+        }
+        Ok(())
     }
 
-    /// The gates of the targets of stored usersets feed a gate.
+    fn add_part(&mut self, site: Site<'_>, part: &Part) -> Result<(), AllocError> {
+        match part {
+            Part::Leaf(Rewrite::This) => {
+                if self.stores_user(site) {
+                    self.feed(None, site.gate, site.part)?;
+                    self.open_part(site.gate, site.part)?;
+                }
+                self.add_targets(site, site.fact.set(), None)
+            }
+            Part::Leaf(Rewrite::Computed(relation)) => {
+                self.add_premise(site, site.under(relation.as_str()))
+            }
+            Part::Leaf(Rewrite::TupleTo { tupleset, computed }) => {
+                let tupleset = site.under(tupleset.as_str());
+                self.add_targets(site, tupleset, Some(computed.as_str()))
+            }
+            Part::Leaf(_) => Ok(()),
+            Part::Through(through) => self.add_through(site, through),
+        }
+    }
+
+    /// Links of what some relations give through a tupleset.
+    fn add_through(&mut self, site: Site<'_>, through: &Through) -> Result<(), AllocError> {
+        let tupleset = site.under(through.tupleset.as_str());
+        for k in 0..through.computed.len() {
+            if let Some((name, _)) = through.computed.get_index(k) {
+                self.add_targets(site, tupleset, Some(name.as_str()))?;
+            }
+        }
+        Ok(())
+    }
+
+    /// Whether the fact's user is stored in its userset.
+    fn stores_user(&self, site: Site<'_>) -> bool {
+        let set = MarkedSet::of(site.fact.set());
+        self.trace.chains().has_id(set, site.fact.user(), self.at)
+    }
+
+    /// The gates of the targets of usersets that are stored in a set feed that of the site.
     fn add_targets(
         &mut self,
-        sets: Usersets<'_>,
+        site: Site<'_>,
+        set: SetRef<'_>,
         relation: Option<&str>,
-        to: usize,
     ) -> Result<(), AllocError> {
+        let sets: Usersets<'_> = self.trace.chains().usersets(MarkedSet::of(set), self.at);
         for set in sets {
             let set = SetRef {
                 relation: relation.unwrap_or(set.set.relation),
                 ..set.set
             };
-            self.add_premise(set, to)?;
+            self.add_premise(site, set)?;
         }
         Ok(())
     }
 
-    fn add_premise(&mut self, set: SetRef<'_>, to: usize) -> Result<(), AllocError> {
-        match self.place_of(set)? {
-            Some(place) => self.feed(place, to),
-            None => Ok(()),
-        }
-    }
-
-    /// Lets each gate that opened feed the others. Each does so once.
-    fn drain(&mut self) -> Result<(), AllocError> {
-        for place in self.fed..self.gates.len() {
-            let Some(gate) = self.open.get(place).copied() else {
-                return Ok(());
-            };
-            self.fed = place + 1;
-            self.pass_on(gate)?;
-        }
-        Ok(())
-    }
-
-    fn pass_on(&mut self, gate: usize) -> Result<(), AllocError> {
-        let Some(found) = self.gates.get_mut(gate) else {
-            return Ok(());
-        };
-        let feeds = mem::replace(&mut found.feeds, Vec::new(self.alloc));
-        for to in &feeds {
-            self.lower(*to, Some(gate))?;
-        }
-        Ok(())
-    }
-
-    /// The places of the facts that turn out to hold where the exclusions of a stratum are told, those of the lower strata being told.
-    pub(crate) fn tell(
-        &mut self,
-        strata: &[Option<u8>],
-        stratum: u16,
-    ) -> Result<Vec<usize>, AllocError> {
-        self.drain()?;
-        for k in 0..self.exclusions.len() {
-            let Some(exclusion) = self.exclusions.get(k).copied() else {
-                break;
-            };
-            let of_stratum = match strata.get(exclusion.place).copied() {
-                Some(Some(found)) => found as u16 == stratum,
-                _ => false,
-            };
-            if of_stratum && !self.is_open(exclusion.subtract) {
-                self.lower(exclusion.gate, None)?;
-                self.drain()?;
-            }
-        }
-        let mut places = Vec::new(self.alloc);
-        for k in self.told..self.open.len() {
-            if let Some(gate) = self.open.get(k).copied() {
-                places.push(gate)?;
-            }
-        }
-        self.told = self.open.len();
-        Ok(places)
-    }
-    /// Which gates the first fact leans on, itself among them: an open one on those that opened it, and one that is shut on enough of
-    /// those that keep it shut.
-    pub(crate) fn leaning(&self) -> Result<Vec<bool>, AllocError> {
-        let mut leaning = Leaning::new(self.alloc, self.gates.len())?;
-        leaning.add(0)?;
-        for next in 0..self.gates.len() {
-            let Some(gate) = leaning.todo.get(next).copied() else {
-                break;
-            };
-            if self.is_open(gate) {
-                self.lean_open(gate, &mut leaning)?;
-            } else {
-                self.lean_shut(gate, &mut leaning)?;
-            }
-        }
-        let Leaning { kept, todo: _ } = leaning;
-        Ok(kept)
-    }
-
-    fn lean_open(&self, gate: usize, leaning: &mut Leaning) -> Result<(), AllocError> {
-        let Some(found) = self.gates.get(gate) else {
-            return Ok(());
-        };
-        match found.wants {
-            Wants::Some => match found.opened_by {
-                Some(by) => leaning.add(by),
-                None => Ok(()),
-            },
-            Wants::Each => leaning.add_all(&found.fed_by),
-            Wants::Without(outer) => {
-                leaning.add(outer)?;
-                leaning.add_all(&found.fed_by)
-            }
-        }
-    }
-
-    fn lean_shut(&self, gate: usize, leaning: &mut Leaning) -> Result<(), AllocError> {
-        let Some(found) = self.gates.get(gate) else {
-            return Ok(());
-        };
-        match found.wants {
-            Wants::Some => leaning.add_all(&found.fed_by),
-            Wants::Each => self.lean_on_one(found, leaning),
-            Wants::Without(outer) => {
-                if self.is_open(outer) {
-                    leaning.add(outer)
-                } else {
-                    leaning.add_all(&found.fed_by)
-                }
-            }
-        }
-    }
-
-    /// One that is shut is enough to keep a gate shut that waits for each: one that is kept already, and else the first.
-    fn lean_on_one(&self, gate: &Gate, leaning: &mut Leaning) -> Result<(), AllocError> {
-        let mut first = None;
-        for from in &gate.fed_by {
-            if !self.is_open(*from) {
-                if leaning.has(*from) {
-                    return Ok(());
-                }
-                if first.is_none() {
-                    first = Some(*from);
-                }
-            }
-        }
-        match first {
-            Some(from) => leaning.add(from),
+    fn add_premise(&mut self, site: Site<'_>, set: SetRef<'_>) -> Result<(), AllocError> {
+        match self.place_of(set) {
+            Some(place) => self.feed(Some(place), site.gate, site.part),
             None => Ok(()),
         }
     }

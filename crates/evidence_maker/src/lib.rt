@@ -21,10 +21,14 @@ mod fault;
 mod gates;
 pub mod laws;
 mod layers;
+mod leaning;
 mod like;
+mod links;
 mod maker;
+mod opening;
 mod settle;
 mod slice;
+mod wide;
 
 pub use fault::MakeFault;
 pub use goal_cone::{MAX_LINKS, MAX_USERSETS};

@@ -42,8 +42,11 @@ fn fits(line: u64, steps: &[Step]) -> bool
 pub(crate) fn is_record(trace: &Trace, entry: &Entry, steps: &Steps) -> Result<bool, AllocError>
     ensures { IfOk result (λ b. IsTrue b ↔ IsRecord trace.now (entry_value entry.now) (step_values steps.now.items)) }
 {
+    if !fits(entry.line, steps) {
+        return Ok(false);
+    }
     match judge_steps(trace, entry, steps)? {
-        Judged::Supported | Judged::Contradicted => Ok(fits(entry.line, steps)),
+        Judged::Supported | Judged::Contradicted => Ok(true),
         _ => Ok(false),
     }
 }
@@ -112,7 +115,7 @@ pub fn make_after(
     let cone = explore(alloc, trace, entry.snapshot, &entry.goal)?;
     let mut gates = Gates::of(alloc, trace, entry.snapshot, &cone)?;
     let steps = settle(alloc, trace, entry.snapshot, &cone, &mut gates)?;
-    let short = slice(alloc, &gates, &steps)?;
+    let short = slice(alloc, &mut gates, &steps)?;
     if is_record(trace, entry, &short)? {
         return Ok(short);
     }

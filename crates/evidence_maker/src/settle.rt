@@ -13,7 +13,7 @@ ghost use Rattle.evidence_maker.specs.Saturation.{AreUnsettled};
 
 use crate::gates::Gates;
 use crate::layers::{layer_of, strata_of, top_of, well_formed};
-use evidence_check::{Step, Steps, is_proved};
+use evidence_check::{AskedRules, Step, Steps, is_proved_by};
 use judgement::Known;
 use std::alloc::{AllocError, Global};
 use trace_lines::Trace;
@@ -27,13 +27,16 @@ fn is_known(known: &Known<Fact>, fact: &Fact) -> bool
 }
 
 /// Says that the fact holds, where nothing is known of it and it is proved. Answers whether it is left as it was, unknown.
-fn look_at(
-    trace: &Trace,
+fn look_at<'t>(
+    asked: &mut AskedRules<'t>,
+    trace: &'t Trace,
     at: u64,
     fact: &Fact,
     known: &mut Known<Fact>,
     steps: &mut Steps,
 ) -> Result<bool, AllocError>
+    requires { asked.old ≡ trace.now }
+    ensures asked { asked.new ≡ asked.old }
     ensures kept { OnOk result ((C : List FactValue) (k : ℕ) → Contains C fact.now →
         IsMaking (rule_at trace.now.declarations at) (store_at trace.now.commits at) C k known.old (step_values steps.old.items) →
         IsMaking (rule_at trace.now.declarations at) (store_at trace.now.commits at) C k known.new (step_values steps.new.items)) }
@@ -45,7 +48,7 @@ fn look_at(
     if is_known(known, fact) {
         return Ok(false);
     }
-    if !is_proved(trace, at, known, fact) {
+    if !is_proved_by(asked, trace, at, known, fact)? {
         return Ok(true);
     }
     steps.push(Step::Yes(fact.clone()?))?;
@@ -66,9 +69,10 @@ fn look_at_each(
         IsMaking (rule_at trace.now.declarations at) (store_at trace.now.commits at) cone.now k known.old (step_values steps.old.items) →
         IsMaking (rule_at trace.now.declarations at) (store_at trace.now.commits at) cone.now k known.new (step_values steps.new.items)) }
 {
+    let mut asked = AskedRules::new(*steps.allocator(), trace);
     for place in places {
         if *place < cone.len() {
-            look_at(trace, at, &cone[*place], known, steps)?;
+            look_at(&mut asked, trace, at, &cone[*place], known, steps)?;
         }
     }
     Ok(())
@@ -87,9 +91,10 @@ fn sift(
         IsMaking (rule_at trace.now.declarations at) (store_at trace.now.commits at) C k known.new (step_values steps.new.items)) }
     ensures sifted { IfOk result (λ v. IsSifted (rule_at trace.now.declarations at) (store_at trace.now.commits at) known.old known.new facts.now v.items) }
 {
+    let mut asked = AskedRules::new(*steps.allocator(), trace);
     let mut left = Vec::new(*steps.allocator());
     for fact in facts {
-        if look_at(trace, at, fact, known, steps)? {
+        if look_at(&mut asked, trace, at, fact, known, steps)? {
             left.push(fact.clone()?)?;
         }
     }
@@ -185,7 +190,7 @@ pub(crate) fn settle(
     trace: &Trace,
     at: u64,
     cone: &[Fact],
-    gates: &mut Gates,
+    gates: &mut Gates<'_>,
 ) -> Result<Steps, AllocError>
     ensures { IfOk result (λ v. HasItsPremises (rule_at trace.now.declarations at) (store_at trace.now.commits at) cone.now → AreDistinct cone.now →
         IsMade (rule_at trace.now.declarations at) (store_at trace.now.commits at) cone.now (step_values v.items)) }

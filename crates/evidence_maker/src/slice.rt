@@ -3,19 +3,20 @@
 //! Nothing here is trusted: what is kept is judged before it is given.
 
 use crate::gates::Gates;
+use crate::leaning::Leaning;
 use evidence_check::{Step, Steps};
 use std::alloc::{AllocError, Global};
 use tuple_text::Fact;
 
 fn kept_of(
     alloc: Global,
-    gates: &Gates,
-    leaning: &[bool],
+    gates: &Gates<'_>,
+    leaning: &Leaning,
     facts: &[Fact],
 ) -> Result<Vec<Fact>, AllocError> {
     let mut kept = Vec::new(alloc);
     for fact in facts {
-        if gates.is_kept(leaning, fact)? {
+        if gates.is_kept(leaning, fact) {
             kept.push(fact.clone()?)?;
         }
     }
@@ -23,13 +24,17 @@ fn kept_of(
 }
 
 /// The steps in their order, of the facts alone on which the goal leans.
-pub(crate) fn slice(alloc: Global, gates: &Gates, steps: &[Step]) -> Result<Steps, AllocError> {
+pub(crate) fn slice(
+    alloc: Global,
+    gates: &mut Gates<'_>,
+    steps: &[Step],
+) -> Result<Steps, AllocError> {
     let leaning = gates.leaning()?;
     let mut kept = Vec::new(alloc);
     for step in steps {
         match step {
             Step::Yes(fact) => {
-                if gates.is_kept(&leaning, fact)? {
+                if gates.is_kept(&leaning, fact) {
                     kept.push(Step::Yes(fact.clone()?))?;
                 }
             }

@@ -1,4 +1,4 @@
--- What a plain form of a rule reads is what the rule reads, by no more links.
+-- What has the leaves of a rule reads what the rule reads, by no more links.
 use Rattle.std.proofs.Common.{◌≡◌, ℕ, ◌≤◌, Bool, true, false, List, [], ◌∷◌, ◌++◌, inl, inr}
 use Rattle.std.proofs.Common.{refl, sym, ◌∙◌, true≢false, arith}
 use Rattle.std.proofs.lemmas.List.Folds.{list_any-append}
@@ -9,7 +9,7 @@ use Rattle.tuple_text.specs.Sets.{SetValue}
 use Rattle.tuple_text.specs.Tuples.{TupleValue, FactValue}
 use Rattle.namespaces.specs.Expression.{Expression, this, computed, tuple_to, union, inter, minus}
 use Rattle.namespaces.specs.Expression.{Expressions, no_child, child}
-use Rattle.namespaces.specs.Plain.{leaves, leaves_of_all, IsPlainOf}
+use Rattle.namespaces.specs.Plain.{leaves, leaves_of_all, IsThinned}
 use Rattle.namespaces.proofs.AlikeLemmas.{or_none}
 use Rattle.namespaces.proofs.Names.{by_bool, or_true}
 use Rattle.strata.specs.Meaning.{with_relation, same_user}
@@ -112,11 +112,11 @@ module _ (store : List TupleValue) (f p : FactValue) where
         (λ is. inl (reads_leaf e is))
         (λ none. inr (reads_some_leaf es (any_else is_read (leaves e) (leaves_of_all es) t none)))
 
-  pub plain_reads : (a b : Expression) → IsPlainOf a b → Reads store f a p → Reads store f b p
-  plain_reads a b plain r = reads_leaf b (sym (plain.thinned.same is_read) ∙ leaf_reads a r)
+  pub thinned_reads : (a b : Expression) → IsThinned (leaves a) (leaves b) → Reads store f a p → Reads store f b p
+  thinned_reads a b thin r = reads_leaf b (sym (thin.same is_read) ∙ leaf_reads a r)
 
-  pub reads_plain : (a b : Expression) → IsPlainOf a b → Reads store f b p → Reads store f a p
-  reads_plain a b plain r = reads_leaf a (plain.thinned.same is_read ∙ leaf_reads b r)
+  pub reads_thinned : (a b : Expression) → IsThinned (leaves a) (leaves b) → Reads store f b p → Reads store f a p
+  reads_thinned a b thin r = reads_leaf a (thin.same is_read ∙ leaf_reads b r)
 
 -- ---- its links are those of its leaves
 
@@ -141,7 +141,7 @@ mutual
       let both = sum_by-append (links store s) (leaves e) (leaves_of_all es) in
       rw (both, ← leaf_links store s e, ← leaf_links_all store s es) refl
 
-pub plain_links : (store : List TupleValue) (s : SetValue) (a b : Expression) → IsPlainOf a b
+pub thinned_links : (store : List TupleValue) (s : SetValue) (a b : Expression) → IsThinned (leaves a) (leaves b)
     → links store s a ≤ links store s b
-plain_links store s a b plain =
-    rw (leaf_links store s a, leaf_links store s b) (plain.thinned.no_heavier (links store s))
+thinned_links store s a b thin =
+    rw (leaf_links store s a, leaf_links store s b) (thin.no_heavier (links store s))

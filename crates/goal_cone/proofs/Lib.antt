@@ -1,5 +1,6 @@
 pub mod Exploring
 pub mod LeafLemmas
+pub mod OnceLemmas
 pub mod PremiseLemmas
 pub mod Searching
 pub mod SeenLemmas

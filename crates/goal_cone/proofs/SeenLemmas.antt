@@ -11,17 +11,18 @@ use Rattle.tuple_text.specs.Parts.{checked_fact}
 use Rattle.tuple_text.specs.declared.fault.TupleFault.{TupleFault}
 use Rattle.tuple_text.specs.Tuples.{TupleValue, FactValue, fact_of}
 use Rattle.tuple_text.specs.Grammar.{IsFact}
-use Rattle.namespaces.specs.Expression.{Expression}
+use Rattle.namespaces.specs.Expression.{Expression, union}
 use Rattle.namespaces.specs.Lookup.{Rule, Lookup, rule_of}
-use Rattle.namespaces.specs.Plain.{ArePlain}
+use Rattle.namespaces.specs.View.{children}
 use Rattle.judgement.specs.Judgement.{IsUndeclared}
 use Rattle.strata.proofs.Lists.{not_in_nil, Contains-cons_cases}
-use Rattle.goal_cone.specs.Bounds.{links, links_by, links_of}
+use Rattle.goal_cone.specs.Bounds.{links, links_all, links_by, links_of}
 use Rattle.goal_cone.specs.Cone.{IsMet, IsNeeded}
+use Rattle.goal_cone.specs.Leaves.{AreLeavesOf}
 use Rattle.goal_cone.specs.Pass.{IsRead, IsUnderWay}
-use Rattle.goal_cone.specs.Premises.{Reads}
+use Rattle.goal_cone.specs.Premises.{Reads, ReadsSome}
 use Rattle.goal_cone.specs.Seen.{Sees, IsStuck}
-use Rattle.goal_cone.proofs.LeafLemmas.{plain_reads, reads_plain, plain_links}
+use Rattle.goal_cone.proofs.LeafLemmas.{thinned_reads, reads_thinned, thinned_links}
 use Rattle.goal_cone.proofs.Weights.{AreDistinct-append, no_longer}
 
 module _ (rules : Lookup) where
@@ -207,24 +208,28 @@ second_stuck most_facts most_links rules store T S old now had room a b le seen 
 
 -- ---- the rule of a fact, where it is found
 
--- in its plain form
-abbrev pub IsPlainRule : Lookup → SetValue → Option Expression → Type 0
-IsPlainRule rules g e = ArePlain e (option_map (λ (r : Rule). r.expression) (rule_of rules g))
+-- by its leaves
+abbrev pub HasLeaves : Lookup → SetValue → List Expression → Type 0
+HasLeaves rules g es = AreLeavesOf es (option_map (λ (r : Rule). r.expression) (rule_of rules g))
 
-pub read_by : (rules : Lookup) (store : List TupleValue) (f : FactValue) (x : Expression) → IsPlainRule rules f.set (Some x)
-    → ((p : FactValue) → Reads store f x p → IsRead rules store f p) × ((p : FactValue) → IsRead rules store f p → Reads store f x p)
-    × (links store f.set x ≤ links_of rules store f)
-read_by rules store f x found = by_rule (rule_of rules f.set) refl found
+pub read_by : (rules : Lookup) (store : List TupleValue) (f : FactValue) (es : List Expression) → HasLeaves rules f.set es
+    → ((p : FactValue) → ReadsSome store f (children es) p → IsRead rules store f p) × ((p : FactValue) → IsRead rules store f p → ReadsSome store f (children es) p)
+    × (links_all store f.set (children es) ≤ links_of rules store f)
+read_by rules store f es found = by_rule (rule_of rules f.set) refl found
   where
-    by_rule : (o : Option Rule) → rule_of rules f.set ≡ o → ArePlain (Some x) (option_map (λ (r : Rule). r.expression) o)
-        → ((p : FactValue) → Reads store f x p → IsRead rules store f p) × ((p : FactValue) → IsRead rules store f p → Reads store f x p)
-        × (links store f.set x ≤ links_by store f.set (rule_of rules f.set))
-    by_rule None e plain = absurd plain
-    by_rule (Some r) e plain = (
-      λ p reads. (r, e, plain_reads store f p x r.expression plain reads),
+    by_rule : (o : Option Rule) → rule_of rules f.set ≡ o → AreLeavesOf es (option_map (λ (r : Rule). r.expression) o)
+        → ((p : FactValue) → ReadsSome store f (children es) p → IsRead rules store f p) × ((p : FactValue) → IsRead rules store f p → ReadsSome store f (children es) p)
+        × (links_all store f.set (children es) ≤ links_by store f.set (rule_of rules f.set))
+    by_rule None e none = (
+      λ p reads. absurd (rw none at reads),
+      λ p t. (let d : None ≡ Some t.0 = sym e ∙ t.1 in absurd (cc)),
+      rw (none, e) (omega arith),
+    )
+    by_rule (Some r) e thin = (
+      λ p reads. (r, e, thinned_reads store f p (union (children es)) r.expression thin reads),
       λ p t. (
           let one : r ≡ t.0 = (let d : Some r ≡ Some t.0 = sym e ∙ t.1 in cc) in
-          reads_plain store f p x r.expression plain (subst (λ (q : Rule). Reads store f q.expression p) (sym one) t.2)),
-      (let few : links store f.set x ≤ links store f.set r.expression = plain_links store f.set x r.expression plain in
+          reads_thinned store f p (union (children es)) r.expression thin (subst (λ (q : Rule). Reads store f q.expression p) (sym one) t.2)),
+      (let few : links_all store f.set (children es) ≤ links store f.set r.expression = thinned_links store f.set (union (children es)) r.expression thin in
           rw e few),
     )

@@ -7,6 +7,7 @@ ghost use Rattle.goal_cone.specs.Bounds.{IsOutgrown};
 ghost use Rattle.goal_cone.specs.Cone.{IsCone, AreDistinct};
 
 use crate::fault::ConeFault;
+use crate::leaves::KnownLeaves;
 use crate::premises::{MAX_LINKS, MAX_USERSETS, see_read};
 use crate::seen::Seen;
 use std::alloc::Global;
@@ -26,13 +27,14 @@ pub fn explore(alloc: Global, trace: &Trace, at: u64, goal: &Fact) -> Result<Vec
 {
     let mut seen = Seen::new(alloc);
     seen.add(goal.clone()?)?;
+    let mut leaves = KnownLeaves::new(alloc);
     let mut room = MAX_LINKS;
     for next in 0..MAX_USERSETS + 1 {
         let Some(fact) = seen.get(next) else {
             return Ok(seen.into_facts());
         };
         let fact = fact.clone()?;
-        see_read(alloc, trace, at, &fact, &mut seen, &mut room)?;
+        see_read(alloc, trace, at, &fact, &mut leaves, &mut seen, &mut room)?;
     }
     Err(ConeFault::Outgrown)
 }

@@ -17,6 +17,7 @@
 
 mod cone;
 mod fault;
+mod leaves;
 mod premises;
 mod seen;
 

@@ -10,11 +10,13 @@ ghost use Rattle.strata.specs.Meaning.{with_relation};
 ghost use Rattle.version_chains.specs.Commits.{store_at};
 ghost use Rattle.judgement.specs.Passes.{target};
 ghost use Rattle.goal_cone.specs.Bounds.{stored_sets, links, links_all, links_of};
+ghost use Rattle.goal_cone.specs.Leaves.{ArePlaced};
 ghost use Rattle.goal_cone.specs.Pass.{AmongTargets, IsGiven, IsRead};
 ghost use Rattle.goal_cone.specs.Premises.{Reads, ReadsSome};
 ghost use Rattle.goal_cone.specs.Seen.{Sees, IsStuck};
 
 use crate::fault::ConeFault;
+use crate::leaves::KnownLeaves;
 use crate::seen::Seen;
 use namespaces::Rewrite;
 use std::alloc::Global;
@@ -203,15 +205,18 @@ fn see_children(
     Ok(())
 }
 
-/// Sees what a fact's rule reads, by its plain form, in which a leaf stands at no more places.
+/// Sees what a fact's rule reads, by the leaves of it.
 pub(crate) fn see_read(
     alloc: Global,
     trace: &Trace,
     at: u64,
     fact: &Fact,
+    known: &mut KnownLeaves,
     seen: &mut Seen,
     room: &mut usize,
 ) -> Result<(), ConeFault>
+    requires { ArePlaced trace.now.declarations known.old.rules.items }
+    ensures placed { ArePlaced trace.now.declarations known.new.rules.items }
     ensures seen { OnOk result (Sees (rule_at trace.now.declarations at)
         (IsRead (rule_at trace.now.declarations at) (store_at trace.now.commits at) fact.now) seen.old seen.new) }
     ensures links { OnOk result (room.old ≤ room.new + links_of (rule_at trace.now.declarations at) (store_at trace.now.commits at) fact.now) }
@@ -219,17 +224,19 @@ pub(crate) fn see_read(
         ⊎ IsStuck MAX_USERSETS MAX_LINKS (rule_at trace.now.declarations at) (store_at trace.now.commits at)
         (IsRead (rule_at trace.now.declarations at) (store_at trace.now.commits at) fact.now) seen.old }
 {
-    match trace.rules().plain_body(fact.set(), at) {
-        Some(rule) => see_premises(
-            alloc,
-            &rule.rewrite,
-            fact.set(),
-            fact.user(),
-            trace,
-            at,
-            seen,
-            room,
-        ),
-        None => Ok(()),
-    }
+    let Some(place) = trace.rules().body_place(fact.set(), at) else {
+        return Ok(());
+    };
+    let number = known.number(trace.rules(), place)?;
+    let leaves = &known.rules[number].leaves;
+    see_children(
+        alloc,
+        leaves,
+        fact.set(),
+        fact.user(),
+        trace,
+        at,
+        seen,
+        room,
+    )
 }

@@ -8,7 +8,7 @@ use Rattle.evidence_check.proofs.JudgedLemmas.{settled_by_rule}
 use Rattle.evidence_check.proofs.judged.settles.Goals as goal
 
 pub returns-then-is_given-clause-settles : goal.returns-then-is_given-clause-settles
-returns-then-is_given-clause-settles c =
+returns-then-is_given-clause-settles g c =
     let f = marked_fact c.args.fact in
     let x = expression_of c.in-Narrow.rule.now in
     let of : IsRuleOf c.args.trace.now.declarations c.args.at f.set (Some x) = rw c.in-Narrow.is at c.requires.rule in
@@ -16,7 +16,7 @@ returns-then-is_given-clause-settles c =
     rw c.if-is_given.true (λ t. both.0 (c.established.ensures.0 t), λ s. c.established.ensures.1 (both.1 s))
 
 pub returns-else-is_given-clause-settles : goal.returns-else-is_given-clause-settles
-returns-else-is_given-clause-settles c =
+returns-else-is_given-clause-settles g c =
     let f = marked_fact c.args.fact in
     let x = expression_of c.in-Narrow.rule.now in
     let of : IsRuleOf c.args.trace.now.declarations c.args.at f.set (Some x) = rw c.in-Narrow.is at c.requires.rule in
@@ -24,12 +24,12 @@ returns-else-is_given-clause-settles c =
     rw c.if-is_given.false (λ t. both.0 (c.refuted.ensures.0 t), λ s. c.refuted.ensures.1 (both.1 s))
 
 pub does-requires : goal.does-requires
-does-requires c =
+does-requires g c =
     let wide = rw c.in-Wide.is at c.requires.rule in
     rw (c.requires.asked, wide.1) wide.0
 
 pub returns-in-Wide-clause-settles : goal.returns-in-Wide-clause-settles
-returns-in-Wide-clause-settles c =
+returns-in-Wide-clause-settles g c =
     let f = marked_fact c.args.fact in
     let x = rule_shown c.in-Wide.rule.now in
     let wide = rw c.in-Wide.is at c.requires.rule in

@@ -11,7 +11,7 @@ use Rattle.evidence_maker.proofs.settle.look_at.Goals as goal
 
 pub returns-clause-kept : goal.returns-clause-kept
 returns-clause-kept c = λ C k inside making.
-    let proved_true : IsTrue c.is_proved.result = c.if-not-is_proved.false in
+    let proved_true : IsTrue c.in_ok-is_proved_by.field-0 = c.if-not-branch.false in
     let unknown : ¬ IsKnown c.args.known.now c.args.fact.now =
     (λ h. let t : IsTrue c.is_known.result = c.is_known.ensures.1 h in let f : c.is_known.result ≡ false = c.if-is_known.false in cc) in
     let known : c.add_yes.new.self ≡ with_yes c.args.known.now c.args.fact.now = search rules in
@@ -20,7 +20,7 @@ returns-clause-kept c = λ C k inside making.
     rw (c.in_ok-push.ensures.items, ← same) (step_values-push c.args.steps.now.items _) in
     rw (known, steps)
     (making_yes (rule_at c.args.trace.now.declarations c.args.at) (store_at c.args.trace.now.commits c.args.at) C k c.args.known.now (step_values c.args.steps.now.items)
-    making c.args.fact.now inside (c.is_proved.ensures.0 proved_true) unknown)
+    making c.args.fact.now inside (c.in_ok-is_proved_by.ensures.proved.0 proved_true) unknown)
 
 pub returns-clause-grows : goal.returns-clause-grows
 returns-clause-grows c =

@@ -1,4 +1,4 @@
-use Rattle.std.proofs.Common.{sym}
+use Rattle.std.proofs.Common.{sym, ◌∙◌}
 use Rattle.std.specs.Prelude.{Contains}
 use Rattle.evidence_maker.proofs.settle.look_at_each.Goals.{then-place-cone+in_ok-look_at, else-place-cone}
 use Rattle.evidence_maker.proofs.settle.look_at_each.Goals as goal
@@ -7,6 +7,9 @@ pub loop-place-preserved : goal.loop-place-preserved
 loop-place-preserved c = elim c.if-place-cone.branch [
   | then-place-cone+in_ok-look_at w ↦
       let inside : Contains c.args.cone.now w.index-cone-place.result = (_, w.if-place-cone.true, sym w.index-cone-place.is) in
-      rw (w.known-is, w.steps-is) (λ k before. w.in_ok-look_at.ensures.kept c.args.cone.now k inside (c.loop-place.invariant k before))
-  | else-place-cone w ↦ rw (w.known-is, w.steps-is) c.loop-place.invariant
+      rw (w.asked-is, w.known-is, w.steps-is) (
+        w.in_ok-look_at.ensures.asked ∙ c.loop-place.invariant.0,
+        λ k before. w.in_ok-look_at.ensures.kept c.args.cone.now k inside (c.loop-place.invariant.1 k before),
+      )
+  | else-place-cone w ↦ rw (w.asked-is, w.known-is, w.steps-is) c.loop-place.invariant
 ]

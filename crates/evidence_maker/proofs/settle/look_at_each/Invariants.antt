@@ -1,4 +1,4 @@
-use Rattle.std.proofs.Common.{ℕ}
+use Rattle.std.proofs.Common.{◌≡◌, ℕ}
 use Rattle.namespaces.specs.Lookup.{rule_at}
 use Rattle.version_chains.specs.Commits.{store_at}
 use Rattle.evidence_check.specs.Steps.{step_values}
@@ -7,6 +7,7 @@ use Rattle.evidence_maker.proofs.settle.look_at_each.Given as goal
 
 abbrev pub invariant-loop-place : goal.invariant-loop-place
 invariant-loop-place l =
-    (k : ℕ)
+    (l.asked ≡ l.trace)
+    × ((k : ℕ)
     → IsMaking (rule_at l.trace.declarations l.at) (store_at l.trace.commits l.at) l.cone k l.fn.known (step_values l.fn.steps.items)
-    → IsMaking (rule_at l.trace.declarations l.at) (store_at l.trace.commits l.at) l.cone k l.known (step_values l.steps.items)
+    → IsMaking (rule_at l.trace.declarations l.at) (store_at l.trace.commits l.at) l.cone k l.known (step_values l.steps.items))

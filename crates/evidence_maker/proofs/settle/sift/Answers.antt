@@ -1,4 +1,4 @@
-use Rattle.std.proofs.Common.{rules, ◌≡◌, sym}
+use Rattle.std.proofs.Common.{rules, ◌≡◌, ◌∙◌, sym}
 use Rattle.namespaces.specs.Lookup.{rule_at}
 use Rattle.version_chains.specs.Commits.{store_at}
 use Rattle.evidence_maker.proofs.MakingLemmas.{take_next, sifted_pass, sifted_push}
@@ -7,6 +7,7 @@ use Rattle.evidence_maker.proofs.settle.sift.Goals as goal
 
 pub loop-fact-preserved : goal.loop-fact-preserved
 loop-fact-preserved c = record {
+  asked = c.in_ok-look_at.ensures.asked ∙ c.loop-fact.invariant.asked;
   kept = λ C k inside before. c.in_ok-look_at.ensures.kept C k (inside c.fact-item.result (c.loop-fact.fact-index, c.loop-fact-test.true, sym c.fact-item.is)) (c.loop-fact.invariant.kept C k inside before);
   sifted =
       let next = take_next c.args.facts.now c.loop-fact.fact-index c.fact-item.result c.loop-fact-test.true c.fact-item.is in

@@ -1,4 +1,4 @@
-use Rattle.std.proofs.Common.{ℕ, List, take}
+use Rattle.std.proofs.Common.{◌≡◌, ℕ, List, take}
 use Rattle.std.specs.Prelude.{Contains}
 use Rattle.tuple_text.specs.Tuples.{FactValue}
 use Rattle.namespaces.specs.Lookup.{rule_at}
@@ -9,6 +9,7 @@ use Rattle.evidence_maker.proofs.settle.sift.Given as goal
 
 abbrev pub invariant-loop-fact : goal.invariant-loop-fact
 invariant-loop-fact l = record {
+  asked : l.asked ≡ l.trace;
   kept : (C : List FactValue) (k : ℕ) → ((f : FactValue) → Contains l.facts f → Contains C f)
       → IsMaking (rule_at l.trace.declarations l.at) (store_at l.trace.commits l.at) C k l.fn.known (step_values l.fn.steps.items)
       → IsMaking (rule_at l.trace.declarations l.at) (store_at l.trace.commits l.at) C k l.known (step_values l.steps.items);

@@ -14,7 +14,7 @@ use Rattle.evidence_check.proofs.JudgedLemmas.{does_alike, one_placed_more, same
 use Rattle.evidence_check.proofs.asked_rules.AskedRules.does.Goals as goal
 
 pub returns-then-eq-clause-does : goal.returns-then-eq-clause-does
-returns-then-eq-clause-does c =
+returns-then-eq-clause-does g c =
     let s = c.self.inside in
     let items = s.asked.items in
     let n = c.unwrap_or-number.result in
@@ -34,7 +34,7 @@ returns-then-eq-clause-does c =
     rw (← c.self.view_is) (IfOk-weaker c.does.result _ _ (λ r d. (λ t. both.0 (d.0 t), λ u. d.1 (both.1 u))) does)
 
 pub invariant_of-self-in_err-insert : goal.invariant_of-self-in_err-insert
-invariant_of-self-in_err-insert c =
+invariant_of-self-in_err-insert g c =
     let s = c.self.inside in
     let p : PlacedRule = record { place = c.args.place; rule = record { trace = s.trace.now; expression = rule_shown c.args.parted.now } } in
     let is : c.push.new.self.items ≡ s.asked.items ++ p ∷ [] = rw (c.in_ok-push.ensures.items, c.does-2.ensures.rule, c.in_ok-rule.ensures) refl in
@@ -42,7 +42,7 @@ invariant_of-self-in_err-insert c =
     rw is (one_placed_more s.trace.now s.asked.items p c.self.invariant (record { over = refl; says = asked }))
 
 pub invariant_of-self-2 : goal.invariant_of-self-2
-invariant_of-self-2 c =
+invariant_of-self-2 g c =
     let s = c.self.inside in
     let p : PlacedRule = record { place = c.args.place; rule = record { trace = s.trace.now; expression = rule_shown c.args.parted.now } } in
     let is : c.push.new.self.items ≡ s.asked.items ++ p ∷ [] = rw (c.in_ok-push.ensures.items, c.does-2.ensures.rule, c.in_ok-rule.ensures) refl in
@@ -50,7 +50,7 @@ invariant_of-self-2 c =
     rw is (one_placed_more s.trace.now s.asked.items p c.self.invariant (record { over = refl; says = asked }))
 
 pub invariant_of-self : goal.invariant_of-self
-invariant_of-self c = λ p there.
+invariant_of-self g c = λ p there.
     let s = c.self.inside in
     let items = s.asked.items in
     let n = c.unwrap_or-number.result in
@@ -65,4 +65,4 @@ invariant_of-self c = λ p there.
     ]
 
 pub invariant_of-self-in_err-push : goal.invariant_of-self-in_err-push
-invariant_of-self-in_err-push c = rw c.in_err-push.ensures.items c.self.invariant
+invariant_of-self-in_err-push g c = rw c.in_err-push.ensures.items c.self.invariant

@@ -1,0 +1,202 @@
+//! The gates on which a goal leans.
+
+use crate::gates::{Gate, Gates, Wants};
+use crate::links::{Link, Way};
+use std::alloc::{AllocError, Global};
+
+/// The gates that are kept, in the order in which they came, and how many of them were given.
+#[derive(Drop)]
+pub(crate) struct Leaning {
+    kept: Vec<bool>,
+    todo: Vec<usize>,
+    given: usize,
+}
+
+impl Leaning {
+    pub(crate) fn new(alloc: Global, gates: usize) -> Result<Leaning, AllocError> {
+        Ok(Leaning {
+            kept: vec![in alloc; false; gates]?,
+            todo: Vec::new(alloc),
+            given: 0,
+        })
+    }
+
+    pub(crate) fn has(&self, gate: usize) -> bool {
+        self.kept.get(gate).copied() == Some(true)
+    }
+
+    pub(crate) fn add(&mut self, gate: usize) -> Result<(), AllocError> {
+        if let Some(kept) = self.kept.get_mut(gate) {
+            if !*kept {
+                *kept = true;
+                self.todo.push(gate)?;
+            }
+        }
+        Ok(())
+    }
+
+    /// The next gate that is kept, each once.
+    pub(crate) fn next(&mut self) -> Option<usize> {
+        let gate = self.todo.get(self.given).copied()?;
+        self.given = self.given.saturating_add(1);
+        Some(gate)
+    }
+}
+
+impl<'t> Gates<'t> {
+    /// Which gates the first fact leans on, itself among them: an open one on those that opened it, and one that is shut on enough of
+    /// those that keep it shut.
+    pub(crate) fn leaning(&mut self) -> Result<Leaning, AllocError> {
+        let mut leaning = Leaning::new(*self.open.allocator(), self.gates.len())?;
+        leaning.add(0)?;
+        for _ in 0..self.gates.len() {
+            let Some(gate) = leaning.next() else {
+                break;
+            };
+            self.lean(gate, &mut leaning)?;
+        }
+        Ok(leaning)
+    }
+
+    fn lean(&mut self, gate: usize, leaning: &mut Leaning) -> Result<(), AllocError> {
+        let Some(found) = self.gates.get(gate).copied() else {
+            return Ok(());
+        };
+        let is_open = found.wanted == 0;
+        match found.wants {
+            Wants::Some if is_open => match found.opened_by {
+                Some(by) => leaning.add(by as usize),
+                None => Ok(()),
+            },
+            Wants::Some => self.lean_on_each(found, leaning),
+            Wants::Each if is_open => self.lean_on_each(found, leaning),
+            Wants::Each => self.lean_on_one(found, leaning),
+            Wants::Without(outer) if is_open => {
+                leaning.add(outer as usize)?;
+                self.lean_on_each(found, leaning)
+            }
+            Wants::Without(outer) if self.is_open(outer as usize) => leaning.add(outer as usize),
+            Wants::Without(_) => self.lean_on_each(found, leaning),
+            Wants::Parts(number) => self.lean_on_parts(found, number as usize, leaning),
+        }
+    }
+
+    fn lean_on_each(&self, gate: Gate, leaning: &mut Leaning) -> Result<(), AllocError> {
+        let mut next = self.links.first(gate.fed_by);
+        for _ in 0..self.links.len() {
+            let Some(link) = next else {
+                break;
+            };
+            if let Some(from) = link.from {
+                leaning.add(from as usize)?;
+            }
+            next = self.links.after(link, Way::FedBy);
+        }
+        Ok(())
+    }
+
+    /// One that is shut is enough to keep a gate shut that waits for each: one that is kept already, and else the first.
+    fn lean_on_one(&self, gate: Gate, leaning: &mut Leaning) -> Result<(), AllocError> {
+        let mut first = None;
+        let mut next = self.links.first(gate.fed_by);
+        for _ in 0..self.links.len() {
+            let Some(link) = next else {
+                break;
+            };
+            if let Some(from) = link.from {
+                let from = from as usize;
+                if !self.is_open(from) {
+                    if leaning.has(from) {
+                        return Ok(());
+                    }
+                    if first.is_none() {
+                        first = Some(from);
+                    }
+                }
+            }
+            next = self.links.after(link, Way::FedBy);
+        }
+        match first {
+            Some(from) => leaning.add(from),
+            None => Ok(()),
+        }
+    }
+
+    /// How many gates had opened when that had from which a link comes: 0 where it comes from none, and no number where the gate is shut.
+    fn opening(&self, link: Link) -> Option<u32> {
+        let Some(from) = link.from else {
+            return Some(0);
+        };
+        let gate = self.gates.get(from as usize)?;
+        if gate.wanted == 0 {
+            Some(gate.opened_at)
+        } else {
+            None
+        }
+    }
+
+    /// The least of these for each part that is open.
+    fn openings(&self, gate: Gate, parts: usize) -> Result<Vec<Option<u32>>, AllocError> {
+        let mut first = vec![in *self.open.allocator(); None; parts]?;
+        let mut next = self.links.first(gate.fed_by);
+        for _ in 0..self.links.len() {
+            let Some(link) = next else {
+                break;
+            };
+            if let (Some(opening), Some(part)) = (
+                self.opening(link),
+                first.get_mut(link.part as usize),
+            ) {
+                *part = Some(part.unwrap_or(opening).min(opening));
+            }
+            next = self.links.after(link, Way::FedBy);
+        }
+        Ok(first)
+    }
+
+    /// Where a link of a part leads from, if the part leans on that: one that is open on the first gate that opened it, and one that is
+    /// shut on each that feeds it.
+    fn leans_on(&self, link: Link, first: &[Option<u32>]) -> Option<usize> {
+        if first.get(link.part as usize).copied() == Some(self.opening(link)) {
+            Some(link.from? as usize)
+        } else {
+            None
+        }
+    }
+
+    /// The gates on which the parts of a fact lean that are kept.
+    fn lean_on_kept(
+        &self,
+        gate: Gate,
+        kept: &[bool],
+        leaning: &mut Leaning,
+    ) -> Result<(), AllocError> {
+        let first = self.openings(gate, kept.len())?;
+        let mut next = self.links.first(gate.fed_by);
+        for _ in 0..self.links.len() {
+            let Some(link) = next else {
+                break;
+            };
+            if kept.get(link.part as usize).copied() == Some(true) {
+                if let Some(from) = self.leans_on(link, &first) {
+                    leaning.add(from)?;
+                }
+            }
+            next = self.links.after(link, Way::FedBy);
+        }
+        Ok(())
+    }
+
+    fn lean_on_parts(
+        &mut self,
+        gate: Gate,
+        number: usize,
+        leaning: &mut Leaning,
+    ) -> Result<(), AllocError> {
+        let Some(fact) = self.wide.get(number).copied() else {
+            return Ok(());
+        };
+        self.rules.find_leaning(fact.reached)?;
+        self.lean_on_kept(gate, self.rules.leaning(fact.reached), leaning)
+    }
+}

@@ -1,0 +1,160 @@
+//! The order in which gates open.
+
+use crate::gates::{Gate, Gates, Wants};
+use crate::links::{Link, Way};
+use std::alloc::AllocError;
+
+/// Whether a fact of the cone is of a stratum.
+fn is_of(strata: &[Option<u8>], place: usize, stratum: u16) -> bool {
+    match strata.get(place).copied() {
+        Some(Some(found)) => found as u16 == stratum,
+        _ => false,
+    }
+}
+
+impl<'t> Gates<'t> {
+    /// Lets each gate that opened feed the others, once, and looks at facts of which parts opened, until there is nothing to do.
+    fn drain(&mut self) -> Result<(), AllocError> {
+        let most = self.gates.len().saturating_add(self.links.len());
+        for _ in 0..most.saturating_add(self.wide.len()).saturating_add(1) {
+            if let Some(gate) = self.open.get(self.fed).copied() {
+                self.fed = self.fed.saturating_add(1);
+                self.pass_on(gate)?;
+            } else if let Some(number) = self.waiting.pop_front() {
+                self.look_at(number)?;
+            } else {
+                return Ok(());
+            }
+        }
+        Ok(())
+    }
+
+    fn pass_on(&mut self, gate: usize) -> Result<(), AllocError> {
+        let Some(found) = self.gates.get(gate).copied() else {
+            return Ok(());
+        };
+        let mut next = self.links.first(found.feeds);
+        for _ in 0..self.links.len() {
+            let Some(link) = next else {
+                return Ok(());
+            };
+            self.pass(link)?;
+            next = self.links.after(link, Way::Feeds);
+        }
+        Ok(())
+    }
+
+    /// The gate that a link leads from has opened.
+    fn pass(&mut self, link: Link) -> Result<(), AllocError> {
+        let to = link.to as usize;
+        match self.gates.get(to).copied() {
+            Some(
+                Gate {
+                    wants: Wants::Parts(_),
+                    ..
+                },
+            ) => self.open_part(to, link.part as usize),
+            _ => self.lower(to, link.from),
+        }
+    }
+
+    /// The number of the fact of a gate, where its rule has many places.
+    fn wide_number(&self, gate: usize) -> Option<usize> {
+        match self.gates.get(gate)?.wants {
+            Wants::Parts(number) => Some(number as usize),
+            _ => None,
+        }
+    }
+
+    /// A part of a fact opens. What opens once the fact itself has opened is not looked at: it may lean on the fact.
+    pub(crate) fn open_part(&mut self, gate: usize, part: usize) -> Result<(), AllocError> {
+        let Some(number) = self.wide_number(gate) else {
+            return Ok(());
+        };
+        if self.is_open(gate) {
+            return Ok(());
+        }
+        if let Some(fact) = self.wide.get_mut(number) {
+            let stage = self.rules.after(fact.reached, part)?;
+            if stage != fact.reached.stage {
+                fact.reached.stage = stage;
+                self.wait(number)?;
+            }
+        }
+        Ok(())
+    }
+
+    /// A fact of a rule of many places is to be looked at.
+    fn wait(&mut self, number: usize) -> Result<(), AllocError> {
+        if let Some(fact) = self.wide.get_mut(number) {
+            if !fact.waits {
+                fact.waits = true;
+                self.waiting.push_back(number)?;
+            }
+        }
+        Ok(())
+    }
+
+    /// Opens the gate of a fact of a rule of many places, where its rule does by the parts that have opened.
+    fn look_at(&mut self, number: usize) -> Result<(), AllocError> {
+        let Some(fact) = self.wide.get_mut(number) else {
+            return Ok(());
+        };
+        fact.waits = false;
+        let gate = fact.gate;
+        if self.rules.opens(fact.reached) {
+            self.lower(gate, None)?;
+        }
+        Ok(())
+    }
+
+    /// Tells the exclusions of the facts of a stratum that stand at places of their rules.
+    fn tell_exclusions(&mut self, strata: &[Option<u8>], stratum: u16) -> Result<(), AllocError> {
+        for k in 0..self.exclusions.len() {
+            let Some(exclusion) = self.exclusions.get(k).copied() else {
+                break;
+            };
+            if is_of(strata, exclusion.place, stratum) && !self.is_open(exclusion.subtract) {
+                self.lower(exclusion.gate, None)?;
+                self.drain()?;
+            }
+        }
+        Ok(())
+    }
+
+    /// Tells those of the facts of a stratum whose rules have many places.
+    fn tell_wide(&mut self, strata: &[Option<u8>], stratum: u16) -> Result<(), AllocError> {
+        for number in 0..self.wide.len() {
+            let Some(fact) = self.wide.get_mut(number) else {
+                break;
+            };
+            if is_of(strata, fact.gate, stratum) && self.rules.has_exclusions(fact.reached) {
+                let gate = fact.gate;
+                fact.reached.is_told = true;
+                if !self.is_open(gate) {
+                    self.wait(number)?;
+                }
+            }
+        }
+        self.drain()
+    }
+
+    /// The places of the facts that turn out to hold where the exclusions of a stratum are told, those of the lower strata being told.
+    pub(crate) fn tell(
+        &mut self,
+        strata: &[Option<u8>],
+        stratum: u16,
+    ) -> Result<Vec<usize>, AllocError> {
+        self.drain()?;
+        self.tell_exclusions(strata, stratum)?;
+        self.tell_wide(strata, stratum)?;
+        let mut places = Vec::new(*self.open.allocator());
+        for k in self.told..self.open.len() {
+            if let Some(gate) = self.open.get(k).copied() {
+                places.push(gate)?;
+            }
+        }
+        self.told = self.open.len();
+        Ok(places)
+    }
+}
