@@ -38,6 +38,9 @@ KIND is one of
   wide_turns     as `wide_pairs`, behind two leaves that deny the users in turn
   wide_users     as `wide_through`, and users that are let in by the last of the relations
   wide_crowd     as `wide_through`, where a hundred usersets are stored, and a hundred namespaces are declared
+  few_through    a rule of 14 relations through one tupleset, which stores usersets of 250 namespaces that declare none of them
+  many_names     a rule of 30 relations through a tupleset that stores usersets of a namespace with 250 others
+  many_tuplesets a rule through 200 tuplesets, each of which stores usersets of 20 namespaces that do not declare what is read
   wide_folders   as `wide_through`, and each fact is of another object, in whose tupleset a userset is stored
   ring           groups in a circle, and checks that each of many strangers is not in it: for `make`
   wide_make      a rule of many places that compute one relation, and objects in a chain of such rules: for `make`

@@ -37,7 +37,7 @@ is_same _ _ = false
 abbrev pub is_among : List Kind → Kind → Bool
 is_among kinds kind = list_any (is_same kind) kinds
 
--- want of memory is told as such, whatever it stopped
+-- that memory ran out is told as such, whatever it stopped
 abbrev pub IsToldAsSuch : AuditFault → Type 0
 IsToldAsSuch (faults.Trace f) = f.cause ≢ causes.OutOfMemory
 IsToldAsSuch (faults.Evidence f) = f.cause ≢ evidence_causes.OutOfMemory
