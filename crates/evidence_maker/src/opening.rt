@@ -122,21 +122,27 @@ impl<'t> Gates<'t> {
         Ok(())
     }
 
-    /// Tells those of the facts of a stratum whose rules have many places.
+    /// Tells those of the facts of a stratum whose rules have many places, and which are not open without them.
     fn tell_wide(&mut self, strata: &[Option<u8>], stratum: u16) -> Result<(), AllocError> {
         for number in 0..self.wide.len() {
-            let Some(fact) = self.wide.get_mut(number) else {
+            let Some(fact) = self.wide.get(number).copied() else {
                 break;
             };
-            if is_of(strata, fact.gate, stratum) && self.rules.has_exclusions(fact.reached) {
-                let gate = fact.gate;
-                fact.reached.is_told = true;
-                if !self.is_open(gate) {
-                    self.wait(number)?;
-                }
+            if is_of(strata, fact.gate, stratum)
+                && self.rules.has_exclusions(fact.reached)
+                && !self.is_open(fact.gate)
+            {
+                self.tell_fact(number)?;
             }
         }
         self.drain()
+    }
+
+    fn tell_fact(&mut self, number: usize) -> Result<(), AllocError> {
+        if let Some(fact) = self.wide.get_mut(number) {
+            fact.reached.is_told = true;
+        }
+        self.wait(number)
     }
 
     /// The places of the facts that turn out to hold where the exclusions of a stratum are told, those of the lower strata being told.
