@@ -40,7 +40,7 @@ KIND is one of
   wide_crowd     as `wide_through`, where a hundred usersets are stored, and a hundred namespaces are declared
   few_through    a rule of 14 relations through one tupleset, which stores usersets of 250 namespaces that declare none of them
   many_names     a rule of 30 relations through a tupleset that stores usersets of a namespace with 250 others
-  many_tuplesets a rule through 200 tuplesets, each of which stores usersets of 20 namespaces that do not declare what is read
+  many_tuplesets a rule through 100 tuplesets, each of which stores usersets of 17 namespaces that do not declare what is read
   wide_folders   as `wide_through`, and each fact is of another object, in whose tupleset a userset is stored
   ring           groups in a circle, and checks that each of many strangers is not in it: for `make`
   wide_make      a rule of many places that compute one relation, and objects in a chain of such rules: for `make`
@@ -560,14 +560,14 @@ def many_names(size):
 
 
 def many_tuplesets(size):
-    """A rule through 200 tuplesets, each of which stores 20 usersets, and so many namespaces as there may be."""
-    sets = [f"p{k}" for k in range(200)]
+    """A rule through 100 tuplesets, each of which stores 17 usersets, and 250 further namespaces."""
+    sets = [f"p{k}" for k in range(100)]
     rule = nested([{"tuple_to": {"tupleset": name, "computed": "m"}} for name in sets])
     others = [{"name": f"n{k}", "relations": [relation("r")]} for k in range(250)]
     given = Input(size, [{"name": "doc", "relations": [*map(relation, [*sets, "m"]), relation("viewer", rule)]}, *others])
     given.bytes = sum(map(len, given.lines))
     for name in sets:
-        given.commit([f"doc:a#{name}@n{k}:p#r" for k in range(20)])
+        given.commit([f"doc:a#{name}@n{k}:p#r" for k in range(17)])
     return asked_of_many(given)
 
 
