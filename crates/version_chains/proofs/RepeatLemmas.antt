@@ -1,13 +1,14 @@
 -- The first place at which a number stands again, and at which its tuple does.
-use Rattle.std.proofs.Common.{◌≡◌, ℕ, ◌+◌, ◌<◌, ◌≤◌, Bool, true, false, cond, List, [], ◌∷◌, ◌++◌, map, sym, ◌∙◌, ap, Some, length, take, drop, get_or, nat_eq, ◌||◌, refl, zero, suc, arith, append_assoc, not}
+use Rattle.std.proofs.Common.{◌≡◌, ℕ, ◌+◌, ◌-◌, ◌<◌, ◌≤◌, Bool, true, false, cond, List, [], ◌∷◌, ◌++◌, map, sym, ◌∙◌, ap, Some, length, take, drop, get_or, nat_eq, refl, zero, suc, arith, append_assoc, inl, inr, not, subst, Result, Ok, Err, is_ok}
 use Rattle.std.specs.Prelude.{slice_get}
 use Rattle.std.specs.List.{list_any}
 use Rattle.std.specs.Ordering.{nat_cmp}
-use Rattle.std.specs.BTreeMap.{is_at}
-use Rattle.std.specs.BTreeSet.{BTreeSet, contains}
-use Rattle.std.proofs.lemmas.Bool.{eqb-true, eq-eqb}
-use Rattle.std.proofs.lemmas.List.Folds.{list_any-append}
-use Rattle.std.proofs.lemmas.List.{take_more, drop_more, map-append}
+use Rattle.std.proofs.lemmas.Bool.{eq-eqb, ne_eqb, cases_lt}
+use Rattle.std.proofs.lemmas.Grind.{get_or_default_zero}
+use Rattle.std.proofs.lemmas.List.Folds.{list_any_at, list_any_none}
+use Rattle.std.proofs.lemmas.List.{take_more, drop_more, map-append, get_or-take, length-take}
+use Rattle.std.proofs.lemmas.List.Sorted.{searched}
+use Rattle.std.specs.List.Sorted.{IsBinarySearchResult, IsStrictlyIncreasing}
 use Rattle.tuple_text.specs.Tuples.{TupleValue}
 use Rattle.tuple_text.specs.Order.{tuple_eq}
 use Rattle.version_chains.specs.Appends.{repeat_from, first_repeat}
@@ -15,7 +16,6 @@ use Rattle.version_chains.specs.Arena.{AreApartAt, AreNumbersOf, Extends}
 use Rattle.version_chains.specs.Commits.{Touch}
 use Rattle.version_chains.proofs.CommitLemmas.{side}
 use Rattle.version_chains.proofs.ArenaLemmas.{tuples_by_number}
-use Rattle.version_chains.proofs.TableLemmas.{at_mark}
 
 -- one item of the list
 repeat_more : {X : Type 0} (eq : X → X → Bool) (xs : List X) (i : ℕ) (d : X) → i < length xs
@@ -98,51 +98,99 @@ numbers_split tuples (n ∷ ns) (t ∷ ts) us e =
     let less = w.2 in
     (rw (here, w.0) refl, w.1, omega (arith, less))
 
--- ---- the loop that looks for a repeat
+-- ---- the loop that looks for a repeat, where a test says what was seen
 
-module _ (xs : List ℕ) (i : ℕ) (h : i < length xs) (old : BTreeSet ℕ)
-    (were : (k : ℕ) → contains nat_cmp old k ≡ list_any (λ s. nat_eq s k) (take i xs))
+module _ (xs : List ℕ) (i : ℕ) (h : i < length xs) (has : ℕ → Bool)
+    (were : (k : ℕ) → has k ≡ list_any (λ s. nat_eq s k) (take i xs))
     (left : repeat_from nat_eq [] 0 xs ≡ repeat_from nat_eq (take i xs) i (drop i xs)) where
   abbrev x : ℕ
   x = get_or xs i 0
 
-  stood : (added b : Bool) → added ≡ not (contains nat_cmp old x) → added ≡ b → list_any (λ s. nat_eq s x) (take i xs) ≡ not b
-  stood added b e t = sym (were x) ∙ turned (contains nat_cmp old x) b (sym e ∙ t)
-    where
-      turned : (a b : Bool) → not a ≡ b → a ≡ not b
-      turned true true e = cc
-      turned true false e = refl
-      turned false true e = refl
-      turned false false e = cc
+  by_test : (b : Bool) → has x ≡ b → repeat_from nat_eq [] 0 xs ≡ cond b (Some i) (repeat_from nat_eq (take (i + 1) xs) (i + 1) (drop (i + 1) xs))
+  by_test b e = left ∙ repeat_more nat_eq xs i 0 h ∙ ap (λ b. cond b (Some i) (repeat_from nat_eq (take (i + 1) xs) (i + 1) (drop (i + 1) xs))) (sym (were x) ∙ e)
 
-  pub repeat_here : (added : Bool) → added ≡ not (contains nat_cmp old x) → added ≡ false → Some i ≡ repeat_from nat_eq [] 0 xs
-  repeat_here added e t = sym (left ∙ repeat_more nat_eq xs i 0 h ∙ ap (λ b. cond b (Some i) (repeat_from nat_eq (take (i + 1) xs) (i + 1) (drop (i + 1) xs))) (stood added false e t))
+  pub repeat_here : has x ≡ true → Some i ≡ repeat_from nat_eq [] 0 xs
+  repeat_here e = sym (by_test true e)
 
-  pub repeat_on : (added : Bool) → added ≡ not (contains nat_cmp old x) → added ≡ true → repeat_from nat_eq [] 0 xs ≡ repeat_from nat_eq (take (i + 1) xs) (i + 1) (drop (i + 1) xs)
-  repeat_on added e t = left ∙ repeat_more nat_eq xs i 0 h ∙ ap (λ b. cond b (Some i) (repeat_from nat_eq (take (i + 1) xs) (i + 1) (drop (i + 1) xs))) (stood added true e t)
+  pub repeat_on : has x ≡ false → repeat_from nat_eq [] 0 xs ≡ repeat_from nat_eq (take (i + 1) xs) (i + 1) (drop (i + 1) xs)
+  repeat_on e = by_test false e
 
-  pub seen_more : (new : BTreeSet ℕ) → ((k : ℕ) → contains nat_cmp new k ≡ cond (is_at (nat_cmp x) k) true (contains nat_cmp old k)) → (k : ℕ) → contains nat_cmp new k ≡ list_any (λ s. nat_eq s k) (take (i + 1) xs)
-  seen_more new updates k =
-      updates k
-      ∙ ap (λ b. cond b true (contains nat_cmp old k)) (at_mark x k)
-      ∙ ap (λ b. cond (nat_eq k x) true b) (were k)
-      ∙ or_swap (nat_eq k x) (nat_eq x k) (list_any (λ s. nat_eq s k) (take i xs)) (nat_eq-turned k x)
-      ∙ sym (list_any-append (λ s. nat_eq s k) (take i xs) (x ∷ []))
-      ∙ ap (list_any (λ s. nat_eq s k)) (sym (take_more xs i 0 h))
-    where
-      or_swap : (a b c : Bool) → a ≡ b → cond a true c ≡ (c || (b || false))
-      or_swap true true true e = refl
-      or_swap true true false e = refl
-      or_swap false false true e = refl
-      or_swap false false false e = refl
-      or_swap true false c e = absurd cc
-      or_swap false true c e = absurd cc
+-- ---- numbers that rise
 
-      nat_eq-turned : (a b : ℕ) → nat_eq a b ≡ nat_eq b a
-      nat_eq-turned a b = by_tests (nat_eq a b) (nat_eq b a) refl refl
-        where
-          by_tests : (p q : Bool) → nat_eq a b ≡ p → nat_eq b a ≡ q → p ≡ q
-          by_tests true true e f = refl
-          by_tests false false e f = refl
-          by_tests true false e f = sym (eq-eqb b a (sym (eqb-true a b e))) ∙ f
-          by_tests false true e f = sym e ∙ eq-eqb a b (sym (eqb-true b a f))
+further : (a b c : ℕ) → a < b → b < c → a < c
+further a b c lt more = omega (arith, lt, more)
+
+-- each is above all before it
+pub rises : (xs : List ℕ) → IsStrictlyIncreasing xs → (i j : ℕ) → i < j → j < length xs → get_or xs i 0 < get_or xs j 0
+rises xs up i zero lt h = absurd (omega (arith, lt))
+rises xs up i (suc j) lt h =
+    let next : suc j ≡ j + 1 = omega arith in
+    let last : get_or xs j 0 < get_or xs (j + 1) 0 = up j (subst (λ n. n < length xs) next h) in
+    rw next (elim (cases_lt i j) [
+      | inl below ↦ further (get_or xs i 0) (get_or xs j 0) (get_or xs (j + 1) 0) (rises xs up i j below (further j (suc j) (length xs) (omega arith) h)) last
+      | inr same ↦ let is : i ≡ j = omega (arith, lt, same) in subst (λ k. get_or xs k 0 < get_or xs (j + 1) 0) (sym is) last
+    ])
+
+pub never_falls : (xs : List ℕ) → IsStrictlyIncreasing xs → (i j : ℕ) → i ≤ j → j < length xs → get_or xs i 0 ≤ get_or xs j 0
+never_falls xs up i j le h =
+    elim (cases_lt i j) [
+      | inl below ↦ let lt = rises xs up i j below h in omega (arith, lt)
+      | inr same ↦ let is : i ≡ j = omega (arith, le, same) in subst (λ k. get_or xs i 0 ≤ get_or xs k 0) is (omega arith)
+    ]
+
+-- one that is searched for is among them or not
+pub searched_among : (xs : List ℕ) (x : ℕ) (r : Result ℕ ℕ) → IsStrictlyIncreasing xs → IsBinarySearchResult (λ y. nat_cmp y x) xs r → is_ok r ≡ list_any (λ s. nat_eq s x) xs
+searched_among xs x (Ok i) up h =
+    let at = searched xs x (Ok i) h (never_falls xs up) in
+    sym (list_any_at (λ s. nat_eq s x) xs i 0 at.0 (eq-eqb _ _ at.1))
+searched_among xs x (Err i) up h =
+    let at = searched xs x (Err i) h (never_falls xs up) in
+    sym (list_any_none (λ s. nat_eq s x) xs (λ k d lt.
+    let same = get_or_default_zero xs k d lt in
+    ne_eqb (get_or xs k d) x (λ e. elim (cases_lt k i) [
+      | inl below ↦ let l = at.1 k below in absurd (omega (arith, l, e, same))
+      | inr above ↦ let l = at.2 k above lt in absurd (omega (arith, l, e, same))
+    ])))
+
+-- none of those that rise stands twice
+pub rising_on : (xs : List ℕ) (n : ℕ) → n ≤ length xs → IsStrictlyIncreasing (take n xs) → (i : ℕ) → i ≤ n → repeat_from nat_eq [] 0 xs ≡ repeat_from nat_eq (take i xs) i (drop i xs)
+rising_on xs n within up zero le = refl
+rising_on xs n within up (suc i) le =
+    let next : suc i ≡ i + 1 = omega arith in
+    rw next (repeat_on xs i (omega (arith, le, within)) (λ k. list_any (λ s. nat_eq s k) (take i xs)) (λ k. refl)
+    (rising_on xs n within up i (omega (arith, le)))
+    (list_any_none (λ s. nat_eq s (get_or xs i 0)) (take i xs) (λ k d lt.
+    let few = length-take i xs in
+    let below : k < i = omega (arith, lt, few) in
+    let all = length-take n xs in
+    let less = rises (take n xs) up k i below (omega (arith, le, within, all)) in
+    let one = get_or_default_zero (take i xs) k d lt in
+    let here = get_or-take i xs k 0 below in
+    let there = get_or-take n xs k 0 (omega (arith, below, le)) in
+    let other = get_or-take n xs i 0 (omega (arith, le)) in
+    ne_eqb (get_or (take i xs) k d) (get_or xs i 0) (λ e. absurd (omega (arith, less, one, here, there, other, e))))))
+
+-- one more rises
+pub rising_more : (xs : List ℕ) (i : ℕ) → 0 < i → i < length xs → get_or xs (i - 1) 0 < get_or xs i 0 → IsStrictlyIncreasing (take i xs) → IsStrictlyIncreasing (take (i + 1) xs)
+rising_more xs i some h above up k lt =
+    let few = length-take i xs in
+    let more = length-take (i + 1) xs in
+    let one = get_or-take (i + 1) xs k 0 (omega (arith, lt, more, h)) in
+    let next = get_or-take (i + 1) xs (k + 1) 0 (omega (arith, lt, more, h)) in
+    elim (cases_lt (k + 1) i) [
+      | inl below ↦
+          let less = up k (omega (arith, below, few, h)) in
+          let here = get_or-take i xs k 0 (omega (arith, below)) in
+          let there = get_or-take i xs (k + 1) 0 below in
+          omega (arith, less, here, there, one, next)
+      | inr last ↦
+          let is : k + 1 ≡ i = omega (arith, last, lt, more, h) in
+          let before : k ≡ i - 1 = omega (arith, is) in
+          let less : get_or xs k 0 < get_or xs (k + 1) 0 = subst (λ j. get_or xs k 0 < get_or xs j 0) (sym is) (subst (λ j. get_or xs j 0 < get_or xs i 0) (sym before) above) in
+          omega (arith, less, one, next)
+    ]
+
+-- what an insert says of its number before
+pub was_there : (added was : Bool) → added ≡ not was → added ≡ false → was ≡ true
+was_there added true e f = refl
+was_there added false e f = sym f ∙ e

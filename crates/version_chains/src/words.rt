@@ -17,14 +17,22 @@ pub(crate) struct WordHasher {
     v3: u64,
 }
 
-/// A word that begins with these bytes, and is filled with zeros.
+/// A word that begins with these bytes, and is filled with zeros. Each length has a case of its own: a copy of a length that is not
+/// known took as long as three of the rounds below.
 fn last_word(bytes: &[u8]) -> [u8; WORD]
     requires { length bytes.now < 8 }
     ensures { result ≡ bytes.now ++ replicate (8 - length bytes.now) 0 }
 {
-    let mut word = [0u8; WORD];
-    word[..bytes.len()].copy_from_slice(bytes);
-    word
+    match bytes {
+        [a] => [*a, 0, 0, 0, 0, 0, 0, 0],
+        [a, b] => [*a, *b, 0, 0, 0, 0, 0, 0],
+        [a, b, c] => [*a, *b, *c, 0, 0, 0, 0, 0],
+        [a, b, c, d] => [*a, *b, *c, *d, 0, 0, 0, 0],
+        [a, b, c, d, e] => [*a, *b, *c, *d, *e, 0, 0, 0],
+        [a, b, c, d, e, f] => [*a, *b, *c, *d, *e, *f, 0, 0],
+        [a, b, c, d, e, f, g] => [*a, *b, *c, *d, *e, *f, *g, 0],
+        _ => [0; WORD],
+    }
 }
 
 impl WordHasher {
