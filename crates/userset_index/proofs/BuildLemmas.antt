@@ -1,6 +1,7 @@
 -- What the passes over the changelog show.
-use Rattle.std.proofs.Common.{◌≡◌, ℕ, suc, ◌+◌, ◌<◌, ◌≤◌, ◌^◌, Bool, true, false, List, [], ◌∷◌, ◌++◌, length, refl, sym, ◌∙◌, ap, subst, Option, None, Some, inl, inr, arith}
-use Rattle.std.specs.Prelude.{slice_get, slice_set, option_map, nat_le, if◌then◌else◌, IsPermutation}
+use Rattle.std.proofs.Common.{◌≡◌, ℕ, zero, suc, true≢false, ◌+◌, ◌<◌, ◌≤◌, ◌^◌, Bool, true, false, List, [], ◌∷◌, ◌++◌, length, refl, sym, ◌∙◌, ap, subst, Option, None, Some, inl, inr, arith}
+use Rattle.std.specs.Prelude.{nat_lt, slice_get, slice_set, option_map, nat_le, if◌then◌else◌, IsPermutation}
+use Rattle.std.specs.List.{list_any}
 use Rattle.std.specs.Option.{option_or}
 use Rattle.std.proofs.Math.Nat.{eq-or-lt_of_le}
 use Rattle.std.proofs.lemmas.Bool.{cases_lt, le-leb, leb-true}
@@ -11,14 +12,15 @@ use Rattle.tuple_text.specs.Order.{tuple_eq}
 use Rattle.tuple_text.specs.Sets.{SetValue}
 use Rattle.tuple_text.specs.declared.users.User.TheVariants.{Set}
 use Rattle.tuple_text.proofs.ValueLemmas.{tuple_eq-same}
+use Rattle.namespaces.proofs.Names.{or_false}
 use Rattle.namespaces.specs.Declaration.{Declaration}
 use Rattle.namespaces.specs.Lookup.{Rule, as_rule, declared_in, in_force, relation_at, rule_at, rule_of}
 use Rattle.version_chains.specs.Commits.{Touch}
 use Rattle.version_chains.specs.Marks.{set_mark}
-use Rattle.version_chains.specs.Placed.{last_place}
+use Rattle.version_chains.specs.Placed.{last_place, passes}
 use Rattle.version_chains.proofs.PlacedLemmas.{at_last_place, slice_get-cases, slice_get-set}
 use Rattle.userset_index.specs.Building.{HaveEnds, HoldsFirst, IsEnd, IsLifeOf, IsUndeclaredBelow, kept}
-use Rattle.userset_index.specs.Index.{Holds, IsFound, IsLastTouch, IsMark, is_crowded}
+use Rattle.userset_index.specs.Index.{Holds, IsFound, IsLastTouch, IsMark, count_of, few, is_crowded}
 use Rattle.userset_index.specs.Lives.{is_alive}
 use Rattle.userset_index.specs.declared.life.Life.{Life}
 use Rattle.userset_index.specs.declared.life.Way.{Way}
@@ -150,3 +152,15 @@ module _ (ds : List Declaration) (way : Way) (touches : List Touch) (crowds : Li
   holds_permuted lives more moved holds i at mark x g last user crowd small key =
       let f = holds i at mark x g last user crowd small key in
       record { life = f.life; there = Contains-permutation lives more f.life moved f.there; marked = f.marked; of = f.of; alive = f.alive }
+
+-- ---- no crowds
+
+none_passes : (p : ℕ → Bool) (xs : List ℕ) (n : ℕ) → list_any p xs ≡ false → passes p (slice_get xs n) ≡ false
+none_passes p [] n e = refl
+none_passes p (x ∷ xs) zero e = (or_false (p x) (list_any p xs) e).0
+none_passes p (x ∷ xs) (suc n) e = none_passes p xs n (or_false (p x) (list_any p xs) e).1
+
+-- where no count is high, nothing is looked for
+pub holds_none : (ds : List Declaration) (way : Way) (touches : List Touch) (crowds : List ℕ) → list_any (nat_lt few) crowds ≡ false → Holds ds way touches crowds []
+holds_none ds way touches crowds e i at mark x g last is crowded =
+    absurd (true≢false (sym crowded ∙ none_passes (nat_lt few) crowds (count_of (set_mark x.tuple.set)) e))

@@ -1,6 +1,7 @@
 //! Making an index, in passes over the changelog.
 
-ghost use Rattle.std.specs.Prelude.{◌≡◌, ◌<◌, ◌≤◌, ◌^◌, ◌++◌, ℕ, None, Some, List, length, slice_get, IfOk, MatchOption, OnOk, IsPermutation, Contains};
+ghost use Rattle.std.specs.Prelude.{◌≡◌, ◌<◌, ◌≤◌, ◌^◌, ◌++◌, ℕ, None, Some, List, length, slice_get, nat_lt, IfOk, MatchOption, OnOk, IsPermutation, Contains};
+ghost use Rattle.std.specs.List.{list_any};
 ghost use Rattle.tuple_text.specs.Refs.{set_value};
 ghost use Rattle.tuple_text.specs.Sets.{SetValue};
 ghost use Rattle.namespaces.specs.Lookup.{rule_at, rule_of};
@@ -38,6 +39,13 @@ pub(crate) fn is_crowded(crowds: &[u8], mark: u64) -> bool
         Some(count) => *count > FEW,
         None => false,
     }
+}
+
+/// Whether any userset is crowded. It goes once over the counts.
+pub(crate) fn is_any_crowded(crowds: &[u8]) -> bool
+    ensures { result ≡ list_any (nat_lt spec.few) crowds.now }
+{
+    crowds.iter().any(|count| *count > FEW)
 }
 
 /// Counts the touches of usersets, by the userset that they are stored in. It goes once over the changelog.

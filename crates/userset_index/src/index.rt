@@ -7,7 +7,7 @@ ghost use Rattle.userset_index.specs.Index as spec;
 ghost use Rattle.userset_index.specs.Index.{IsUsersetIndex};
 ghost use Rattle.userset_index.specs.Lives.{touches_alive};
 
-use crate::build::{count_crowds, ends_of, is_crowded, linked_lives, object_mark};
+use crate::build::{count_crowds, ends_of, is_any_crowded, is_crowded, linked_lives, object_mark};
 use crate::life::Way;
 use crate::spans::{Alive, Spans};
 use namespaces::Rules;
@@ -58,6 +58,15 @@ impl UsersetIndex {
     {
         let ends = ends_of(alloc, chains)?;
         let crowds = count_crowds(alloc, chains, ends.len())?;
+        if !is_any_crowded(&crowds) {
+            return Ok(UsersetIndex {
+                is_whole: true,
+                crowds,
+                own: Spans::new(alloc),
+                through: Spans::new(alloc),
+                objects: Spans::new(alloc),
+            });
+        }
         let own = linked_lives(alloc, Way::Own, chains, rules, &crowds, &ends)?;
         let through = linked_lives(alloc, Way::Through, chains, rules, &crowds, &ends)?;
         let objects = linked_lives(alloc, Way::Object, chains, rules, &crowds, &ends)?;
