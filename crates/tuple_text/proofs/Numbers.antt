@@ -1,5 +1,5 @@
 -- Numbers in decimal digits.
-use Rattle.std.proofs.Common.{◌≡◌, ℕ, ◌^◌, ◌<◌, ◌≤◌, Bool, true, false, ltb, eqb, not, ◌&&◌, ◌||◌, List, length, get_or, leb, Some, None, true≢false, Result, Ok, Err, rules, arith, refl, sym, subst, ap, ◌∙◌, inl, inr}
+use Rattle.std.proofs.Common.{◌≡◌, ℕ, ◌+◌, ◌-◌, ◌*◌, ◌^◌, ◌<◌, ◌≤◌, if◌then◌else◌, take, Bool, true, false, ltb, eqb, not, ◌&&◌, ◌||◌, List, [], ◌∷◌, length, get_or, leb, Some, None, true≢false, Result, Ok, Err, rules, arith, refl, sym, subst, ap, ◌∙◌, inl, inr}
 use Rattle.std.specs.Char.{is_ascii_digit}
 use Rattle.std.specs.Fmt.{decimal}
 use Rattle.std.specs.List.{list_all}
@@ -9,7 +9,10 @@ use Rattle.std.proofs.lemmas.Bool.{leb-true, ltb-true, lt-ltb, eqb-false, ne_eqb
 use Rattle.std.proofs.lemmas.Fmt.{digits_decimal, digits_value-decimal, decimal-digits_value, decimal_nonempty, decimal_digit, first_decimal}
 use Rattle.std.proofs.lemmas.List.Sums.{AllPass-from_list_all}
 use Rattle.std.proofs.lemmas.Option.{cond_some}
-use Rattle.std.proofs.lemmas.Str.Parse.{IsNumeralModel, numerals_by_value, parse_digits, without_leading_plus_none}
+use Rattle.std.proofs.lemmas.Int.Digits.{digits_value_more}
+use Rattle.std.proofs.lemmas.Str.{digit_value_digit}
+use Rattle.std.proofs.lemmas.List.{length-take}
+use Rattle.std.proofs.lemmas.Str.Parse.{digits_value_short, IsNumeralModel, numerals_by_value, parse_digits, without_leading_plus_none}
 use Rattle.tuple_text.specs.Forms.{begins_plainly, is_plain, plain_number}
 
 pub own : IsNumeralModel (λ ds. list_all is_ascii_digit ds ≡ true) (digits_value 10)
@@ -53,6 +56,43 @@ is_plain_from bs p =
     (and_from (list_all is_ascii_digit bs) (not (eqb (length bs) 0)) p.digits (not_from_false _ (ne_eqb _ _ (λ e. let lt : 0 < length bs = p.some in omega arith))))
     (one_or_other bs p.front)
 
+not_plain : (bs : List ℕ) → is_plain bs ≡ false → None ≡ plain_number bs
+unfolding plain_number
+not_plain bs other = rw other refl
+
+-- so few digits write a number that fits
+pub first_digits_small : (bs : List ℕ) (i : ℕ) → i < 19 → list_all is_ascii_digit (take i bs) ≡ true → digits_value 10 (take i bs) < 10 ^ 18
+first_digits_small bs i few all = digits_value_short own (take i bs) 18 all (let le = length-take i bs in omega (arith, few, le))
+
+digit_within : (c : ℕ) → is_ascii_digit c ≡ true → (48 ≤ c) × (c ≤ 57)
+digit_within c e = let parts = and_parts (leb 48 c) (leb c 57) e in (leb-true 48 c parts.0, leb-true c 57 parts.1)
+
+-- one digit more
+pub next_digit : (bs : List ℕ) (i : ℕ) → i < length bs → is_ascii_digit (get_or bs i 0) ≡ true
+    → (digits_value 10 (take (i + 1) bs) ≡ digits_value 10 (take i bs) * 10 + (get_or bs i 0 - 48)) × (get_or bs i 0 ≤ 57) × (48 ≤ get_or bs i 0)
+next_digit bs i lt one =
+    let range = digit_within (get_or bs i 0) one in
+    let value = digit_value_digit (get_or bs i 0) range in
+    let more = digits_value_more 10 bs i lt in
+    (omega (arith, value, more), range.1, range.0)
+
+-- what a few digits with no zero in front are
+pub few_begun : (bs : List ℕ) → 0 < length bs → length bs ≤ 19 → begins_plainly bs ≡ true
+    → (if list_all is_ascii_digit bs then Some (digits_value 10 bs) else None) ≡ plain_number bs
+unfolding plain_number
+few_begun bs some few front = by_test (list_all is_ascii_digit bs) refl
+  where
+    parts : (not (eqb (get_or bs 0 0) 43) ≡ true) × ((ltb (length bs) 2 || not (eqb (get_or bs 0 0) 48)) ≡ true)
+    parts = and_parts (not (eqb (get_or bs 0 0) 43)) (ltb (length bs) 2 || not (eqb (get_or bs 0 0) 48)) front
+
+    by_test : (b : Bool) → list_all is_ascii_digit bs ≡ b → (if b then Some (digits_value 10 bs) else None) ≡ plain_number bs
+    by_test true all =
+        let plain : is_plain bs ≡ true = is_plain_from bs (record { digits = all; some = some; front = short bs some parts.1 }) in
+        let small : digits_value 10 bs < 10 ^ 19 = digits_value_short own bs 19 all few in
+        let lt : ltb (digits_value 10 bs) (2 ^ 64) ≡ true = lt-ltb _ _ (omega (arith, small)) in
+        rw (plain, lt) refl
+    by_test false other = not_plain bs (rw other refl)
+
 -- what `parse` gives for a plain number
 pub number_is : {E : Type 0} (bs : List ℕ) (r : Result ℕ E) → is_plain bs ≡ true → ParsesUnsigned 64 10 bs r → result_ok r ≡ plain_number bs
 unfolding plain_number
@@ -69,13 +109,6 @@ number_is {E} bs (Err e) plain h =
       | inr ge ↦ rw (plain, ge) refl
     ]
 
-digit_within : (c : ℕ) → is_ascii_digit c ≡ true → (48 ≤ c) × (c ≤ 57)
-digit_within c e = let parts = and_parts (leb 48 c) (leb c 57) e in (leb-true 48 c parts.0, leb-true c 57 parts.1)
-
-not_plain : (bs : List ℕ) → is_plain bs ≡ false → None ≡ plain_number bs
-unfolding plain_number
-not_plain bs other = rw other refl
-
 -- the same of any text in front of whose digits neither a plus nor a zero stands
 pub number_begun : {E : Type 0} (bs : List ℕ) (r : Result ℕ E) → begins_plainly bs ≡ true → ParsesUnsigned 64 10 bs r → result_ok r ≡ plain_number bs
 number_begun {E} bs (Ok x) front h = number_is {E = E} bs (Ok x) (is_plain_from bs (record { digits = own.from bs numeral.1; some = numeral.0; front = short bs numeral.0 parts.1 })) h
@@ -90,6 +123,14 @@ number_begun {E} bs (Err e) front h =
       | inl plain ↦ number_is {E = E} bs (Err e) plain h
       | inr other ↦ not_plain bs other
     ]
+
+-- and of none
+pub empty_number : (bs : List ℕ) → length bs ≡ 0 → None ≡ plain_number bs
+empty_number bs none = not_plain bs (by_length bs none)
+  where
+    by_length : (bs : List ℕ) → length bs ≡ 0 → is_plain bs ≡ false
+    by_length [] e = refl
+    by_length (b ∷ bs) e = absurd (omega (arith, e))
 
 -- and where one of the two stands there
 pub number_not_begun : (bs : List ℕ) → begins_plainly bs ≡ false → None ≡ plain_number bs

@@ -1,10 +1,13 @@
 //! The parts of a text, and where each ends.
 
-ghost use Rattle.std.specs.Prelude.{◌≡◌, ◌↔◌, ◌<◌, ◌+◌, IsTrue, false, length, slice_index, take, drop};
+ghost use Rattle.std.specs.Prelude.{◌≡◌, ◌↔◌, ◌<◌, ◌≤◌, ◌+◌, IsTrue, false, length, slice_index, take, drop, Some, None, if◌then◌else◌};
+ghost use Rattle.std.specs.Char.{is_ascii_digit};
 ghost use Rattle.std.specs.List.{list_all, prefix_len};
+ghost use Rattle.std.specs.Str.Parse.{digits_value};
 ghost use Rattle.tuple_text.specs.Forms.{is_name_byte, is_name, is_id_byte, is_object_id, is_user_relation, begins_plainly, plain_number};
 ghost use Rattle.tuple_text.specs.Faults.{Tells};
 ghost use Rattle.tuple_text.specs.Reading.{part_at};
+ghost use Rattle.tuple_text.specs.declared.forms.TheConstants.{FEW_DIGITS};
 
 use crate::fault::TupleFault;
 use fast_float::parse_u64;
@@ -82,16 +85,38 @@ fn begins_plainly(bytes: &[u8]) -> bool
     }
 }
 
+/// Up to how many digits every number fits 64 bits.
+const FEW_DIGITS: usize = 19;
+
+/// The number that a few digits write; None where another byte stands among them. Most numbers of a line are so short that to look for
+/// eight digits at once does not pay.
+fn short_number(digits: &[u8]) -> Option<u64>
+    requires { length digits.now ≤ FEW_DIGITS }
+    ensures { result ≡ (if list_all is_ascii_digit digits.now then Some (digits_value 10 digits.now) else None) }
+{
+    let mut number = 0;
+    for place in 0..digits.len() {
+        let digit = digits[place];
+        if !digit.is_ascii_digit() {
+            return None;
+        }
+        number = number * 10 + u64::from(digit - b'0');
+    }
+    Some(number)
+}
+
 /// A number in decimal digits, with no zero in front.
 pub fn plain_number(text: &str) -> Option<u64>
     ensures { result ≡ plain_number text.now }
 {
     let bytes = text.as_bytes();
-    if begins_plainly(bytes) {
-        parse_u64(bytes).ok()
-    } else {
-        None
+    if bytes.is_empty() || !begins_plainly(bytes) {
+        return None;
     }
+    if bytes.len() <= FEW_DIGITS {
+        return short_number(bytes);
+    }
+    parse_u64(bytes).ok()
 }
 
 /// How many bytes from the front may stand in a name.
