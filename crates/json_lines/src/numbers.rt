@@ -1,6 +1,8 @@
 //! The numbers of JSON, as `serde_json` reads them.
 
 ghost use Rattle.std.specs.Prelude.{◌≡◌, Some, IfSome, true, false, is_some, length, slice_index, ◌==◌, ◌<◌, IsTrue, option_and_then};
+ghost use Rattle.std.specs.Char.{is_ascii_digit};
+ghost use Rattle.std.specs.List.{list_all};
 ghost use Rattle.serde_json.specs.Read.{number_of, number_from, float_of};
 ghost use Rattle.serde_json.specs.Data.{unsigned};
 ghost use Rattle.serde_json.specs.Find.{as_u64};
@@ -79,12 +81,31 @@ fn is_negative(numeral: &Numeral<'_>) -> bool
     is_float(true, numeral)
 }
 
+/// With more digits a number may be more than 64 bits hold.
+const SAFE_DIGITS: usize = 19;
+
+fn are_digits(bytes: &[u8]) -> bool
+    ensures { result ≡ list_all is_ascii_digit bytes.now }
+{
+    bytes.iter().all(|b| b.is_ascii_digit())
+}
+
+/// Whether digits alone stand there, so few that their number fits 64 bits, as with most numbers of a line.
+fn is_short(bytes: &[u8]) -> bool
+    ensures { IsTrue result → is_some (number_of bytes.now) ≡ true }
+{
+    if bytes.is_empty() || bytes.len() > SAFE_DIGITS {
+        return false;
+    }
+    are_digits(bytes)
+}
+
 /// Whether the text of a number is an integer of 64 bits, or the float nearest to it is finite.
 pub(crate) fn is_number(text: &str) -> bool
     ensures { result ≡ is_some (number_of text.now) }
 {
     let bytes = text.as_bytes();
-    if of_digits(bytes).is_some() {
+    if is_short(bytes) {
         return true;
     }
     if has_minus(bytes) {
