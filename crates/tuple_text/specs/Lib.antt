@@ -1,3 +1,4 @@
+pub mod Classes
 pub mod FactRefs
 pub mod Faults
 pub mod Forms
