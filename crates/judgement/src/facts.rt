@@ -72,6 +72,16 @@ fn is_among<F: KnownFact>(facts: &[F], set: SetRef<'_>, user: u64) -> bool
     false
 }
 
+/// Whether the last of the facts is that of a userset and a user id.
+fn is_last<F: KnownFact>(facts: &[F], set: SetRef<'_>, user: u64) -> bool
+    ensures { result ≡ true → list_any (fact_eq (fact_of (set_value set.entry) user)) (map F.fact facts.now) ≡ true }
+{
+    match facts.last() {
+        Some(fact) => fact.is_of(set, user),
+        None => false,
+    }
+}
+
 fn is_marked_among<F: KnownFact>(facts: &[F], set: MarkedSet<'_>, user: u64) -> bool
     ensures { result ≡ list_any (fact_eq (fact_of (set_value set.entry.set) user)) (map F.fact facts.now) }
 {
@@ -235,6 +245,10 @@ impl<F: KnownFact> Facts<F> {
     pub(crate) fn has(&self, set: SetRef<'_>, user: u64) -> bool
         ensures { IsTrue result ↔ Contains self.now (fact_of (set_value set.entry) user) }
     {
+        // a step mostly rests on the one before it
+        if is_last(&self.facts, set, user) {
+            return true;
+        }
         if self.is_asked_by_mark() {
             self.has_marked(MarkedSet::of(set), user)
         } else {

@@ -63,6 +63,7 @@ fn user_from(text: &str, at: usize) -> Result<UserRef<'_>, TupleFault>
 
 /// What stands before the user, and the text of the user.
 #[tactic(auto, unfolding(crate::specs::Reading::head_at))]
+#[inline(always)]
 fn head_from(text: &str) -> Result<(SetRef<'_>, &str), TupleFault>
     ensures read { Tells (λ h. (set_value h.0, h.1.now)) result (head_at text.now) }
     ensures within { IfOk result (λ h. length h.1.now ≤ length text.now) }
@@ -82,6 +83,7 @@ fn head_from(text: &str) -> Result<(SetRef<'_>, &str), TupleFault>
 }
 
 #[tactic(auto, unfolding(crate::specs::Reading::tuple_at))]
+#[inline(always)]
 fn tuple_from(text: &str) -> Result<TupleRef<'_>, TupleFault>
     ensures { Tells tuple_value result (tuple_at text.now) }
 {
@@ -91,6 +93,7 @@ fn tuple_from(text: &str) -> Result<TupleRef<'_>, TupleFault>
 }
 
 #[tactic(auto, unfolding(crate::specs::Reading::fact_at))]
+#[inline(always)]
 fn fact_from(text: &str) -> Result<FactRef<'_>, TupleFault>
     ensures { Tells fact_value result (fact_at text.now) }
 {
