@@ -8,6 +8,7 @@ ghost use Rattle.tuple_text.specs.Tuples.{tuple_of, TupleValue};
 ghost use Rattle.version_chains.specs.Arena.{AreApartAt, AreUpTo, Extends, IsNumber};
 ghost use Rattle.version_chains.specs.Commits.{Touch, touches_to, until, last_live};
 ghost use Rattle.version_chains.specs.Given.{AreLaterFrom, AreTouchesKnown, Gives, IsTouchAt, IsUnnumbered, IsUntouched, IsWalkUntil, LeadsBack, has_mark_of, is_given, is_stored_by, newest_of};
+ghost use Rattle.version_chains.specs.Marks as marks;
 ghost use Rattle.version_chains.specs.Marks.{is_userset};
 ghost use Rattle.version_chains.specs.Placed.{last_place, most};
 ghost use Rattle.version_chains.specs.Touches.{touch_value};
@@ -114,7 +115,17 @@ impl Arena {
             (IsNumber self.now.tuples (tuple_of (set_value set.entry.set) (user_value user.entry.user))) }
         ensures untouched { result ≡ None → IsUntouched self.now (tuple_of (set_value set.entry.set) (user_value user.entry.user)) }
     {
-        let mut place = self.named.newest(tuple_mark(set, user));
+        self.find_marked(tuple_mark(set, user), set, user)
+    }
+
+    /// The number of a tuple whose mark is at hand.
+    fn find_marked(&self, mark: u64, set: MarkedSet<'_>, user: MarkedUser<'_>) -> Option<usize>
+        requires { mark ≡ marks.tuple_mark (tuple_of (set_value set.set) (user_value user.user)) }
+        ensures found { MatchOption result (IsUnnumbered self.now (tuple_of (set_value set.entry.set) (user_value user.entry.user)))
+            (IsNumber self.now.tuples (tuple_of (set_value set.entry.set) (user_value user.entry.user))) }
+        ensures untouched { result ≡ None → IsUntouched self.now (tuple_of (set_value set.entry.set) (user_value user.entry.user)) }
+    {
+        let mut place = self.named.newest(mark);
         while place > 0 {
             let number = place - 1;
             if names(&self.rows[number].tuple, set.set, user.user) {
@@ -304,7 +315,8 @@ impl Arena {
     {
         let set = MarkedSet::of(tuple.set());
         let user = MarkedUser::of(tuple.user());
-        if let Some(number) = self.find(set, user) {
+        let mark = tuple_mark(set, user);
+        if let Some(number) = self.find_marked(mark, set, user) {
             return Ok(number);
         }
         let number = self.rows.len();
@@ -318,7 +330,7 @@ impl Arena {
             latest: 0,
         };
         let kind = kind_mark(set, is_userset(user.user));
-        push_both(&mut self.named, &mut self.held, tuple_mark(set, user), kind)?;
+        push_both(&mut self.named, &mut self.held, mark, kind)?;
         push_row(&mut self.rows, row);
         Ok(number)
     }

@@ -68,7 +68,7 @@ invariant_of-self-2 c =
           (ap user_value c.of-user.ensures ∙ c.user.ensures.parts) j;
     } in
     let named = marked c.self.inside.named c.push_both.new.named _ _ c.in_ok-push_both.ensures.named
-    (c.tuple_mark.ensures ∙ ap tuple_mark same) in
+    (c.tuple_mark-mark.ensures ∙ ap tuple_mark same) in
     let held = marked c.self.inside.held c.push_both.new.held _ _ c.in_ok-push_both.ensures.held
     (c.kind_mark-kind.ensures ∙ ap (kind_mark (set_mark (set_value c.of-set.result.set))) c.is_userset.ensures
     ∙ ap held_mark same) in

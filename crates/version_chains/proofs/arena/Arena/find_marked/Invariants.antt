@@ -5,7 +5,7 @@ use Rattle.tuple_text.specs.Tuples.{tuple_of}
 use Rattle.version_chains.specs.Arena.{tuples_of}
 use Rattle.version_chains.specs.Marks.{tuple_mark}
 use Rattle.version_chains.specs.Placed.{IsWalk}
-use Rattle.version_chains.proofs.arena.Arena.find.Given as goal
+use Rattle.version_chains.proofs.arena.Arena.find_marked.Given as goal
 
 abbrev pub invariant-loop-place : goal.invariant-loop-place
 invariant-loop-place l =

@@ -9,12 +9,12 @@ use Rattle.version_chains.specs.Placed.{last_place}
 use Rattle.version_chains.proofs.ArenaLemmas.{item_of, touches_known}
 use Rattle.version_chains.proofs.FindLemmas.{find_start, find_within, find_on, find_smaller, found_nowhere}
 use Rattle.version_chains.proofs.RowLemmas.{row-read}
-use Rattle.version_chains.proofs.arena.Arena.find.Goals as goal
+use Rattle.version_chains.proofs.arena.Arena.find_marked.Goals as goal
 
 pub loop-place-init : goal.loop-place-init
 loop-place-init c =
     find_start (tuple_of (set_value c.args.set.set) (user_value c.args.user.user)) (tuples_of c.self.inside.rows.items) c.self.inside.named c.self.invariant.0.names c.newest-place.result
-    (c.newest-place.ensures ∙ ap (λ (m : ℕ). last_place (nat_eq m) c.self.inside.named (length c.self.inside.named)) c.tuple_mark.ensures)
+    (c.newest-place.ensures ∙ ap (λ (m : ℕ). last_place (nat_eq m) c.self.inside.named (length c.self.inside.named)) c.requires)
 
 pub index-requires : goal.index-requires
 index-requires c =
