@@ -14,15 +14,15 @@ use Rattle.line_blocks.specs.Values.{AreBlocks, block_told, bytes_in}
 use Rattle.line_blocks.specs.declared.blocks.Block.{Block}
 use Rattle.line_blocks.proofs.WholeLines.{few_lines, lines_behind, size_of_whole, some_part}
 
-bind_bind : {A B D E : Type 0} (x : Result A E) (f : A → Result B E) (g : B → Result D E) → ((x >>= f) >>= g) ≡ (x >>= λ a. f a >>= g)
+pub bind_bind : {A B D E : Type 0} (x : Result A E) (f : A → Result B E) (g : B → Result D E) → ((x >>= f) >>= g) ≡ (x >>= λ a. f a >>= g)
 bind_bind (Ok a) f g = refl
 bind_bind (Err e) f g = refl
 
-bind_same : {A B E : Type 0} (x : Result A E) (f g : A → Result B E) → ((a : A) → f a ≡ g a) → (x >>= f) ≡ (x >>= g)
+pub bind_same : {A B E : Type 0} (x : Result A E) (f g : A → Result B E) → ((a : A) → f a ≡ g a) → (x >>= f) ≡ (x >>= g)
 bind_same (Ok a) f g h = h a
 bind_same (Err e) f g h = refl
 
-bind_kept : {A B E : Type 0} (x : Result A E) (f g : A → Result B E) → ((a : A) → x ≡ Ok a → f a ≡ g a) → (x >>= f) ≡ (x >>= g)
+pub bind_kept : {A B E : Type 0} (x : Result A E) (f g : A → Result B E) → ((a : A) → x ≡ Ok a → f a ≡ g a) → (x >>= f) ≡ (x >>= g)
 bind_kept (Ok a) f g h = h a refl
 bind_kept (Err e) f g h = refl
 
