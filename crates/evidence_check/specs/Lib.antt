@@ -1,4 +1,5 @@
 pub mod Accepted
+pub mod Alone
 pub mod Causes
 pub mod Decided
 pub mod EvidenceCode

@@ -1,15 +1,17 @@
 //! Judging the records as they are read.
 
-ghost use Rattle.std.specs.Prelude.{◌≡◌, replicate, slice_get, IfOk};
+ghost use Rattle.std.specs.Prelude.{◌≡◌, replicate, slice_get, slice_set, Ok, Err, IfOk, IfErr, OnOk};
 ghost use Rattle.json_lines.specs.Data.{line_data};
+ghost use Rattle.evidence_check.specs.Alone.{settled};
 ghost use Rattle.evidence_check.specs.Causes.{Gives};
 ghost use Rattle.evidence_check.specs.Judging.{is_judged, judge_line, judged_by, no_judgements, put_judged};
 ghost use Rattle.evidence_check.specs.Steps.{borrowed_steps};
 ghost use Rattle.evidence_check.specs.declared.judged.Judged.TheVariants.{Missing};
 
+use crate::alone::{Verdict, judge_at};
 use crate::asked_rules::AskedRules;
 use crate::cause::EvidenceCause;
-use crate::judged::{Judged, judge_borrowed};
+use crate::judged::Judged;
 use crate::placed::{EntryLines, placed_steps};
 use crate::records::are_too_many;
 use crate::step::StepRef;
@@ -20,7 +22,7 @@ use trace_lines::Trace;
 
 /// How the entries of a trace are judged by the records read so far, none of which is kept.
 #[derive(Drop)]
-pub(crate) struct Judging<'t> {
+pub struct Judging<'t> {
     alloc: Global,
     trace: &'t Trace,
     lines: EntryLines,
@@ -49,7 +51,7 @@ fn none_judged(alloc: Global, count: usize) -> Result<Vec<Judged>, AllocError>
 }
 
 impl<'t> Judging<'t> {
-    pub(crate) fn new(alloc: Global, trace: &'t Trace) -> Result<Judging<'t>, AllocError>
+    pub fn new(alloc: Global, trace: &'t Trace) -> Result<Judging<'t>, AllocError>
         ensures { IfOk result (λ j. j ≡ no_judgements trace.now) }
     {
         let lines = EntryLines::of(alloc, trace)?;
@@ -64,7 +66,7 @@ impl<'t> Judging<'t> {
     }
 
     /// How each entry is judged.
-    pub(crate) fn into_judgements(self) -> Vec<Judged>
+    pub fn into_judgements(self) -> Vec<Judged>
         ensures { result.items ≡ self.entry.judgements }
     {
         self.judgements
@@ -80,17 +82,20 @@ impl<'t> Judging<'t> {
         }
     }
 
+    fn set(&mut self, place: usize, judgement: Judged)
+        ensures { self.new ≡ record self.old { judgements = slice_set self.old.judgements place judgement } }
+    {
+        if place < self.judgements.len() {
+            self.judgements[place] = judgement;
+        }
+    }
+
     /// The judgement of an entry by steps.
     fn judgement(&mut self, place: usize, steps: &[StepRef<'_>]) -> Result<Judged, AllocError>
         ensures same { self.new ≡ self.old }
         ensures judged { IfOk result (λ j. j ≡ judged_by self.old.trace (slice_get self.old.trace.entries place) (borrowed_steps steps.now)) }
     {
-        if place < self.trace.len() {
-            let entry = self.trace.entry(place);
-            judge_borrowed(self.alloc, &mut self.asked, self.trace, entry, steps)
-        } else {
-            Ok(Judged::Missing)
-        }
+        judge_at(self.alloc, &mut self.asked, self.trace, place, steps)
     }
 
     #[tactic(auto, unfolding(crate::specs::Judging::put_judged))]
@@ -104,9 +109,23 @@ impl<'t> Judging<'t> {
             return Err(EvidenceCause::TooMany);
         }
         let judgement = self.judgement(place, steps)?;
-        if place < self.judgements.len() {
-            self.judgements[place] = judgement;
+        self.set(place, judgement);
+        Ok(())
+    }
+
+    /// Takes what a record says of its entry.
+    #[tactic(auto, unfolding(crate::specs::Alone::settled))]
+    pub fn settle(&mut self, verdict: Verdict) -> Result<(), EvidenceCause>
+        ensures ok { OnOk result (settled self.old verdict ≡ Ok self.new) }
+        ensures refused { IfErr result (λ cause. settled self.old verdict ≡ Err cause) }
+    {
+        if self.is_judged(verdict.place) {
+            return Err(EvidenceCause::RepeatedLine);
         }
+        let Some(judgement) = verdict.judgement else {
+            return Err(EvidenceCause::TooMany);
+        };
+        self.set(verdict.place, judgement);
         Ok(())
     }
 

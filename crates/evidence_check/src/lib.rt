@@ -6,6 +6,8 @@
 //!
 //! Callers may rely on this: [`read_evidence`] answers the evidence that its input says, or its first fault, also of a reader that
 //! fails. [`judge_evidence`] judges by it as it is read, and [`judge_evidence_behind`] by that behind the marker of joined input.
+//! [`judge_alone`] says what a record says whatever stands before it, so that threads may share the records, and [`Judging`] is what
+//! that is put into.
 //! [`judge_entry`] is the definition `judged`. Whoever made the evidence, a supported reply is what the rules mean at the entry's snapshot
 //! (Zanzibar, section 2.3), and a contradicted one is not. The laws in [`laws`] say the same of each accepted step.
 //!
@@ -15,6 +17,7 @@
 //! ```
 #![tactic(auto)]
 
+mod alone;
 mod asked_rules;
 mod behind;
 mod cause;
@@ -29,11 +32,14 @@ mod records;
 mod step;
 mod steps;
 
+pub use alone::{Verdict, judge_alone};
 pub use asked_rules::AskedRules;
 pub use behind::judge_evidence_behind;
 pub use cause::{EvidenceCause, EvidenceFault};
 pub use evidence::Evidence;
 pub use judged::{Judged, is_proved_by, judge_entry, judge_steps};
+pub use judging::Judging;
+pub use placed::EntryLines;
 pub use read::{judge_evidence, read_evidence};
 pub use records::{MAX_FACTS, has_too_many};
 pub use step::{Step, Steps};

@@ -19,7 +19,7 @@ use trace_lines::Trace;
 
 /// The lines that the entries of a trace stand on. Contracts see the list of them.
 #[derive(Drop)]
-pub(crate) struct EntryLines {
+pub struct EntryLines {
     lines: Vec<u64>,
     // behind the place that was found last: records mostly come in order
     next: usize,
@@ -59,7 +59,7 @@ fn place_of(lines: &[u64], likely: usize, line: u64) -> Option<usize>
 }
 
 impl EntryLines {
-    pub(crate) fn of(alloc: Global, trace: &Trace) -> Result<EntryLines, AllocError>
+    pub fn of(alloc: Global, trace: &Trace) -> Result<EntryLines, AllocError>
         ensures { IfOk result (λ l. l ≡ entry_lines trace.now.entries) }
     {
         Ok(EntryLines {
@@ -68,19 +68,34 @@ impl EntryLines {
         })
     }
 
-    /// The place of a line.
-    fn place(&mut self, line: u64) -> Option<usize>
-        ensures place { result ≡ place_of line self.old }
-        ensures same { self.new ≡ self.old }
+    /// The place of a line, sought first at `next`, which is then left behind it.
+    fn seek(&self, next: &mut usize, line: u64) -> Option<usize>
+        ensures { result ≡ place_of line self.now }
     {
-        let place = place_of(&self.lines, self.next, line)?;
-        self.next = place.saturating_add(1);
+        let place = place_of(&self.lines, *next, line)?;
+        *next = place.saturating_add(1);
         Some(place)
     }
 }
 
-/// The place of the entry that a record names, and the steps of the record.
+/// The place of the entry that a record names, sought first at `next`, and the steps of the record.
 #[tactic(auto, unfolding(crate::specs::Reading::placed_steps))]
+pub(crate) fn sought_steps<'a>(
+    alloc: Global,
+    lines: &EntryLines,
+    next: &mut usize,
+    json: &JsonLine<'a>,
+) -> Result<(usize, Vec<StepRef<'a>>), EvidenceCause>
+    ensures { Gives (λ p. (p.0, borrowed_steps p.1.items)) result (placed_steps lines.now (line_data json.now)) }
+{
+    let record = json.root();
+    let line = number_at(&record, "line").ok_or(EvidenceCause::Shape)?;
+    let steps = steps_of(alloc, &record)?;
+    let place = lines.seek(next, line).ok_or(EvidenceCause::StrayLine)?;
+    Ok((place, steps))
+}
+
+/// The place of the entry that a record names, and the steps of the record.
 pub(crate) fn placed_steps<'a>(
     alloc: Global,
     lines: &mut EntryLines,
@@ -89,9 +104,8 @@ pub(crate) fn placed_steps<'a>(
     ensures placed { Gives (λ p. (p.0, borrowed_steps p.1.items)) result (placed_steps lines.old (line_data json.now)) }
     ensures same { lines.new ≡ lines.old }
 {
-    let record = json.root();
-    let line = number_at(&record, "line").ok_or(EvidenceCause::Shape)?;
-    let steps = steps_of(alloc, &record)?;
-    let place = lines.place(line).ok_or(EvidenceCause::StrayLine)?;
-    Ok((place, steps))
+    let mut next = lines.next;
+    let placed = sought_steps(alloc, lines, &mut next, json);
+    lines.next = next;
+    placed
 }

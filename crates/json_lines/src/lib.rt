@@ -51,7 +51,7 @@ pub use held::Held;
 pub use joined::{Front, Rest, read_front};
 pub use line::JsonLine;
 pub use lines::{CHUNK, InputFault, line_end};
-pub use reading::{LineFault, MAX_INPUT, read_lines};
+pub use reading::{LineFault, MAX_INPUT, MAX_LINE, Stop, read_lines};
 pub use refs::{JsonItems, JsonRef};
 pub use sending::{Unsent, send};
 pub use source::{Sink, Source};

@@ -40,7 +40,7 @@ impl<C: LineCause> LineFault<C> {
 }
 
 /// How many bytes a line may have, without its newline.
-pub(crate) const MAX_LINE: usize = 1 << 20;
+pub const MAX_LINE: usize = 1 << 20;
 
 /// How many bytes an input may have.
 pub const MAX_INPUT: usize = 1 << 30;

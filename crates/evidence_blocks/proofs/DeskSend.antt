@@ -1,0 +1,43 @@
+-- What a thread keeps from one record to the next may go to it.
+use denote.Param.Send.{IsSend, IsSync, sendable}
+use denote.Ref.{NamedLft}
+use Rattle.std.proofs.Crossing.{crosses}
+use Rattle.std.proofs.MapsCrossing as maps
+use Rattle.namespaces.proofs.rewrite.Rewrite.TheLaws.TheKnot.{sync-Rewrite}
+use Rattle.namespaces.specs.contracts.parts.Part as part
+use Rattle.judgement.specs.contracts.answers.Answers as answers
+use Rattle.judgement.specs.contracts.kept.Kept as kept
+use Rattle.judgement.specs.contracts.paths.Path as path
+use Rattle.judgement.specs.contracts.paths.Paths as paths
+use Rattle.judgement.specs.contracts.asking.Parts as parts
+use Rattle.judgement.specs.contracts.asked_rule.AskedRule as asked_rule
+use Rattle.evidence_check.specs.contracts.asked_rules.AskedRules as asked_rules
+use Rattle.evidence_blocks.specs.contracts.telling.Desk as desk
+use Rattle.evidence_blocks.proofs.TraceSync.{parted_sync, through_sync, trace_sync}
+
+answers_send : IsSend answers.the_row
+answers_send = search (sendable, crosses) depth 40 fits 100000
+
+kept_send : IsSend kept.the_row
+kept_send = search (sendable, crosses, maps.crosses) depth 40 fits 100000
+
+path_send : IsSend path.the_row
+path_send = search (sendable, crosses) depth 40 fits 100000
+
+paths_send : IsSend paths.the_row
+paths_send = search (sendable, crosses, path_send) depth 40 fits 100000
+
+part_sync : IsSync part.the_row
+part_sync = search (sendable, crosses, sync-Rewrite, through_sync) depth 40 fits 100000
+
+parts_send : (κ : NamedLft) → IsSend (parts.the_row κ)
+parts_send κ = search (sendable, crosses, kept_send, part_sync, trace_sync) depth 40 fits 100000
+
+rule_send : (κ : NamedLft) → IsSend (asked_rule.the_row κ)
+rule_send κ = search (sendable, crosses, answers_send, paths_send, parts_send, parted_sync) depth 40 fits 100000
+
+rules_send : (κ : NamedLft) → IsSend (asked_rules.the_row κ)
+rules_send κ = search (sendable, crosses, maps.crosses, rule_send, trace_sync) depth 40 fits 100000
+
+pub desk_send : (κ : NamedLft) → IsSend (desk.the_row κ)
+desk_send κ = search (sendable, crosses, rules_send) depth 40 fits 100000

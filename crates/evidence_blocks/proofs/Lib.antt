@@ -1,0 +1,6 @@
+pub mod Alike
+pub mod DeskSend
+pub mod Records
+pub mod TraceSync
+pub mod VerdictLines
+pub mod Verdicts

@@ -1,0 +1,129 @@
+//! Evidence as what its lines say by themselves, and the judgements that this is put into.
+
+ghost use Rattle.std.specs.Prelude.{◌≡◌, IfOk};
+ghost use Rattle.evidence_check.specs.Judging.{no_judgements};
+ghost use Rattle.trace_lines.specs.Values.{entry_lines};
+
+use evidence_check::{
+    AskedRules, EntryLines, EvidenceCause, Judged, Judging, Verdict, judge_alone,
+};
+use json::Scratch;
+use json_lines::{JsonLine, LineCause, is_blank};
+use line_blocks::{PutTold, TellLine};
+use simdutf8::basic::from_utf8;
+use std::alloc::{AllocError, Global};
+use std::marker::Model;
+use trace_lines::Trace;
+
+/// What lines of evidence say is told by a trace.
+#[derive(Drop)]
+pub(crate) struct Records<'t> {
+    pub(crate) trace: &'t Trace,
+    pub(crate) lines: EntryLines,
+}
+
+/// What a thread keeps from one record to the next: the rules that it asked, and the place behind the entry that it found last.
+#[derive(Drop)]
+pub(crate) struct Desk<'t> {
+    json: Scratch,
+    asked: AskedRules<'t>,
+    next: usize,
+}
+
+impl<'t> TellLine for Records<'t> {
+    ghost use Rattle.evidence_blocks.specs.Verdicts.{verdict_told};
+
+    type Value = Option<Verdict>;
+
+    type Cause = EvidenceCause;
+
+    type Scratch = Desk<'t>;
+
+    ghost told = { λ r line. verdict_told r.trace.now r.lines line };
+
+    ghost suits = { λ r desk. desk.asked ≡ r.trace.now };
+
+    fn scratch(&self, alloc: Global) -> Desk<'t> {
+        Desk {
+            json: Scratch::new(alloc),
+            asked: AskedRules::new(alloc, self.trace),
+            next: 0,
+        }
+    }
+
+    fn tell(
+        &self,
+        alloc: Global,
+        desk: &mut Desk<'t>,
+        line: &[u8],
+    ) -> Result<Result<Option<Verdict>, EvidenceCause>, AllocError> {
+        if is_blank(line) {
+            return Ok(Ok(None));
+        }
+        let Ok(text) = from_utf8(line) else {
+            return Ok(Err(EvidenceCause::NotJson));
+        };
+        let Some(json) = JsonLine::read(alloc, text, &mut desk.json)? else {
+            return Ok(Err(EvidenceCause::NotJson));
+        };
+        match judge_alone(
+            alloc,
+            &mut desk.asked,
+            self.trace,
+            &self.lines,
+            &mut desk.next,
+            &json,
+        ) {
+            Ok(verdict) => Ok(Ok(Some(verdict))),
+            Err(cause) if cause.is_memory() => Err(AllocError),
+            Err(cause) => Ok(Err(cause)),
+        }
+    }
+}
+
+/// How the entries of a trace are judged by what was put in so far.
+#[derive(Drop)]
+pub(crate) struct Judgings<'t> {
+    judging: Judging<'t>,
+}
+
+impl<'t> Model for Judgings<'t> {
+    ghost use Rattle.evidence_check.specs.Records.{Judgements};
+    ghost use Rattle.evidence_check.specs.EvidenceCode.{judgements_code};
+
+    ghost Value = { Judgements };
+
+    ghost coded = { judgements_code };
+
+    ghost view = { λ j. j.judging };
+}
+
+impl<'t> Judgings<'t> {
+    pub(crate) fn new(alloc: Global, trace: &'t Trace) -> Result<Judgings<'t>, AllocError>
+        ensures { IfOk result (λ j. j ≡ no_judgements trace.now) }
+    {
+        Ok(Judgings {
+            judging: Judging::new(alloc, trace)?,
+        })
+    }
+
+    /// How each entry is judged.
+    pub(crate) fn into_judgements(self) -> Vec<Judged>
+        ensures { result.items ≡ self.entry.judgements }
+    {
+        self.judging.into_judgements()
+    }
+}
+
+impl<'t> PutTold<Records<'t>> for Judgings<'t> {
+    ghost use Rattle.evidence_blocks.specs.Verdicts.{put_verdict};
+
+    ghost put = { put_verdict };
+
+    fn put(&mut self, value: Option<Verdict>) -> Result<(), EvidenceCause> {
+        match value {
+            Some(verdict) => self.judging.settle(verdict),
+            None => Ok(()),
+        }
+    }
+}

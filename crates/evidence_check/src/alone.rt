@@ -1,0 +1,70 @@
+//! What a record says of its entry by itself, whatever was read before it.
+
+ghost use Rattle.std.specs.Prelude.{◌≡◌, slice_get, IfOk};
+ghost use Rattle.json_lines.specs.Data.{line_data};
+ghost use Rattle.evidence_check.specs.Alone.{verdict_in};
+ghost use Rattle.evidence_check.specs.Causes.{Gives};
+ghost use Rattle.evidence_check.specs.Judging.{judged_by};
+ghost use Rattle.evidence_check.specs.Steps.{borrowed_steps};
+
+use crate::asked_rules::AskedRules;
+use crate::cause::EvidenceCause;
+use crate::judged::{Judged, judge_borrowed};
+use crate::placed::{EntryLines, sought_steps};
+use crate::records::are_too_many;
+use crate::step::StepRef;
+use json_lines::JsonLine;
+use std::alloc::{AllocError, Global};
+use trace_lines::Trace;
+
+/// What a record says of its entry by itself.
+#[derive(Clone, Copy, Debug)]
+pub struct Verdict {
+    /// The place of the entry.
+    pub place: usize,
+    /// How the record judges the entry; None where it has more facts than a record may have.
+    pub judgement: Option<Judged>,
+}
+
+/// How steps judge the entry at a place.
+pub(crate) fn judge_at<'t>(
+    alloc: Global,
+    asked: &mut AskedRules<'t>,
+    trace: &'t Trace,
+    place: usize,
+    steps: &[StepRef<'_>],
+) -> Result<Judged, AllocError>
+    requires { asked.old ≡ trace.now }
+    ensures asked { asked.new ≡ asked.old }
+    ensures judged { IfOk result (λ j. j ≡ judged_by trace.now (slice_get trace.now.entries place) (borrowed_steps steps.now)) }
+{
+    if place < trace.len() {
+        judge_borrowed(alloc, asked, trace, trace.entry(place), steps)
+    } else {
+        Ok(Judged::Missing)
+    }
+}
+
+/// What a record says of its entry, whose place is sought first at `next`. Threads share the lines, and each has rules of its own that it
+/// asks.
+#[tactic(auto, unfolding(crate::specs::Alone::verdict_in))]
+pub fn judge_alone<'t>(
+    alloc: Global,
+    asked: &mut AskedRules<'t>,
+    trace: &'t Trace,
+    lines: &EntryLines,
+    next: &mut usize,
+    json: &JsonLine<'_>,
+) -> Result<Verdict, EvidenceCause>
+    requires { asked.old ≡ trace.now }
+    ensures asked { asked.new ≡ asked.old }
+    ensures verdict { Gives (λ v. v) result (verdict_in trace.now lines.now (line_data json.now)) }
+{
+    let (place, steps) = sought_steps(alloc, lines, next, json)?;
+    let judgement = if are_too_many(&steps) {
+        None
+    } else {
+        Some(judge_at(alloc, asked, trace, place, &steps)?)
+    };
+    Ok(Verdict { place, judgement })
+}

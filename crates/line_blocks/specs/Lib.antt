@@ -1,0 +1,4 @@
+pub mod Blocks
+pub mod Parts
+pub mod Reads
+pub mod Values

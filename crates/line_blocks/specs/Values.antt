@@ -1,0 +1,47 @@
+-- What is told, without where it lies in memory.
+use Rattle.std.specs.Prelude.{◌≡◌, ◌⊎◌, ◌-◌, length, ℕ, List, [], ◌∷◌, ⊤, IfOk, true, map, Result, Ok, Err}
+use Rattle.std.specs.declared.alloc.AllocError.{AllocError}
+use Rattle.json_lines.specs.declared.lines.InputFault.TheVariants.{OutOfMemory, TooLong}
+use Rattle.json_lines.specs.declared.reading.LineFault.{LineFault}
+use Rattle.json_lines.specs.declared.reading.Stop.TheVariants.{Input}
+use Rattle.line_blocks.specs.Blocks.{has_whole_lines, joined, lines_of}
+use Rattle.line_blocks.specs.Parts.{PartTold, lines_told}
+use Rattle.line_blocks.specs.declared.blocks.Block.{Block}
+use Rattle.line_blocks.specs.declared.telling.Told.{Told}
+
+abbrev pub no_memory : {C : Type 0} → ℕ → LineFault C
+no_memory n = record { line = n; stop = Input OutOfMemory }
+
+abbrev pub long_line : {C : Type 0} → ℕ → LineFault C
+long_line n = record { line = n; stop = Input TooLong }
+
+abbrev pub told_value : {V C : Type 0} → Told V C → PartTold V C
+told_value t = record { values = t.values.items; fault = t.fault }
+
+abbrev pub bytes_in : List Block → List (List ℕ)
+bytes_in bs = map (λ b. b.bytes.now) bs
+
+-- what the lines of a block say
+abbrev pub block_told : {V C : Type 0} → (List ℕ → Result V C) → Block → PartTold V C
+block_told told b = lines_told told b.room (lines_of b.bytes.now)
+
+-- each result that is no want of memory is what its block says
+abbrev pub AreTold : {V C : Type 0} → (List ℕ → Result V C) → List (Result (Told V C) AllocError) → List Block → Type 0
+AreTold told [] [] = ⊤
+AreTold told [] (b ∷ bs) = ⊥
+AreTold told (r ∷ rs) [] = ⊥
+AreTold told (r ∷ rs) (b ∷ bs) = IfOk r (λ t. told_value t ≡ block_told told b) × AreTold told rs bs
+
+-- each block is of whole lines, and has the room that those before it left
+abbrev pub AreBlocks : ℕ → List Block → Type 0
+AreBlocks room [] = ⊤
+AreBlocks room (b ∷ bs) = (b.room ≡ room) × (has_whole_lines b.bytes.now ≡ true) × AreBlocks (room - length b.bytes.now) bs
+
+-- the bytes, in blocks
+abbrev pub IsCut : ℕ → List ℕ → List Block → Type 0
+IsCut room bytes bs = (joined (bytes_in bs) ≡ bytes) × AreBlocks room bs
+
+-- what was answered and made of the value is what putting makes of it, unless memory ran out
+abbrev pub PutsAs : {S T C : Type 0} → Result T (LineFault C) → S → Result S (LineFault C) → Type 0
+PutsAs (Ok u) s put = put ≡ Ok s
+PutsAs (Err e) s put = (e.stop ≡ Input OutOfMemory) ⊎ (put ≡ Err e)
