@@ -87,7 +87,7 @@ impl<'t> Judging<'t> {
     {
         if place < self.trace.len() {
             let entry = self.trace.entry(place);
-            judge_borrowed(self.alloc, &mut self.asked, self.trace, entry, steps)
+            judge_borrowed(self.alloc, &mut self.asked, entry, steps)
         } else {
             Ok(Judged::Missing)
         }
