@@ -1,28 +1,12 @@
 -- The leaves of a rule, each once.
-use Rattle.std.proofs.Common.{◌≡◌, List, [], ◌∷◌, ◌++◌, zero, suc, Option, None, Some, inl, inr, refl, subst, append_assoc, Bool, true, arith}
+use Rattle.std.proofs.Common.{◌≡◌, List, [], ◌++◌, Option, None, Some, inl, inr, refl, subst, append_assoc}
 use Rattle.std.proofs.lemmas.List.{append-nil}
-use Rattle.std.proofs.lemmas.List.Folds.{list_any-append}
-use Rattle.std.specs.List.{list_any}
-use Rattle.std.specs.Prelude.{Contains}
 use Rattle.namespaces.specs.Expression.{Expression}
 use Rattle.namespaces.specs.Joints.{IsPut}
 use Rattle.namespaces.specs.Leaves.{leaves_in, AreLeavesOf, Collects}
 use Rattle.namespaces.specs.Plain.{leaves, ArePlain, IsThinned}
-use Rattle.namespaces.proofs.Names.{or_true}
+use Rattle.namespaces.proofs.PlainLemmas.{leaves_in-push, any_inside}
 use Rattle.namespaces.proofs.ThinnedLemmas.{thinned_itself, thinned_then, thinned_both, thinned_again}
-
-leaves_in-push : (es : List Expression) (e : Expression) → leaves_in (es ++ e ∷ []) ≡ leaves_in es ++ leaves e
-leaves_in-push [] e = append-nil (leaves e)
-leaves_in-push (x ∷ es) e = rw (leaves_in-push es e, append_assoc) refl
-
--- those of one that stands there
-any_inside : (test : Expression → Bool) (es : List Expression) (e : Expression) → Contains es e
-    → list_any test (leaves e) ≡ true → list_any test (leaves_in es) ≡ true
-any_inside test [] e (k, within, is) t = absurd (omega arith)
-any_inside test (f ∷ es) e (zero, within, is) t = rw (list_any-append test (leaves f) (leaves_in es), is, t) refl
-any_inside test (f ∷ es) e (suc k, within, is) t =
-    let further = any_inside test es e (k, omega (arith, within), is) t in
-    rw (list_any-append test (leaves f) (leaves_in es), further) (or_true (list_any test (leaves f)))
 
 collects_put : (old new : List Expression) (e : Expression) → IsPut old new e → Collects old new (leaves e)
 collects_put old new e (inl is) = rw (is, leaves_in-push old e) (thinned_itself (leaves_in old ++ leaves e))
