@@ -206,7 +206,7 @@ class Edits(Case):
         shutil.copy(os.path.join(DEV, "more_edits"), self.path("tools/dev"))
         os.symlink(os.path.join(os.path.dirname(DEV), "new_enemy_tools"), self.path("tools/new_enemy_tools"))
         path = os.pathsep.join([self.path("bin"), os.environ["PATH"]])
-        names = {"PATH": path, "ASIS": self.path("as-is"), "ASKED": self.path("asked"), **more}
+        names = {"PATH": path, "ASIS": self.path("as-is"), "ASKED": self.path("asked"), "XDG_CACHE_HOME": self.path("cache"), **more}
         return {"env": {**os.environ, **names}, "capture_output": True, "text": True, "timeout": 60}
 
     def more_edits(self, how, *words):
@@ -275,6 +275,24 @@ class Edits(Case):
             asked = file.read().splitlines()
         # what the check with all three leaves untold is asked for once more, alone
         self.assertEqual(asked, ["--only lists::Lists::done --only lists::Lists::lost --only lists::half", "--only lists::half"])
+
+    def test_what_an_earlier_run_refused(self):
+        self.crate()
+        how = self.tool()
+        self.built()
+        first = self.more_edits(how, "--built", "--jobs", "1", "low/done_is_lost", "low/half_is_all")[1]
+        os.remove(self.path("asked"))
+        again = self.more_edits(how, "--built", "--jobs", "1", "low/done_is_lost", "low/half_is_all")[1]
+        # what was not refused is tried anew, and so is an edit with another text
+        self.assertEqual((first[:2], first[-1]), (again[:2], "1 passed, 1 failed"))
+        self.assertIn("low: 1 refused, 1 of them in an earlier run, 1 not, ", again[2])
+        with open(self.path("asked"), encoding="utf-8") as file:
+            self.assertEqual(file.read().splitlines(), 2 * ["--only lists::half"])
+        with open(self.path("crates/low/more-edits/done_is_lost.edit"), "a", encoding="utf-8") as file:
+            file.write("\n")
+        self.more_edits(how, "--built", "--jobs", "1", "low/done_is_lost")
+        with open(self.path("asked"), encoding="utf-8") as file:
+            self.assertEqual(file.read().splitlines()[2:], ["--only lists::Lists::done"])
 
     def test_a_function_by_a_name_that_the_check_does_not_know(self):
         self.crate()

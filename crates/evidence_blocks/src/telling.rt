@@ -66,14 +66,7 @@ impl<'t> TellLine for Records<'t> {
         let Some(json) = JsonLine::read(alloc, text, &mut desk.json)? else {
             return Ok(Err(EvidenceCause::NotJson));
         };
-        match judge_alone(
-            alloc,
-            &mut desk.asked,
-            self.trace,
-            &self.lines,
-            &mut desk.next,
-            &json,
-        ) {
+        match judge_alone(alloc, &mut desk.asked, &self.lines, &mut desk.next, &json) {
             Ok(verdict) => Ok(Ok(Some(verdict))),
             Err(cause) if cause.is_memory() => Err(AllocError),
             Err(cause) => Ok(Err(cause)),

@@ -15,7 +15,6 @@ use crate::records::are_too_many;
 use crate::step::StepRef;
 use json_lines::JsonLine;
 use std::alloc::{AllocError, Global};
-use trace_lines::Trace;
 
 /// What a record says of its entry by itself.
 #[derive(Clone, Copy, Debug)]
@@ -30,16 +29,15 @@ pub struct Verdict {
 pub(crate) fn judge_at<'t>(
     alloc: Global,
     asked: &mut AskedRules<'t>,
-    trace: &'t Trace,
     place: usize,
     steps: &[StepRef<'_>],
 ) -> Result<Judged, AllocError>
-    requires { asked.old ≡ trace.now }
     ensures asked { asked.new ≡ asked.old }
-    ensures judged { IfOk result (λ j. j ≡ judged_by trace.now (slice_get trace.now.entries place) (borrowed_steps steps.now)) }
+    ensures judged { IfOk result (λ j. j ≡ judged_by asked.old (slice_get asked.old.entries place) (borrowed_steps steps.now)) }
 {
+    let trace = asked.trace();
     if place < trace.len() {
-        judge_borrowed(alloc, asked, trace, trace.entry(place), steps)
+        judge_borrowed(alloc, asked, trace.entry(place), steps)
     } else {
         Ok(Judged::Missing)
     }
@@ -51,20 +49,18 @@ pub(crate) fn judge_at<'t>(
 pub fn judge_alone<'t>(
     alloc: Global,
     asked: &mut AskedRules<'t>,
-    trace: &'t Trace,
     lines: &EntryLines,
     next: &mut usize,
     json: &JsonLine<'_>,
 ) -> Result<Verdict, EvidenceCause>
-    requires { asked.old ≡ trace.now }
     ensures asked { asked.new ≡ asked.old }
-    ensures verdict { Gives (λ v. v) result (verdict_in trace.now lines.now (line_data json.now)) }
+    ensures verdict { Gives (λ v. v) result (verdict_in asked.old lines.now (line_data json.now)) }
 {
     let (place, steps) = sought_steps(alloc, lines, next, json)?;
     let judgement = if are_too_many(&steps) {
         None
     } else {
-        Some(judge_at(alloc, asked, trace, place, &steps)?)
+        Some(judge_at(alloc, asked, place, &steps)?)
     };
     Ok(Verdict { place, judgement })
 }

@@ -66,6 +66,13 @@ impl<'t> AskedRules<'t> {
         }
     }
 
+    /// The trace over which they are asked.
+    pub fn trace(&self) -> &'t Trace
+        ensures { result.now ≡ self.now }
+    {
+        self.trace
+    }
+
     /// Whether the rule at a place gives a fact, or whether it rules the fact out.
     pub(crate) fn does<F: KnownFact>(
         &mut self,

@@ -105,24 +105,22 @@ fn settles<'t, F: KnownFact>(
     rule: RuleInForce<'t>,
     asked: &mut AskedRules<'t>,
     is_given: bool,
-    trace: &Trace,
     at: u64,
     known: &Known<F>,
     fact: MarkedFact<'_>,
 ) -> Result<bool, AllocError>
-    requires rule { IsInForce trace.now.declarations at (marked_fact fact).set rule }
-    requires asked { asked.old ≡ trace.now }
+    requires rule { IsInForce asked.old.declarations at (marked_fact fact).set rule }
     ensures asked { asked.new ≡ asked.old }
     ensures settles { IfOk result (λ r. IsTrue r
-        ↔ IsSettled (rule_at trace.now.declarations at) (store_at trace.now.commits at) known.now is_given (marked_fact fact.entry)) }
+        ↔ IsSettled (rule_at asked.old.declarations at) (store_at asked.old.commits at) known.now is_given (marked_fact fact.entry)) }
 {
     match rule {
         RuleInForce::Undeclared => Ok(!is_given),
         RuleInForce::Narrow(rule) => {
             if is_given {
-                Ok(established(rule, fact.set, fact.user, trace, at, known))
+                Ok(established(rule, fact.set, fact.user, asked.trace(), at, known))
             } else {
-                Ok(refuted(rule, fact.set, fact.user, trace, at, known))
+                Ok(refuted(rule, fact.set, fact.user, asked.trace(), at, known))
             }
         }
         RuleInForce::Wide(place, rule) => asked.does(place, rule, is_given, at, known, fact),
@@ -133,26 +131,16 @@ fn settles<'t, F: KnownFact>(
 /// kept for the facts behind.
 pub fn is_proved_by<'t, F: KnownFact>(
     asked: &mut AskedRules<'t>,
-    trace: &'t Trace,
     at: u64,
     known: &Known<F>,
     fact: &Fact,
 ) -> Result<bool, AllocError>
-    requires { asked.old ≡ trace.now }
     ensures asked { asked.new ≡ asked.old }
     ensures proved { IfOk result (λ r. IsTrue r
-        ↔ IsProved (rule_at trace.now.declarations at) (store_at trace.now.commits at) known.now fact.now) }
+        ↔ IsProved (rule_at asked.old.declarations at) (store_at asked.old.commits at) known.now fact.now) }
 {
-    let rule = rule_in_force(trace.rules(), at, fact.set());
-    settles(
-        rule,
-        asked,
-        true,
-        trace,
-        at,
-        known,
-        MarkedFact::of(fact.as_ref()),
-    )
+    let rule = rule_in_force(asked.trace().rules(), at, fact.set());
+    settles(rule, asked, true, at, known, MarkedFact::of(fact.as_ref()))
 }
 
 /// Whether a fact is settled, by the rule of the fact before where it is of the same relation.
@@ -160,43 +148,39 @@ fn is_settled<'t, 'a>(
     asked: &mut AskedRules<'t>,
     last: &mut Option<LastRule<'t, 'a>>,
     is_given: bool,
-    trace: &'t Trace,
     at: u64,
     known: &Known<MarkedFact<'a>>,
     fact: MarkedFact<'a>,
 ) -> Result<bool, AllocError>
-    requires asked { asked.old ≡ trace.now }
-    requires last { IsLast trace.now.declarations at last.old }
+    requires last { IsLast asked.old.declarations at last.old }
     ensures asked { asked.new ≡ asked.old }
-    ensures last { IsLast trace.now.declarations at last.new }
+    ensures last { IsLast asked.old.declarations at last.new }
     ensures settled { IfOk result (λ r. IsTrue r
-        ↔ IsSettled (rule_at trace.now.declarations at) (store_at trace.now.commits at) known.now is_given (marked_fact fact.entry)) }
+        ↔ IsSettled (rule_at asked.old.declarations at) (store_at asked.old.commits at) known.now is_given (marked_fact fact.entry)) }
 {
-    let rule = rule_after(trace.rules(), at, *last, fact.set.set);
+    let rule = rule_after(asked.trace().rules(), at, *last, fact.set.set);
     *last = Some(LastRule {
         set: fact.set.set,
         rule,
     });
-    settles(rule, asked, is_given, trace, at, known, fact)
+    settles(rule, asked, is_given, at, known, fact)
 }
 
 fn are_disproved<'t, 'a>(
     asked: &mut AskedRules<'t>,
     last: &mut Option<LastRule<'t, 'a>>,
-    trace: &'t Trace,
     at: u64,
     known: &Known<MarkedFact<'a>>,
     facts: &[MarkedFact<'a>],
 ) -> Result<bool, AllocError>
-    requires asked { asked.old ≡ trace.now }
-    requires last { IsLast trace.now.declarations at last.old }
+    requires last { IsLast asked.old.declarations at last.old }
     ensures asked { asked.new ≡ asked.old }
-    ensures last { IsLast trace.now.declarations at last.new }
+    ensures last { IsLast asked.old.declarations at last.new }
     ensures disproved { IfOk result (λ r. IsTrue r
-        ↔ AllByRecursion (IsDisproved (rule_at trace.now.declarations at) (store_at trace.now.commits at) known.now) (map marked_fact facts.now)) }
+        ↔ AllByRecursion (IsDisproved (rule_at asked.old.declarations at) (store_at asked.old.commits at) known.now) (map marked_fact facts.now)) }
 {
     for fact in facts {
-        if !is_settled(asked, last, false, trace, at, known, *fact)? {
+        if !is_settled(asked, last, false, at, known, *fact)? {
             return Ok(false);
         }
     }
@@ -243,26 +227,24 @@ fn deny_each<'a>(
 fn take_yes<'t, 'a>(
     asked: &mut AskedRules<'t>,
     last: &mut Option<LastRule<'t, 'a>>,
-    trace: &'t Trace,
     at: u64,
     known: &mut Known<MarkedFact<'a>>,
     fact: MarkedFact<'a>,
 ) -> Result<bool, AllocError>
-    requires asked { asked.old ≡ trace.now }
-    requires last { IsLast trace.now.declarations at last.old }
-    requires borne { IsBorneOut (rule_at trace.now.declarations at) (store_at trace.now.commits at) known.old }
+    requires last { IsLast asked.old.declarations at last.old }
+    requires borne { IsBorneOut (rule_at asked.old.declarations at) (store_at asked.old.commits at) known.old }
     ensures asked { asked.new ≡ asked.old }
-    ensures last { IsLast trace.now.declarations at last.new }
+    ensures last { IsLast asked.old.declarations at last.new }
     ensures accepted { IfOk result (λ r. r
-        ≡ is_accepted (rule_at trace.now.declarations at) (store_at trace.now.commits at) known.old (yes_step (marked_fact fact.entry))) }
+        ≡ is_accepted (rule_at asked.old.declarations at) (store_at asked.old.commits at) known.old (yes_step (marked_fact fact.entry))) }
     ensures known { OnOk result (known.new ≡ after_step known.old (yes_step (marked_fact fact.entry))) }
     ensures borne { IfOk result (λ r. r ≡ true
-        → IsBorneOut (rule_at trace.now.declarations at) (store_at trace.now.commits at) known.new) }
+        → IsBorneOut (rule_at asked.old.declarations at) (store_at asked.old.commits at) known.new) }
 {
     let proved = if known.yes_marked(fact.set, fact.user) {
         true
     } else {
-        is_settled(asked, last, true, trace, at, known, fact)?
+        is_settled(asked, last, true, at, known, fact)?
     };
     known.add_yes(fact)?;
     Ok(proved)
@@ -273,25 +255,23 @@ fn take_yes<'t, 'a>(
 fn take_no<'t, 'a>(
     asked: &mut AskedRules<'t>,
     last: &mut Option<LastRule<'t, 'a>>,
-    trace: &'t Trace,
     at: u64,
     known: &mut Known<MarkedFact<'a>>,
     fresh: &mut Vec<MarkedFact<'a>>,
     facts: &[FactRef<'a>],
 ) -> Result<bool, AllocError>
-    requires asked { asked.old ≡ trace.now }
-    requires last { IsLast trace.now.declarations at last.old }
-    requires borne { IsBorneOut (rule_at trace.now.declarations at) (store_at trace.now.commits at) known.old }
+    requires last { IsLast asked.old.declarations at last.old }
+    requires borne { IsBorneOut (rule_at asked.old.declarations at) (store_at asked.old.commits at) known.old }
     ensures asked { asked.new ≡ asked.old }
-    ensures last { IsLast trace.now.declarations at last.new }
+    ensures last { IsLast asked.old.declarations at last.new }
     ensures accepted { IfOk result (λ r. r
-        ≡ is_accepted (rule_at trace.now.declarations at) (store_at trace.now.commits at) known.old (no_step (map fact_value facts.now))) }
+        ≡ is_accepted (rule_at asked.old.declarations at) (store_at asked.old.commits at) known.old (no_step (map fact_value facts.now))) }
     ensures known { OnOk result (known.new ≡ after_step known.old (no_step (map fact_value facts.now))) }
     ensures borne { IfOk result (λ r. r ≡ true
-        → IsBorneOut (rule_at trace.now.declarations at) (store_at trace.now.commits at) known.new) }
+        → IsBorneOut (rule_at asked.old.declarations at) (store_at asked.old.commits at) known.new) }
 {
     deny_each(known, fresh, facts)?;
-    let are_all = are_disproved(asked, last, trace, at, known, fresh)?;
+    let are_all = are_disproved(asked, last, at, known, fresh)?;
     Ok(are_all)
 }
 
@@ -299,33 +279,24 @@ fn take_no<'t, 'a>(
 fn take_step<'t, 'a>(
     asked: &mut AskedRules<'t>,
     rules: &mut LastRules<'t, 'a>,
-    trace: &'t Trace,
     at: u64,
     known: &mut Known<MarkedFact<'a>>,
     fresh: &mut Vec<MarkedFact<'a>>,
     step: &StepRef<'a>,
 ) -> Result<bool, AllocError>
-    requires asked { asked.old ≡ trace.now }
-    requires last { AreLast trace.now.declarations at rules.old }
-    requires borne { IsBorneOut (rule_at trace.now.declarations at) (store_at trace.now.commits at) known.old }
+    requires last { AreLast asked.old.declarations at rules.old }
+    requires borne { IsBorneOut (rule_at asked.old.declarations at) (store_at asked.old.commits at) known.old }
     ensures asked { asked.new ≡ asked.old }
-    ensures last { AreLast trace.now.declarations at rules.new }
+    ensures last { AreLast asked.old.declarations at rules.new }
     ensures accepted { IfOk result (λ r. r
-        ≡ is_accepted (rule_at trace.now.declarations at) (store_at trace.now.commits at) known.old (borrowed_step step.now)) }
+        ≡ is_accepted (rule_at asked.old.declarations at) (store_at asked.old.commits at) known.old (borrowed_step step.now)) }
     ensures known { OnOk result (known.new ≡ after_step known.old (borrowed_step step.now)) }
     ensures borne { IfOk result (λ r. r ≡ true
-        → IsBorneOut (rule_at trace.now.declarations at) (store_at trace.now.commits at) known.new) }
+        → IsBorneOut (rule_at asked.old.declarations at) (store_at asked.old.commits at) known.new) }
 {
     match step {
-        StepRef::Yes(fact) => take_yes(
-            asked,
-            &mut rules.given,
-            trace,
-            at,
-            known,
-            MarkedFact::of(*fact),
-        ),
-        StepRef::No(facts) => take_no(asked, &mut rules.denied, trace, at, known, fresh, facts),
+        StepRef::Yes(fact) => take_yes(asked, &mut rules.given, at, known, MarkedFact::of(*fact)),
+        StepRef::No(facts) => take_no(asked, &mut rules.denied, at, known, fresh, facts),
     }
 }
 
@@ -333,16 +304,14 @@ fn take_step<'t, 'a>(
 fn first_bad<'t, 'a>(
     alloc: Global,
     asked: &mut AskedRules<'t>,
-    trace: &'t Trace,
     at: u64,
     known: &mut Known<MarkedFact<'a>>,
     steps: &[StepRef<'a>],
 ) -> Result<Option<u64>, AllocError>
-    requires asked { asked.old ≡ trace.now }
-    requires borne { IsBorneOut (rule_at trace.now.declarations at) (store_at trace.now.commits at) known.old }
+    requires borne { IsBorneOut (rule_at asked.old.declarations at) (store_at asked.old.commits at) known.old }
     ensures asked { asked.new ≡ asked.old }
     ensures first { IfOk result (λ r. r
-        ≡ first_bad (rule_at trace.now.declarations at) (store_at trace.now.commits at) known.old 1 (borrowed_steps steps.now)) }
+        ≡ first_bad (rule_at asked.old.declarations at) (store_at asked.old.commits at) known.old 1 (borrowed_steps steps.now)) }
     ensures known { IfOk result (λ r. r ≡ None → known.new ≡ after_steps known.old (borrowed_steps steps.now)) }
 {
     let mut fresh = Vec::new(alloc);
@@ -351,7 +320,7 @@ fn first_bad<'t, 'a>(
         denied: None,
     };
     for k in 0..steps.len() {
-        if !take_step(asked, &mut rules, trace, at, known, &mut fresh, &steps[k])? {
+        if !take_step(asked, &mut rules, at, known, &mut fresh, &steps[k])? {
             return Ok(Some(k as u64 + 1));
         }
     }
@@ -403,16 +372,14 @@ fn nothing_known<'a>(
 pub(crate) fn judge_borrowed<'t>(
     alloc: Global,
     asked: &mut AskedRules<'t>,
-    trace: &'t Trace,
     entry: &Entry,
     steps: &[StepRef<'_>],
 ) -> Result<Judged, AllocError>
-    requires { asked.old ≡ trace.now }
     ensures asked { asked.new ≡ asked.old }
-    ensures judged { IfOk result (λ j. j ≡ judged trace.now (entry_value entry.now) (Some (borrowed_steps steps.now))) }
+    ensures judged { IfOk result (λ j. j ≡ judged asked.old (entry_value entry.now) (Some (borrowed_steps steps.now))) }
 {
     let mut known = nothing_known(alloc, steps)?;
-    match first_bad(alloc, asked, trace, entry.snapshot, &mut known, steps)? {
+    match first_bad(alloc, asked, entry.snapshot, &mut known, steps)? {
         Some(step) => Ok(Judged::Bad { step }),
         None => Ok(by_goal(&known, &entry.goal, entry.reply)),
     }
@@ -424,13 +391,7 @@ pub fn judge_steps(trace: &Trace, entry: &Entry, steps: &Steps) -> Result<Judged
 {
     let alloc = *steps.allocator();
     let mut asked = AskedRules::new(alloc, trace);
-    judge_borrowed(
-        alloc,
-        &mut asked,
-        trace,
-        entry,
-        &borrowed_steps(alloc, steps)?,
-    )
+    judge_borrowed(alloc, &mut asked, entry, &borrowed_steps(alloc, steps)?)
 }
 
 fn judge(trace: &Trace, entry: &Entry, steps: Option<&Steps>) -> Result<Judged, AllocError>

@@ -95,7 +95,7 @@ impl<'t> Judging<'t> {
         ensures same { self.new ≡ self.old }
         ensures judged { IfOk result (λ j. j ≡ judged_by self.old.trace (slice_get self.old.trace.entries place) (borrowed_steps steps.now)) }
     {
-        judge_at(self.alloc, &mut self.asked, self.trace, place, steps)
+        judge_at(self.alloc, &mut self.asked, place, steps)
     }
 
     #[tactic(auto, unfolding(crate::specs::Judging::put_judged))]

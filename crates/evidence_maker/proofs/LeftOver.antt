@@ -1,11 +1,9 @@
 -- What is left over of a stratum is refuted, all at once.
-use Rattle.std.proofs.Common.{◌≡◌, List, [], ◌∷◌, Option, None, Some, ◌⊎◌, inl, inr, refl}
+use Rattle.std.proofs.Common.{◌≡◌, List, Option, None, Some, ◌⊎◌, inl, inr, refl}
 use Rattle.std.specs.Prelude.{Contains}
-use Rattle.std.specs.List.{AllByRecursion}
-use Rattle.std.proofs.lemmas.List.Elements.{Contains-append_left, Contains-append_right, Contains-append_cases}
+use Rattle.std.proofs.lemmas.List.Elements.{Contains-append_right, Contains-append_cases}
 use Rattle.tuple_text.specs.Tuples.{TupleValue, FactValue}
 use Rattle.namespaces.specs.Lookup.{Rule, Lookup, rule_of}
-use Rattle.strata.proofs.Lists.{Contains-here, Contains-there}
 use Rattle.strata.proofs.Premises.{each_premise-map}
 use Rattle.judgement.specs.Judgement.{KnownValue, Established, Refuted}
 use Rattle.evidence_check.specs.Accepted.{with_no, IsDisproved, IsAccepted}

@@ -1,7 +1,7 @@
 -- Steps that are found stratum by stratum are accepted, and settle each fact of a list that holds its premises.
 use Rattle.std.proofs.Common.{◌≡◌, ℕ, zero, suc, ◌+◌, ◌≤◌, ◌<◌, List, [], ◌∷◌, ◌++◌, length, Option, None, Some, ◌⊎◌, inl, inr, ◌↔◌, refl, subst, sym, ◌∙◌, arith}
 use Rattle.std.specs.Prelude.{Contains}
-use Rattle.std.proofs.lemmas.List.Elements.{Contains-push, Contains-append_left, Contains-append_right}
+use Rattle.std.proofs.lemmas.List.Elements.{Contains-push, Contains-append_right}
 use Rattle.tuple_text.specs.Tuples.{TupleValue, FactValue}
 use Rattle.namespaces.specs.Lookup.{Rule, Lookup, rule_of}
 use Rattle.strata.specs.Strata.{IsAtMost, IsLower, HasValidStrata}

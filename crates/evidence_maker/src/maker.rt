@@ -14,12 +14,12 @@ ghost use Rattle.record_text.specs.Record.{record_length};
 ghost use Rattle.evidence_maker.specs.Made.{Settles, Fits, IsRecord, IsOneStep, IsTooLong};
 
 use crate::fault::MakeFault;
-use crate::gates::Gates;
 use crate::like::{Found, made_like};
 use crate::settle::settle;
 use crate::slice::slice;
 use evidence_check::{Judged, Step, Steps, has_too_many, judge_steps};
 use goal_cone::explore;
+use goal_gates::Gates;
 use record_text::record_bytes;
 use std::alloc::{AllocError, Global};
 use trace_lines::{Entry, Trace};

@@ -11,9 +11,9 @@ ghost use Rattle.goal_cone.specs.Cone.{HasItsPremises, AreDistinct};
 ghost use Rattle.evidence_maker.specs.Making.{IsMaking, IsKnown, IsSifted, AreLeft, IsMade};
 ghost use Rattle.evidence_maker.specs.Saturation.{AreUnsettled};
 
-use crate::gates::Gates;
 use crate::layers::{layer_of, strata_of, top_of, well_formed};
 use evidence_check::{AskedRules, Step, Steps, is_proved_by};
+use goal_gates::Gates;
 use judgement::Known;
 use std::alloc::{AllocError, Global};
 use trace_lines::Trace;
@@ -27,28 +27,26 @@ fn is_known(known: &Known<Fact>, fact: &Fact) -> bool
 }
 
 /// Says that the fact holds, where nothing is known of it and it is proved. Answers whether it is left as it was, unknown.
-fn look_at<'t>(
-    asked: &mut AskedRules<'t>,
-    trace: &'t Trace,
+fn look_at(
+    asked: &mut AskedRules<'_>,
     at: u64,
     fact: &Fact,
     known: &mut Known<Fact>,
     steps: &mut Steps,
 ) -> Result<bool, AllocError>
-    requires { asked.old ≡ trace.now }
     ensures asked { asked.new ≡ asked.old }
     ensures kept { OnOk result ((C : List FactValue) (k : ℕ) → Contains C fact.now →
-        IsMaking (rule_at trace.now.declarations at) (store_at trace.now.commits at) C k known.old (step_values steps.old.items) →
-        IsMaking (rule_at trace.now.declarations at) (store_at trace.now.commits at) C k known.new (step_values steps.new.items)) }
+        IsMaking (rule_at asked.old.declarations at) (store_at asked.old.commits at) C k known.old (step_values steps.old.items) →
+        IsMaking (rule_at asked.old.declarations at) (store_at asked.old.commits at) C k known.new (step_values steps.new.items)) }
     ensures grows { OnOk result (Grows known.old known.new) }
     ensures settled { IfOk result (λ left. left ≡ false → IsKnown known.new fact.now) }
     ensures left { IfOk result (λ left. left ≡ true → (known.new ≡ known.old) × (¬ IsKnown known.old fact.now)
-        × (¬ IsProved (rule_at trace.now.declarations at) (store_at trace.now.commits at) known.old fact.now)) }
+        × (¬ IsProved (rule_at asked.old.declarations at) (store_at asked.old.commits at) known.old fact.now)) }
 {
     if is_known(known, fact) {
         return Ok(false);
     }
-    if !is_proved_by(asked, trace, at, known, fact)? {
+    if !is_proved_by(asked, at, known, fact)? {
         return Ok(true);
     }
     steps.push(Step::Yes(fact.clone()?))?;
@@ -58,21 +56,21 @@ fn look_at<'t>(
 
 /// Looks at the facts of some places of the cone.
 fn look_at_each(
-    trace: &Trace,
+    asked: &mut AskedRules<'_>,
     at: u64,
     cone: &[Fact],
     places: &[usize],
     known: &mut Known<Fact>,
     steps: &mut Steps,
 ) -> Result<(), AllocError>
-    ensures { OnOk result ((k : ℕ) →
-        IsMaking (rule_at trace.now.declarations at) (store_at trace.now.commits at) cone.now k known.old (step_values steps.old.items) →
-        IsMaking (rule_at trace.now.declarations at) (store_at trace.now.commits at) cone.now k known.new (step_values steps.new.items)) }
+    ensures asked { asked.new ≡ asked.old }
+    ensures kept { OnOk result ((k : ℕ) →
+        IsMaking (rule_at asked.old.declarations at) (store_at asked.old.commits at) cone.now k known.old (step_values steps.old.items) →
+        IsMaking (rule_at asked.old.declarations at) (store_at asked.old.commits at) cone.now k known.new (step_values steps.new.items)) }
 {
-    let mut asked = AskedRules::new(*steps.allocator(), trace);
     for place in places {
         if *place < cone.len() {
-            look_at(&mut asked, trace, at, &cone[*place], known, steps)?;
+            look_at(asked, at, &cone[*place], known, steps)?;
         }
     }
     Ok(())
@@ -80,21 +78,21 @@ fn look_at_each(
 
 /// Looks at facts, and answers those that are left.
 fn sift(
-    trace: &Trace,
+    asked: &mut AskedRules<'_>,
     at: u64,
     facts: &[Fact],
     known: &mut Known<Fact>,
     steps: &mut Steps,
 ) -> Result<Vec<Fact>, AllocError>
+    ensures asked { asked.new ≡ asked.old }
     ensures kept { OnOk result ((C : List FactValue) (k : ℕ) → ((f : FactValue) → Contains facts.now f → Contains C f) →
-        IsMaking (rule_at trace.now.declarations at) (store_at trace.now.commits at) C k known.old (step_values steps.old.items) →
-        IsMaking (rule_at trace.now.declarations at) (store_at trace.now.commits at) C k known.new (step_values steps.new.items)) }
-    ensures sifted { IfOk result (λ v. IsSifted (rule_at trace.now.declarations at) (store_at trace.now.commits at) known.old known.new facts.now v.items) }
+        IsMaking (rule_at asked.old.declarations at) (store_at asked.old.commits at) C k known.old (step_values steps.old.items) →
+        IsMaking (rule_at asked.old.declarations at) (store_at asked.old.commits at) C k known.new (step_values steps.new.items)) }
+    ensures sifted { IfOk result (λ v. IsSifted (rule_at asked.old.declarations at) (store_at asked.old.commits at) known.old known.new facts.now v.items) }
 {
-    let mut asked = AskedRules::new(*steps.allocator(), trace);
     let mut left = Vec::new(*steps.allocator());
     for fact in facts {
-        if look_at(&mut asked, trace, at, fact, known, steps)? {
+        if look_at(asked, at, fact, known, steps)? {
             left.push(fact.clone()?)?;
         }
     }
@@ -103,21 +101,22 @@ fn sift(
 
 /// Looks at facts until no look changes anything. Answers those that are left.
 fn settle_layer(
-    trace: &Trace,
+    asked: &mut AskedRules<'_>,
     at: u64,
     layer: Vec<Fact>,
     known: &mut Known<Fact>,
     steps: &mut Steps,
 ) -> Result<Vec<Fact>, AllocError>
+    ensures asked { asked.new ≡ asked.old }
     ensures kept { OnOk result ((C : List FactValue) (k : ℕ) → ((f : FactValue) → Contains layer.items f → Contains C f) →
-        IsMaking (rule_at trace.now.declarations at) (store_at trace.now.commits at) C k known.old (step_values steps.old.items) →
-        IsMaking (rule_at trace.now.declarations at) (store_at trace.now.commits at) C k known.new (step_values steps.new.items)) }
-    ensures left { IfOk result (λ v. AreLeft (rule_at trace.now.declarations at) (store_at trace.now.commits at) known.new layer.items v.items) }
+        IsMaking (rule_at asked.old.declarations at) (store_at asked.old.commits at) C k known.old (step_values steps.old.items) →
+        IsMaking (rule_at asked.old.declarations at) (store_at asked.old.commits at) C k known.new (step_values steps.new.items)) }
+    ensures left { IfOk result (λ v. AreLeft (rule_at asked.old.declarations at) (store_at asked.old.commits at) known.new layer.items v.items) }
 {
     let rounds = layer.len();
     let mut left = layer;
     for round in 0..rounds {
-        let rest = sift(trace, at, &left, known, steps)?;
+        let rest = sift(asked, at, &left, known, steps)?;
         if rest.len() == left.len() {
             return Ok(rest);
         }
@@ -165,7 +164,7 @@ fn leave(
 
 /// Settles the facts of a stratum, where those of the lower ones are settled.
 fn settle_stratum(
-    trace: &Trace,
+    asked: &mut AskedRules<'_>,
     at: u64,
     cone: &[Fact],
     stratum: u16,
@@ -173,15 +172,16 @@ fn settle_stratum(
     known: &mut Known<Fact>,
     steps: &mut Steps,
 ) -> Result<(), AllocError>
-    ensures { OnOk result (
-        HasItsPremises (rule_at trace.now.declarations at) (store_at trace.now.commits at) cone.now → AreDistinct cone.now →
-        IsMaking (rule_at trace.now.declarations at) (store_at trace.now.commits at) cone.now stratum known.old (step_values steps.old.items) →
-        IsMaking (rule_at trace.now.declarations at) (store_at trace.now.commits at) cone.now (stratum + 1) known.new (step_values steps.new.items)) }
+    ensures asked { asked.new ≡ asked.old }
+    ensures making { OnOk result (
+        HasItsPremises (rule_at asked.old.declarations at) (store_at asked.old.commits at) cone.now → AreDistinct cone.now →
+        IsMaking (rule_at asked.old.declarations at) (store_at asked.old.commits at) cone.now stratum known.old (step_values steps.old.items) →
+        IsMaking (rule_at asked.old.declarations at) (store_at asked.old.commits at) cone.now (stratum + 1) known.new (step_values steps.new.items)) }
 {
-    look_at_each(trace, at, cone, places, known, steps)?;
-    let layer = layer_of(*steps.allocator(), trace, at, cone, stratum)?;
-    let left = settle_layer(trace, at, layer, known, steps)?;
-    leave(trace, at, left, known, steps)
+    look_at_each(asked, at, cone, places, known, steps)?;
+    let layer = layer_of(*steps.allocator(), asked.trace(), at, cone, stratum)?;
+    let left = settle_layer(asked, at, layer, known, steps)?;
+    leave(asked.trace(), at, left, known, steps)
 }
 
 /// Steps that settle each fact of a cone, in the order in which its gates open.
@@ -196,12 +196,15 @@ pub(crate) fn settle(
         IsMade (rule_at trace.now.declarations at) (store_at trace.now.commits at) cone.now (step_values v.items)) }
 {
     let strata = strata_of(alloc, trace, at, cone)?;
+    let mut asked = AskedRules::new(alloc, trace);
     let mut known = Known::new(alloc);
     let mut steps = Vec::new(alloc);
     let end = top_of(trace, at, cone) as u16 + 1;
     for stratum in 0..end {
         let places = gates.tell(&strata, stratum)?;
-        settle_stratum(trace, at, cone, stratum, &places, &mut known, &mut steps)?;
+        settle_stratum(
+            &mut asked, at, cone, stratum, &places, &mut known, &mut steps,
+        )?;
     }
     Ok(steps)
 }

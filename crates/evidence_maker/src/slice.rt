@@ -2,9 +2,8 @@
 //!
 //! Nothing here is trusted: what is kept is judged before it is given.
 
-use crate::gates::Gates;
-use crate::leaning::Leaning;
 use evidence_check::{Step, Steps};
+use goal_gates::{Gates, Leaning};
 use std::alloc::{AllocError, Global};
 use tuple_text::Fact;
 

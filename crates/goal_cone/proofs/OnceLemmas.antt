@@ -1,71 +1,19 @@
--- The leaves of rules, each once.
-use Rattle.std.proofs.Common.{◌≡◌, ℕ, ◌<◌, List, length, slice_get, get_or, sym, ◌∙◌, ap, [], ◌∷◌, ◌++◌, zero, suc, Option, None, Some, inl, inr, refl, subst, append_assoc, Bool, true, ◌&&◌, nat_eq, arith}
+-- The leaves of rules, where these stand.
+use Rattle.std.proofs.Common.{◌≡◌, ℕ, ◌<◌, List, length, slice_get, get_or, sym, ◌∙◌, ap, [], ◌∷◌, ◌++◌, Option, Some, inl, inr, refl, subst, true, ◌&&◌, nat_eq, arith}
 use Rattle.std.proofs.lemmas.Bool.{eqb-true}
-use Rattle.std.proofs.lemmas.List.{append-nil}
 use Rattle.std.proofs.lemmas.List.Elements.{Contains-append_cases}
 use Rattle.std.proofs.lemmas.Option.{slice_get_read, slice_get_within}
-use Rattle.std.proofs.lemmas.List.Folds.{list_any-append}
-use Rattle.std.specs.List.{list_any}
 use Rattle.std.specs.Prelude.{Contains, map}
 use Rattle.namespaces.specs.Declaration.{Declaration}
 use Rattle.namespaces.specs.Expression.{Expression}
-use Rattle.namespaces.specs.Joints.{IsPut}
+use Rattle.namespaces.specs.Leaves.{AreLeavesOf}
 use Rattle.namespaces.specs.Lookup.{expression_in}
-use Rattle.namespaces.specs.Plain.{leaves, ArePlain, IsThinned}
 use Rattle.namespaces.specs.View.{expression_of}
 use Rattle.namespaces.specs.declared.number.RulePlace.{RulePlace}
-use Rattle.namespaces.proofs.Names.{and_true, or_true}
-use Rattle.namespaces.proofs.ThinnedLemmas.{thinned_itself, thinned_then, thinned_both, thinned_again}
+use Rattle.namespaces.proofs.Names.{and_true}
 use Rattle.strata.proofs.Lists.{Contains-cons_cases}
-use Rattle.goal_cone.specs.Leaves.{leaves_in, AreLeavesOf, ArePlaced, Collects}
+use Rattle.goal_cone.specs.Leaves.{ArePlaced}
 use Rattle.goal_cone.specs.declared.leaves.PlacedLeaves.{PlacedLeaves}
-
-leaves_in-push : (es : List Expression) (e : Expression) → leaves_in (es ++ e ∷ []) ≡ leaves_in es ++ leaves e
-leaves_in-push [] e = append-nil (leaves e)
-leaves_in-push (x ∷ es) e = rw (leaves_in-push es e, append_assoc) refl
-
--- those of one that stands there
-any_inside : (test : Expression → Bool) (es : List Expression) (e : Expression) → Contains es e
-    → list_any test (leaves e) ≡ true → list_any test (leaves_in es) ≡ true
-any_inside test [] e (k, within, is) t = absurd (omega arith)
-any_inside test (f ∷ es) e (zero, within, is) t = rw (list_any-append test (leaves f) (leaves_in es), is, t) refl
-any_inside test (f ∷ es) e (suc k, within, is) t =
-    let further = any_inside test es e (k, omega (arith, within), is) t in
-    rw (list_any-append test (leaves f) (leaves_in es), further) (or_true (list_any test (leaves f)))
-
-collects_put : (old new : List Expression) (e : Expression) → IsPut old new e → Collects old new (leaves e)
-collects_put old new e (inl is) = rw (is, leaves_in-push old e) (thinned_itself (leaves_in old ++ leaves e))
-collects_put old new e (inr (is, there)) = rw is (thinned_again (leaves_in old) (leaves e) (λ test t. any_inside test old e there t))
-
-pub collects_leaf : (old new : List Expression) (x e : Expression) → x ≡ e → IsPut old new x → Collects old new (leaves e)
-collects_leaf old new x e is put = subst (λ (y : Expression). Collects old new (leaves y)) is (collects_put old new x put)
-
--- those that are left stay behind
-pub collects_on : (now next xs rest all : List Expression) → Collects now next xs
-    → IsThinned (leaves_in now ++ (xs ++ rest)) all → IsThinned (leaves_in next ++ rest) all
-collects_on now next xs rest all put left =
-    thinned_then (leaves_in next ++ rest) (leaves_in now ++ (xs ++ rest)) all
-    (rw append_assoc at (thinned_both (leaves_in next) (leaves_in now ++ xs) rest rest put (thinned_itself rest))) left
-
-pub collects_both : (old now new xs ys : List Expression) → Collects old now xs → Collects now new ys → Collects old new (xs ++ ys)
-collects_both old now new xs ys first second =
-    thinned_then (leaves_in new) (leaves_in now ++ ys) (leaves_in old ++ (xs ++ ys)) second
-    (rw append_assoc at (thinned_both (leaves_in now) (leaves_in old ++ xs) ys ys first (thinned_itself ys)))
-
-pub collects_done : (now all : List Expression) → IsThinned (leaves_in now ++ []) all → IsThinned (leaves_in now) all
-collects_done now all left = rw (append-nil (leaves_in now)) at left
-
--- ---- by the plain form of a rule, where it is found
-
-pub plain_leaves : (es : List Expression) (a : Expression) (o : Option Expression) → AreLeavesOf es (Some a) → ArePlain (Some a) o → AreLeavesOf es o
-plain_leaves es a None are plain = absurd plain
-plain_leaves es a (Some b) are plain = thinned_then (leaves_in es) (leaves a) (leaves b) are plain.thinned
-
-pub no_leaves : (o : Option Expression) → ArePlain None o → AreLeavesOf [] o
-no_leaves None plain = refl
-no_leaves (Some b) plain = absurd plain
-
--- ---- where rules stand
 
 pub found_leaves : (ds : List Declaration) (placed : List PlacedLeaves) (n : ℕ) (p q : PlacedLeaves) (place : RulePlace) (o : Option Expression)
     → ArePlaced ds placed → slice_get placed n ≡ Some p → p.place ≡ place → q ≡ get_or placed n q → expression_in place ds ≡ o

@@ -18,7 +18,7 @@ use Rattle.judgement.specs.Judgement.{IsUndeclared}
 use Rattle.strata.proofs.Lists.{not_in_nil, Contains-cons_cases}
 use Rattle.goal_cone.specs.Bounds.{links, links_all, links_by, links_of}
 use Rattle.goal_cone.specs.Cone.{IsMet, IsNeeded}
-use Rattle.goal_cone.specs.Leaves.{AreLeavesOf}
+use Rattle.namespaces.specs.Leaves.{AreLeavesOf}
 use Rattle.goal_cone.specs.Pass.{IsRead, IsUnderWay}
 use Rattle.goal_cone.specs.Premises.{Reads, ReadsSome}
 use Rattle.goal_cone.specs.Seen.{Sees, IsStuck}

@@ -20,7 +20,7 @@ pub(crate) fn name_at(through: &Through, k: usize) -> Option<&str>
     Some(name.as_str())
 }
 
-/// Whether a namespace declares, at a timestamp, one of the relations that are read, asked for these.
+/// Whether a namespace declares, at a timestamp, one of the relations that are read, asked for these: at most as many as it declares.
 fn declares_name(rules: &Rules, through: &Through, namespace: &str, at: u64) -> bool
     ensures { result ≡ false → DeclaresNone rules.now at (computed_names through.now) namespace.now }
 {

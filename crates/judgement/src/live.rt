@@ -46,7 +46,7 @@ fn is_live(
     }
 }
 
-/// The numbers of those of which something may matter that is stored in a crowded set.
+/// The numbers of those of which something may matter that is stored in a crowded set. There are 256 namespaces at most.
 fn live_in_crowd(
     alloc: Global,
     trace: &Trace,
@@ -79,7 +79,7 @@ fn is_quiet(rules: &Rules, at: u64, through: &Through, namespace: &str, declarin
     !is_among(rules, namespace, declaring) || !declares_some(rules, through, namespace, at)
 }
 
-/// Whether that is so of each of some usersets.
+/// Whether that is so of each of some usersets. A set that is not crowded has 16 at most.
 fn are_quiet(
     rules: &Rules,
     at: u64,

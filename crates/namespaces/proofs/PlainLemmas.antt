@@ -6,8 +6,8 @@ use Rattle.std.specs.List.{list_any}
 use Rattle.std.specs.Prelude.{Contains}
 use Rattle.namespaces.specs.Expression.{Expression, minus}
 use Rattle.namespaces.specs.Joints.{joined, IsPut, JoinPlain}
-use Rattle.namespaces.specs.Plain.{leaves, leaves_of_all, IsThinned, IsPlainOf}
-use Rattle.namespaces.specs.View.{children}
+use Rattle.namespaces.specs.Leaves.{leaves_in}
+use Rattle.namespaces.specs.Plain.{leaves, IsThinned, IsPlainOf}
 use Rattle.namespaces.specs.declared.plain.Joint.{Joint}
 use Rattle.namespaces.proofs.AlikeLemmas.{alike_itself, alike_then, minus_alike}
 use Rattle.namespaces.proofs.AlikeLemmas.{put_alike, joined_on_alike, put_nested}
@@ -16,18 +16,15 @@ use Rattle.namespaces.proofs.ThinnedLemmas.{thinned_itself, thinned_then, thinne
 
 -- ---- the leaves of children
 
-abbrev leaves_in : List Expression → List Expression
-leaves_in es = leaves_of_all (children es)
-
 leaves_in-append : (es fs : List Expression) → leaves_in (es ++ fs) ≡ leaves_in es ++ leaves_in fs
 leaves_in-append [] fs = refl
 leaves_in-append (e ∷ es) fs = rw (leaves_in-append es fs, append_assoc) refl
 
-leaves_in-push : (es : List Expression) (e : Expression) → leaves_in (es ++ e ∷ []) ≡ leaves_in es ++ leaves e
+pub leaves_in-push : (es : List Expression) (e : Expression) → leaves_in (es ++ e ∷ []) ≡ leaves_in es ++ leaves e
 leaves_in-push es e = rw (leaves_in-append es (e ∷ []), append-nil (leaves e)) refl
 
 -- those of a child that stands there
-any_inside : (test : Expression → Bool) (es : List Expression) (e : Expression) → Contains es e
+pub any_inside : (test : Expression → Bool) (es : List Expression) (e : Expression) → Contains es e
     → list_any test (leaves e) ≡ true → list_any test (leaves_in es) ≡ true
 any_inside test [] e (k, within, is) t = absurd (omega arith)
 any_inside test (f ∷ es) e (zero, within, is) t = rw (list_any-append test (leaves f) (leaves_in es), is, t) refl

@@ -11,6 +11,7 @@ pub mod InForce
 pub mod Index
 pub mod Joints
 pub mod Kept
+pub mod Leaves
 pub mod Lookup
 pub mod Parts
 pub mod Plain

@@ -22,6 +22,7 @@
 
 mod fault;
 mod index;
+mod leaves;
 mod lookups;
 mod number;
 mod parts;

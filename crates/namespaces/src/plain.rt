@@ -113,7 +113,7 @@ fn stands(kept: &[Rewrite], place: Option<usize>, child: &Rewrite) -> bool
 }
 
 /// Puts a child last, unless the same stands at the place of its mark.
-fn put(
+pub(crate) fn put(
     kept: &mut Vec<Rewrite>,
     places: &mut BTreeMap<u64, usize>,
     child: Rewrite,

@@ -1,8 +1,9 @@
 //! The declared namespaces, by name, by number and at a timestamp.
-ghost use Rattle.std.specs.Prelude.{◌≡◌, ℕ, List, None, Contains, ◌<◌, ◌≤◌, [], ◌∷◌, ◌++◌, length, option_map, option_and_then, slice_get, string_bytes, IfSome, OnOk, OnErr, IfErr};
+ghost use Rattle.std.specs.Prelude.{◌≡◌, ℕ, List, None, Contains, ◌<◌, ◌≤◌, [], ◌∷◌, ◌++◌, length, option_map, option_and_then, slice_get, map, string_bytes, IfSome, IfOk, OnOk, OnErr, IfErr};
 ghost use Rattle.tuple_text.specs.Refs.{set_value};
 ghost use Rattle.namespaces.specs.Declaration.{declared};
 ghost use Rattle.namespaces.specs.InForce.{names_in_force};
+ghost use Rattle.namespaces.specs.Leaves.{AreLeavesOf};
 ghost use Rattle.namespaces.specs.Lookup.{expression_in, rule_of, rule_at, relation_of, relation_count, relations_of, number_of, place_of, namespace_names, namespace_numbered, relation_numbered, history_numbered};
 ghost use Rattle.namespaces.specs.Plain.{ArePlain};
 ghost use Rattle.namespaces.specs.View.{expression_of};
@@ -10,6 +11,7 @@ ghost use Rattle.namespaces.specs.WellFormed.{IsWellFormed};
 
 use crate::fault::RulesFault;
 use crate::index::{Revision, note, revision_at, revision_with};
+use crate::leaves::leaves_of;
 use crate::lookups::{place_in, value_in};
 use crate::number::{RelNo, RulePlace};
 use crate::reading::{Draft, read_draft};
@@ -18,7 +20,7 @@ use crate::rewrite::Rewrite;
 use crate::table::{Namespace, copied_namespace, keeps_names, keeps_strata, tested};
 use indexmap::IndexMap;
 use serde_json::Value;
-use std::alloc::Global;
+use std::alloc::{AllocError, Global};
 use std::marker::Model;
 use tuple_text::SetRef;
 
@@ -154,15 +156,6 @@ impl Rules {
         Some(&relation.rewrite)
     }
 
-    /// A plain form of the rule that `body` gives: it gives and rules out what that rule does, whatever its leaves do, and it has the leaves
-    /// of that rule, none at more places. Where it has many places, its parts stand beside it. `None` where `body` has none.
-    pub fn plain_body(&self, set: SetRef<'_>, at: u64) -> Option<&PlainRule>
-        ensures { ArePlain (option_map (λ r. expression_of r.now.rewrite) result)
-            (option_map (λ r. r.expression) (rule_of (rule_at self.now at) (set_value set.entry))) }
-    {
-        self.plain_in(self.body_place(set, at)?)
-    }
-
     /// Where the rule stands that `body` gives, or `None` where it gives none. A place is that of one rule for good.
     pub fn body_place(&self, set: SetRef<'_>, at: u64) -> Option<RulePlace>
         ensures { option_and_then (λ p. expression_in p self.now) result
@@ -176,12 +169,26 @@ impl Rules {
         })
     }
 
-    /// The plain form of the rule that stands at a place, as `plain_body` gives it, or `None` where none stands there.
+    /// A plain form of the rule that stands at a place: it gives and rules out what that rule does, whatever its leaves do, and it has the
+    /// leaves of that rule, none at more places. Where it has many places, its parts stand beside it. `None` where no rule stands there.
     pub fn plain_in(&self, place: RulePlace) -> Option<&PlainRule>
         ensures { ArePlain (option_map (λ r. expression_of r.now.rewrite) result) (expression_in place self.now) }
     {
         let (_, relation) = self.relation_in(place)?;
         Some(&relation.plain)
+    }
+
+    /// The leaves of the rule that stands at a place, each once: what it computes, what it reads through a tupleset, and `this`. None
+    /// where no rule stands there.
+    ///
+    /// Refusals: OutOfMemory.
+    pub fn leaves_in(&self, alloc: Global, place: RulePlace) -> Result<Vec<Rewrite>, AllocError>
+        ensures { IfOk result (λ v. AreLeavesOf (map expression_of v.items) (expression_in place self.now)) }
+    {
+        match self.plain_in(place) {
+            Some(rule) => leaves_of(alloc, &rule.rewrite),
+            None => Ok(Vec::new(alloc)),
+        }
     }
 
     /// How many relations a namespace has at a timestamp, by its last declaration in force; 0 where it is not declared by then.

@@ -4,10 +4,9 @@ import shutil
 import subprocess
 
 from edits.built import command
+from edits.keeping import PARTS, Kept
 from edits.texts import apply, edit_of, groups_of, modules_of
 from edits.verdicts import NAMED, REFUSED, UNREAD, UNTOLD, is_unknown, verdicts
-
-PARTS = ("src", "specs", "proofs")
 
 
 def copied(top, room):
@@ -31,6 +30,8 @@ class Trial:
         self.edits = [edit_of(it, self.crate) for it in paths]
         # of the processor, by its checks until now
         self.seconds = 0.0
+        # how many were refused in an earlier run, over the same sources
+        self.kept_before = 0
 
     def run(self, *words):
         how = {"cwd": self.copy, "stdout": subprocess.PIPE, "stderr": subprocess.STDOUT, "errors": "replace", "text": True}
@@ -106,6 +107,18 @@ class OverBuilt(Trial):
 
     def begin(self):
         return ""
+
+    def results(self, is_alone):
+        """The same, but for edits that an earlier run refused over these sources."""
+        kept, every = Kept(self.top, self.name), self.edits
+        lines = {it.path: kept.line(it) for it in every if not it.fault}
+        self.edits = [it for it in every if lines.get(it.path) is None]
+        found = {edit.path: (word, line) for edit, word, line in super().results(is_alone)}
+        for edit in self.edits:
+            if found[edit.path][0] == REFUSED:
+                kept.keep(edit, found[edit.path][1])
+        self.kept_before, self.edits = len(every) - len(self.edits), every
+        return [(it, *found.get(it.path, (REFUSED, lines.get(it.path)))) for it in every]
 
     def said_of(self, edits):
         said = self.check_of({it.path for edit in edits for it in edit.functions})

@@ -10,7 +10,7 @@ use Rattle.evidence_check.proofs.judged.are_disproved.Given as goal
 -- what is left decides, the last rule is that of its userset, and rules are asked over the trace
 abbrev pub invariant-loop-fact : goal.invariant-loop-fact
 invariant-loop-fact l =
-    (AllByRecursion (IsDisproved (rule_at l.trace.declarations l.at) (store_at l.trace.commits l.at) l.known) (map marked_fact (drop l.fact-index l.facts))
-    ↔ AllByRecursion (IsDisproved (rule_at l.trace.declarations l.at) (store_at l.trace.commits l.at) l.known) (map marked_fact l.facts))
-    × IsLast l.trace.declarations l.at l.last
-    × (l.asked ≡ l.trace)
+    (AllByRecursion (IsDisproved (rule_at l.fn.asked.declarations l.at) (store_at l.fn.asked.commits l.at) l.known) (map marked_fact (drop l.fact-index l.facts))
+    ↔ AllByRecursion (IsDisproved (rule_at l.fn.asked.declarations l.at) (store_at l.fn.asked.commits l.at) l.known) (map marked_fact l.facts))
+    × IsLast l.fn.asked.declarations l.at l.last
+    × (l.asked ≡ l.fn.asked)

@@ -12,9 +12,9 @@ use Rattle.evidence_check.proofs.judged.first_bad.Given as goal
 -- declarations
 abbrev pub invariant-loop-k : goal.invariant-loop-k
 invariant-loop-k l =
-    (first_bad (rule_at l.trace.declarations l.at) (store_at l.trace.commits l.at) l.known (l.k + 1) (borrowed_steps (drop l.k l.steps))
-    ≡ first_bad (rule_at l.trace.declarations l.at) (store_at l.trace.commits l.at) l.fn.known 1 (borrowed_steps l.steps))
+    (first_bad (rule_at l.fn.asked.declarations l.at) (store_at l.fn.asked.commits l.at) l.known (l.k + 1) (borrowed_steps (drop l.k l.steps))
+    ≡ first_bad (rule_at l.fn.asked.declarations l.at) (store_at l.fn.asked.commits l.at) l.fn.known 1 (borrowed_steps l.steps))
     × (after_steps l.known (borrowed_steps (drop l.k l.steps)) ≡ after_steps l.fn.known (borrowed_steps l.steps))
-    × IsBorneOut (rule_at l.trace.declarations l.at) (store_at l.trace.commits l.at) l.known
-    × AreLast l.trace.declarations l.at l.rules
-    × (l.asked ≡ l.trace)
+    × IsBorneOut (rule_at l.fn.asked.declarations l.at) (store_at l.fn.asked.commits l.at) l.known
+    × AreLast l.fn.asked.declarations l.at l.rules
+    × (l.asked ≡ l.fn.asked)

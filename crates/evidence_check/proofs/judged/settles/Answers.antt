@@ -11,27 +11,29 @@ pub returns-then-is_given-clause-settles : goal.returns-then-is_given-clause-set
 returns-then-is_given-clause-settles g c =
     let f = marked_fact c.args.fact in
     let x = expression_of c.in-Narrow.rule.now in
-    let of : IsRuleOf c.args.trace.now.declarations c.args.at f.set (Some x) = rw c.in-Narrow.is at c.requires.rule in
-    let both = settled_by_rule c.args.trace.now c.args.at c.args.known.now f true x of in
-    rw c.if-is_given.true (λ t. both.0 (c.established.ensures.0 t), λ s. c.established.ensures.1 (both.1 s))
+    let of : IsRuleOf c.args.asked.now.declarations c.args.at f.set (Some x) = rw c.in-Narrow.is at c.requires.rule in
+    let both = settled_by_rule c.args.asked.now c.args.at c.args.known.now f true x of in
+    let given = rw c.trace.ensures at c.established.ensures in
+    rw c.if-is_given.true (λ t. both.0 (given.0 t), λ s. given.1 (both.1 s))
 
 pub returns-else-is_given-clause-settles : goal.returns-else-is_given-clause-settles
 returns-else-is_given-clause-settles g c =
     let f = marked_fact c.args.fact in
     let x = expression_of c.in-Narrow.rule.now in
-    let of : IsRuleOf c.args.trace.now.declarations c.args.at f.set (Some x) = rw c.in-Narrow.is at c.requires.rule in
-    let both = settled_by_rule c.args.trace.now c.args.at c.args.known.now f false x of in
-    rw c.if-is_given.false (λ t. both.0 (c.refuted.ensures.0 t), λ s. c.refuted.ensures.1 (both.1 s))
+    let of : IsRuleOf c.args.asked.now.declarations c.args.at f.set (Some x) = rw c.in-Narrow.is at c.requires.rule in
+    let both = settled_by_rule c.args.asked.now c.args.at c.args.known.now f false x of in
+    let out = rw c.trace-else-is_given.ensures at c.refuted.ensures in
+    rw c.if-is_given.false (λ t. both.0 (out.0 t), λ s. out.1 (both.1 s))
 
 pub does-requires : goal.does-requires
 does-requires g c =
     let wide = rw c.in-Wide.is at c.requires.rule in
-    rw (c.requires.asked, wide.1) wide.0
+    rw wide.1 wide.0
 
 pub returns-in-Wide-clause-settles : goal.returns-in-Wide-clause-settles
 returns-in-Wide-clause-settles g c =
     let f = marked_fact c.args.fact in
     let x = rule_shown c.in-Wide.rule.now in
     let wide = rw c.in-Wide.is at c.requires.rule in
-    let both = settled_by_rule c.args.trace.now c.args.at c.args.known.now f c.args.is_given x wide.0 in
-    IfOk-weaker c.does.result _ _ (λ r d. (λ t. both.0 (d.0 t), λ s. d.1 (both.1 s))) (rw c.requires.asked at c.does.ensures.does)
+    let both = settled_by_rule c.args.asked.now c.args.at c.args.known.now f c.args.is_given x wide.0 in
+    IfOk-weaker c.does.result _ _ (λ r d. (λ t. both.0 (d.0 t), λ s. d.1 (both.1 s))) c.does.ensures.does

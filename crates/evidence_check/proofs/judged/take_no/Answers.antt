@@ -16,8 +16,8 @@ use Rattle.evidence_check.proofs.judged.take_no.Goals as goal
 
 pub returns-clause-accepted : goal.returns-clause-accepted
 returns-clause-accepted c =
-    let lookup = rule_at c.args.trace.now.declarations c.args.at in
-    let store = store_at c.args.trace.now.commits c.args.at in
+    let lookup = rule_at c.args.asked.now.declarations c.args.at in
+    let store = store_at c.args.asked.now.commits c.args.at in
     let facts = map fact_value c.args.facts.now in
     let fresh = map marked_fact c.deny_each.new.fresh.items in
     let known : c.deny_each.new.known ≡ with_no c.args.known.now facts = search rules in
@@ -33,8 +33,8 @@ returns-clause-accepted c =
 
 pub returns-clause-borne : goal.returns-clause-borne
 returns-clause-borne c = λ ok.
-    let lookup = rule_at c.args.trace.now.declarations c.args.at in
-    let store = store_at c.args.trace.now.commits c.args.at in
+    let lookup = rule_at c.args.asked.now.declarations c.args.at in
+    let store = store_at c.args.asked.now.commits c.args.at in
     let step = no_step (map fact_value c.args.facts.now) in
     let known : c.deny_each.new.known ≡ with_no c.args.known.now (map fact_value c.args.facts.now) = search rules in
     let accepted : is_accepted lookup store c.args.known.now step ≡ true = sym (returns-clause-accepted c) ∙ ok in

@@ -12,8 +12,8 @@ use Rattle.evidence_check.proofs.judged.take_yes.Goals.{then-yes_marked, else-ye
 
 pub returns-clause-accepted : goal.returns-clause-accepted
 returns-clause-accepted c =
-    let lookup = rule_at c.args.trace.now.declarations c.args.at in
-    let store = store_at c.args.trace.now.commits c.args.at in
+    let lookup = rule_at c.args.asked.now.declarations c.args.at in
+    let store = store_at c.args.asked.now.commits c.args.at in
     let fact = marked_fact c.args.fact in
     let proves : IsTrue c.if-yes_marked.proved ↔ IsProved lookup store c.args.known.now fact = elim c.if-yes_marked.branch [
       | then-yes_marked w ↦
@@ -27,8 +27,8 @@ returns-clause-accepted c =
 
 pub returns-clause-borne : goal.returns-clause-borne
 returns-clause-borne c = λ ok.
-    let lookup = rule_at c.args.trace.now.declarations c.args.at in
-    let store = store_at c.args.trace.now.commits c.args.at in
+    let lookup = rule_at c.args.asked.now.declarations c.args.at in
+    let store = store_at c.args.asked.now.commits c.args.at in
     let step = yes_step (marked_fact c.args.fact) in
     let known : c.add_yes.new.self ≡ after_step c.args.known.now step = search rules in
     let accepted : is_accepted lookup store c.args.known.now step ≡ true = sym (returns-clause-accepted c) ∙ ok in

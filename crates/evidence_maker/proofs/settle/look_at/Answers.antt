@@ -19,7 +19,7 @@ returns-clause-kept c = λ C k inside making.
     let steps : step_values c.push.new.self.items ≡ step_values c.args.steps.now.items ++ yes_step c.args.fact.now ∷ [] =
     rw (c.in_ok-push.ensures.items, ← same) (step_values-push c.args.steps.now.items _) in
     rw (known, steps)
-    (making_yes (rule_at c.args.trace.now.declarations c.args.at) (store_at c.args.trace.now.commits c.args.at) C k c.args.known.now (step_values c.args.steps.now.items)
+    (making_yes (rule_at c.args.asked.now.declarations c.args.at) (store_at c.args.asked.now.commits c.args.at) C k c.args.known.now (step_values c.args.steps.now.items)
     making c.args.fact.now inside (c.in_ok-is_proved_by.ensures.proved.0 proved_true) unknown)
 
 pub returns-clause-grows : goal.returns-clause-grows

@@ -9,7 +9,7 @@ loop-place-preserved c = elim c.if-place-cone.branch [
       let inside : Contains c.args.cone.now w.index-cone-place.result = (_, w.if-place-cone.true, sym w.index-cone-place.is) in
       rw (w.asked-is, w.known-is, w.steps-is) (
         w.in_ok-look_at.ensures.asked ∙ c.loop-place.invariant.0,
-        λ k before. w.in_ok-look_at.ensures.kept c.args.cone.now k inside (c.loop-place.invariant.1 k before),
+        λ k before. (rw c.loop-place.invariant.0 at w.in_ok-look_at.ensures.kept) c.args.cone.now k inside (c.loop-place.invariant.1 k before),
       )
   | else-place-cone w ↦ rw (w.asked-is, w.known-is, w.steps-is) c.loop-place.invariant
 ]

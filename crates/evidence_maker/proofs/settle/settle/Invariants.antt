@@ -1,3 +1,4 @@
+use Rattle.std.proofs.Common.{◌≡◌}
 use Rattle.namespaces.specs.Lookup.{rule_at}
 use Rattle.version_chains.specs.Commits.{store_at}
 use Rattle.evidence_check.specs.Steps.{step_values}
@@ -7,5 +8,6 @@ use Rattle.evidence_maker.proofs.settle.settle.Given as goal
 
 abbrev pub invariant-loop-stratum : goal.invariant-loop-stratum
 invariant-loop-stratum l =
-    HasItsPremises (rule_at l.trace.declarations l.at) (store_at l.trace.commits l.at) l.cone → AreDistinct l.cone
-    → IsMaking (rule_at l.trace.declarations l.at) (store_at l.trace.commits l.at) l.cone l.stratum l.known (step_values l.steps.items)
+    (l.asked ≡ l.trace)
+    × (HasItsPremises (rule_at l.trace.declarations l.at) (store_at l.trace.commits l.at) l.cone → AreDistinct l.cone
+    → IsMaking (rule_at l.trace.declarations l.at) (store_at l.trace.commits l.at) l.cone l.stratum l.known (step_values l.steps.items))

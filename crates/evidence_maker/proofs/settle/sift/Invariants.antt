@@ -9,9 +9,9 @@ use Rattle.evidence_maker.proofs.settle.sift.Given as goal
 
 abbrev pub invariant-loop-fact : goal.invariant-loop-fact
 invariant-loop-fact l = record {
-  asked : l.asked ≡ l.trace;
+  asked : l.asked ≡ l.fn.asked;
   kept : (C : List FactValue) (k : ℕ) → ((f : FactValue) → Contains l.facts f → Contains C f)
-      → IsMaking (rule_at l.trace.declarations l.at) (store_at l.trace.commits l.at) C k l.fn.known (step_values l.fn.steps.items)
-      → IsMaking (rule_at l.trace.declarations l.at) (store_at l.trace.commits l.at) C k l.known (step_values l.steps.items);
-  sifted : IsSifted (rule_at l.trace.declarations l.at) (store_at l.trace.commits l.at) l.fn.known l.known (take l.fact-index l.facts) l.left.items;
+      → IsMaking (rule_at l.fn.asked.declarations l.at) (store_at l.fn.asked.commits l.at) C k l.fn.known (step_values l.fn.steps.items)
+      → IsMaking (rule_at l.fn.asked.declarations l.at) (store_at l.fn.asked.commits l.at) C k l.known (step_values l.steps.items);
+  sifted : IsSifted (rule_at l.fn.asked.declarations l.at) (store_at l.fn.asked.commits l.at) l.fn.known l.known (take l.fact-index l.facts) l.left.items;
 }

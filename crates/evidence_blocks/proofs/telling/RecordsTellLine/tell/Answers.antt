@@ -26,13 +26,28 @@ returns-in_default-2 c =
 
 pub returns-in-Ok-judge_alone : goal.returns-in-Ok-judge_alone
 returns-in-Ok-judge_alone c =
-    let blank : is_blank c.args.line.now ≡ false = sym c.is_blank.ensures ∙ c.if-is_blank.false in
-    let is : read c.args.line.now ≡ Some (line_data c.in-Some.json) = ap read (sym c.in-Ok.ensures.0) ∙ sym c.in_ok-json.ensures ∙ ap (option_map line_data) c.in-Some.is in
-    record { told = sym (is_verdict c.args.self.now.trace.now c.args.self.now.lines c.args.line.now (line_data c.in-Some.json) c.in-Ok-judge_alone.verdict blank (is_utf8-from_IsUtf8 c.args.line.now c.in-Ok.ensures.1) is c.in-Ok-judge_alone.ensures.verdict); suits = search rules }
+    let trace = c.args.self.now.trace.now in
+    let lines = c.args.self.now.lines in
+    let line = c.args.line.now in
+    let record_data = line_data c.in-Some.json in
+    let blank : is_blank line ≡ false = sym c.is_blank.ensures ∙ c.if-is_blank.false in
+    let is : read line ≡ Some record_data = ap read (sym c.in-Ok.ensures.0) ∙ sym c.in_ok-json.ensures ∙ ap (option_map line_data) c.in-Some.is in
+    let judged = rw c.requires at c.in-Ok-judge_alone.ensures.verdict in
+    record {
+      told = sym (is_verdict trace lines line record_data c.in-Ok-judge_alone.verdict blank (is_utf8-from_IsUtf8 line c.in-Ok.ensures.1) is judged);
+      suits = search rules;
+    }
 
 pub returns : goal.returns
 returns c =
-    let blank : is_blank c.args.line.now ≡ false = sym c.is_blank.ensures ∙ c.if-is_blank.false in
-    let is : read c.args.line.now ≡ Some (line_data c.in-Some.json) = ap read (sym c.in-Ok.ensures.0) ∙ sym c.in_ok-json.ensures ∙ ap (option_map line_data) c.in-Some.is in
-    let told = rw (sym c.is_memory.ensures ∙ c.if-is_memory.false) at c.in-Err.ensures.verdict in
-    record { told = sym (is_refusal c.args.self.now.trace.now c.args.self.now.lines c.args.line.now (line_data c.in-Some.json) c.in-Err.cause blank (is_utf8-from_IsUtf8 c.args.line.now c.in-Ok.ensures.1) is told); suits = search rules }
+    let trace = c.args.self.now.trace.now in
+    let lines = c.args.self.now.lines in
+    let line = c.args.line.now in
+    let record_data = line_data c.in-Some.json in
+    let blank : is_blank line ≡ false = sym c.is_blank.ensures ∙ c.if-is_blank.false in
+    let is : read line ≡ Some record_data = ap read (sym c.in-Ok.ensures.0) ∙ sym c.in_ok-json.ensures ∙ ap (option_map line_data) c.in-Some.is in
+    let told = rw (c.requires, sym c.is_memory.ensures ∙ c.if-is_memory.false) at c.in-Err.ensures.verdict in
+    record {
+      told = sym (is_refusal trace lines line record_data c.in-Err.cause blank (is_utf8-from_IsUtf8 line c.in-Ok.ensures.1) is told);
+      suits = search rules;
+    }

@@ -56,7 +56,7 @@ pub(crate) struct WideFact {
 
 /// The gates of a cone. Those of its facts come first, each at its fact's place.
 #[derive(Drop)]
-pub(crate) struct Gates<'t> {
+pub struct Gates<'t> {
     trace: &'t Trace,
     at: u64,
     cone: &'t [Fact],
@@ -101,7 +101,7 @@ impl<'a> Site<'a> {
 
 impl<'t> Gates<'t> {
     /// The gates of a cone.
-    pub(crate) fn of(
+    pub fn of(
         alloc: Global,
         trace: &'t Trace,
         at: u64,
@@ -146,7 +146,7 @@ impl<'t> Gates<'t> {
     }
 
     /// Whether the gate of a fact is among those that are kept.
-    pub(crate) fn is_kept(&self, leaning: &Leaning, fact: &Fact) -> bool {
+    pub fn is_kept(&self, leaning: &Leaning, fact: &Fact) -> bool {
         match self.place_of(fact.set()) {
             Some(place) => leaning.has(place),
             None => false,

@@ -6,7 +6,7 @@ use std::alloc::{AllocError, Global};
 
 /// The gates that are kept, in the order in which they came, and how many of them were given.
 #[derive(Drop)]
-pub(crate) struct Leaning {
+pub struct Leaning {
     kept: Vec<bool>,
     todo: Vec<usize>,
     given: usize,
@@ -46,7 +46,7 @@ impl Leaning {
 impl<'t> Gates<'t> {
     /// Which gates the first fact leans on, itself among them: an open one on those that opened it, and one that is shut on enough of
     /// those that keep it shut.
-    pub(crate) fn leaning(&mut self) -> Result<Leaning, AllocError> {
+    pub fn leaning(&mut self) -> Result<Leaning, AllocError> {
         let mut leaning = Leaning::new(*self.open.allocator(), self.gates.len())?;
         leaning.add(0)?;
         for _ in 0..self.gates.len() {
@@ -62,22 +62,32 @@ impl<'t> Gates<'t> {
         let Some(found) = self.gates.get(gate).copied() else {
             return Ok(());
         };
-        let is_open = found.wanted == 0;
-        match found.wants {
-            Wants::Some if is_open => match found.opened_by {
-                Some(by) => leaning.add(by as usize),
-                None => Ok(()),
-            },
-            Wants::Some => self.lean_on_each(found, leaning),
-            Wants::Each if is_open => self.lean_on_each(found, leaning),
-            Wants::Each => self.lean_on_one(found, leaning),
-            Wants::Without(outer) if is_open => {
-                leaning.add(outer as usize)?;
-                self.lean_on_each(found, leaning)
-            }
+        if let Wants::Parts(number) = found.wants {
+            return self.lean_on_parts(found, number as usize, leaning);
+        }
+        if found.wanted == 0 {
+            self.lean_where_open(found, leaning)
+        } else {
+            self.lean_where_shut(found, leaning)
+        }
+    }
+
+    fn lean_where_open(&self, gate: Gate, leaning: &mut Leaning) -> Result<(), AllocError> {
+        if let Wants::Without(outer) = gate.wants {
+            leaning.add(outer as usize)?;
+        }
+        match (gate.wants, gate.opened_by) {
+            (Wants::Some, Some(by)) => leaning.add(by as usize),
+            (Wants::Some, None) => Ok(()),
+            _ => self.lean_on_each(gate, leaning),
+        }
+    }
+
+    fn lean_where_shut(&self, gate: Gate, leaning: &mut Leaning) -> Result<(), AllocError> {
+        match gate.wants {
+            Wants::Each => self.lean_on_one(gate, leaning),
             Wants::Without(outer) if self.is_open(outer as usize) => leaning.add(outer as usize),
-            Wants::Without(_) => self.lean_on_each(found, leaning),
-            Wants::Parts(number) => self.lean_on_parts(found, number as usize, leaning),
+            _ => self.lean_on_each(gate, leaning),
         }
     }
 

@@ -288,22 +288,29 @@ impl<'t> WideRule<'t> {
         false
     }
 
+    /// A new stage, behind one where a part opens.
+    fn add_stage(&mut self, turn: Turn) -> Result<usize, AllocError> {
+        let next = self.stages.len();
+        let count = self.count_at(turn.stage).saturating_add(1);
+        self.stages.push(Stage {
+            count,
+            last: Some(turn),
+            opens_untold: None,
+            opens_told: None,
+        })?;
+        Ok(next)
+    }
+
     /// The stage behind a stage where a part opens.
     fn after(&mut self, stage: usize, part: usize) -> Result<usize, AllocError> {
         if let Some(next) = self.turns.get(&(stage, part)).copied() {
             return Ok(next);
         }
-        let mut next = stage;
-        if !self.has(stage, part) {
-            next = self.stages.len();
-            let count = self.count_at(stage).saturating_add(1);
-            self.stages.push(Stage {
-                count,
-                last: Some(Turn { stage, part }),
-                opens_untold: None,
-                opens_told: None,
-            })?;
-        }
+        let next = if self.has(stage, part) {
+            stage
+        } else {
+            self.add_stage(Turn { stage, part })?
+        };
         let _ = self.turns.insert((stage, part), next)?;
         Ok(next)
     }

@@ -2,16 +2,16 @@ use Rattle.std.proofs.Common.{rules, ◌≡◌, [], map}
 use Rattle.std.proofs.lemmas.Result.{IfOk-weaker}
 use Rattle.namespaces.specs.Lookup.{expression_in}
 use Rattle.namespaces.specs.View.{expression_of}
-use Rattle.goal_cone.proofs.OnceLemmas.{plain_leaves, no_leaves}
-use Rattle.goal_cone.proofs.leaves.leaves_at.Goals as goal
+use Rattle.namespaces.proofs.LeavesLemmas.{plain_leaves, no_leaves}
+use Rattle.namespaces.proofs.rules.Rules.leaves_in.Goals as goal
 
 pub returns-in-Some : goal.returns-in-Some
 returns-in-Some c =
     IfOk-weaker c.leaves_of.result _ _
-    (λ v are. plain_leaves (map expression_of v.items) (expression_of c.in-Some.rule.now.rewrite) (expression_in c.args.place c.args.rules.now) are c.in-Some.ensures)
+    (λ v are. plain_leaves (map expression_of v.items) (expression_of c.in-Some.rule.now.rewrite) (expression_in c.args.place c.args.self.now) are c.in-Some.ensures)
     c.leaves_of.ensures
 
 pub returns-in-None : goal.returns-in-None
 returns-in-None c =
     let none : c.new.result.items ≡ [] = search rules in
-    rw none (no_leaves (expression_in c.args.place c.args.rules.now) c.in-None.ensures)
+    rw none (no_leaves (expression_in c.args.place c.args.self.now) c.in-None.ensures)

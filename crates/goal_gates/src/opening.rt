@@ -146,11 +146,7 @@ impl<'t> Gates<'t> {
     }
 
     /// The places of the facts that turn out to hold where the exclusions of a stratum are told, those of the lower strata being told.
-    pub(crate) fn tell(
-        &mut self,
-        strata: &[Option<u8>],
-        stratum: u16,
-    ) -> Result<Vec<usize>, AllocError> {
+    pub fn tell(&mut self, strata: &[Option<u8>], stratum: u16) -> Result<Vec<usize>, AllocError> {
         self.drain()?;
         self.tell_exclusions(strata, stratum)?;
         self.tell_wide(strata, stratum)?;
