@@ -1,6 +1,8 @@
 //! The newest place of each mark, in a table of slots.
 
-ghost use Rattle.std.specs.Prelude.{◌≡◌, ◌<◌, ◌≤◌, ◌-◌, ◌++◌, ℕ, List, map, length, slice_get, nat_eq, IfOk, OnOk, OnErr};
+ghost use Rattle.std.specs.Prelude.{◌≡◌, ◌<◌, ◌≤◌, ◌-◌, ◌++◌, ℕ, List, map, length, slice_get, nat_eq, None, Some, unwrap_or, IfOk, OnOk, OnErr};
+ghost use Rattle.std.specs.BTreeMap.{get, Updates};
+ghost use Rattle.std.specs.Ordering.{nat_cmp};
 ghost use Rattle.version_chains.specs.Links.{IsPlaceOf, IsSet, IsTable, has_mark, longest, newest_of, probe_in, start_of, stops, tag_of};
 ghost use Rattle.version_chains.specs.Placed.{last_place, most, passes};
 ghost use Rattle.version_chains.specs.declared.places.Link.{Link};
@@ -83,6 +85,18 @@ fn probe(slots: &Slots, links: &[Link], mark: u64) -> usize
     0
 }
 
+/// Makes a place a mark's newest in the tree, and gives the one that was its newest before. Few marks come here, and what it takes is not to
+/// weigh on those that do not.
+#[inline(never)]
+fn put_in_tree(tree: &mut BTreeMap<u64, u32>, mark: u64, place: u32) -> Result<u32, AllocError>
+    ensures older { IfOk result (λ older. older ≡ unwrap_or (get nat_cmp tree.old mark) 0) }
+    ensures ok { OnOk result (Updates nat_cmp tree.old tree.new mark (Some place)) }
+    ensures err { OnErr result (tree.new.entries ≡ tree.old.entries) }
+    ensures unknown { OnErr result (get nat_cmp tree.old mark ≡ None) }
+{
+    Ok(tree.insert(mark, place)?.unwrap_or(0))
+}
+
 /// Room for so many marks, with the newest place of each mark of the links.
 fn table_of(alloc: Global, links: &[Link], count: usize) -> Result<Table, AllocError>
     requires { length links.now ≤ most }
@@ -144,7 +158,8 @@ impl Table {
     {
         let end = probe(&self.slots, links, mark);
         if end == 0 {
-            return Ok(self.rest.insert(mark, place)?.unwrap_or(0));
+            let older = put_in_tree(&mut self.rest, mark, place)?;
+            return Ok(older);
         }
         let at = end - 1;
         if self.slots.tag(at) == Some(0) {

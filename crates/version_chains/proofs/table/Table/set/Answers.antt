@@ -5,13 +5,13 @@ use Rattle.version_chains.specs.Slots.{place_of}
 use Rattle.version_chains.proofs.TableLemmas.{end_less, newest-in_tree, newest-more, newest-same_tree, newest-written, on_err, place_at_end, probe-more, probed-in_tree, probed-more, probed-same_tree, probed-written}
 use Rattle.version_chains.proofs.table.Table.set.Goals as goal
 
-pub returns-in_err-insert-clause-err : goal.returns-in_err-insert-clause-err
-returns-in_err-insert-clause-err c =
-    on_err c.from_residual.result (newest-same_tree longest c.args.links.now c.args.self.now.slots c.args.self.now.rest c.insert.new.self c.in_err-insert.ensures.err)
+pub returns-in_err-older-clause-err : goal.returns-in_err-older-clause-err
+returns-in_err-older-clause-err c =
+    on_err c.from_residual.result (newest-same_tree longest c.args.links.now c.args.self.now.slots c.args.self.now.rest c.put_in_tree.new.tree c.in_err-older.ensures.err)
 
-pub returns-in_err-insert-clause-table : goal.returns-in_err-insert-clause-table
-returns-in_err-insert-clause-table c =
-    on_err c.from_residual.result (probed-same_tree longest c.args.links.now c.args.self.now.slots c.args.self.now.rest c.insert.new.self c.in_err-insert.ensures.err c.requires)
+pub returns-in_err-older-clause-table : goal.returns-in_err-older-clause-table
+returns-in_err-older-clause-table c =
+    on_err c.from_residual.result (probed-same_tree longest c.args.links.now c.args.self.now.slots c.args.self.now.rest c.put_in_tree.new.tree c.in_err-older.ensures.err c.requires)
 
 pub returns-then-end-eq0-clause-ok : goal.returns-then-end-eq0-clause-ok
 returns-then-end-eq0-clause-ok c = λ more is_place.
@@ -19,10 +19,10 @@ returns-then-end-eq0-clause-ok c = λ more is_place.
     let none_more : probe_in longest (c.args.links.now ++ more) c.args.self.now.slots c.args.mark ≡ 0 =
     sym (probe-more longest c.args.links.now more c.args.self.now.slots c.args.self.now.rest c.requires c.args.mark) ∙ sym c.probe-end.ensures ∙ none in
     record {
-      table = probed-in_tree longest (c.args.links.now ++ more) c.args.self.now.slots c.args.self.now.rest c.insert.new.self c.args.mark c.args.place none_more (search rules)
+      table = probed-in_tree longest (c.args.links.now ++ more) c.args.self.now.slots c.args.self.now.rest c.put_in_tree.new.tree c.args.mark c.args.place none_more (search rules)
           (probed-more longest c.args.links.now more c.args.self.now.slots c.args.self.now.rest c.requires);
       newest = λ m.
-          newest-in_tree longest (c.args.links.now ++ more) c.args.self.now.slots c.args.self.now.rest c.insert.new.self c.args.mark c.args.place none_more (search rules) m
+          newest-in_tree longest (c.args.links.now ++ more) c.args.self.now.slots c.args.self.now.rest c.put_in_tree.new.tree c.args.mark c.args.place none_more (search rules) m
           ∙ ap (λ (n : ℕ). cond (nat_eq m c.args.mark) c.args.place n) (sym (newest-more longest c.args.links.now more c.args.self.now.slots c.args.self.now.rest c.requires m));
     }
 
