@@ -7,4 +7,3 @@ pub mod MadeReadBack
 pub mod MadeAuditLemmas
 pub mod Readers
 pub mod SharedLemmas
-pub mod TraceSync

@@ -1,6 +1,6 @@
 //! What an audit reads.
 
-ghost use Rattle.std.specs.Prelude.{◌≡◌, ◌≢◌, List, [], ◌∷◌, Option};
+ghost use Rattle.std.specs.Prelude.{◌≡◌, ◌≢◌, ◌<◌, ◌≤◌, List, [], ◌∷◌, Option};
 ghost use Rattle.trace_lines.specs.declared.cause.Cause.TheVariants as causes;
 ghost use Rattle.trace_lines.specs.declared.cause.TraceFault.{TraceFault};
 ghost use Rattle.evidence_check.specs.declared.cause.EvidenceCause.TheVariants as evidence_causes;
@@ -15,11 +15,13 @@ ghost use Rattle.audit.specs.Kinds as kind;
 ghost use Rattle.audit.specs.declared.plain.AuditFault.TheVariants as faults;
 
 use crate::plain::AuditFault;
+use evidence_blocks::judge_evidence_by;
 use evidence_check::{
     Evidence, EvidenceCause, EvidenceFault, Judged, judge_evidence, read_evidence,
 };
 use json_lines::Source;
 use std::alloc::Global;
+use std::thread::Threads;
 use trace_lines::{Cause, Trace, TraceFault, read_trace};
 
 /// The trace of a reader.
@@ -81,6 +83,24 @@ pub(crate) fn judgements_from<R: Source>(
         (reads R.given R.ends R.failures R.remaining reader.old reader.new) result }
 {
     match judge_evidence(alloc, reader, trace) {
+        Ok(judgements) => Ok(judgements),
+        Err(fault) => Err(of_evidence(fault)),
+    }
+}
+
+/// How the evidence of a reader judges each entry of a trace, by so many workers that read and judge blocks of records.
+pub(crate) fn judgements_by<R: Source, T: Threads + Sync>(
+    rt: &T,
+    alloc: Global,
+    reader: &mut R,
+    trace: &Trace,
+    workers: usize,
+) -> Result<Vec<Judged>, AuditFault>
+    requires { (0 < workers) × (workers ≤ 16) }
+    ensures { EvidenceRead (λ given v. AreJudged trace.now given v.items) trace.now
+        (reads R.given R.ends R.failures R.remaining reader.old reader.new) result }
+{
+    match judge_evidence_by(rt, alloc, reader, trace, workers) {
         Ok(judgements) => Ok(judgements),
         Err(fault) => Err(of_evidence(fault)),
     }

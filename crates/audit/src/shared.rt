@@ -4,21 +4,22 @@ ghost use Rattle.std.specs.Prelude.{◌≡◌, ◌↔◌, ◌<◌, ◌≤◌, �
 ghost use Rattle.std.specs.List.{flat_map, list_any};
 ghost use Rattle.audit_slices.specs.Board.{IsNamedBy};
 ghost use Rattle.audit_slices.specs.Reports.{report_items};
-ghost use Rattle.evidence_check.specs.Evidences.{evidence_value};
+ghost use Rattle.evidence_check.specs.Judging.{AreJudged};
+ghost use Rattle.evidence_check.specs.Steps.{StepValue};
 ghost use Rattle.audit.specs.Answers.{Audited};
 ghost use Rattle.audit.specs.Devices.{reads, writes};
 ghost use Rattle.audit.specs.Kinds.{IsOneOf};
 ghost use Rattle.audit.specs.Kinds as kind;
-ghost use Rattle.audit.specs.Shared.{found_at, has_finding, all_found, found_lines, are_within_limits};
+ghost use Rattle.audit.specs.Shared.{found_judged, has_finding, all_judged, found_lines, are_within_limits};
 ghost use Rattle.audit.specs.declared.plain.AuditFault.TheVariants as faults;
 ghost use Rattle.findings.specs.Findings.{findings_of};
 
 use crate::finder::Finder;
 use crate::plain::{AuditFault, Verdict, audit_plain, audit_with};
-use crate::reading::evidence_from;
+use crate::reading::judgements_by;
 use audit_slices::{Blind, Board, Check, Free, MOST_WORKERS, Names, SliceReport, cut, run_pool};
-use evidence_check::Evidence;
-use findings::{Finding, What, found_on, push_found};
+use evidence_check::{Evidence, Judged};
+use findings::{Finding, What, found_judged, found_on, push_found};
 use json_lines::{Sink, Source};
 use std::alloc::{AllocError, Global};
 use std::marker::Brand;
@@ -96,25 +97,60 @@ impl Names<Found> for Brand {
     ghost alerts = { λ _. false };
 }
 
+/// It finds what is wrong with the decisions of a trace, where its evidence judges the entries so.
+#[derive(Drop)]
+struct JudgedCheck<'t, 'j> {
+    trace: &'t Trace,
+    judgements: &'j [Judged],
+    entries: usize,
+    ghost fits: { entries < 2 ^ 64 },
+    ghost all: { entries ≡ length trace.now.entries },
+}
+
+impl<'t, 'j> Check for JudgedCheck<'t, 'j> {
+    type Report = Found;
+
+    ghost use Rattle.std.proofs.Common.{◌≡◌, rules};
+    ghost use Rattle.audit.specs.Shared.{found_judged, has_finding};
+
+    ghost entries = { λ c. c.entries };
+
+    ghost gives = { λ c entry found. found ≡ found_judged c.trace.now c.judgements.now entry };
+
+    ghost raises = { λ _ found. has_finding found };
+
+    ghost entries_fit = { Prim.search rules };
+
+    fn check(&self, entry: usize) -> Result<Found, AllocError> {
+        let what = found_judged(self.trace, self.judgements, entry);
+        let line = self.trace.entry(entry).line;
+        Ok(Found { line, what })
+    }
+
+    fn alerts(&self, found: &Found) -> bool {
+        is_any(&found.what)
+    }
+}
+
 /// What is found on each entry, in slices.
 fn found_by<N: Names<Found> + Sync, R: Threads + Wait + Sync>(
     rt: &R,
     alloc: Global,
     trace: &Trace,
-    evidence: &Evidence,
+    judgements: &[Judged],
     workers: usize,
     size: usize,
 ) -> Result<Vec<SliceReport<Found>>, AllocError>
     requires workers { (0 < workers) × (workers ≤ 16) }
     requires size { 0 < size }
-    requires names { IsNamedBy (λ entry found. found ≡ found_at trace.now (evidence_value evidence.now) entry)
+    requires names { IsNamedBy (λ entry found. found ≡ found_judged trace.now judgements.now entry)
         has_finding N.gives N.alerts }
-    ensures { IfOk result (λ v. flat_map report_items v.items ≡ all_found trace.now (evidence_value evidence.now)) }
+    ensures { IfOk result (λ v. flat_map report_items v.items ≡ all_judged trace.now judgements.now) }
 {
     let entries = trace.len();
-    let check = EntryCheck {
+    let check = JudgedCheck {
         trace,
-        evidence,
+        judgements,
         entries,
     };
     let slices = cut(alloc, entries, size)?;
@@ -153,20 +189,21 @@ pub(crate) fn gathered(
     Ok(findings)
 }
 
-/// The findings on each entry, in line order and by their numbers, by several workers.
+/// The findings on each entry, in line order and by their numbers, by several workers, where each entry is judged so.
 fn findings_by<R: Threads + Wait + Sync>(
     rt: &R,
     alloc: Global,
     trace: &Trace,
-    evidence: &Evidence,
+    judgements: &[Judged],
     workers: usize,
     size: usize,
 ) -> Result<Vec<Finding>, AllocError>
     requires workers { (0 < workers) × (workers ≤ 16) }
     requires size { 0 < size }
-    ensures { IfOk result (λ v. v.items ≡ findings_of trace.now (evidence_value evidence.now)) }
+    ensures { (given : List (Option (List StepValue))) → AreJudged trace.now given judgements.now
+        → IfOk result (λ v. v.items ≡ findings_of trace.now given) }
 {
-    let reports = found_by::<Brand, R>(rt, alloc, trace, evidence, workers, size)?;
+    let reports = found_by::<Brand, R>(rt, alloc, trace, judgements, workers, size)?;
     gathered(alloc, reports.as_slice())
 }
 
@@ -197,11 +234,11 @@ impl<'r, B: Source, R: Threads + Wait + Sync> Finder<B> for Workers<'r, R> {
         trace: &Trace,
         evidence: &mut B,
     ) -> Result<Vec<Finding>, AuditFault> {
-        let evidence = match evidence_from(alloc, evidence, trace) {
-            Ok(evidence) => evidence,
+        let judgements = match judgements_by(self.rt, alloc, evidence, trace, self.workers) {
+            Ok(judgements) => judgements,
             Err(fault) => return Err(fault),
         };
-        match findings_by(self.rt, alloc, trace, &evidence, self.workers, self.size) {
+        match findings_by(self.rt, alloc, trace, &judgements, self.workers, self.size) {
             Ok(findings) => Ok(findings),
             Err(_) => Err(AuditFault::OutOfMemory),
         }
@@ -209,8 +246,9 @@ impl<'r, B: Source, R: Threads + Wait + Sync> Finder<B> for Workers<'r, R> {
 }
 
 /// Audits a trace by its evidence as [`audit_plain`](crate::audit_plain) does, on 1 to 16 workers: the calling
-/// thread, and threads of their own. They share the entries, cut into slices of 1 to 4,096; the report stands in the
-/// order of the entries, whatever the schedule.
+/// thread, and threads of their own. They share the evidence, cut into blocks of lines as it is read, of which no record
+/// is kept, and then the entries, cut into slices of 1 to 4,096; the report stands in the order of the entries,
+/// whatever the schedule.
 ///
 /// `Limits` is answered where there are other numbers of workers or entries in a slice, and then nothing is read or
 /// written.

@@ -108,6 +108,14 @@ fn judged_at(judgements: &[Judged], i: usize) -> Judged
     }
 }
 
+/// What is found on entry `i`, from 0, where the entries are judged so. One beyond the judgements counts as `Missing`.
+pub fn found_judged(trace: &Trace, judgements: &[Judged], i: usize) -> [Option<What>; 7]
+    requires { i < length trace.now.entries }
+    ensures { (e : EntryValue) → slice_get trace.now.entries i ≡ Some e → result ≡ found_where trace.now (unwrap_or (slice_get judgements.now i) Missing) i e }
+{
+    found_where(trace, i, judged_at(judgements, i))
+}
+
 /// The findings on each entry, in line order and by their numbers, where each entry is judged so. One beyond the judgements counts as
 /// `Missing`. It is refused only where memory runs out.
 pub fn findings_judged(
@@ -119,12 +127,8 @@ pub fn findings_judged(
 {
     let mut findings = Vec::new(alloc);
     for i in 0..trace.len() {
-        let judged = judged_at(judgements, i);
-        push_found(
-            trace.entry(i).line,
-            &found_where(trace, i, judged),
-            &mut findings,
-        )?;
+        let found = found_judged(trace, judgements, i);
+        push_found(trace.entry(i).line, &found, &mut findings)?;
     }
     Ok(findings)
 }

@@ -22,5 +22,7 @@ mod entries;
 mod finding;
 pub mod laws;
 
-pub use entries::{findings_judged, findings_of, found_on, found_where, push_found, report_of};
+pub use entries::{
+    findings_judged, findings_of, found_judged, found_on, found_where, push_found, report_of,
+};
 pub use finding::{Finding, What, report_line};

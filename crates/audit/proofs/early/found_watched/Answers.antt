@@ -7,7 +7,7 @@ use Rattle.audit_slices.specs.Reports.{report_items}
 use Rattle.evidence_check.specs.Evidences.{evidence_value}
 use Rattle.audit.specs.Shared.{all_found}
 use Rattle.audit.proofs.SharedLemmas.{all_are_found}
-use Rattle.audit.proofs.TraceSync.{trace_sync}
+use Rattle.evidence_blocks.proofs.TraceSync.{trace_sync}
 use Rattle.audit.proofs.early.found_watched.Goals as goal
 
 pub returns-clause-found : goal.returns-clause-found

@@ -1,10 +1,8 @@
 use Rattle.std.proofs.Common.{◌≡◌}
-use Rattle.evidence_check.specs.Evidences.{evidence_value}
-use Rattle.audit.specs.Shared.{found_at, has_finding}
+use Rattle.audit.specs.Shared.{found_judged, has_finding}
 use Rattle.audit.proofs.shared.findings_by.Given as goal
 
--- what may be given to an entry is what is found on it in this trace, by this evidence
+-- what may be given to an entry is what is found on it in this trace, judged so
 abbrev pub ghosts-found_by : goal.ghosts-found_by
 ghosts-found_by g a =
-    record
-    { gives = λ entry found. found ≡ found_at a.trace.now (evidence_value a.evidence.now) entry; alerts = has_finding }
+    record { gives = λ entry found. found ≡ found_judged a.trace.now a.judgements.now entry; alerts = has_finding }

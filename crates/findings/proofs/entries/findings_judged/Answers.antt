@@ -12,6 +12,5 @@ loop-i-preserved c = λ evidence h.
     let t = c.args.trace.now in
     let e = entry_value c.entry.result.now in
     let at = c.entry.ensures.value in
-    let so = c.judged_at-judged.ensures ∙ ap (λ (o : Option Judged). unwrap_or o Missing) (h.1 c.loop-i.i e at) in
-    let found = c.found_where.ensures e at ∙ ap (λ (j : Judged). found_where t j c.loop-i.i e) so in
-    one_more t evidence c.loop-i.i e c.loop-i.findings.items c.push_found.new.findings.items (findings_of t evidence) c.found_where.result at found c.in_ok-push_found.ensures.pushes (c.loop-i.invariant evidence h)
+    let found = c.found_judged-found.ensures e at ∙ ap (λ (o : Option Judged). found_where t (unwrap_or o Missing) c.loop-i.i e) (h.1 c.loop-i.i e at) in
+    one_more t evidence c.loop-i.i e c.loop-i.findings.items c.push_found.new.findings.items (findings_of t evidence) c.found_judged-found.result at found c.in_ok-push_found.ensures.pushes (c.loop-i.invariant evidence h)
