@@ -1,7 +1,7 @@
 //! The audit by several workers, who share the entries.
 
-ghost use Rattle.std.specs.Prelude.{◌≡◌, ◌↔◌, ◌<◌, ◌≤◌, ◌^◌, [], ◌∷◌, ◌++◌, ℕ, List, Option, length, true, false, Err, IfOk, IfErr, OnOk, is_some};
-ghost use Rattle.std.specs.List.{flat_map, list_any};
+ghost use Rattle.std.specs.Prelude.{◌≡◌, ◌↔◌, ◌<◌, ◌≤◌, ◌^◌, [], ◌∷◌, ◌++◌, ℕ, List, Option, length, true, false, Err, IfOk, IfErr, IfSome, OnOk, is_some};
+ghost use Rattle.std.specs.List.{AllZip, flat_map, list_any, range_with_len};
 ghost use Rattle.audit_slices.specs.Board.{IsNamedBy};
 ghost use Rattle.audit_slices.specs.Reports.{report_items};
 ghost use Rattle.evidence_check.specs.Evidences.{evidence_value};
@@ -16,7 +16,9 @@ ghost use Rattle.findings.specs.Findings.{findings_of};
 use crate::finder::Finder;
 use crate::plain::{AuditFault, Verdict, audit_plain, audit_with};
 use crate::reading::evidence_from;
-use audit_slices::{Blind, Board, Check, Free, MOST_WORKERS, Names, SliceReport, cut, run_pool};
+use audit_slices::{
+    Blind, Board, Check, Free, MOST_WORKERS, Names, SliceReport, Watch, cut, run_pool,
+};
 use evidence_check::Evidence;
 use findings::{Finding, What, found_on, push_found};
 use json_lines::{Sink, Source};
@@ -29,13 +31,30 @@ use trace_lines::Trace;
 /// The most entries that a slice has.
 pub const LARGEST_SLICE: usize = 4096;
 
-/// Whether so many workers, and slices of so many entries, may be asked for.
-pub(crate) fn are_within_limits(workers: usize, slice: usize) -> bool
-    ensures value { result ≡ are_within_limits workers slice }
-    ensures workers { result ≡ true → (0 < workers) × (workers ≤ 16) }
-    ensures slice { result ≡ true → 0 < slice }
-{
-    (1 <= workers && workers <= MOST_WORKERS) && (1 <= slice && slice <= LARGEST_SLICE)
+/// The workers that share the entries, the calling thread among them, and how many entries each takes at a time.
+#[derive(Clone, Copy)]
+pub(crate) struct Crew {
+    pub(crate) workers: usize,
+    pub(crate) slice: usize,
+    ghost some: { 0 < workers },
+    ghost few: { workers ≤ 16 },
+    ghost filled: { 0 < slice },
+}
+
+impl Crew {
+    ghost use Rattle.audit.specs.Shared.{are_within_limits};
+
+    /// None where there are too few or too many of either.
+    pub(crate) fn within_limits(workers: usize, slice: usize) -> Option<Crew>
+        ensures limits { is_some result ≡ are_within_limits workers slice }
+        ensures same { IfSome result (λ crew. (crew.workers ≡ workers) × (crew.slice ≡ slice)) }
+    {
+        if 1 <= workers && workers <= MOST_WORKERS && 1 <= slice && slice <= LARGEST_SLICE {
+            Some(Crew { workers, slice })
+        } else {
+            None
+        }
+    }
 }
 
 /// What is found on an entry, by the findings' numbers, and the line that the entry stands on.
@@ -96,20 +115,46 @@ impl Names<Found> for Brand {
     ghost alerts = { λ _. false };
 }
 
-/// What is found on each entry, in slices.
-fn found_by<N: Names<Found> + Sync, R: Threads + Wait + Sync>(
+/// What a check says of each entry, by a crew whose alerts go to a board and from there to a watch.
+pub(crate) fn reports_by<
+    C: Check<Report = Found> + Sync,
+    N: Names<Found> + Sync,
+    W: Watch<Found, N>,
+    R: Threads + Wait + Sync,
+>(
+    rt: &R,
+    alloc: Global,
+    check: &C,
+    entries: usize,
+    crew: Crew,
+    board: Option<&Board<Found, N>>,
+    watch: &mut W,
+) -> Result<Vec<SliceReport<Found>>, AllocError>
+    requires entries { entries ≡ C.entries check.now }
+    requires names { IsNamedBy (C.gives check.now) (C.raises check.now) N.gives N.alerts }
+    ensures all { IfOk result
+        (λ v. AllZip (C.gives check.now) (range_with_len 0 entries) (flat_map report_items v.items)) }
+    ensures mark { W.mark watch.new ≡ W.mark watch.old }
+{
+    let slices = cut(alloc, entries, crew.slice)?;
+    run_pool(rt, alloc, check, &Free, board, watch, slices, crew.workers)
+}
+
+/// What is found on each entry, in slices, while a watch is shown it.
+pub(crate) fn found_by<N: Names<Found> + Sync, W: Watch<Found, N>, R: Threads + Wait + Sync>(
     rt: &R,
     alloc: Global,
     trace: &Trace,
     evidence: &Evidence,
-    workers: usize,
-    size: usize,
+    crew: Crew,
+    board: Option<&Board<Found, N>>,
+    watch: &mut W,
 ) -> Result<Vec<SliceReport<Found>>, AllocError>
-    requires workers { (0 < workers) × (workers ≤ 16) }
-    requires size { 0 < size }
-    requires names { IsNamedBy (λ entry found. found ≡ found_at trace.now (evidence_value evidence.now) entry)
+    requires { IsNamedBy (λ entry found. found ≡ found_at trace.now (evidence_value evidence.now) entry)
         has_finding N.gives N.alerts }
-    ensures { IfOk result (λ v. flat_map report_items v.items ≡ all_found trace.now (evidence_value evidence.now)) }
+    ensures found { IfOk result
+        (λ v. flat_map report_items v.items ≡ all_found trace.now (evidence_value evidence.now)) }
+    ensures mark { W.mark watch.new ≡ W.mark watch.old }
 {
     let entries = trace.len();
     let check = EntryCheck {
@@ -117,16 +162,30 @@ fn found_by<N: Names<Found> + Sync, R: Threads + Wait + Sync>(
         evidence,
         entries,
     };
-    let slices = cut(alloc, entries, size)?;
-    run_pool(
+    reports_by(rt, alloc, &check, entries, crew, board, watch)
+}
+
+/// What is found on each entry, in slices.
+fn found_unseen<N: Names<Found> + Sync, R: Threads + Wait + Sync>(
+    rt: &R,
+    alloc: Global,
+    trace: &Trace,
+    evidence: &Evidence,
+    crew: Crew,
+) -> Result<Vec<SliceReport<Found>>, AllocError>
+    requires { IsNamedBy (λ entry found. found ≡ found_at trace.now (evidence_value evidence.now) entry)
+        has_finding N.gives N.alerts }
+    ensures { IfOk result (λ v. flat_map report_items v.items ≡ all_found trace.now (evidence_value evidence.now)) }
+{
+    let no_board: Option<Board<Found, N>> = None;
+    found_by(
         rt,
         alloc,
-        &check,
-        &Free,
-        None::<&Board<Found, N>>,
+        trace,
+        evidence,
+        crew,
+        no_board.as_ref(),
         &mut Blind,
-        slices,
-        workers,
     )
 }
 
@@ -159,26 +218,19 @@ fn findings_by<R: Threads + Wait + Sync>(
     alloc: Global,
     trace: &Trace,
     evidence: &Evidence,
-    workers: usize,
-    size: usize,
+    crew: Crew,
 ) -> Result<Vec<Finding>, AllocError>
-    requires workers { (0 < workers) × (workers ≤ 16) }
-    requires size { 0 < size }
     ensures { IfOk result (λ v. v.items ≡ findings_of trace.now (evidence_value evidence.now)) }
 {
-    let reports = found_by::<Brand, R>(rt, alloc, trace, evidence, workers, size)?;
+    let reports = found_unseen::<Brand, R>(rt, alloc, trace, evidence, crew)?;
     gathered(alloc, reports.as_slice())
 }
 
-/// Workers who share the entries, in slices of one size.
+/// A crew finds them.
 #[derive(Drop)]
 struct Workers<'r, R: Threads + Wait + Sync> {
     rt: &'r R,
-    workers: usize,
-    size: usize,
-    ghost some: { 0 < workers },
-    ghost few: { workers ≤ 16 },
-    ghost filled: { 0 < size },
+    crew: Crew,
 }
 
 impl<'r, B: Source, R: Threads + Wait + Sync> Finder<B> for Workers<'r, R> {
@@ -201,7 +253,7 @@ impl<'r, B: Source, R: Threads + Wait + Sync> Finder<B> for Workers<'r, R> {
             Ok(evidence) => evidence,
             Err(fault) => return Err(fault),
         };
-        match findings_by(self.rt, alloc, trace, &evidence, self.workers, self.size) {
+        match findings_by(self.rt, alloc, trace, &evidence, self.crew) {
             Ok(findings) => Ok(findings),
             Err(_) => Err(AuditFault::OutOfMemory),
         }
@@ -231,16 +283,12 @@ pub fn audit<A: Source, B: Source, W: Sink, R: Threads + Wait + Sync>(
     ensures unread { result ≡ Err faults.Limits →
         (trace.new ≡ trace.old) × (evidence.new ≡ evidence.old) × (out.new ≡ out.old) }
 {
-    if !are_within_limits(workers, slice) {
+    let Some(crew) = Crew::within_limits(workers, slice) else {
         return Err(AuditFault::Limits);
-    }
-    if workers == 1 {
+    };
+    if crew.workers == 1 {
         return audit_plain(alloc, trace, evidence, out);
     }
-    let mut finder = Workers {
-        rt,
-        workers,
-        size: slice,
-    };
+    let mut finder = Workers { rt, crew };
     audit_with(alloc, trace, evidence, out, &mut finder)
 }
