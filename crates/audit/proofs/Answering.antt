@@ -26,13 +26,10 @@ use Rattle.audit.specs.declared.plain.Verdict.{Verdict}
 use Rattle.audit.specs.declared.plain.Verdict.TheVariants.{Clean}
 use Rattle.audit.specs.declared.plain.AuditFault.{AuditFault}
 use Rattle.audit.specs.declared.plain.AuditFault.TheVariants as faults
-use Rattle.audit.proofs.KindLemmas.{one_of-more, never_answered}
+use Rattle.audit.proofs.KindLemmas.{one_of-more, never_answered, never_kind, same_fault}
 use Rattle.audit.proofs.Readers.{of_all-map, few_at_rest, next_at_rest, behind_at_rest, refused_evidence, cut_evidence, on_both, devices_of_reading, devices_of_writing, unwritten_without_device, answered_clean}
 
 -- ---- what is told
-
-fault_same : {V : Type 0} (e f : AuditFault) → ◌≡◌ {A = Result V AuditFault} (Err e) (Err f) → e ≡ f
-fault_same e f is = cc
 
 pub told_no_memory : {V : Type 0} (Says : List ℕ → V → Type 0) (w : Writer)
     → Told Says (record { before = w; after = w }) (Err faults.OutOfMemory)
@@ -109,7 +106,7 @@ module _ (t : TraceValue) (r : Reading) where
   evidence_stopped {V} Says fault e refused cut most known failed kept told device kinds =
       let same =
       λ (f : EvidenceFault) (is : ◌≡◌ {A = Result V AuditFault} (Err e) (Err (faults.Evidence f))). told f
-      (fault_same {V = V} e (faults.Evidence f) is) in
+      (cc (is)) in
       record {
         given = tt;
         refused =
@@ -153,11 +150,11 @@ module _ (t : TraceValue) (r : Reading) where
     read_fault e h =
         record {
           given = tt;
-          refused = λ f is. h.refused f (ap (λ (y : AuditFault). Err y) (fault_same {V = X} e (faults.Evidence f) is));
-          cut = λ f is. h.cut f (ap (λ (y : AuditFault). Err y) (fault_same {V = X} e (faults.Evidence f) is));
+          refused = λ f is. h.refused f (same_fault e (faults.Evidence f) is);
+          cut = λ f is. h.cut f (same_fault e (faults.Evidence f) is);
           most = h.most;
           known = h.known;
-          failed = λ f is. h.failed f (ap (λ (y : AuditFault). Err y) (fault_same {V = X} e (faults.Evidence f) is));
+          failed = λ f is. h.failed f (same_fault e (faults.Evidence f) is);
           kept = tt;
           unfailed = h.unfailed;
           kinds = h.kinds;
@@ -188,22 +185,20 @@ trace_not_read {V} Tells Breaks trace w e read =
       told = tt;
       flushed = tt;
       trace_refused =
-          λ f is. read.refused f (ap (λ (x : AuditFault). Err x) (fault_same {V = V} e (faults.Trace f) is));
-      trace_cut = λ f is. read.cut f (ap (λ (x : AuditFault). Err x) (fault_same {V = V} e (faults.Trace f) is));
+          λ f is. read.refused f (same_fault e (faults.Trace f) is);
+      trace_cut = λ f is. read.cut f (same_fault e (faults.Trace f) is);
       write =
-          λ n is. absurd
-          (never_answered {V = V} (kind.trace ∷ kind.memory ∷ []) (Err e) (faults.Write n) refl read.kinds is);
+          λ n is. never_answered (kind.trace ∷ kind.memory ∷ []) e (faults.Write n) refl read.kinds is;
       unwritten = λ is. refl;
       most = read.most;
       known = read.known;
       held = behind_at_rest w;
       devices =
-          devices_of_reading e _ ⊥ _
+          devices_of_reading e ⊥ _ ⊥ _
           (one_of-more (kind.trace ∷ kind.memory ∷ []) (kind.trace ∷ kind.evidence ∷ kind.memory ∷ []) refl e
           read.kinds)
           (λ f is. read.failed f (ap (λ (x : AuditFault). Err x) is))
-          (λ f is read_fails. never_answered {V = V} (kind.trace ∷ kind.memory ∷ []) (Err e) (faults.Evidence f) refl
-          read.kinds (ap (λ (x : AuditFault). Err x) is));
+          (λ f is read_fails. never_kind (kind.trace ∷ kind.memory ∷ []) e (faults.Evidence f) refl read.kinds is);
       kept = tt;
       unfailed = λ none. (read.unfailed none, (refl, refl));
     }
@@ -247,11 +242,9 @@ tells_of {V} Tells Breaks Says trace out t (Err e) read told tells breaks =
       told = tt;
       flushed = tt;
       trace_refused =
-          λ f is. absurd
-          (never_answered {V = V} (kind.write ∷ kind.memory ∷ []) (Err e) (faults.Trace f) refl told.kinds is);
+          λ f is. never_answered (kind.write ∷ kind.memory ∷ []) e (faults.Trace f) refl told.kinds is;
       trace_cut =
-          λ f is. absurd
-          (never_answered {V = V} (kind.write ∷ kind.memory ∷ []) (Err e) (faults.Trace f) refl told.kinds is);
+          λ f is. never_answered (kind.write ∷ kind.memory ∷ []) e (faults.Trace f) refl told.kinds is;
       write = λ n is.
           let h = told.write n is in
           of_all-map trace (λ a. trace_of true a ≡ Ok t) (λ a. Breaks a out n)
@@ -260,7 +253,7 @@ tells_of {V} Tells Breaks Says trace out t (Err e) read told tells breaks =
       most = read.most;
       known = read.known;
       held = told.held;
-      devices = devices_of_writing {V = V} (Err e) _ ⊥ _ told.kinds told.failed;
+      devices = devices_of_writing {V = V} (Err e) ⊥ _ ⊥ _ told.kinds told.failed;
       kept = tt;
       unfailed = λ none. (read.kept, told.unfailed (unwritten_without_device e none));
     }
@@ -285,9 +278,9 @@ tells_fault {V} {X} Tells Also Breaks trace out e h =
       told = tt;
       flushed = tt;
       trace_refused =
-          λ f is. h.trace_refused f (ap (λ (x : AuditFault). Err x) (fault_same {V = X} e (faults.Trace f) is));
-      trace_cut = λ f is. h.trace_cut f (ap (λ (x : AuditFault). Err x) (fault_same {V = X} e (faults.Trace f) is));
-      write = λ n is. h.write n (ap (λ (x : AuditFault). Err x) (fault_same {V = X} e (faults.Write n) is));
+          λ f is. h.trace_refused f (same_fault e (faults.Trace f) is);
+      trace_cut = λ f is. h.trace_cut f (same_fault e (faults.Trace f) is);
+      write = λ n is. h.write n (same_fault e (faults.Write n) is);
       unwritten = h.unwritten;
       most = h.most;
       known = h.known;
@@ -323,37 +316,29 @@ tells_at_rest Tells Breaks a w =
 pub audited_no_trace : (trace : Reading) (b : Reader) (w : Writer) (e : AuditFault) → TraceRead trace (Err e)
     → Audited trace (record { before = b; after = b }) (record { before = w; after = w }) (Err e)
 audited_no_trace trace b w e read =
-    let same =
-    λ (f : AuditFault) (is : ◌≡◌ {A = Result Verdict AuditFault} (Err e) (Err f)). fault_same {V = Verdict} e f is
-    in
     record {
       audits = tt;
       flushed = tt;
       headline = λ is. absurd (cc (is));
       wrong_replies = tt;
-      trace_refused = λ f is. read.refused f (ap (λ (x : AuditFault). Err x) (same (faults.Trace f) is));
-      trace_cut = λ f is. read.cut f (ap (λ (x : AuditFault). Err x) (same (faults.Trace f) is));
+      trace_refused = λ f is. read.refused f (same_fault e (faults.Trace f) is);
+      trace_cut = λ f is. read.cut f (same_fault e (faults.Trace f) is);
       evidence_refused =
-          λ f is. absurd
-          (never_answered {V = Verdict} (kind.trace ∷ kind.memory ∷ []) (Err e) (faults.Evidence f) refl read.kinds is);
+          λ f is. never_answered (kind.trace ∷ kind.memory ∷ []) e (faults.Evidence f) refl read.kinds is;
       evidence_cut =
-          λ f is. absurd
-          (never_answered {V = Verdict} (kind.trace ∷ kind.memory ∷ []) (Err e) (faults.Evidence f) refl read.kinds is);
+          λ f is. never_answered (kind.trace ∷ kind.memory ∷ []) e (faults.Evidence f) refl read.kinds is;
       write =
-          λ n is. absurd
-          (never_answered {V = Verdict} (kind.trace ∷ kind.memory ∷ []) (Err e) (faults.Write n) refl read.kinds is);
+          λ n is. never_answered (kind.trace ∷ kind.memory ∷ []) e (faults.Write n) refl read.kinds is;
       unwritten = λ is. refl;
       most = (read.most, few_at_rest b);
       known = (read.known, next_at_rest b);
       held = behind_at_rest w;
       devices =
-          devices_of_reading e _ _ _
+          devices_of_reading e ⊥ _ _ _
           (one_of-more (kind.trace ∷ kind.memory ∷ []) (kind.trace ∷ kind.evidence ∷ kind.memory ∷ []) refl e
           read.kinds)
           (λ f is. read.failed f (ap (λ (x : AuditFault). Err x) is))
-          (λ f is read_fails. absurd
-          (never_answered {V = Verdict} (kind.trace ∷ kind.memory ∷ []) (Err e) (faults.Evidence f) refl
-          read.kinds (ap (λ (x : AuditFault). Err x) is)));
+          (λ f is read_fails. never_kind (kind.trace ∷ kind.memory ∷ []) e (faults.Evidence f) refl read.kinds is);
       kept = tt;
       unfailed = λ none. (read.unfailed none, refl, (refl, refl));
     }
@@ -363,43 +348,32 @@ pub audited_no_evidence : {V : Type 0} (Says : List (Option (List StepValue)) �
     (w : Writer) (t : TraceValue) (e : AuditFault) → TraceRead trace (Ok t)
     → EvidenceRead Says t evidence (Err e) → Audited trace evidence (record { before = w; after = w }) (Err e)
 audited_no_evidence Says trace evidence w t e read given =
-    let same =
-    λ (f : AuditFault) (is : ◌≡◌ {A = Result Verdict AuditFault} (Err e) (Err f)). fault_same {V = Verdict} e f is
-    in
     record {
       audits = tt;
       flushed = tt;
       headline = λ is. absurd (cc (is));
       wrong_replies = tt;
       trace_refused =
-          λ f is. absurd
-          (never_answered {V = Verdict} (kind.evidence ∷ kind.memory ∷ []) (Err e) (faults.Trace f) refl given.kinds
-          is);
+          λ f is. never_answered (kind.evidence ∷ kind.memory ∷ []) e (faults.Trace f) refl given.kinds is;
       trace_cut =
-          λ f is. absurd
-          (never_answered {V = Verdict} (kind.evidence ∷ kind.memory ∷ []) (Err e) (faults.Trace f) refl given.kinds
-          is);
+          λ f is. never_answered (kind.evidence ∷ kind.memory ∷ []) e (faults.Trace f) refl given.kinds is;
       evidence_refused =
           λ f is. refused_evidence trace evidence t read.given f
-          (given.refused f (ap (λ (x : AuditFault). Err x) (same (faults.Evidence f) is)));
+          (given.refused f (same_fault e (faults.Evidence f) is));
       evidence_cut =
           λ f is cut. cut_evidence trace evidence t read.given f
-          (given.cut f (ap (λ (x : AuditFault). Err x) (same (faults.Evidence f) is)) cut);
+          (given.cut f (same_fault e (faults.Evidence f) is) cut);
       write =
-          λ n is. absurd
-          (never_answered {V = Verdict} (kind.evidence ∷ kind.memory ∷ []) (Err e) (faults.Write n) refl given.kinds
-          is);
+          λ n is. never_answered (kind.evidence ∷ kind.memory ∷ []) e (faults.Write n) refl given.kinds is;
       unwritten = λ is. refl;
       most = (read.most, given.most);
       known = (read.known, given.known);
       held = behind_at_rest w;
       devices =
-          devices_of_reading e _ _ _
+          devices_of_reading e ⊥ _ _ _
           (one_of-more (kind.evidence ∷ kind.memory ∷ []) (kind.trace ∷ kind.evidence ∷ kind.memory ∷ []) refl e
           given.kinds)
-          (λ f is read_fails. absurd
-          (never_answered {V = Verdict} (kind.evidence ∷ kind.memory ∷ []) (Err e) (faults.Trace f) refl
-          given.kinds (ap (λ (x : AuditFault). Err x) is)))
+          (λ f is read_fails. never_kind (kind.evidence ∷ kind.memory ∷ []) e (faults.Trace f) refl given.kinds is)
           (λ f is. given.failed f (ap (λ (x : AuditFault). Err x) is));
       kept = tt;
       unfailed = λ none. (read.kept, given.unfailed none, (refl, refl));
@@ -452,17 +426,13 @@ audited trace evidence out t found (Err e) read by law told =
       headline = λ is. absurd (cc (is));
       wrong_replies = tt;
       trace_refused =
-          λ f is. absurd
-          (never_answered {V = Verdict} (kind.write ∷ kind.memory ∷ []) (Err e) (faults.Trace f) refl told.kinds is);
+          λ f is. never_answered (kind.write ∷ kind.memory ∷ []) e (faults.Trace f) refl told.kinds is;
       trace_cut =
-          λ f is. absurd
-          (never_answered {V = Verdict} (kind.write ∷ kind.memory ∷ []) (Err e) (faults.Trace f) refl told.kinds is);
+          λ f is. never_answered (kind.write ∷ kind.memory ∷ []) e (faults.Trace f) refl told.kinds is;
       evidence_refused =
-          λ f is. absurd
-          (never_answered {V = Verdict} (kind.write ∷ kind.memory ∷ []) (Err e) (faults.Evidence f) refl told.kinds is);
+          λ f is. never_answered (kind.write ∷ kind.memory ∷ []) e (faults.Evidence f) refl told.kinds is;
       evidence_cut =
-          λ f is. absurd
-          (never_answered {V = Verdict} (kind.write ∷ kind.memory ∷ []) (Err e) (faults.Evidence f) refl told.kinds is);
+          λ f is. never_answered (kind.write ∷ kind.memory ∷ []) e (faults.Evidence f) refl told.kinds is;
       write = λ n is.
           let h = told.write n is in
           on_both trace evidence t read.given (λ a b. Breaks a b out n) given by.given.2
@@ -471,7 +441,7 @@ audited trace evidence out t found (Err e) read by law told =
       most = (read.most, by.most);
       known = (read.known, by.known);
       held = told.held;
-      devices = devices_of_writing {V = Verdict} (Err e) _ _ _ told.kinds told.failed;
+      devices = devices_of_writing {V = Verdict} (Err e) ⊥ _ _ _ told.kinds told.failed;
       kept = tt;
       unfailed = λ none. (read.kept, by.kept, told.unfailed (unwritten_without_device e none));
     }

@@ -38,12 +38,22 @@ pub kinds-more : {V : Type 0} (ks ms : List Kind) → list_all (is_among ms) ks 
     → IfErr r (IsOneOf ks) → IfErr r (IsOneOf ms)
 kinds-more ks ms all r h = IfErr-weaker r (IsOneOf ks) (IsOneOf ms) (one_of-more ks ms all) h
 
--- a call answers no fault of another kind
-pub never_answered : {V : Type 0} (ks : List Kind) (r : Result V AuditFault) (e : AuditFault)
-    → is_among ks (kind_of e) ≡ false → IfErr r (IsOneOf ks) → r ≡ Err e → ⊥
-never_answered {V} ks r e none of is =
-    let h = subst (λ (x : Result V AuditFault). IfErr x (IsOneOf ks)) is of in
+-- a fault is the same, whatever would be answered else
+pub same_fault : {V X : Type 0} (e f : AuditFault) → ◌≡◌ {A = Result V AuditFault} (Err e) (Err f)
+    → ◌≡◌ {A = Result X AuditFault} (Err e) (Err f)
+same_fault e f is = cc (is)
+
+-- a fault is of no other kind
+pub never_kind : {X : Type 0} (ks : List Kind) (e f : AuditFault) → is_among ks (kind_of f) ≡ false → IsOneOf ks e
+    → e ≡ f → X
+never_kind ks e f none of is =
+    let h = subst (λ (x : AuditFault). IsOneOf ks x) is of in
     absurd (cc (h.0, none))
+
+-- a call answers no fault of another kind
+pub never_answered : {V X : Type 0} (ks : List Kind) (e f : AuditFault) → is_among ks (kind_of f) ≡ false
+    → IsOneOf ks e → ◌≡◌ {A = Result V AuditFault} (Err e) (Err f) → X
+never_answered ks e f none of is = never_kind ks e f none of (cc (is))
 
 -- of the faults of writing
 pub of_writing : (P : AuditFault → Type 0) → P faults.OutOfMemory → ((n : ℕ) → P (faults.Write n))

@@ -78,23 +78,23 @@ module _ (trace evidence : Reading) (t : TraceValue) (says : OfAll trace (λ a. 
       h) says
 
 -- a fault of reading is of the reader that failed, or of no device
-pub devices_of_reading : (e : AuditFault) (trace evidence out : Type 0)
+pub devices_of_reading : (e : AuditFault) (input trace evidence out : Type 0)
     → IsOneOf (kind.trace ∷ kind.evidence ∷ kind.memory ∷ []) e
     → ((f : TraceFault) → e ≡ faults.Trace f → f.cause ≡ causes.Read → trace)
     → ((f : EvidenceFault) → e ≡ faults.Evidence f → f.cause ≡ evidence_causes.Read → evidence)
-    → BlamesOnly ⊥ trace evidence out e
-devices_of_reading (faults.Trace f) trace evidence out of by_trace by_evidence = by_trace f refl
-devices_of_reading (faults.Evidence f) trace evidence out of by_trace by_evidence = by_evidence f refl
-devices_of_reading faults.OutOfMemory trace evidence out of by_trace by_evidence = tt
-devices_of_reading _ trace evidence out of by_trace by_evidence = absurd (cc (of.0))
+    → BlamesOnly input trace evidence out e
+devices_of_reading (faults.Trace f) input trace evidence out of by_trace by_evidence = by_trace f refl
+devices_of_reading (faults.Evidence f) input trace evidence out of by_trace by_evidence = by_evidence f refl
+devices_of_reading faults.OutOfMemory input trace evidence out of by_trace by_evidence = tt
+devices_of_reading _ input trace evidence out of by_trace by_evidence = absurd (cc (of.0))
 
 -- writing fails by the writer, and else where memory runs out
-pub devices_of_writing : {V : Type 0} (r : Result V AuditFault) (trace evidence out : Type 0)
+pub devices_of_writing : {V : Type 0} (r : Result V AuditFault) (input trace evidence out : Type 0)
     → IfErr r (IsOneOf (kind.write ∷ kind.memory ∷ [])) → IfErr r (λ e. IsWrite e → out)
-    → IfErr r (BlamesOnly ⊥ trace evidence out)
-devices_of_writing (Ok v) trace evidence out of at = tt
-devices_of_writing (Err e) trace evidence out of at =
-    of_writing (λ (x : AuditFault). (IsWrite x → out) → BlamesOnly ⊥ trace evidence out x)
+    → IfErr r (BlamesOnly input trace evidence out)
+devices_of_writing (Ok v) input trace evidence out of at = tt
+devices_of_writing (Err e) input trace evidence out of at =
+    of_writing (λ (x : AuditFault). (IsWrite x → out) → BlamesOnly input trace evidence out x)
     (λ write. tt) (λ n write. write tt) e of at
 
 pub unwritten_without_device : (e : AuditFault) → BlamesNoDevice e → IsUnwritten e

@@ -1,8 +1,17 @@
--- The two parts of joined input.
-use Rattle.std.specs.Prelude.{◌≡◌, ℕ, ◌+◌, ◌^◌, ◌<◌, ◌≤◌, ◌⊎◌, true, List, length, None, Some}
-use Rattle.json_lines.specs.Joined.{ends_left, joined_of, IsTaken, RestValue}
-use Rattle.json_lines.specs.declared.lines.InputFault.{InputFault}
-use Rattle.json_lines.specs.declared.lines.InputFault.TheVariants.{Read, TooLong, OutOfMemory}
+-- Joined input: its two parts, and what an audit of them answers.
+use Rattle.std.specs.Prelude.{◌≡◌, ◌≢◌, ℕ, ◌+◌, ◌^◌, ◌<◌, ◌≤◌, ◌⊎◌, List, [], ◌∷◌, length, None, Some, Result, Ok, Err, IfOk, IfErr, OnOk}
+use Rattle.json_lines.specs.Joined.{joined_of}
+use Rattle.trace_lines.specs.declared.cause.TraceFault.{TraceFault}
+use Rattle.evidence_check.specs.declared.cause.EvidenceFault.{EvidenceFault}
+use Rattle.findings.specs.Headline.{IsTraceRightAndFresh}
+use Rattle.findings.specs.WrongReplies.{NamesOnlyWrongReplies}
+use Rattle.audit.specs.Audit.{Audits, Breaks, RefusesTrace, RefusesEvidence, BlamesOnly, IsUnwritten}
+use Rattle.audit.specs.Devices.{Reading, Writing, OfAll, OfAny, GivesFew, GivesNext}
+use Rattle.audit.specs.Devices.{ReaderFailed, ReaderNeverFailed, WriterFailed, WriterNeverFailed, IsUntouched, StandsBehind}
+use Rattle.audit.specs.Kinds.{IsOneOf}
+use Rattle.audit.specs.Kinds as kind
+use Rattle.audit.specs.declared.plain.Verdict.{Verdict}
+use Rattle.audit.specs.declared.plain.Verdict.TheVariants.{Clean}
 use Rattle.audit.specs.declared.plain.AuditFault.{AuditFault}
 use Rattle.audit.specs.declared.plain.AuditFault.TheVariants as faults
 
@@ -14,14 +23,39 @@ OfParts P input = (a : List ℕ) × (b : List ℕ) × (joined_of input ≡ Some 
 abbrev pub HasNoParts : List ℕ → Type 0
 HasNoParts input = (joined_of input ≡ None) ⊎ (2 ^ 30 < length input)
 
--- what stands behind the marker was read to the reader's end, and that holds of it
-abbrev pub IsRead : {R : Type 0} → (R → List ℕ) → (R → ℕ) → R → R → RestValue → (List ℕ → Type 0) → Type 0
-IsRead given ends old new rest P =
-    IsTaken (given old) (given new) rest.at_hand (λ b. (length b ≤ rest.room) × P b)
-    × (ends new ≡ ends old + ends_left rest.ended) × (rest.ended ≡ true → given new ≡ given old)
+-- it holds of the two parts of the whole input
+abbrev pub OfBothParts : Reading → (List ℕ → List ℕ → Type 0) → Type 0
+OfBothParts input P = OfAll input (OfParts P)
 
--- what joined input is refused for as a whole
-abbrev pub of_input : InputFault → AuditFault
-of_input Read = faults.Input
-of_input TooLong = faults.Joined
-of_input OutOfMemory = faults.OutOfMemory
+-- An audit of joined input: the report is on what its two parts say.
+pub record AuditedJoined (input : Reading) (out : Writing) (result : Result Verdict AuditFault) : Type 0 where
+  -- the report on the whole input, to the reader's end, went out whole, and the verdict is its last line
+  pub audits : IfOk result (λ v. OfBothParts input (λ a b. Audits a b out.before.taken out.after.taken v))
+  pub flushed : OnOk result (out.after.flushes ≡ out.before.flushes + 1)
+  -- a clean verdict says what it says of `Audited`
+  pub headline : result ≡ Ok Clean → OfBothParts input (λ a b. IsTraceRightAndFresh a)
+  -- whatever the verdict: a reply that a finding F10 calls wrong is wrong
+  pub wrong_replies : OnOk result (OfBothParts input NamesOnlyWrongReplies)
+  -- of the whole input: a refused trace is told once the reader is at its end
+  pub trace_refused : (f : TraceFault) → result ≡ Err (faults.Trace f) → OfBothParts input (λ a b. RefusesTrace a f)
+  pub evidence_refused : (f : EvidenceFault) → result ≡ Err (faults.Evidence f)
+      → OfBothParts input (λ a b. RefusesEvidence a b f)
+  -- of every input that begins with the bytes that came
+  pub joined : result ≡ Err faults.Joined → OfAny input HasNoParts
+  -- the first n bytes went out, and no others; where these are all, a flush failed, and else none was asked for
+  pub write : (n : ℕ) → result ≡ Err (faults.Write n) → OfBothParts input (λ a b. Breaks a b out n)
+  -- under any other fault nothing was written
+  pub unwritten : IfErr result (λ e. IsUnwritten e → IsUntouched out)
+  -- also of a reader that never ends
+  pub most : GivesFew input
+  -- of devices in memory: what came is what the reader had left, and what went out stands behind what the writer held
+  pub known : GivesNext input
+  pub held : StandsBehind out
+  -- a device is blamed only where it failed, and any other answer comes only where it did not; of a part of joined
+  -- input the reader is never blamed
+  pub devices : IfErr result (BlamesOnly (ReaderFailed input) ⊥ ⊥ (WriterFailed out))
+  pub kept : result ≢ Err faults.Input → ReaderNeverFailed input
+  pub out_kept : OnOk result (WriterNeverFailed out)
+  pub out_unfailed : IfErr result (λ e. IsUnwritten e → WriterNeverFailed out)
+  pub kinds : IfErr result
+      (IsOneOf (kind.trace ∷ kind.evidence ∷ kind.write ∷ kind.memory ∷ kind.joined ∷ kind.input ∷ []))

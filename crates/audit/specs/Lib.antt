@@ -4,6 +4,7 @@ pub mod Devices
 pub mod Early
 pub mod History
 pub mod Joined
+pub mod JoinedParts
 pub mod Kinds
 pub mod Made
 pub mod MadeAudit

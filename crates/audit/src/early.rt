@@ -19,8 +19,8 @@ ghost use Rattle.findings.specs.Findings.{findings_of, on_line};
 use crate::finder::Finder;
 use crate::plain::{AuditFault, Verdict, audit_with};
 use crate::reading::evidence_from;
-use crate::shared::{EntryCheck, Found, are_within_limits, gathered};
-use audit_slices::{Alert, Board, Free, Names, SliceReport, Watch, cut, run_pool};
+use crate::shared::{Crew, Found, found_by, gathered};
+use audit_slices::{Alert, Board, Names, SliceReport, Watch};
 use evidence_check::Evidence;
 use findings::{Finding, report_line};
 use json_lines::{Sink, Source, send};
@@ -94,55 +94,14 @@ impl<'e, E: Sink, N: Names<Found> + Begun> Watch<Found, N> for Teller<'e, E, N> 
     }
 }
 
-/// What is found on each entry, in slices, while a watch is shown it.
-fn found_watched<N: Names<Found> + Sync, W: Watch<Found, N>, R: Threads + Wait + Sync>(
-    rt: &R,
-    alloc: Global,
-    trace: &Trace,
-    evidence: &Evidence,
-    watch: &mut W,
-    workers: usize,
-    size: usize,
-) -> Result<Vec<SliceReport<Found>>, AllocError>
-    requires workers { (0 < workers) × (workers ≤ 16) }
-    requires size { 0 < size }
-    requires names { IsNamedBy (λ entry found. found ≡ found_at trace.now (evidence_value evidence.now) entry)
-        has_finding N.gives N.alerts }
-    ensures found { IfOk result
-        (λ v. flat_map report_items v.items ≡ all_found trace.now (evidence_value evidence.now)) }
-    ensures mark { W.mark watch.new ≡ W.mark watch.old }
-{
-    let entries = trace.len();
-    let check = EntryCheck {
-        trace,
-        evidence,
-        entries,
-    };
-    let board: Board<Found, N> = Board::new(alloc)?;
-    let slices = cut(alloc, entries, size)?;
-    run_pool(
-        rt,
-        alloc,
-        &check,
-        &Free,
-        Some(&board),
-        watch,
-        slices,
-        workers,
-    )
-}
-
 fn found_early<N: Names<Found> + Begun + Sync, E: Sink, R: Threads + Wait + Sync>(
     rt: &R,
     alloc: Global,
     trace: &Trace,
     evidence: &Evidence,
     early: &mut E,
-    workers: usize,
-    size: usize,
+    crew: Crew,
 ) -> Result<Vec<SliceReport<Found>>, AllocError>
-    requires workers { (0 < workers) × (workers ≤ 16) }
-    requires size { 0 < size }
     requires names { IsNamedBy (λ entry found. found ≡ found_at trace.now (evidence_value evidence.now) entry)
         has_finding N.gives N.alerts }
     requires begun { N.begun ≡ state_of E.taken E.failures E.idle E.since early.old }
@@ -151,13 +110,14 @@ fn found_early<N: Names<Found> + Begun + Sync, E: Sink, R: Threads + Wait + Sync
     ensures early { (given_up : Bool) × ∥ WentOut (IsLineOf N.gives N.alerts) N.begun
         (state_of E.taken E.failures E.idle E.since early.new) given_up ∥₁ }
 {
+    let board: Board<Found, N> = Board::new(alloc)?;
     let mut teller: Teller<'_, E, N> = Teller {
         early,
         alloc,
         given_up: false,
         names: PhantomData,
     };
-    found_watched::<N, Teller<'_, E, N>, R>(rt, alloc, trace, evidence, &mut teller, workers, size)
+    found_by::<N, Teller<'_, E, N>, R>(rt, alloc, trace, evidence, crew, Some(&board), &mut teller)
 }
 
 /// The findings on each entry, in line order and by their numbers, by several workers, of which lines go to `early`
@@ -168,16 +128,13 @@ fn findings_early<E: Sink, R: Threads + Wait + Sync>(
     trace: &Trace,
     evidence: &Evidence,
     early: &mut E,
-    workers: usize,
-    size: usize,
+    crew: Crew,
 ) -> Result<Vec<Finding>, AllocError>
-    requires workers { (0 < workers) × (workers ≤ 16) }
-    requires size { 0 < size }
     ensures found { IfOk result (λ v. v.items ≡ findings_of trace.now (evidence_value evidence.now)) }
     ensures early { TellsEarly trace.now (evidence_value evidence.now)
         (state_of E.taken E.failures E.idle E.since early.old) (state_of E.taken E.failures E.idle E.since early.new) }
 {
-    let reports = found_early::<Brand, E, R>(rt, alloc, trace, evidence, early, workers, size)?;
+    let reports = found_early::<Brand, E, R>(rt, alloc, trace, evidence, early, crew)?;
     gathered(alloc, reports.as_slice())
 }
 
@@ -186,11 +143,7 @@ fn findings_early<E: Sink, R: Threads + Wait + Sync>(
 struct Tellers<'r, 'e, R: Threads + Wait + Sync, E: Sink> {
     rt: &'r R,
     early: &'e mut E,
-    workers: usize,
-    size: usize,
-    ghost some: { 0 < workers },
-    ghost few: { workers ≤ 16 },
-    ghost filled: { 0 < size },
+    crew: Crew,
 }
 
 impl<'r, 'e, B: Source, R: Threads + Wait + Sync, E: Sink> Finder<B> for Tellers<'r, 'e, R, E> {
@@ -215,15 +168,7 @@ impl<'r, 'e, B: Source, R: Threads + Wait + Sync, E: Sink> Finder<B> for Tellers
             Err(fault) => return Err(fault),
         };
         let early = &mut *self.early;
-        match findings_early(
-            self.rt,
-            alloc,
-            trace,
-            &evidence,
-            early,
-            self.workers,
-            self.size,
-        ) {
+        match findings_early(self.rt, alloc, trace, &evidence, early, self.crew) {
             Ok(findings) => Ok(findings),
             Err(_) => Err(AuditFault::OutOfMemory),
         }
@@ -261,14 +206,9 @@ pub fn audit_early<A: Source, B: Source, W: Sink, E: Sink, R: Threads + Wait + S
         (λ a b. IsOfBytes a b (λ t given. TellsEarly t given (state_of E.taken E.failures E.idle E.since early.old)
         (state_of E.taken E.failures E.idle E.since early.new))) }
 {
-    if !are_within_limits(workers, slice) {
+    let Some(crew) = Crew::within_limits(workers, slice) else {
         return Err(AuditFault::Limits);
-    }
-    let mut finder = Tellers {
-        rt,
-        early,
-        workers,
-        size: slice,
     };
+    let mut finder = Tellers { rt, early, crew };
     audit_with(alloc, trace, evidence, out, &mut finder)
 }

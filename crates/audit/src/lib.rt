@@ -10,9 +10,9 @@
 //! - [`audit_joined`] reads both from one reader, and answers `Joined` and `Input` for what is refused as a whole.
 //! - [`audit_values`] takes a trace and evidence that are read already.
 //!
-//! What the first three answer is one record, `Audited` of `specs/Answers.antt`, and that of `audit_made` is
-//! `AuditedMade` beside it; a call's own clauses say what it alone does, and `kinds` which faults it answers
-//! (`specs/Kinds.antt`). [`make_records`] writes evidence for a trace, and [`history`] a tuple's touches in it, the
+//! What the first three answer is one record, `Audited` of `specs/Answers.antt`; that of `audit_made` is `AuditedMade`
+//! beside it, and that of `audit_joined` is `AuditedJoined` of `specs/Joined.antt`. A call's own clauses say what it
+//! alone does, and `kinds` which faults it answers (`specs/Kinds.antt`). [`make_records`] writes evidence for a trace, and [`history`] a tuple's touches in it, the
 //! newest first. What is found, and its text, are of the crate `findings`. Contracts see a reader and a writer as
 //! `specs/Devices.antt` says: the bytes that they gave and took, and counts of failures, ends and flushes.
 //!

@@ -19,9 +19,9 @@ ghost use Rattle.audit.specs.declared.plain.AuditFault.TheVariants as faults;
 use crate::made::steps_for;
 use crate::plain::{AuditFault, Verdict};
 use crate::reading::trace_from;
-use crate::shared::{Found, are_within_limits, gathered, is_any};
+use crate::shared::{Crew, Found, gathered, is_any, reports_by};
 use crate::telling::tell_findings;
-use audit_slices::{Blind, Board, Check, Free, Names, SliceReport, cut, run_pool};
+use audit_slices::{Blind, Board, Check, Names, SliceReport};
 use evidence_check::{Judged, judge_steps};
 use findings::laws::right_and_fresh_without_findings;
 use findings::{Finding, found_where};
@@ -95,12 +95,9 @@ fn found_made<N: Names<Found> + Sync, R: Threads + Wait + Sync>(
     rt: &R,
     alloc: Global,
     trace: &Trace,
-    workers: usize,
-    size: usize,
+    crew: Crew,
 ) -> Result<Vec<SliceReport<Found>>, AllocError>
-    requires workers { (0 < workers) × (workers ≤ 16) }
-    requires size { 0 < size }
-    requires names { IsNamedBy (IsFoundMade trace.now) has_finding N.gives N.alerts }
+    requires { IsNamedBy (IsFoundMade trace.now) has_finding N.gives N.alerts }
     ensures { IfOk result (λ v. AllZip (IsFoundMade trace.now)
         (range_with_len 0 (length trace.now.entries)) (flat_map report_items v.items)) }
 {
@@ -110,16 +107,15 @@ fn found_made<N: Names<Found> + Sync, R: Threads + Wait + Sync>(
         alloc: &alloc,
         entries,
     };
-    let slices = cut(alloc, entries, size)?;
-    run_pool(
+    let no_board: Option<Board<Found, N>> = None;
+    reports_by(
         rt,
         alloc,
         &check,
-        &Free,
-        None::<&Board<Found, N>>,
+        entries,
+        crew,
+        no_board.as_ref(),
         &mut Blind,
-        slices,
-        workers,
     )
 }
 
@@ -128,15 +124,12 @@ fn findings_made<R: Threads + Wait + Sync>(
     rt: &R,
     alloc: Global,
     trace: &Trace,
-    workers: usize,
-    size: usize,
+    crew: Crew,
 ) -> Result<Vec<Finding>, AllocError>
-    requires workers { (0 < workers) × (workers ≤ 16) }
-    requires size { 0 < size }
     ensures { IfOk result (λ v. (given : List (Option (List StepValue)))
         × AreMade trace.now trace.now.entries given × (v.items ≡ findings_of trace.now given)) }
 {
-    let reports = found_made::<Brand, R>(rt, alloc, trace, workers, size)?;
+    let reports = found_made::<Brand, R>(rt, alloc, trace, crew)?;
     gathered(alloc, reports.as_slice())
 }
 
@@ -146,11 +139,8 @@ fn audit_made_by<A: Source, W: Sink, R: Threads + Wait + Sync>(
     alloc: Global,
     trace: &mut A,
     out: &mut W,
-    workers: usize,
-    size: usize,
+    crew: Crew,
 ) -> Result<Verdict, AuditFault>
-    requires workers { (0 < workers) × (workers ≤ 16) }
-    requires size { 0 < size }
     ensures made { AuditedMade (reads A.given A.ends A.failures A.remaining trace.old trace.new)
         (writes W.taken W.flushes W.failures W.idle W.contents out.old out.new) result }
     ensures kinds { IfErr result (IsOneOf (kind.trace ∷ kind.write ∷ kind.memory ∷ [])) }
@@ -160,7 +150,7 @@ fn audit_made_by<A: Source, W: Sink, R: Threads + Wait + Sync>(
         Err(fault) => return Err(fault),
     };
     right_and_fresh_without_findings(&trace);
-    let found = findings_made(rt, alloc, &trace, workers, size);
+    let found = findings_made(rt, alloc, &trace, crew);
     let entries = trace.len();
     drop(trace);
     match found {
@@ -193,8 +183,8 @@ pub fn audit_made<A: Source, W: Sink, R: Threads + Wait + Sync>(
     ensures limits { result ≡ Err faults.Limits ↔ (are_within_limits workers slice ≡ false) }
     ensures unread { result ≡ Err faults.Limits → (trace.new ≡ trace.old) × (out.new ≡ out.old) }
 {
-    if !are_within_limits(workers, slice) {
+    let Some(crew) = Crew::within_limits(workers, slice) else {
         return Err(AuditFault::Limits);
-    }
-    audit_made_by(rt, alloc, trace, out, workers, slice)
+    };
+    audit_made_by(rt, alloc, trace, out, crew)
 }

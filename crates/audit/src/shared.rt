@@ -1,23 +1,26 @@
 //! The audit by several workers, who share the entries.
 
-ghost use Rattle.std.specs.Prelude.{◌≡◌, ◌↔◌, ◌<◌, ◌≤◌, ◌^◌, [], ◌∷◌, ◌++◌, ℕ, List, Option, length, true, false, Err, IfOk, IfErr, OnOk, is_some};
-ghost use Rattle.std.specs.List.{flat_map, list_any};
+ghost use Rattle.std.specs.Prelude.{◌≡◌, ◌↔◌, ◌<◌, ◌≤◌, ◌^◌, [], ◌∷◌, ◌++◌, ℕ, List, Option, length, true, false, Err, IfOk, IfErr, IfSome, OnOk, is_some};
+ghost use Rattle.std.specs.List.{AllZip, flat_map, list_any, range_with_len};
 ghost use Rattle.audit_slices.specs.Board.{IsNamedBy};
 ghost use Rattle.audit_slices.specs.Reports.{report_items};
+ghost use Rattle.evidence_check.specs.Evidences.{evidence_value};
 ghost use Rattle.evidence_check.specs.Judging.{AreJudged};
 ghost use Rattle.evidence_check.specs.Steps.{StepValue};
 ghost use Rattle.audit.specs.Answers.{Audited};
 ghost use Rattle.audit.specs.Devices.{reads, writes};
 ghost use Rattle.audit.specs.Kinds.{IsOneOf};
 ghost use Rattle.audit.specs.Kinds as kind;
-ghost use Rattle.audit.specs.Shared.{found_judged, has_finding, all_judged, found_lines, are_within_limits};
+ghost use Rattle.audit.specs.Shared.{found_at, found_judged, has_finding, all_found, all_judged, found_lines, are_within_limits};
 ghost use Rattle.audit.specs.declared.plain.AuditFault.TheVariants as faults;
 ghost use Rattle.findings.specs.Findings.{findings_of};
 
 use crate::finder::Finder;
 use crate::plain::{AuditFault, Verdict, audit_plain, audit_with};
 use crate::reading::judgements_by;
-use audit_slices::{Blind, Board, Check, Free, MOST_WORKERS, Names, SliceReport, cut, run_pool};
+use audit_slices::{
+    Blind, Board, Check, Free, MOST_WORKERS, Names, SliceReport, Watch, cut, run_pool,
+};
 use evidence_check::{Evidence, Judged};
 use findings::{Finding, What, found_judged, found_on, push_found};
 use json_lines::{Sink, Source};
@@ -30,13 +33,30 @@ use trace_lines::Trace;
 /// The most entries that a slice has.
 pub const LARGEST_SLICE: usize = 4096;
 
-/// Whether so many workers, and slices of so many entries, may be asked for.
-pub(crate) fn are_within_limits(workers: usize, slice: usize) -> bool
-    ensures value { result ≡ are_within_limits workers slice }
-    ensures workers { result ≡ true → (0 < workers) × (workers ≤ 16) }
-    ensures slice { result ≡ true → 0 < slice }
-{
-    (1 <= workers && workers <= MOST_WORKERS) && (1 <= slice && slice <= LARGEST_SLICE)
+/// The workers that share the entries, the calling thread among them, and how many entries each takes at a time.
+#[derive(Clone, Copy)]
+pub(crate) struct Crew {
+    pub(crate) workers: usize,
+    pub(crate) slice: usize,
+    ghost some: { 0 < workers },
+    ghost few: { workers ≤ 16 },
+    ghost filled: { 0 < slice },
+}
+
+impl Crew {
+    ghost use Rattle.audit.specs.Shared.{are_within_limits};
+
+    /// None where there are too few or too many of either.
+    pub(crate) fn within_limits(workers: usize, slice: usize) -> Option<Crew>
+        ensures limits { is_some result ≡ are_within_limits workers slice }
+        ensures same { IfSome result (λ crew. (crew.workers ≡ workers) × (crew.slice ≡ slice)) }
+    {
+        if 1 <= workers && workers <= MOST_WORKERS && 1 <= slice && slice <= LARGEST_SLICE {
+            Some(Crew { workers, slice })
+        } else {
+            None
+        }
+    }
 }
 
 /// What is found on an entry, by the findings' numbers, and the line that the entry stands on.
@@ -61,6 +81,8 @@ impl<'t, 'e> Check for EntryCheck<'t, 'e> {
 
     ghost use Rattle.std.proofs.Common.{◌≡◌, rules};
     ghost use Rattle.evidence_check.specs.Evidences.{evidence_value};
+ghost use Rattle.evidence_check.specs.Judging.{AreJudged};
+ghost use Rattle.evidence_check.specs.Steps.{StepValue};
     ghost use Rattle.audit.specs.Shared.{found_at, has_finding};
 
     ghost entries = { λ c. c.entries };
@@ -132,18 +154,65 @@ impl<'t, 'j> Check for JudgedCheck<'t, 'j> {
     }
 }
 
-/// What is found on each entry, in slices.
-fn found_by<N: Names<Found> + Sync, R: Threads + Wait + Sync>(
+/// What a check says of each entry, by a crew whose alerts go to a board and from there to a watch.
+pub(crate) fn reports_by<
+    C: Check<Report = Found> + Sync,
+    N: Names<Found> + Sync,
+    W: Watch<Found, N>,
+    R: Threads + Wait + Sync,
+>(
+    rt: &R,
+    alloc: Global,
+    check: &C,
+    entries: usize,
+    crew: Crew,
+    board: Option<&Board<Found, N>>,
+    watch: &mut W,
+) -> Result<Vec<SliceReport<Found>>, AllocError>
+    requires entries { entries ≡ C.entries check.now }
+    requires names { IsNamedBy (C.gives check.now) (C.raises check.now) N.gives N.alerts }
+    ensures all { IfOk result
+        (λ v. AllZip (C.gives check.now) (range_with_len 0 entries) (flat_map report_items v.items)) }
+    ensures mark { W.mark watch.new ≡ W.mark watch.old }
+{
+    let slices = cut(alloc, entries, crew.slice)?;
+    run_pool(rt, alloc, check, &Free, board, watch, slices, crew.workers)
+}
+
+/// What is found on each entry, in slices, while a watch is shown it.
+pub(crate) fn found_by<N: Names<Found> + Sync, W: Watch<Found, N>, R: Threads + Wait + Sync>(
+    rt: &R,
+    alloc: Global,
+    trace: &Trace,
+    evidence: &Evidence,
+    crew: Crew,
+    board: Option<&Board<Found, N>>,
+    watch: &mut W,
+) -> Result<Vec<SliceReport<Found>>, AllocError>
+    requires { IsNamedBy (λ entry found. found ≡ found_at trace.now (evidence_value evidence.now) entry)
+        has_finding N.gives N.alerts }
+    ensures found { IfOk result
+        (λ v. flat_map report_items v.items ≡ all_found trace.now (evidence_value evidence.now)) }
+    ensures mark { W.mark watch.new ≡ W.mark watch.old }
+{
+    let entries = trace.len();
+    let check = EntryCheck {
+        trace,
+        evidence,
+        entries,
+    };
+    reports_by(rt, alloc, &check, entries, crew, board, watch)
+}
+
+/// The same, where the entries are judged so and nobody watches.
+fn found_unseen<N: Names<Found> + Sync, R: Threads + Wait + Sync>(
     rt: &R,
     alloc: Global,
     trace: &Trace,
     judgements: &[Judged],
-    workers: usize,
-    size: usize,
+    crew: Crew,
 ) -> Result<Vec<SliceReport<Found>>, AllocError>
-    requires workers { (0 < workers) × (workers ≤ 16) }
-    requires size { 0 < size }
-    requires names { IsNamedBy (λ entry found. found ≡ found_judged trace.now judgements.now entry)
+    requires { IsNamedBy (λ entry found. found ≡ found_judged trace.now judgements.now entry)
         has_finding N.gives N.alerts }
     ensures { IfOk result (λ v. flat_map report_items v.items ≡ all_judged trace.now judgements.now) }
 {
@@ -153,26 +222,8 @@ fn found_by<N: Names<Found> + Sync, R: Threads + Wait + Sync>(
         judgements,
         entries,
     };
-    let slices = cut(alloc, entries, size)?;
-    run_pool(
-        rt,
-        alloc,
-        &check,
-        &Free,
-        None::<&Board<Found, N>>,
-        &mut Blind,
-        slices,
-        workers,
-    )
-}
-
-fn push_all(found: &[Found], findings: &mut Vec<Finding>) -> Result<(), AllocError>
-    ensures { OnOk result (findings.new.items ≡ findings.old.items ++ found_lines found.now) }
-{
-    for one in found {
-        push_found(one.line, &one.what, findings)?;
-    }
-    Ok(())
+    let no_board: Option<Board<Found, N>> = None;
+    reports_by(rt, alloc, &check, entries, crew, no_board.as_ref(), &mut Blind)
 }
 
 /// The findings that reports hold, in the order of their entries.
@@ -195,27 +246,20 @@ fn findings_by<R: Threads + Wait + Sync>(
     alloc: Global,
     trace: &Trace,
     judgements: &[Judged],
-    workers: usize,
-    size: usize,
+    crew: Crew,
 ) -> Result<Vec<Finding>, AllocError>
-    requires workers { (0 < workers) × (workers ≤ 16) }
-    requires size { 0 < size }
     ensures { (given : List (Option (List StepValue))) → AreJudged trace.now given judgements.now
         → IfOk result (λ v. v.items ≡ findings_of trace.now given) }
 {
-    let reports = found_by::<Brand, R>(rt, alloc, trace, judgements, workers, size)?;
+    let reports = found_unseen::<Brand, R>(rt, alloc, trace, judgements, crew)?;
     gathered(alloc, reports.as_slice())
 }
 
-/// Workers who share the entries, in slices of one size.
+/// A crew finds them.
 #[derive(Drop)]
 struct Workers<'r, R: Threads + Wait + Sync> {
     rt: &'r R,
-    workers: usize,
-    size: usize,
-    ghost some: { 0 < workers },
-    ghost few: { workers ≤ 16 },
-    ghost filled: { 0 < size },
+    crew: Crew,
 }
 
 impl<'r, B: Source, R: Threads + Wait + Sync> Finder<B> for Workers<'r, R> {
@@ -234,11 +278,11 @@ impl<'r, B: Source, R: Threads + Wait + Sync> Finder<B> for Workers<'r, R> {
         trace: &Trace,
         evidence: &mut B,
     ) -> Result<Vec<Finding>, AuditFault> {
-        let judgements = match judgements_by(self.rt, alloc, evidence, trace, self.workers) {
+        let judgements = match judgements_by(self.rt, alloc, evidence, trace, self.crew.workers) {
             Ok(judgements) => judgements,
             Err(fault) => return Err(fault),
         };
-        match findings_by(self.rt, alloc, trace, &judgements, self.workers, self.size) {
+        match findings_by(self.rt, alloc, trace, &judgements, self.crew) {
             Ok(findings) => Ok(findings),
             Err(_) => Err(AuditFault::OutOfMemory),
         }
@@ -269,16 +313,12 @@ pub fn audit<A: Source, B: Source, W: Sink, R: Threads + Wait + Sync>(
     ensures unread { result ≡ Err faults.Limits →
         (trace.new ≡ trace.old) × (evidence.new ≡ evidence.old) × (out.new ≡ out.old) }
 {
-    if !are_within_limits(workers, slice) {
+    let Some(crew) = Crew::within_limits(workers, slice) else {
         return Err(AuditFault::Limits);
-    }
-    if workers == 1 {
+    };
+    if crew.workers == 1 {
         return audit_plain(alloc, trace, evidence, out);
     }
-    let mut finder = Workers {
-        rt,
-        workers,
-        size: slice,
-    };
+    let mut finder = Workers { rt, crew };
     audit_with(alloc, trace, evidence, out, &mut finder)
 }

@@ -1,6 +1,6 @@
 -- What the status of a command with files tells of them.
-use Rattle.std.proofs.Common.{◌≡◌, ◌≢◌, inl, inr, ℕ, ◌≤◌, true, List, [], ◌∷◌, ◌++◌, Result, Ok, Err, refl, sym, ap, subst, ◌∙◌, arith}
-use Rattle.std.specs.Prelude.{IfErr, OnOk}
+use Rattle.std.proofs.Common.{◌≡◌, ◌≢◌, inl, inr, ℕ, true, List, [], ◌∷◌, ◌++◌, Result, Ok, Err, refl, sym, ap, subst, ◌∙◌, arith}
+use Rattle.std.specs.Prelude.{IfErr}
 use Rattle.json_lines.specs.Devices.{moved_by, stops_of}
 use Rattle.json_lines.specs.Given.{OfWhole, OfInput}
 use Rattle.json_lines.specs.declared.devices.Counted.{Counted}
@@ -17,10 +17,9 @@ use Rattle.audit.specs.Kinds as kind
 use Rattle.audit.specs.declared.plain.AuditFault.{AuditFault}
 use Rattle.audit.specs.declared.plain.AuditFault.TheVariants as faults
 use Rattle.audit.specs.declared.plain.Verdict.{Verdict}
-use Rattle.audit.specs.declared.plain.Verdict.TheVariants.{Clean, Dirty}
 use Rattle.new_enemy.specs.Files.{IsNoTrace, IsNoAudit}
-use Rattle.new_enemy.specs.Run.{IsStatus, IsStatusOf, SayNoTrace, SayNoAudit, OfEveryInput}
-use Rattle.new_enemy.proofs.Statuses.{said_by_trace, said_by_evidence, two_or_five}
+use Rattle.new_enemy.specs.Run.{IsStatus, SayNoTrace, SayNoAudit, OfEveryInput}
+use Rattle.new_enemy.proofs.Statuses.{Ends, said_by_trace, said_by_evidence, two_or_five}
 
 -- of a device whose history began with the call
 pub of_every_input : {R : Type 0} (old new : Counted R) (P : List ℕ → Type 0) → moved_by old ≡ [] → stops_of old ≡ 0
@@ -28,23 +27,6 @@ pub of_every_input : {R : Type 0} (old new : Counted R) (P : List ℕ → Type 0
 of_every_input old new P nothing no_end h = λ rest ended.
     subst (λ (l : List ℕ). P (l ++ rest)) (sym (h.1 ∙ ap (λ (l : List ℕ). l ++ h.0) nothing))
     (h.2 rest (λ later. ended (omega (arith, later, no_end))))
-
--- a verdict has the status of no fault
-pub verdict_done : (answer : Result Verdict AuditFault) (s : ℕ) → IsStatusOf answer s → OnOk answer (s ≤ 1)
-verdict_done (Ok Clean) s zero = omega (arith, zero)
-verdict_done (Ok Dirty) s one = omega (arith, one)
-verdict_done (Err e) s h = tt
-
-pub verdict_failed : (answer : Result Verdict AuditFault) (s : ℕ) → IsStatusOf answer s
-    → IfErr answer (λ e. IsStatus e s)
-verdict_failed (Ok Clean) s h = tt
-verdict_failed (Ok Dirty) s h = tt
-verdict_failed (Err e) s h = h.1
-
-pub verdict_past : (answer : Result Verdict AuditFault) (s : ℕ) → IsStatusOf answer s → IfErr answer (λ e. 2 ≤ s)
-verdict_past (Ok Clean) s h = tt
-verdict_past (Ok Dirty) s h = tt
-verdict_past (Err e) s h = h.0
 
 module _ {A : Type 0} (a0 a1 : Counted A) (nothing : moved_by a0 ≡ []) (no_end : stops_of a0 ≡ 0) where
   trace_refused : (f : TraceFault) → f.cause ≢ causes.Read → f.cause ≢ causes.OutOfMemory
@@ -55,7 +37,7 @@ module _ {A : Type 0} (a0 a1 : Counted A) (nothing : moved_by a0 ≡ []) (no_end
       (λ a by. (f, said_by_trace f.cause f (trace_of true a) read memory by)) h)
 
   -- a fault of a call that reads a trace alone
-  pub fault_of_trace : (fault : AuditFault) (s : ℕ) → IsStatus fault s
+  fault_of_trace : (fault : AuditFault) (s : ℕ) → IsStatus fault s
       → IsOneOf (kind.trace ∷ kind.write ∷ kind.memory ∷ kind.limits ∷ []) fault
       → ((f : TraceFault) → fault ≡ faults.Trace f → OfInput moved_by stops_of a0 a1 (λ a. RefusesTrace a f)) → s ≡ 2
       → IsNoTrace a1
@@ -67,14 +49,13 @@ module _ {A : Type 0} (a0 a1 : Counted A) (nothing : moved_by a0 ≡ []) (no_end
   fault_of_trace _ s st of t two = absurd (cc (of.0))
 
   -- an answer of one
-  pub no_trace : {V : Type 0} (answer : Result V AuditFault) (s : ℕ) → OnOk answer (s ≤ 1)
-      → IfErr answer (λ e. IsStatus e s) → IfErr answer
-      (IsOneOf (kind.trace ∷ kind.write ∷ kind.memory ∷ kind.limits ∷ []))
+  pub no_trace : {V : Type 0} (answer : Result V AuditFault) (s : ℕ) → Ends answer s
+      → IfErr answer (IsOneOf (kind.trace ∷ kind.write ∷ kind.memory ∷ kind.limits ∷ []))
       → ((f : TraceFault) → answer ≡ Err (faults.Trace f) → OfInput moved_by stops_of a0 a1 (λ a. RefusesTrace a f))
       → s ≡ 2 → IsNoTrace a1
-  no_trace (Ok v) s done failed of t two = absurd (omega (arith, done, two))
-  no_trace (Err e) s done failed of t two =
-      fault_of_trace e s failed of (λ f is. t f (ap (λ (x : AuditFault). Err x) is)) two
+  no_trace (Ok v) s ends of t two = absurd (omega (arith, ends, two))
+  no_trace (Err e) s ends of t two =
+      fault_of_trace e s ends.1 of (λ f is. t f (ap (λ (x : AuditFault). Err x) is)) two
 
   module _ (b0 b1 : Counted A) (nothing_yet : moved_by b0 ≡ []) (no_end_yet : stops_of b0 ≡ 0) where
     evidence_refused : (f : EvidenceFault) → f.cause ≢ evidence_causes.Read → f.cause ≢ evidence_causes.OutOfMemory
@@ -106,14 +87,13 @@ module _ {A : Type 0} (a0 a1 : Counted A) (nothing : moved_by a0 ≡ []) (no_end
     fault_of_audit _ s st of t e two = absurd (cc (of.0))
 
     -- an answer of a call that reads a trace and evidence
-    pub no_audit : (answer : Result Verdict AuditFault) (s : ℕ) → IsStatusOf answer s
+    pub no_audit : (answer : Result Verdict AuditFault) (s : ℕ) → Ends answer s
         → IfErr answer (IsOneOf (kind.trace ∷ kind.evidence ∷ kind.write ∷ kind.memory ∷ kind.limits ∷ []))
         → ((f : TraceFault) → answer ≡ Err (faults.Trace f) → OfInput moved_by stops_of a0 a1 (λ a. RefusesTrace a f))
         → ((f : EvidenceFault) → answer ≡ Err (faults.Evidence f)
         → OfWhole moved_by stops_of a0 a1 (λ a. OfInput moved_by stops_of b0 b1 (λ b. RefusesEvidence a b f)))
         → s ≡ 2 → IsNoAudit a1 b1
-    no_audit (Ok Clean) s zero of t e two = absurd (omega (arith, zero, two))
-    no_audit (Ok Dirty) s one of t e two = absurd (omega (arith, one, two))
-    no_audit (Err x) s st of t e two =
-        fault_of_audit x s st.1 of (λ f is. t f (ap (λ (y : AuditFault). Err y) is))
+    no_audit (Ok v) s ends of t e two = absurd (omega (arith, ends, two))
+    no_audit (Err x) s ends of t e two =
+        fault_of_audit x s ends.1 of (λ f is. t f (ap (λ (y : AuditFault). Err y) is))
         (λ f is. e f (ap (λ (y : AuditFault). Err y) is)) two

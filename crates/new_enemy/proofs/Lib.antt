@@ -1,5 +1,6 @@
 pub mod DeviceStatuses
+pub mod FileRuns
 pub mod FileStatuses
-pub mod MadeEvidence
-pub mod Runs
+pub mod JoinedRuns
+pub mod RunLemmas
 pub mod Statuses

@@ -1,4 +1,5 @@
 pub mod Files
 pub mod Outcomes
 pub mod Run
+pub mod Runs
 pub mod Words

@@ -34,6 +34,11 @@ IsStatusOf (Ok Clean) s = s ≡ 0
 IsStatusOf (Ok Dirty) s = s ≡ 1
 IsStatusOf (Err fault) s = (2 ≤ s) × IsStatus fault s
 
+-- the exit status of an answer with another value: 0 where there is one
+abbrev pub IsStatusDone : {V : Type 0} → Result V AuditFault → ℕ → Type 0
+IsStatusDone (Ok v) s = s ≡ 0
+IsStatusDone (Err fault) s = (2 ≤ s) × IsStatus fault s
+
 -- the bytes say no trace
 abbrev pub SayNoTrace : List ℕ → Type 0
 SayNoTrace a = (f : TraceFault) × (trace_of true a ≡ Err f)

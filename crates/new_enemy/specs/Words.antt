@@ -3,7 +3,8 @@ use Rattle.std.specs.Prelude.{◌≡◌, ◌⊎◌, ℕ, true, List, [], ◌∷�
 use Rattle.tuple_text.specs.Reading.{tuple_at}
 use Rattle.tuple_text.specs.Tuples.{TupleValue}
 use Rattle.tuple_text.specs.declared.fault.TupleFault.{TupleFault}
-use Rattle.command_line.specs.Asked.{is_plain_word}
+use Rattle.command_line.specs.Asked.{Asked, is_plain_word}
+use Rattle.command_line.specs.Asked as asked
 use Rattle.new_enemy.specs.Files.{IsToldHistory}
 use Rattle.new_enemy.specs.declared.run.Ran.{Ran}
 use Rattle.new_enemy.specs.declared.run.Ran.TheVariants as ran
@@ -37,6 +38,14 @@ RanHistory text old new status (ran.Told trace) =
 RanHistory text old new status ran.Nothing =
     ((status ≡ 2) × (f : TupleFault) × (tuple_at text ≡ Err f)) ⊎ IsHindered status
 RanHistory text old new status _ = ⊥
+
+-- the run is what a request asks for
+abbrev pub RanAsked : {F : Type 0} → Asked → (old new : List ℕ) → ℕ → Ran F → Type 0
+RanAsked asked.joined old new status run = run ≡ ran.Joined
+RanAsked (asked.audits t (Some e) workers slice early) old new status run = RanAudit status run
+RanAsked (asked.audits t None workers slice early) old new status run = RanAuditAlone status run
+RanAsked (asked.makes t list) old new status run = RanMake status run
+RanAsked (asked.tells t u) old new status run = RanHistory u old new status run
 
 -- the run is of the command that the word names, and of joined input where there is no word
 abbrev pub IsOfCommand : {F : Type 0} → Option (List ℕ) → Ran F → Type 0

@@ -1,19 +1,18 @@
 //! The commands that read files, by what these gave.
 
-ghost use Rattle.std.specs.Prelude.{◌≡◌, ◌≢◌, ◌↔◌, ◌≤◌, [], ◌∷◌, false, Err, IfErr, OnOk};
-ghost use Rattle.json_lines.specs.Devices.{moved_by};
+ghost use Rattle.std.specs.Prelude.{◌≡◌, ◌↔◌, [], ◌∷◌, codes, false, Err, IfErr};
 ghost use Rattle.audit.specs.Answers.{Audited};
 ghost use Rattle.audit.specs.Devices.{reads, writes};
 ghost use Rattle.audit.specs.Kinds.{IsOneOf};
 ghost use Rattle.audit.specs.Kinds as kind;
 ghost use Rattle.audit.specs.Shared.{are_within_limits};
 ghost use Rattle.audit.specs.declared.plain.AuditFault.TheVariants as faults;
-ghost use Rattle.new_enemy.specs.Run.{IsStatus, IsStatusOf};
-ghost use Rattle.new_enemy.specs.Files.{IsCleanAudit, IsDirtyAudit, IsCleanAuditMade, IsDirtyAuditMade, IsMadeEvidence, IsToldHistory, IsNoTrace, IsNoAudit};
-ghost use Rattle.new_enemy.specs.Outcomes.{SaysOfDevices};
+ghost use Rattle.new_enemy.specs.Files.{IsToldHistory};
+ghost use Rattle.new_enemy.specs.Run.{IsStatusDone};
+ghost use Rattle.new_enemy.specs.Runs.{RunsFiles};
 ghost use Rattle.new_enemy.specs.declared.run.Ran.TheVariants as ran;
 
-use crate::status::{status_of, tell, tell_given_up};
+use crate::status::{fail, status_with, tell_given_up};
 use audit::{AuditFault, Verdict, audit, audit_early, audit_made, history, make_records_listing};
 use json_lines::{Counted, Sink, Source};
 use std::alloc::Global;
@@ -28,20 +27,6 @@ pub struct Sharing {
     pub workers: usize,
     pub slice: usize,
     pub early: bool,
-}
-
-/// The status of an audit's answer; a fault is told to `err`.
-fn status_with<E: Sink>(answer: Result<Verdict, AuditFault>, err: &mut E) -> u8
-    ensures { IsStatusOf answer result }
-{
-    match answer {
-        Ok(Verdict::Clean) => 0,
-        Ok(Verdict::Dirty) => 1,
-        Err(fault) => {
-            tell(err, &fault);
-            status_of(&fault)
-        }
-    }
 }
 
 /// The audit that is asked for. Early alerts go to `err`.
@@ -84,40 +69,17 @@ pub fn run_audit<F: Read, W: Sink, E: Sink, P: Threads + Wait + Sync>(
     out: &mut W,
     err: &mut E,
 ) -> (u8, Counted<F>, Counted<F>)
-    // All that the trace's file gave, to its end, is a trace that is right and fresh, all that the evidence's gave is
-    // evidence for it, and the report on them went out whole.
-    ensures clean { result.0 ≡ 0 → IsCleanAudit result.1 result.2 (W.taken out.old) (W.taken out.new) }
-    ensures dirty { result.0 ≡ 1 → IsDirtyAudit result.1 result.2 (W.taken out.old) (W.taken out.new) }
+    // Status 0 says that all that the trace's file gave, to its end, is a trace that is right and fresh, all that the
+    // evidence's gave is evidence for it, and the report on them went out whole.
+    ensures runs { RunsFiles (codes "audit")
+        (writes W.taken W.flushes W.failures W.idle W.contents out.old out.new)
+        result.0 (ran.Audited result.1 result.2) }
     ensures limits { result.0 ≡ 3 ↔ (are_within_limits sharing.workers sharing.slice ≡ false) }
-    ensures unread { result.0 ≡ 3 → (moved_by result.1 ≡ []) × (moved_by result.2 ≡ []) }
-    ensures refused { result.0 ≡ 2 → IsNoAudit result.1 result.2 }
-    ensures devices { SaysOfDevices result.0 (ran.Audited result.1 result.2)
-        (writes W.taken W.flushes W.failures W.idle W.contents out.old out.new) }
-    ensures statuses { result.0 ≤ 5 }
 {
     let mut trace = Counted::new(trace);
     let mut evidence = Counted::new(evidence);
     let answer = audit_sharing(rt, alloc, &mut trace, &mut evidence, sharing, out, err);
     (status_with(answer, err), trace, evidence)
-}
-
-/// The status of the answer of `make`. How many entries have no evidence is told to `err`, and with `list` before it
-/// the line of each; a fault is told there in one line.
-fn status_made<E: Sink>(answer: Result<Vec<u64>, AuditFault>, list: bool, err: &mut E) -> u8
-    ensures done { OnOk answer (result ≡ 0) }
-    ensures fault { IfErr answer (λ e. IsStatus e result) }
-    ensures failure { IfErr answer (λ _. 2 ≤ result) }
-{
-    match answer {
-        Ok(given_up) => {
-            tell_given_up(err, &given_up, list);
-            0
-        }
-        Err(fault) => {
-            tell(err, &fault);
-            status_of(&fault)
-        }
-    }
 }
 
 /// Audits a trace by evidence that is made for it, writes the report to `out`, and hands the trace's file back with
@@ -130,20 +92,29 @@ pub fn run_audit_made<F: Read, W: Sink, E: Sink, P: Threads + Wait + Sync>(
     out: &mut W,
     err: &mut E,
 ) -> (u8, Counted<F>)
-    // All that the trace's file gave, to its end, is a trace that is right and fresh, and the report on it and on
-    // evidence that was made for it went out whole.
-    ensures clean { result.0 ≡ 0 → IsCleanAuditMade result.1 (W.taken out.old) (W.taken out.new) }
-    ensures dirty { result.0 ≡ 1 → IsDirtyAuditMade result.1 (W.taken out.old) (W.taken out.new) }
+    // Status 0 says that all that the trace's file gave, to its end, is a trace that is right and fresh, and the report
+    // on it and on evidence that was made for it went out whole.
+    ensures runs { RunsFiles (codes "audit")
+        (writes W.taken W.flushes W.failures W.idle W.contents out.old out.new) result.0 (ran.AuditedAlone result.1) }
     ensures limits { result.0 ≡ 3 ↔ (are_within_limits sharing.workers sharing.slice ≡ false) }
-    ensures unread { result.0 ≡ 3 → moved_by result.1 ≡ [] }
-    ensures refused { result.0 ≡ 2 → IsNoTrace result.1 }
-    ensures devices { SaysOfDevices result.0 (ran.AuditedAlone result.1)
-        (writes W.taken W.flushes W.failures W.idle W.contents out.old out.new) }
-    ensures statuses { result.0 ≤ 5 }
 {
     let mut trace = Counted::new(trace);
     let answer = audit_made(rt, alloc, &mut trace, out, sharing.workers, sharing.slice);
     (status_with(answer, err), trace)
+}
+
+/// The status of the answer of `make`. How many entries have no evidence is told to `err`, and with `list` before it
+/// the line of each; a fault is told there in one line.
+fn status_made<E: Sink>(answer: Result<Vec<u64>, AuditFault>, list: bool, err: &mut E) -> u8
+    ensures { IsStatusDone answer result }
+{
+    match answer {
+        Ok(given_up) => {
+            tell_given_up(err, &given_up, list);
+            0
+        }
+        Err(fault) => fail(err, &fault),
+    }
 }
 
 /// Writes evidence for a trace to `out`, and hands the trace's file back with what it gave. How many entries have
@@ -155,12 +126,10 @@ pub fn run_make<F: Read, W: Sink, E: Sink>(
     out: &mut W,
     err: &mut E,
 ) -> (u8, Counted<F>)
-    // All that the file gave, to its end, is a trace, and the records that are made for it went out whole.
-    ensures made { result.0 ≡ 0 → IsMadeEvidence result.1 (W.taken out.old) (W.taken out.new) }
-    ensures refused { result.0 ≡ 2 → IsNoTrace result.1 }
-    ensures devices { SaysOfDevices result.0 (ran.Made result.1)
-        (writes W.taken W.flushes W.failures W.idle W.contents out.old out.new) }
-    ensures statuses { (result.0 ≤ 5) × (result.0 ≢ 1) × (result.0 ≢ 3) }
+    // Status 0 says that all that the file gave, to its end, is a trace, and the records that are made for it went out
+    // whole.
+    ensures { RunsFiles (codes "make")
+        (writes W.taken W.flushes W.failures W.idle W.contents out.old out.new) result.0 (ran.Made result.1) }
 {
     let mut trace = Counted::new(trace);
     let answer = make_records_listing(alloc, &mut trace, out);
@@ -169,16 +138,11 @@ pub fn run_make<F: Read, W: Sink, E: Sink>(
 
 /// The status of the answer of `history`. A fault is told to `err` in one line.
 fn status_told<E: Sink>(answer: Result<u64, AuditFault>, err: &mut E) -> u8
-    ensures done { OnOk answer (result ≡ 0) }
-    ensures fault { IfErr answer (λ e. IsStatus e result) }
-    ensures failure { IfErr answer (λ _. 2 ≤ result) }
+    ensures { IsStatusDone answer result }
 {
     match answer {
         Ok(_) => 0,
-        Err(fault) => {
-            tell(err, &fault);
-            status_of(&fault)
-        }
+        Err(fault) => fail(err, &fault),
     }
 }
 
@@ -191,12 +155,10 @@ pub fn run_history<F: Read, W: Sink, E: Sink>(
     out: &mut W,
     err: &mut E,
 ) -> (u8, Counted<F>)
+    ensures runs { RunsFiles (codes "history")
+        (writes W.taken W.flushes W.failures W.idle W.contents out.old out.new) result.0 (ran.Told result.1) }
     // All that the file gave, to its end, is a trace, and the tuple's history in it went out whole.
     ensures told { result.0 ≡ 0 → IsToldHistory tuple.now result.1 (W.taken out.old) (W.taken out.new) }
-    ensures refused { result.0 ≡ 2 → IsNoTrace result.1 }
-    ensures devices { SaysOfDevices result.0 (ran.Told result.1)
-        (writes W.taken W.flushes W.failures W.idle W.contents out.old out.new) }
-    ensures statuses { (result.0 ≤ 5) × (result.0 ≢ 1) × (result.0 ≢ 3) }
 {
     let mut trace = Counted::new(trace);
     let answer = history(alloc, &mut trace, tuple, out);

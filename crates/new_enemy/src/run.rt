@@ -1,21 +1,18 @@
 //! The program, over any runtime, reader and writers.
 
-ghost use Rattle.std.specs.Prelude.{◌≡◌, ◌≢◌, ◌↔◌, ◌+◌, ◌<◌, ◌≤◌, ◌⊎◌, [], length, map, None, Some, false, codes, IfSome, string_bytes};
+ghost use Rattle.std.specs.Prelude.{◌≡◌, ◌≢◌, ◌↔◌, ◌+◌, ◌<◌, ◌≤◌, [], length, map, None, Some, false, codes, IfSome, string_bytes, option_map};
 ghost use Rattle.json_lines.specs.Devices.{moved_by, failures_of, stops_of};
-ghost use Rattle.json_lines.specs.Given.{OfBytes, OfWhole, OfInput, AreNext, StandBehind};
 ghost use Rattle.json_lines.specs.declared.lines.TheConstants.{CHUNK};
 ghost use Rattle.json_lines.specs.declared.reading.TheConstants.{MAX_INPUT};
-ghost use Rattle.audit.specs.Audit.{Audits};
-ghost use Rattle.audit.specs.Devices.{HasRisen, writes};
+ghost use Rattle.command_line.specs.Asked.{asked_by, asked_in, command_of};
+ghost use Rattle.audit.specs.Devices.{reads, writes};
 ghost use Rattle.audit.specs.Shared.{are_within_limits};
-ghost use Rattle.findings.specs.Headline.{IsTraceRightAndFresh};
-ghost use Rattle.audit.specs.Joined.{OfParts};
 ghost use Rattle.new_enemy.specs.Files.{OfFiles, file_failures};
-ghost use Rattle.new_enemy.specs.Outcomes.{HasSucceeded, HasFoundDirty, HasRefused, HasReadNothing, SaysOfDevices};
+ghost use Rattle.new_enemy.specs.Outcomes.{HasSucceeded, HasFoundDirty, HasRefused, HasReadNothing};
 ghost use Rattle.new_enemy.specs.Run.{IsRefused, OfEveryInput, IsCleanRun, IsDirtyRun};
-ghost use Rattle.new_enemy.specs.Words.{IsAsked, IsOfCommand, RanAudit, RanAuditAlone, RanMake, RanHistory};
+ghost use Rattle.new_enemy.specs.Runs.{RunsFiles, SaysOfRun};
+ghost use Rattle.new_enemy.specs.Words.{IsAsked, IsOfCommand, RanAsked, RanAudit, RanAuditAlone, RanMake, RanHistory};
 ghost use Rattle.new_enemy.specs.declared.run.Ran.TheVariants as ran;
-ghost use Rattle.audit.specs.declared.plain.Verdict.TheVariants.{Clean, Dirty};
 
 use crate::files::{Sharing, run_audit, run_audit_made, run_history, run_make};
 use crate::joined::run_joined;
@@ -68,17 +65,11 @@ fn audit_paths<W: Sink, E: Sink, P: Files + Threads + Wait + Sync>(
     out: &mut W,
     err: &mut E,
 ) -> (u8, Ran<P::File>)
-    ensures clean { result.0 ≡ 0 → HasSucceeded ⊥ (W.taken out.old) (W.taken out.new) result.1 }
-    ensures dirty { result.0 ≡ 1 → HasFoundDirty ⊥ (W.taken out.old) (W.taken out.new) result.1 }
-    ensures command { IsOfCommand (Some (codes "audit")) result.1 }
+    ensures runs { RunsFiles (codes "audit")
+        (writes W.taken W.flushes W.failures W.idle W.contents out.old out.new) result.0 result.1 }
     ensures ran { IfSome paths.entry.1 (λ _. RanAudit result.0 result.1) }
     ensures ran_alone { paths.entry.1 ≡ None → RanAuditAlone result.0 result.1 }
     ensures limits { result.0 ≡ 3 → are_within_limits sharing.workers sharing.slice ≡ false }
-    ensures unread { result.0 ≡ 3 → HasReadNothing result.1 }
-    ensures refused { result.0 ≡ 2 → HasRefused ⊥ result.1 }
-    ensures devices { SaysOfDevices result.0 result.1
-        (writes W.taken W.flushes W.failures W.idle W.contents out.old out.new) }
-    ensures statuses { result.0 ≤ 5 }
 {
     let (trace, evidence) = paths;
     let Some(trace) = opened(rt, trace, err) else {
@@ -104,12 +95,9 @@ fn make_for_path<W: Sink, E: Sink, P: Files>(
     out: &mut W,
     err: &mut E,
 ) -> (u8, Ran<P::File>)
-    ensures made { result.0 ≡ 0 → HasSucceeded ⊥ (W.taken out.old) (W.taken out.new) result.1 }
+    ensures runs { RunsFiles (codes "make")
+        (writes W.taken W.flushes W.failures W.idle W.contents out.old out.new) result.0 result.1 }
     ensures ran { RanMake result.0 result.1 }
-    ensures refused { result.0 ≡ 2 → HasRefused ⊥ result.1 }
-    ensures devices { SaysOfDevices result.0 result.1
-        (writes W.taken W.flushes W.failures W.idle W.contents out.old out.new) }
-    ensures statuses { (result.0 ≤ 5) × (result.0 ≢ 1) × (result.0 ≢ 3) }
 {
     let Some(trace) = opened(rt, trace, err) else {
         return (5, Ran::Nothing);
@@ -127,11 +115,9 @@ fn history_in_path<W: Sink, E: Sink, P: Files>(
     out: &mut W,
     err: &mut E,
 ) -> (u8, Ran<P::File>)
+    ensures runs { RunsFiles (codes "history")
+        (writes W.taken W.flushes W.failures W.idle W.contents out.old out.new) result.0 result.1 }
     ensures ran { RanHistory tuple.now (W.taken out.old) (W.taken out.new) result.0 result.1 }
-    ensures refused { result.0 ≡ 2 → HasRefused ⊥ result.1 }
-    ensures devices { SaysOfDevices result.0 result.1
-        (writes W.taken W.flushes W.failures W.idle W.contents out.old out.new) }
-    ensures statuses { (result.0 ≤ 5) × (result.0 ≢ 1) × (result.0 ≢ 3) }
 {
     let tuple = match parse_tuple(alloc, tuple) {
         Ok(tuple) => tuple,
@@ -151,6 +137,78 @@ fn history_in_path<W: Sink, E: Sink, P: Files>(
     (status, Ran::Told(trace))
 }
 
+/// Runs what is asked for.
+fn run_request<R: Source, W: Sink, E: Sink, P: Files + Threads + Wait + Sync>(
+    rt: &P,
+    alloc: Global,
+    request: Request<'_>,
+    input: &mut R,
+    out: &mut W,
+    err: &mut E,
+) -> (u8, Ran<P::File>)
+    ensures says { SaysOfRun (reads R.given R.ends R.failures R.remaining input.old input.new)
+        (writes W.taken W.flushes W.failures W.idle W.contents out.old out.new) result.0 result.1 }
+    ensures asked { RanAsked (asked_by request.entry) (W.taken out.old) (W.taken out.new) result.0 result.1 }
+    ensures command { IsOfCommand (command_of (asked_by request.entry)) result.1 }
+    ensures unread { result.1 ≢ ran.Joined → input.new ≡ input.old }
+{
+    match request {
+        Request::Joined => (run_joined(alloc, input, out, err), Ran::Joined),
+        Request::Audit {
+            trace,
+            evidence,
+            workers,
+            slice,
+            early,
+        } => {
+            let sharing = Sharing {
+                workers: workers as usize,
+                slice: slice as usize,
+                early,
+            };
+            audit_paths(rt, alloc, (trace, evidence), sharing, out, err)
+        }
+        Request::Make { trace, list } => make_for_path(rt, alloc, trace, list, out, err),
+        Request::History { trace, tuple } => history_in_path(rt, alloc, trace, tuple, out, err),
+    }
+}
+
+/// Runs what is asked for, or shows what is shown in its place.
+fn run_answer<R: Source, W: Sink, E: Sink, P: Files + Threads + Wait + Sync>(
+    rt: &P,
+    alloc: Global,
+    answer: Answer<'_>,
+    input: &mut R,
+    out: &mut W,
+    err: &mut E,
+) -> (u8, Ran<P::File>)
+    ensures says { SaysOfRun (reads R.given R.ends R.failures R.remaining input.old input.new)
+        (writes W.taken W.flushes W.failures W.idle W.contents out.old out.new) result.0 result.1 }
+    ensures asked { IfSome (asked_in answer.entry)
+        (λ a. RanAsked a (W.taken out.old) (W.taken out.new) result.0 result.1) }
+    ensures command { IfSome (asked_in answer.entry) (λ a. IsOfCommand (command_of a) result.1) }
+    ensures none { asked_in answer.entry ≡ None → result.1 ≡ ran.Nothing }
+    ensures unread { result.1 ≢ ran.Joined → input.new ≡ input.old }
+{
+    match answer {
+        Answer::Asks(request) => run_request(rt, alloc, request, input, out, err),
+        Answer::Shows(text) => match send(out, text.as_bytes()) {
+            Ok(()) => (0, Ran::Nothing),
+            Err(unsent) => {
+                let fault = AuditFault::Write {
+                    written: unsent.written,
+                };
+                tell(err, &fault);
+                (5, Ran::Nothing)
+            }
+        },
+        Answer::Refuses(text) => {
+            let _ = send(err, text.as_bytes());
+            (3, Ran::Nothing)
+        }
+    }
+}
+
 /// Runs the program on the words after its name, and answers its exit status and what it read: 0 for clean, for
 /// evidence that is made, for a history that is told and for help that went out, 1 for dirty, 2 for refused input, 3
 /// for usage, 4 for out of memory, 5 for a device that failed and a file that could not be opened.
@@ -168,80 +226,14 @@ pub fn run_words<R: Source, W: Sink, E: Sink, P: Files + Threads + Wait + Sync>(
     ensures joined { result.1 ≡ ran.Joined ↔ words.now ≡ [] }
     // Words that name an audit are run as one, and so on: status 0 where nothing was read is help alone.
     ensures asked { IsAsked (map string_bytes words.now) (W.taken out.old) (W.taken out.new) result.0 result.1 }
-    // The report on all that was read went out, its verdict is clean, and the trace is right and fresh.
-    ensures clean { result.0 ≡ 0 → HasSucceeded
-        (OfWhole R.given R.ends input.old input.new
-        (OfParts (λ a b. Audits a b (W.taken out.old) (W.taken out.new) Clean))
-        × OfWhole R.given R.ends input.old input.new (OfParts (λ a b. IsTraceRightAndFresh a)))
-        (W.taken out.old) (W.taken out.new) result.1 }
-    ensures dirty { result.0 ≡ 1 → HasFoundDirty
-        (OfWhole R.given R.ends input.old input.new
-        (OfParts (λ a b. Audits a b (W.taken out.old) (W.taken out.new) Dirty)))
-        (W.taken out.old) (W.taken out.new) result.1 }
-    ensures flushed { result.0 ≤ 1 → W.flushes out.new ≡ W.flushes out.old + 1 }
-    // Of every input that begins with the bytes that came.
-    ensures refused { result.0 ≡ 2 → HasRefused (OfInput R.given R.ends input.old input.new IsRefused) result.1 }
-    ensures used { result.0 ≡ 3 → HasReadNothing result.1 }
-    ensures device { result.0 ≡ 5 → result.1 ≢ ran.Nothing
-        → (HasRisen (R.failures input.old) (R.failures input.new) ⊎ (0 < file_failures result.1))
-        ⊎ (HasRisen (W.failures out.old) (W.failures out.new) ⊎ HasRisen (W.idle out.old) (W.idle out.new)) }
-    // Any other status comes only where no device failed, and no write took nothing.
-    ensures kept { result.0 ≢ 5 → (R.failures input.new ≡ R.failures input.old) × (file_failures result.1 ≡ 0)
-        × (W.failures out.new ≡ W.failures out.old) × (W.idle out.new ≡ W.idle out.old) }
+    // What the status says of what was read and written.
+    ensures says { SaysOfRun (reads R.given R.ends R.failures R.remaining input.old input.new)
+        (writes W.taken W.flushes W.failures W.idle W.contents out.old out.new) result.0 result.1 }
     // A command reads its files alone.
     ensures unread { result.1 ≢ ran.Joined → input.new ≡ input.old }
-    ensures unwritten { 2 ≤ result.0 → result.0 ≤ 4 → W.taken out.new ≡ W.taken out.old }
-    // Also of input that never ends.
-    ensures most { OfBytes R.given input.old input.new (λ came. length came ≤ MAX_INPUT + CHUNK)
-        × OfFiles result.1 (λ file. length (moved_by file) ≤ MAX_INPUT + CHUNK) }
-    // Of devices in memory: what came is what the reader had left, and what went out stands behind what the writer
-    // held.
-    ensures known { AreNext R.given R.ends R.remaining input.old input.new }
-    ensures held { StandBehind W.taken W.contents out.old out.new }
-    ensures statuses { result.0 ≤ 5 }
 {
     match read_words(alloc, words) {
-        Ok(Answer::Asks(Request::Joined)) => (run_joined(alloc, input, out, err), Ran::Joined),
-        Ok(
-            Answer::Asks(
-                Request::Audit {
-                    trace,
-                    evidence,
-                    workers,
-                    slice,
-                    early,
-                },
-            ),
-        ) => {
-            let sharing = Sharing {
-                workers: workers as usize,
-                slice: slice as usize,
-                early,
-            };
-            audit_paths(rt, alloc, (trace, evidence), sharing, out, err)
-        }
-        Ok(Answer::Asks(Request::Make { trace, list })) => {
-            make_for_path(rt, alloc, trace, list, out, err)
-        }
-        Ok(Answer::Asks(Request::History { trace, tuple })) => {
-            history_in_path(rt, alloc, trace, tuple, out, err)
-        }
-        Ok(Answer::Shows(text)) => match send(out, text.as_bytes()) {
-            Ok(()) => (0, Ran::Nothing),
-            Err(unsent) => {
-                tell(
-                    err,
-                    &AuditFault::Write {
-                        written: unsent.written,
-                    },
-                );
-                (5, Ran::Nothing)
-            }
-        },
-        Ok(Answer::Refuses(text)) => {
-            let _ = send(err, text.as_bytes());
-            (3, Ran::Nothing)
-        }
+        Ok(answer) => run_answer(rt, alloc, answer, input, out, err),
         Err(_) => {
             tell(err, &AuditFault::OutOfMemory);
             (4, Ran::Nothing)

@@ -1,10 +1,10 @@
 //! Exit statuses, and the lines that tell why there is no answer.
 
 ghost use Rattle.std.specs.Prelude.{◌≡◌, ◌≢◌, ◌≤◌};
-ghost use Rattle.new_enemy.specs.Run.{IsStatus};
+ghost use Rattle.new_enemy.specs.Run.{IsStatus, IsStatusOf};
 
 use arrayvec::ArrayString;
-use audit::AuditFault;
+use audit::{AuditFault, Verdict};
 use evidence_check::{EvidenceCause, EvidenceFault};
 use json_lines::{Sink, send};
 use std::fmt::Write as _;
@@ -13,7 +13,7 @@ use trace_lines::{Cause, TraceFault};
 use tuple_text::TupleFault;
 
 /// The exit status of a fault.
-pub fn status_of(fault: &AuditFault) -> u8
+fn status_of(fault: &AuditFault) -> u8
     ensures status { IsStatus fault.now result }
     ensures failure { 2 ≤ result }
 {
@@ -48,6 +48,25 @@ pub fn tell<E: Sink>(err: &mut E, fault: &AuditFault) {
     let mut line = ArrayString::<LINE>::new();
     let _ = writeln!(line, "{fault}");
     let _ = send(err, line.as_str().as_bytes());
+}
+
+/// Tells a fault, and answers its exit status.
+pub fn fail<E: Sink>(err: &mut E, fault: &AuditFault) -> u8
+    ensures { (2 ≤ result) × IsStatus fault.now result }
+{
+    tell(err, fault);
+    status_of(fault)
+}
+
+/// The status of an audit's answer; a fault is told to `err`.
+pub fn status_with<E: Sink>(answer: Result<Verdict, AuditFault>, err: &mut E) -> u8
+    ensures { IsStatusOf answer result }
+{
+    match answer {
+        Ok(Verdict::Clean) => 0,
+        Ok(Verdict::Dirty) => 1,
+        Err(fault) => fail(err, &fault),
+    }
 }
 
 /// Tells why the words after the program's name could not be read, and answers the exit status: 4 for want of

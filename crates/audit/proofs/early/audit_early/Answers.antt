@@ -17,6 +17,6 @@ returns-clause-early g c =
     (state_of g.E.Sink.taken g.E.Sink.failures g.E.Sink.idle g.E.Sink.since e)))))
     (search rules)
     (elim c.audit_with.ensures.tells [
-      | inl same ↦ inl (ap (λ (f : Tellers g.row.R.Denot g.row.E.Denot g.E.Sink g.E.Write). f.early.now) same)
+      | inl same ↦ inl (ap (λ (f : Tellers g.row.R.Denot g.row.E.Denot). f.early.now) same)
       | inr told ↦ inr told
     ])

@@ -2,7 +2,7 @@ use Rattle.std.proofs.Common.{rules, ℕ, List, subst}
 use Rattle.json_lines.specs.Devices.{moved_by}
 use Rattle.new_enemy.specs.Outcomes.{HasSucceeded}
 use Rattle.new_enemy.specs.Run.{IsCleanRun}
-use Rattle.new_enemy.proofs.Runs.{of_joined}
+use Rattle.new_enemy.proofs.RunLemmas.{of_joined}
 use Rattle.new_enemy.proofs.run.run_on.Goals as goal
 
 pub returns-clause-clean : goal.returns-clause-clean
@@ -12,4 +12,4 @@ returns-clause-clean g c = λ zero.
     (λ (old : List ℕ). HasSucceeded (IsCleanRun run.new.input run.new.out) old (moved_by run.new.out)
     run.result.1) c.new-out.ensures.moved
     (of_joined (moved_by c.new-out.result) (moved_by run.new.out) run.result.1 (λ is h. search rules)
-    (run.ensures.clean zero))
+    (run.ensures.says.clean zero))
