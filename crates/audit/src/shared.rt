@@ -81,8 +81,8 @@ impl<'t, 'e> Check for EntryCheck<'t, 'e> {
 
     ghost use Rattle.std.proofs.Common.{◌≡◌, rules};
     ghost use Rattle.evidence_check.specs.Evidences.{evidence_value};
-ghost use Rattle.evidence_check.specs.Judging.{AreJudged};
-ghost use Rattle.evidence_check.specs.Steps.{StepValue};
+    ghost use Rattle.evidence_check.specs.Judging.{AreJudged};
+    ghost use Rattle.evidence_check.specs.Steps.{StepValue};
     ghost use Rattle.audit.specs.Shared.{found_at, has_finding};
 
     ghost entries = { λ c. c.entries };
@@ -223,7 +223,24 @@ fn found_unseen<N: Names<Found> + Sync, R: Threads + Wait + Sync>(
         entries,
     };
     let no_board: Option<Board<Found, N>> = None;
-    reports_by(rt, alloc, &check, entries, crew, no_board.as_ref(), &mut Blind)
+    reports_by(
+        rt,
+        alloc,
+        &check,
+        entries,
+        crew,
+        no_board.as_ref(),
+        &mut Blind,
+    )
+}
+
+fn push_all(found: &[Found], findings: &mut Vec<Finding>) -> Result<(), AllocError>
+    ensures { OnOk result (findings.new.items ≡ findings.old.items ++ found_lines found.now) }
+{
+    for one in found {
+        push_found(one.line, &one.what, findings)?;
+    }
+    Ok(())
 }
 
 /// The findings that reports hold, in the order of their entries.
