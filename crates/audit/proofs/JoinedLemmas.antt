@@ -15,7 +15,7 @@ use Rattle.trace_lines.specs.Traces.{trace_of}
 use Rattle.trace_lines.specs.Values.{TraceValue}
 use Rattle.trace_lines.specs.declared.cause.Cause.TheVariants as causes
 use Rattle.trace_lines.specs.declared.cause.TraceFault.{TraceFault}
-use Rattle.evidence_check.specs.Judging.{AreJudged, GivesJudged}
+use Rattle.evidence_check.specs.Judging.{GivesJudged}
 use Rattle.evidence_check.specs.Reading.{evidence_of}
 use Rattle.evidence_check.specs.Steps.{StepValue}
 use Rattle.evidence_check.specs.declared.cause.EvidenceCause.TheVariants as evidence_causes
@@ -25,8 +25,8 @@ use Rattle.findings.proofs.WrongReplies.{named_by_bytes}
 use Rattle.findings.specs.Findings.{findings_of}
 use Rattle.findings.specs.Headline.{IsRightAndFresh, IsTraceRightAndFresh}
 use Rattle.findings.specs.WrongReplies.{NamesOnlyWrongReplies}
-use Rattle.audit.specs.Audit.{Audits, Breaks, BlamesOnly, BlamesNoDevice, RefusesTrace, RefusesEvidence, RefusesEvidenceFor}
-use Rattle.audit.specs.Devices.{Reader, Reading, Writer, Writing, OfAll, OfAny, OfCame, GivesFew, GivesNext, ReaderFailed, ReaderNeverFailed, WriterFailed, FailsWriting}
+use Rattle.audit.specs.Audit.{Audits, Breaks, BlamesOnly, RefusesTrace, RefusesEvidence, RefusesEvidenceFor}
+use Rattle.audit.specs.Devices.{Reader, Reading, Writer, Writing, OfAll, OfAny, OfCame, GivesFew, GivesNext, ReaderFailed, ReaderNeverFailed, FailsWriting}
 use Rattle.audit.specs.Joined.{OfParts, OfBothParts, HasNoParts, AuditedJoined}
 use Rattle.audit.specs.JoinedParts.{IsRead, of_input, SayBoth, PartsRead, FrontRead, BehindRead}
 use Rattle.audit.specs.Kinds.{IsOneOf}

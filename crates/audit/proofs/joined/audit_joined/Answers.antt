@@ -1,4 +1,4 @@
-use Rattle.std.proofs.Common.{◌≡◌, ◌∙◌, List, subst, sym}
+use Rattle.std.proofs.Common.{◌∙◌, List, subst, sym}
 use Rattle.evidence_check.specs.Judging.{AreJudged}
 use Rattle.evidence_check.specs.declared.judged.Judged.{Judged}
 use Rattle.audit.specs.Devices.{writer}

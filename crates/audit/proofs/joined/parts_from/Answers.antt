@@ -1,4 +1,3 @@
-use Rattle.std.proofs.Common.{Ok, Err}
 use Rattle.audit.proofs.JoinedLemmas.{behind_are, front_are, parts_whole, parts_without_evidence, parts_without_front}
 use Rattle.audit.proofs.joined.parts_from.Goals as goal
 
