@@ -1,5 +1,5 @@
 -- Words of texts.
-use Rattle.std.proofs.Common.{◌≡◌, ℕ, ◌+◌, ◌-◌, ◌/◌, ◌≤◌, ◌<◌, suc, List, [], ◌∷◌, ◌++◌, length, take, drop, replicate, get_or, refl, ◌∙◌, ap, arith}
+use Rattle.std.proofs.Common.{◌≡◌, ℕ, ◌+◌, ◌-◌, ◌/◌, ◌≤◌, ◌<◌, suc, List, [], ◌∷◌, ◌++◌, length, take, drop, replicate, ◌∙◌, ap, arith}
 use Rattle.std.specs.Int.{w64, from_le_bytes}
 use Rattle.std.proofs.lemmas.List.{append-nil, length-drop, length-take, take_all}
 use Rattle.version_chains.specs.Words.{first_words, words, word_of}
@@ -28,16 +28,3 @@ unfolding first_words
 no_word text none =
     let few : (length text + 7) / 8 ≡ 0 = omega (arith, none) in
     ap (λ (n : ℕ). first_words n text) few
-
--- a list of six bytes, and one of seven, spelled out and filled
-pub of_six : (bs : List ℕ) → length bs ≡ 6
-    → get_or bs 0 0 ∷ get_or bs 1 0 ∷ get_or bs 2 0 ∷ get_or bs 3 0 ∷ get_or bs 4 0 ∷ get_or bs 5 0 ∷ 0 ∷ 0 ∷ []
-    ≡ bs ++ replicate (8 - length bs) 0
-of_six (a ∷ b ∷ c ∷ d ∷ e ∷ f ∷ []) h = refl
-of_six bs h = absurd (omega (arith, h))
-
-pub of_seven : (bs : List ℕ) → length bs ≡ 7
-    → get_or bs 0 0 ∷ get_or bs 1 0 ∷ get_or bs 2 0 ∷ get_or bs 3 0 ∷ get_or bs 4 0 ∷ get_or bs 5 0 ∷ get_or bs 6 0 ∷ 0 ∷ []
-    ≡ bs ++ replicate (8 - length bs) 0
-of_seven (a ∷ b ∷ c ∷ d ∷ e ∷ f ∷ g ∷ []) h = refl
-of_seven bs h = absurd (omega (arith, h))

@@ -1,6 +1,7 @@
 //! A hash of words.
 
 ghost use Rattle.std.specs.Prelude.{◌≡◌, ◌<◌, ◌-◌, ◌++◌, length, replicate, fold};
+ghost use Rattle.std.specs.Int.{w32, w64, from_le_bytes};
 ghost use Rattle.std.specs.Hash.DefaultHasher.{initial, round, write_word, finish};
 ghost use Rattle.version_chains.specs.Words.{state_of, words};
 
@@ -17,21 +18,35 @@ pub(crate) struct WordHasher {
     v3: u64,
 }
 
-/// A word that begins with these bytes, and is filled with zeros. Each length has a case of its own: a copy of a length that is not
-/// known took as long as three of the rounds below.
-fn last_word(bytes: &[u8]) -> [u8; WORD]
-    requires { length bytes.now < 8 }
-    ensures { result ≡ bytes.now ++ replicate (8 - length bytes.now) 0 }
+/// The half of a word.
+const HALF: usize = 4;
+
+/// Up to three bytes, as a number of 32 bits. Each length has a case of its own: a copy of a length that is not known took as long as three of
+/// the rounds below.
+#[inline(always)]
+fn few_bytes(bytes: &[u8]) -> u32
+    requires { length bytes.now < 4 }
+    ensures { result ≡ from_le_bytes w32 (bytes.now ++ replicate (4 - length bytes.now) 0) }
 {
     match bytes {
-        [a] => [*a, 0, 0, 0, 0, 0, 0, 0],
-        [a, b] => [*a, *b, 0, 0, 0, 0, 0, 0],
-        [a, b, c] => [*a, *b, *c, 0, 0, 0, 0, 0],
-        [a, b, c, d] => [*a, *b, *c, *d, 0, 0, 0, 0],
-        [a, b, c, d, e] => [*a, *b, *c, *d, *e, 0, 0, 0],
-        [a, b, c, d, e, f] => [*a, *b, *c, *d, *e, *f, 0, 0],
-        [a, b, c, d, e, f, g] => [*a, *b, *c, *d, *e, *f, *g, 0],
-        _ => [0; WORD],
+        [a] => u32::from_le_bytes([*a, 0, 0, 0]),
+        [a, b] => u32::from_le_bytes([*a, *b, 0, 0]),
+        [a, b, c] => u32::from_le_bytes([*a, *b, *c, 0]),
+        _ => u32::from_le_bytes([0; HALF]),
+    }
+}
+
+/// A word of up to seven bytes, filled with zeros.
+#[inline(always)]
+fn last_word(bytes: &[u8]) -> u64
+    requires { length bytes.now < 8 }
+    ensures { result ≡ from_le_bytes w64 (bytes.now ++ replicate (8 - length bytes.now) 0) }
+{
+    match bytes.split_first_chunk::<HALF>() {
+        Some((low, rest)) => {
+            u64::from(u32::from_le_bytes(*low)) + u64::from(few_bytes(rest)) * (1 << 32)
+        }
+        None => u64::from(few_bytes(bytes)),
     }
 }
 
@@ -77,6 +92,7 @@ impl WordHasher {
     }
 
     /// The words of a text, the last filled with zeros.
+    #[inline(always)]
     pub(crate) fn with_text(self, text: &str) -> WordHasher
         ensures { state_of result ≡ fold write_word (state_of self) (words text.now) }
     {
@@ -89,7 +105,7 @@ impl WordHasher {
         if rest.is_empty() {
             return state;
         }
-        state.with(u64::from_le_bytes(last_word(rest)))
+        state.with(last_word(rest))
     }
 
     /// The hash of the words so far.

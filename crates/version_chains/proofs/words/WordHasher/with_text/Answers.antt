@@ -29,7 +29,7 @@ returns c =
     let rest = c.loop-word.rest.now in
     let some : 0 < length rest = search rules in
     let short : length rest < 8 = search rules in
-    let word = c.from_le_bytes-2.ensures ∙ ap (from_le_bytes w64) c.last_word.ensures in
+    let word = c.last_word.ensures in
     c.with.ensures
     ∙ ap (write_word (state_of c.loop-word.state)) word
     ∙ ap (fold write_word (state_of c.loop-word.state)) (sym (last_word rest some short))
