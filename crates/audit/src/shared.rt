@@ -18,8 +18,8 @@ use crate::finder::Finder;
 use crate::plain::{AuditFault, Verdict, audit_plain, audit_with};
 use crate::reading::judgements_by;
 use audit_slices::{Blind, Board, Check, Free, MOST_WORKERS, Names, SliceReport, cut, run_pool};
-use evidence_check::{Evidence, Judged};
-use findings::{Finding, What, found_judged, found_on, push_found};
+use evidence_check::Judged;
+use findings::{Finding, What, found_judged, push_found};
 use json_lines::{Sink, Source};
 use std::alloc::{AllocError, Global};
 use std::marker::Brand;
@@ -46,68 +46,17 @@ pub(crate) struct Found {
     pub(crate) what: [Option<What>; 7],
 }
 
-/// It finds what is wrong with the decisions of a trace, by its evidence.
+/// It finds what is wrong with the decisions of a trace, where its evidence judges the entries so.
 #[derive(Drop)]
-pub(crate) struct EntryCheck<'t, 'e> {
+pub(crate) struct EntryCheck<'t, 'j> {
     pub(crate) trace: &'t Trace,
-    pub(crate) evidence: &'e Evidence,
+    pub(crate) judgements: &'j [Judged],
     pub(crate) entries: usize,
     ghost fits: { entries < 2 ^ 64 },
     ghost all: { entries ≡ length trace.now.entries },
 }
 
-impl<'t, 'e> Check for EntryCheck<'t, 'e> {
-    type Report = Found;
-
-    ghost use Rattle.std.proofs.Common.{◌≡◌, rules};
-    ghost use Rattle.evidence_check.specs.Evidences.{evidence_value};
-    ghost use Rattle.audit.specs.Shared.{found_at, has_finding};
-
-    ghost entries = { λ c. c.entries };
-
-    ghost gives = { λ c entry found. found ≡ found_at c.trace.now (evidence_value c.evidence.now) entry };
-
-    ghost raises = { λ _ found. has_finding found };
-
-    ghost entries_fit = { Prim.search rules };
-
-    fn check(&self, entry: usize) -> Result<Found, AllocError> {
-        let what = found_on(self.trace, self.evidence, entry)?;
-        let line = self.trace.entry(entry).line;
-        Ok(Found { line, what })
-    }
-
-    fn alerts(&self, found: &Found) -> bool {
-        is_any(&found.what)
-    }
-}
-
-pub(crate) fn is_any(found: &[Option<What>]) -> bool
-    ensures { result ≡ list_any is_some found.now }
-{
-    found.iter().any(|what| what.is_some())
-}
-
-// The call of a pool picks the names, which are those of its trace and evidence.
-impl Names<Found> for Brand {
-    ghost use Rattle.std.specs.Prelude.{⊤, false};
-
-    ghost gives = { λ _ _. ⊤ };
-
-    ghost alerts = { λ _. false };
-}
-
-/// It finds what is wrong with the decisions of a trace, where its evidence judges the entries so.
-#[derive(Drop)]
-struct JudgedCheck<'t, 'j> {
-    trace: &'t Trace,
-    judgements: &'j [Judged],
-    entries: usize,
-    ghost fits: { entries < 2 ^ 64 },
-    ghost all: { entries ≡ length trace.now.entries },
-}
-
-impl<'t, 'j> Check for JudgedCheck<'t, 'j> {
+impl<'t, 'j> Check for EntryCheck<'t, 'j> {
     type Report = Found;
 
     ghost use Rattle.std.proofs.Common.{◌≡◌, rules};
@@ -132,6 +81,21 @@ impl<'t, 'j> Check for JudgedCheck<'t, 'j> {
     }
 }
 
+pub(crate) fn is_any(found: &[Option<What>]) -> bool
+    ensures { result ≡ list_any is_some found.now }
+{
+    found.iter().any(|what| what.is_some())
+}
+
+// The call of a pool picks the names, which are those of its trace and evidence.
+impl Names<Found> for Brand {
+    ghost use Rattle.std.specs.Prelude.{⊤, false};
+
+    ghost gives = { λ _ _. ⊤ };
+
+    ghost alerts = { λ _. false };
+}
+
 /// What is found on each entry, in slices.
 fn found_by<N: Names<Found> + Sync, R: Threads + Wait + Sync>(
     rt: &R,
@@ -148,7 +112,7 @@ fn found_by<N: Names<Found> + Sync, R: Threads + Wait + Sync>(
     ensures { IfOk result (λ v. flat_map report_items v.items ≡ all_judged trace.now judgements.now) }
 {
     let entries = trace.len();
-    let check = JudgedCheck {
+    let check = EntryCheck {
         trace,
         judgements,
         entries,
