@@ -4,12 +4,12 @@ use Rattle.std.specs.declared.vec.Vec.{Vec}
 use Rattle.std.specs.declared.alloc.Global.{Global}
 use Rattle.trace_lines.specs.Values.{TraceValue}
 use Rattle.trace_lines.specs.Traces.{trace_of}
-use Rattle.evidence_check.specs.Evidences.{evidence_value}
+use Rattle.evidence_check.specs.Judging.{AreJudged}
 use Rattle.evidence_check.specs.Reading.{evidence_of}
 use Rattle.evidence_check.specs.Steps.{StepValue}
 use Rattle.evidence_check.specs.declared.cause.EvidenceCause.TheVariants as evidence_causes
 use Rattle.evidence_check.specs.declared.cause.EvidenceFault.{EvidenceFault}
-use Rattle.evidence_check.specs.declared.evidence.Evidence.{Evidence}
+use Rattle.evidence_check.specs.declared.judged.Judged.{Judged}
 use Rattle.findings.specs.Findings.{findings_of}
 use Rattle.findings.specs.Headline.{IsRightAndFresh, IsTraceRightAndFresh}
 use Rattle.findings.specs.Report.{report_text}
@@ -485,12 +485,13 @@ told_by_bytes {trace = trace} {evidence = evidence} {t = t} N P read by (inr tol
     (λ b. (given : List (Option (List StepValue))) × (evidence_of t.entries true b ≡ Ok given) × P t given)
     (λ b. IsOfBytes a b P) (λ b h. (t, h.0, is, h.1, h.2)) told) read.given)
 
--- what is told of evidence that was read is told of its bytes
-pub told_of : {t : TraceValue} {evidence : Reading} {v : Evidence} (P : List (Option (List StepValue)) → Type 0)
-    → EvidenceRead (λ given v. evidence_value v ≡ given) t evidence (Ok v) → P (evidence_value v)
+-- what is told of evidence that judges so is told of its bytes
+pub told_of : {t : TraceValue} {evidence : Reading} {v : Vec Judged Global} (P : List (Option (List StepValue)) → Type 0)
+    → EvidenceRead (λ given v. AreJudged t given v.items) t evidence (Ok v)
+    → ((given : List (Option (List StepValue))) → AreJudged t given v.items → P given)
     → OfAll evidence
     (λ b. (given : List (Option (List StepValue))) × (evidence_of t.entries true b ≡ Ok given) × P given)
 told_of {t} {evidence} P read told =
     of_all-map evidence (λ b. evidence_of t.entries true b ≡ Ok read.given.0)
     (λ b. (given : List (Option (List StepValue))) × (evidence_of t.entries true b ≡ Ok given) × P given)
-    (λ b is. (read.given.0, is, subst P read.given.1 told)) read.given.2
+    (λ b is. (read.given.0, is, told read.given.0 read.given.1)) read.given.2

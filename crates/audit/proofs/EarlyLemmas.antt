@@ -8,15 +8,18 @@ use Rattle.std.proofs.Math.Seq.{take-append-add, take-length}
 use Rattle.std.proofs.lemmas.Grind.{flat_map-append, merely}
 use Rattle.std.proofs.lemmas.List.Elements.{All-nil, All-push, All-weaker}
 use Rattle.trace_lines.specs.Values.{TraceValue, EntryValue}
+use Rattle.evidence_check.specs.Judging.{AreJudged}
 use Rattle.evidence_check.specs.Steps.{StepValue}
+use Rattle.evidence_check.specs.declared.judged.Judged.{Judged}
 use Rattle.audit.specs.Devices.{HasRisen}
 use Rattle.audit.specs.Early.{IsEarlyLine, WriterState, WasLast, WentOut, TellsEarly, early_text}
 use Rattle.findings.specs.Findings.{found_on, on_line}
-use Rattle.audit.specs.Shared.{nothing_found, found_at, has_finding}
+use Rattle.audit.specs.Shared.{nothing_found, found_at, found_judged, has_finding}
 use Rattle.audit.specs.Told.{IsLineOf, line_for}
 use Rattle.findings.specs.declared.finding.Finding.{Finding}
 use Rattle.findings.specs.declared.finding.What.{What}
 use Rattle.audit.specs.declared.shared.Found.{Found}
+use Rattle.audit.proofs.SharedLemmas.{judged_alike}
 
 -- ---- what went out grows
 
@@ -148,16 +151,20 @@ module _ (t : TraceValue) (evidence : List (Option (List StepValue))) (l : List 
   unfolding found_in
   is_early_line h is = of_entry (slice_get t.entries i) refl h is
 
-pub of_entries : (t : TraceValue) (evidence : List (Option (List StepValue))) (old new : WriterState) (given_up : Bool)
-    → ∥ WentOut (IsLineOf (λ i found. found ≡ found_at t evidence i) has_finding) old new given_up ∥₁
+-- where evidence judges the entries so
+pub of_entries : (t : TraceValue) (evidence : List (Option (List StepValue))) (judgements : List Judged)
+    → AreJudged t evidence judgements → (old new : WriterState) (given_up : Bool)
+    → ∥ WentOut (IsLineOf (λ i found. found ≡ found_judged t judgements i) has_finding) old new given_up ∥₁
     → TellsEarly t evidence old new
-of_entries t evidence old new given_up h =
-    ∥∥₁_map h (λ (w : WentOut (IsLineOf (λ i found. found ≡ found_at t evidence i) has_finding) old new given_up). (
+of_entries t evidence judgements are old new given_up h =
+    let P : List ℕ → Type 0 = IsLineOf (λ i found. found ≡ found_judged t judgements i) has_finding in
+    ∥∥₁_map h (λ (w : WentOut P old new given_up). (
       given_up,
       record {
         lines = w.lines;
-        each = All-weaker (IsLineOf (λ i found. found ≡ found_at t evidence i) has_finding) (IsEarlyLine t evidence)
-            (λ l is. is_early_line t evidence l is.0 (ap has_finding (sym is.2) ∙ is.3) (is.4 ∙ ap line_for is.2))
+        each = All-weaker P (IsEarlyLine t evidence)
+            (λ l is. let at = is.2 ∙ judged_alike t evidence judgements are is.0 in
+            is_early_line t evidence l is.0 (ap has_finding (sym at) ∙ is.3) (is.4 ∙ ap line_for at))
             w.lines w.each;
         written = w.written;
         goes = w.goes;

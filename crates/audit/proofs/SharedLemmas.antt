@@ -35,13 +35,6 @@ pub found_is_findings : (t : TraceValue) (evidence : List (Option (List StepValu
 found_is_findings t evidence =
     found_from t evidence 0 t.entries (λ k. ap (slice_get t.entries) (let z : 0 + k ≡ k = omega arith in z))
 
--- where each entry's report is what is found on it
-pub all_are_found : (t : TraceValue) (evidence : List (Option (List StepValue))) (entries : List ℕ)
-    (found : List Found) → entries ≡ range_with_len 0 (length t.entries)
-    → AllZip (λ i f. f ≡ found_at t evidence i) entries found → found ≡ all_found t evidence
-all_are_found t evidence entries found are each =
-    AllZip-map (found_at t evidence) entries found each ∙ ap (map (found_at t evidence)) are
-
 pub found_are_findings : (t : TraceValue) (evidence : List (Option (List StepValue))) (found : List Found)
     (findings : List Finding)
     → findings ≡ found_lines found → found ≡ all_found t evidence → findings ≡ findings_of t evidence

@@ -4,24 +4,25 @@ ghost use Rattle.std.specs.Prelude.{◌≡◌, ◌⊎◌, ◌↔◌, ◌<◌, �
 ghost use Rattle.std.specs.List.{flat_map};
 ghost use Rattle.audit_slices.specs.Board.{IsNamedBy};
 ghost use Rattle.audit_slices.specs.Reports.{report_items};
-ghost use Rattle.evidence_check.specs.Evidences.{evidence_value};
+ghost use Rattle.evidence_check.specs.Judging.{AreJudged};
+ghost use Rattle.evidence_check.specs.Steps.{StepValue};
 ghost use Rattle.audit.specs.Answers.{Audited};
 ghost use Rattle.audit.specs.Audit.{IsOfBytes};
 ghost use Rattle.audit.specs.Devices.{reads, writes, OfBoth};
 ghost use Rattle.audit.specs.Early.{WriterState, WentOut, TellsEarly, state_of};
 ghost use Rattle.audit.specs.Kinds.{IsOneOf};
 ghost use Rattle.audit.specs.Kinds as kind;
-ghost use Rattle.audit.specs.Shared.{found_at, has_finding, all_found, are_within_limits};
+ghost use Rattle.audit.specs.Shared.{found_judged, has_finding, all_judged, are_within_limits};
 ghost use Rattle.audit.specs.Told.{IsLineOf, line_for};
 ghost use Rattle.audit.specs.declared.plain.AuditFault.TheVariants as faults;
 ghost use Rattle.findings.specs.Findings.{findings_of, on_line};
 
 use crate::finder::Finder;
 use crate::plain::{AuditFault, Verdict, audit_with};
-use crate::reading::evidence_from;
+use crate::reading::judgements_by;
 use crate::shared::{Crew, Found, found_by, gathered};
 use audit_slices::{Alert, Board, Names, SliceReport, Watch};
-use evidence_check::Evidence;
+use evidence_check::Judged;
 use findings::{Finding, report_line};
 use json_lines::{Sink, Source, send};
 use std::alloc::{AllocError, Global};
@@ -98,15 +99,15 @@ fn found_early<N: Names<Found> + Begun + Sync, E: Sink, R: Threads + Wait + Sync
     rt: &R,
     alloc: Global,
     trace: &Trace,
-    evidence: &Evidence,
+    judgements: &[Judged],
     early: &mut E,
     crew: Crew,
 ) -> Result<Vec<SliceReport<Found>>, AllocError>
-    requires names { IsNamedBy (λ entry found. found ≡ found_at trace.now (evidence_value evidence.now) entry)
+    requires names { IsNamedBy (λ entry found. found ≡ found_judged trace.now judgements.now entry)
         has_finding N.gives N.alerts }
     requires begun { N.begun ≡ state_of E.taken E.failures E.idle E.since early.old }
     ensures found { IfOk result
-        (λ v. flat_map report_items v.items ≡ all_found trace.now (evidence_value evidence.now)) }
+        (λ v. flat_map report_items v.items ≡ all_judged trace.now judgements.now) }
     ensures early { (given_up : Bool) × ∥ WentOut (IsLineOf N.gives N.alerts) N.begun
         (state_of E.taken E.failures E.idle E.since early.new) given_up ∥₁ }
 {
@@ -117,24 +118,34 @@ fn found_early<N: Names<Found> + Begun + Sync, E: Sink, R: Threads + Wait + Sync
         given_up: false,
         names: PhantomData,
     };
-    found_by::<N, Teller<'_, E, N>, R>(rt, alloc, trace, evidence, crew, Some(&board), &mut teller)
+    found_by::<N, Teller<'_, E, N>, R>(
+        rt,
+        alloc,
+        trace,
+        judgements,
+        crew,
+        Some(&board),
+        &mut teller,
+    )
 }
 
-/// The findings on each entry, in line order and by their numbers, by several workers, of which lines go to `early`
-/// as they come.
+/// The findings on each entry, in line order and by their numbers, by several workers, where each entry is judged so.
+/// Lines go to `early` as they come.
 fn findings_early<E: Sink, R: Threads + Wait + Sync>(
     rt: &R,
     alloc: Global,
     trace: &Trace,
-    evidence: &Evidence,
+    judgements: &[Judged],
     early: &mut E,
     crew: Crew,
 ) -> Result<Vec<Finding>, AllocError>
-    ensures found { IfOk result (λ v. v.items ≡ findings_of trace.now (evidence_value evidence.now)) }
-    ensures early { TellsEarly trace.now (evidence_value evidence.now)
-        (state_of E.taken E.failures E.idle E.since early.old) (state_of E.taken E.failures E.idle E.since early.new) }
+    ensures found { (given : List (Option (List StepValue))) → AreJudged trace.now given judgements.now
+        → IfOk result (λ v. v.items ≡ findings_of trace.now given) }
+    ensures early { (given : List (Option (List StepValue))) → AreJudged trace.now given judgements.now
+        → TellsEarly trace.now given (state_of E.taken E.failures E.idle E.since early.old)
+        (state_of E.taken E.failures E.idle E.since early.new) }
 {
-    let reports = found_early::<Brand, E, R>(rt, alloc, trace, evidence, early, crew)?;
+    let reports = found_early::<Brand, E, R>(rt, alloc, trace, judgements, early, crew)?;
     gathered(alloc, reports.as_slice())
 }
 
@@ -163,12 +174,12 @@ impl<'r, 'e, B: Source, R: Threads + Wait + Sync, E: Sink> Finder<B> for Tellers
         trace: &Trace,
         evidence: &mut B,
     ) -> Result<Vec<Finding>, AuditFault> {
-        let evidence = match evidence_from(alloc, evidence, trace) {
-            Ok(evidence) => evidence,
+        let judgements = match judgements_by(self.rt, alloc, evidence, trace, self.crew.workers) {
+            Ok(judgements) => judgements,
             Err(fault) => return Err(fault),
         };
         let early = &mut *self.early;
-        match findings_early(self.rt, alloc, trace, &evidence, early, self.crew) {
+        match findings_early(self.rt, alloc, trace, &judgements, early, self.crew) {
             Ok(findings) => Ok(findings),
             Err(_) => Err(AuditFault::OutOfMemory),
         }

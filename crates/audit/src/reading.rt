@@ -5,7 +5,6 @@ ghost use Rattle.trace_lines.specs.declared.cause.Cause.TheVariants as causes;
 ghost use Rattle.trace_lines.specs.declared.cause.TraceFault.{TraceFault};
 ghost use Rattle.evidence_check.specs.declared.cause.EvidenceCause.TheVariants as evidence_causes;
 ghost use Rattle.evidence_check.specs.declared.cause.EvidenceFault.{EvidenceFault};
-ghost use Rattle.evidence_check.specs.Evidences.{evidence_value};
 ghost use Rattle.evidence_check.specs.Judging.{AreJudged};
 ghost use Rattle.audit.specs.Parts.{TraceRead, EvidenceRead};
 ghost use Rattle.audit.specs.Audit.{BlamesNoDevice};
@@ -16,9 +15,7 @@ ghost use Rattle.audit.specs.declared.plain.AuditFault.TheVariants as faults;
 
 use crate::plain::AuditFault;
 use evidence_blocks::judge_evidence_by;
-use evidence_check::{
-    Evidence, EvidenceCause, EvidenceFault, Judged, judge_evidence, read_evidence,
-};
+use evidence_check::{EvidenceCause, EvidenceFault, Judged, judge_evidence};
 use json_lines::Source;
 use std::alloc::Global;
 use std::thread::Threads;
@@ -55,21 +52,6 @@ pub(crate) fn of_evidence(fault: EvidenceFault) -> AuditFault
     match fault.cause {
         EvidenceCause::OutOfMemory => AuditFault::OutOfMemory,
         _ => AuditFault::Evidence(fault),
-    }
-}
-
-/// The evidence of a reader for a trace.
-pub(crate) fn evidence_from<R: Source>(
-    alloc: Global,
-    reader: &mut R,
-    trace: &Trace,
-) -> Result<Evidence, AuditFault>
-    ensures { EvidenceRead (λ given v. evidence_value v ≡ given) trace.now
-        (reads R.given R.ends R.failures R.remaining reader.old reader.new) result }
-{
-    match read_evidence(alloc, reader, trace) {
-        Ok(evidence) => Ok(evidence),
-        Err(fault) => Err(of_evidence(fault)),
     }
 }
 

@@ -4,14 +4,13 @@ ghost use Rattle.std.specs.Prelude.{◌≡◌, ◌↔◌, ◌<◌, ◌≤◌, �
 ghost use Rattle.std.specs.List.{AllZip, flat_map, list_any, range_with_len};
 ghost use Rattle.audit_slices.specs.Board.{IsNamedBy};
 ghost use Rattle.audit_slices.specs.Reports.{report_items};
-ghost use Rattle.evidence_check.specs.Evidences.{evidence_value};
 ghost use Rattle.evidence_check.specs.Judging.{AreJudged};
 ghost use Rattle.evidence_check.specs.Steps.{StepValue};
 ghost use Rattle.audit.specs.Answers.{Audited};
 ghost use Rattle.audit.specs.Devices.{reads, writes};
 ghost use Rattle.audit.specs.Kinds.{IsOneOf};
 ghost use Rattle.audit.specs.Kinds as kind;
-ghost use Rattle.audit.specs.Shared.{found_at, found_judged, has_finding, all_found, all_judged, found_lines, are_within_limits};
+ghost use Rattle.audit.specs.Shared.{found_judged, has_finding, all_judged, found_lines, are_within_limits};
 ghost use Rattle.audit.specs.declared.plain.AuditFault.TheVariants as faults;
 ghost use Rattle.findings.specs.Findings.{findings_of};
 
@@ -21,8 +20,8 @@ use crate::reading::judgements_by;
 use audit_slices::{
     Blind, Board, Check, Free, MOST_WORKERS, Names, SliceReport, Watch, cut, run_pool,
 };
-use evidence_check::{Evidence, Judged};
-use findings::{Finding, What, found_judged, found_on, push_found};
+use evidence_check::Judged;
+use findings::{Finding, What, found_judged, push_found};
 use json_lines::{Sink, Source};
 use std::alloc::{AllocError, Global};
 use std::marker::Brand;
@@ -66,70 +65,17 @@ pub(crate) struct Found {
     pub(crate) what: [Option<What>; 7],
 }
 
-/// It finds what is wrong with the decisions of a trace, by its evidence.
+/// It finds what is wrong with the decisions of a trace, where its evidence judges the entries so.
 #[derive(Drop)]
-pub(crate) struct EntryCheck<'t, 'e> {
+pub(crate) struct EntryCheck<'t, 'j> {
     pub(crate) trace: &'t Trace,
-    pub(crate) evidence: &'e Evidence,
+    pub(crate) judgements: &'j [Judged],
     pub(crate) entries: usize,
     ghost fits: { entries < 2 ^ 64 },
     ghost all: { entries ≡ length trace.now.entries },
 }
 
-impl<'t, 'e> Check for EntryCheck<'t, 'e> {
-    type Report = Found;
-
-    ghost use Rattle.std.proofs.Common.{◌≡◌, rules};
-    ghost use Rattle.evidence_check.specs.Evidences.{evidence_value};
-    ghost use Rattle.evidence_check.specs.Judging.{AreJudged};
-    ghost use Rattle.evidence_check.specs.Steps.{StepValue};
-    ghost use Rattle.audit.specs.Shared.{found_at, has_finding};
-
-    ghost entries = { λ c. c.entries };
-
-    ghost gives = { λ c entry found. found ≡ found_at c.trace.now (evidence_value c.evidence.now) entry };
-
-    ghost raises = { λ _ found. has_finding found };
-
-    ghost entries_fit = { Prim.search rules };
-
-    fn check(&self, entry: usize) -> Result<Found, AllocError> {
-        let what = found_on(self.trace, self.evidence, entry)?;
-        let line = self.trace.entry(entry).line;
-        Ok(Found { line, what })
-    }
-
-    fn alerts(&self, found: &Found) -> bool {
-        is_any(&found.what)
-    }
-}
-
-pub(crate) fn is_any(found: &[Option<What>]) -> bool
-    ensures { result ≡ list_any is_some found.now }
-{
-    found.iter().any(|what| what.is_some())
-}
-
-// The call of a pool picks the names, which are those of its trace and evidence.
-impl Names<Found> for Brand {
-    ghost use Rattle.std.specs.Prelude.{⊤, false};
-
-    ghost gives = { λ _ _. ⊤ };
-
-    ghost alerts = { λ _. false };
-}
-
-/// It finds what is wrong with the decisions of a trace, where its evidence judges the entries so.
-#[derive(Drop)]
-struct JudgedCheck<'t, 'j> {
-    trace: &'t Trace,
-    judgements: &'j [Judged],
-    entries: usize,
-    ghost fits: { entries < 2 ^ 64 },
-    ghost all: { entries ≡ length trace.now.entries },
-}
-
-impl<'t, 'j> Check for JudgedCheck<'t, 'j> {
+impl<'t, 'j> Check for EntryCheck<'t, 'j> {
     type Report = Found;
 
     ghost use Rattle.std.proofs.Common.{◌≡◌, rules};
@@ -152,6 +98,21 @@ impl<'t, 'j> Check for JudgedCheck<'t, 'j> {
     fn alerts(&self, found: &Found) -> bool {
         is_any(&found.what)
     }
+}
+
+pub(crate) fn is_any(found: &[Option<What>]) -> bool
+    ensures { result ≡ list_any is_some found.now }
+{
+    found.iter().any(|what| what.is_some())
+}
+
+// The call of a pool picks the names, which are those of its trace and evidence.
+impl Names<Found> for Brand {
+    ghost use Rattle.std.specs.Prelude.{⊤, false};
+
+    ghost gives = { λ _ _. ⊤ };
+
+    ghost alerts = { λ _. false };
 }
 
 /// What a check says of each entry, by a crew whose alerts go to a board and from there to a watch.
@@ -184,27 +145,27 @@ pub(crate) fn found_by<N: Names<Found> + Sync, W: Watch<Found, N>, R: Threads + 
     rt: &R,
     alloc: Global,
     trace: &Trace,
-    evidence: &Evidence,
+    judgements: &[Judged],
     crew: Crew,
     board: Option<&Board<Found, N>>,
     watch: &mut W,
 ) -> Result<Vec<SliceReport<Found>>, AllocError>
-    requires { IsNamedBy (λ entry found. found ≡ found_at trace.now (evidence_value evidence.now) entry)
+    requires { IsNamedBy (λ entry found. found ≡ found_judged trace.now judgements.now entry)
         has_finding N.gives N.alerts }
     ensures found { IfOk result
-        (λ v. flat_map report_items v.items ≡ all_found trace.now (evidence_value evidence.now)) }
+        (λ v. flat_map report_items v.items ≡ all_judged trace.now judgements.now) }
     ensures mark { W.mark watch.new ≡ W.mark watch.old }
 {
     let entries = trace.len();
     let check = EntryCheck {
         trace,
-        evidence,
+        judgements,
         entries,
     };
     reports_by(rt, alloc, &check, entries, crew, board, watch)
 }
 
-/// The same, where the entries are judged so and nobody watches.
+/// What is found on each entry, in slices.
 fn found_unseen<N: Names<Found> + Sync, R: Threads + Wait + Sync>(
     rt: &R,
     alloc: Global,
@@ -216,18 +177,12 @@ fn found_unseen<N: Names<Found> + Sync, R: Threads + Wait + Sync>(
         has_finding N.gives N.alerts }
     ensures { IfOk result (λ v. flat_map report_items v.items ≡ all_judged trace.now judgements.now) }
 {
-    let entries = trace.len();
-    let check = JudgedCheck {
-        trace,
-        judgements,
-        entries,
-    };
     let no_board: Option<Board<Found, N>> = None;
-    reports_by(
+    found_by(
         rt,
         alloc,
-        &check,
-        entries,
+        trace,
+        judgements,
         crew,
         no_board.as_ref(),
         &mut Blind,

@@ -2,26 +2,25 @@ use Rattle.std.proofs.Common.{◌≡◌, ap, ◌∙◌}
 use Rattle.std.proofs.lemmas.Result.{IfOk-weaker}
 use Rattle.std.specs.List.{flat_map}
 use Rattle.audit_slices.specs.Reports.{report_items}
-use Rattle.evidence_check.specs.Evidences.{evidence_value}
 use Rattle.findings.specs.Findings.{findings_of}
 use Rattle.audit.proofs.EarlyLemmas.{of_entries}
-use Rattle.audit.proofs.SharedLemmas.{found_are_findings}
+use Rattle.audit.proofs.SharedLemmas.{all_alike, found_are_findings}
 use Rattle.audit.proofs.early.findings_early.Goals as goal
 
 pub returns-in_err-reports-clause-early : goal.returns-in_err-reports-clause-early
-returns-in_err-reports-clause-early g c =
-    of_entries c.args.trace.now (evidence_value c.args.evidence.now) _ _ c.found_early.ensures.early.0
+returns-in_err-reports-clause-early g c = λ given are.
+    of_entries c.args.trace.now given c.args.judgements.now are _ _ c.found_early.ensures.early.0
     c.found_early.ensures.early.1
 
 pub returns-clause-early : goal.returns-clause-early
-returns-clause-early g c =
-    of_entries c.args.trace.now (evidence_value c.args.evidence.now) _ _ c.found_early.ensures.early.0
+returns-clause-early g c = λ given are.
+    of_entries c.args.trace.now given c.args.judgements.now are _ _ c.found_early.ensures.early.0
     c.found_early.ensures.early.1
 
 pub returns-clause-found : goal.returns-clause-found
-returns-clause-found g c =
+returns-clause-found g c = λ given are.
     let t = c.args.trace.now in
-    let evidence = evidence_value c.args.evidence.now in
-    IfOk-weaker c.gathered.result _ (λ v. v.items ≡ findings_of t evidence)
-    (λ v is. found_are_findings t evidence _ v.items is
-    (ap (flat_map report_items) c.as_slice.ensures.value ∙ c.in_ok-reports.ensures.found)) c.gathered.ensures
+    IfOk-weaker c.gathered.result _ (λ v. v.items ≡ findings_of t given)
+    (λ v is. found_are_findings t given _ v.items is
+    (ap (flat_map report_items) c.as_slice.ensures.value ∙ c.in_ok-reports.ensures.found
+    ∙ all_alike t given c.args.judgements.now are)) c.gathered.ensures

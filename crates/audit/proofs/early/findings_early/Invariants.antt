@@ -1,14 +1,12 @@
 use Rattle.std.proofs.Common.{◌≡◌}
-use Rattle.evidence_check.specs.Evidences.{evidence_value}
 use Rattle.audit.specs.Early.{state_of}
-use Rattle.audit.specs.Shared.{found_at, has_finding}
+use Rattle.audit.specs.Shared.{found_judged, has_finding}
 use Rattle.audit.proofs.early.findings_early.Given as goal
 
--- what may be given to an entry is what is found on it in this trace, by this evidence
+-- what may be given to an entry is what is found on it in this trace, judged so
 abbrev pub ghosts-found_early-N-Names : goal.ghosts-found_early-N-Names
 ghosts-found_early-N-Names g a =
-    record
-    { gives = λ entry found. found ≡ found_at a.trace.now (evidence_value a.evidence.now) entry; alerts = has_finding }
+    record { gives = λ entry found. found ≡ found_judged a.trace.now a.judgements.now entry; alerts = has_finding }
 
 -- how the writer stood when the call began
 abbrev pub ghosts-found_early-N-Begun : goal.ghosts-found_early-N-Begun

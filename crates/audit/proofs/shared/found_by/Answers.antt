@@ -4,18 +4,17 @@ use Rattle.std.proofs.Common.{◌≡◌, ap}
 use Rattle.std.proofs.lemmas.Result.{IfOk-weaker}
 use Rattle.std.specs.List.{flat_map, range_with_len}
 use Rattle.audit_slices.specs.Reports.{report_items}
-use Rattle.evidence_check.specs.Evidences.{evidence_value}
-use Rattle.audit.specs.Shared.{all_found}
-use Rattle.audit.proofs.SharedLemmas.{all_are_found}
+use Rattle.audit.specs.Shared.{all_judged}
+use Rattle.audit.proofs.SharedLemmas.{all_are_judged}
 use Rattle.evidence_blocks.proofs.TraceSync.{trace_sync}
 use Rattle.audit.proofs.shared.found_by.Goals as goal
 
 pub returns-clause-found : goal.returns-clause-found
 returns-clause-found g c =
     let t = c.args.trace.now in
-    let evidence = evidence_value c.args.evidence.now in
-    IfOk-weaker c.reports_by.result _ (λ v. flat_map report_items v.items ≡ all_found t evidence)
-    (λ v each. all_are_found t evidence _ (flat_map report_items v.items)
+    let judgements = c.args.judgements.now in
+    IfOk-weaker c.reports_by.result _ (λ v. flat_map report_items v.items ≡ all_judged t judgements)
+    (λ v each. all_are_judged t judgements _ (flat_map report_items v.items)
     (ap (range_with_len 0) c.len-entries.ensures.count) each)
     c.reports_by.ensures.all
 

@@ -11,7 +11,8 @@ returns-in-Ok-findings_early-clause-tells g c =
     (λ given. TellsEarly c.args.trace.now given
     (state_of g.E.Sink.taken g.E.Sink.failures g.E.Sink.idle g.E.Sink.since c.args.self.now.early.now)
     (state_of g.E.Sink.taken g.E.Sink.failures g.E.Sink.idle g.E.Sink.since c.findings_early.new.early))
-    (evidence_is c.in-Ok.is c.evidence_from.ensures) c.findings_early.ensures.early)
+    (evidence_is c.in-Ok.is c.judgements_by.ensures)
+    (λ given are. c.findings_early.ensures.early given (rw c.deref.ensures.value are)))
 
 pub returns-clause-tells : goal.returns-clause-tells
 returns-clause-tells g c =
@@ -20,4 +21,5 @@ returns-clause-tells g c =
     (λ given. TellsEarly c.args.trace.now given
     (state_of g.E.Sink.taken g.E.Sink.failures g.E.Sink.idle g.E.Sink.since c.args.self.now.early.now)
     (state_of g.E.Sink.taken g.E.Sink.failures g.E.Sink.idle g.E.Sink.since c.findings_early.new.early))
-    (evidence_is c.in-Ok.is c.evidence_from.ensures) c.findings_early.ensures.early)
+    (evidence_is c.in-Ok.is c.judgements_by.ensures)
+    (λ given are. c.findings_early.ensures.early given (rw c.deref.ensures.value are)))
