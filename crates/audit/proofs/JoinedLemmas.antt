@@ -150,7 +150,8 @@ front_stopped r fault e is long most known failed kept =
       given = tt;
       ended = tt;
       trace_refused =
-          λ f same. never_answered (kind.memory ∷ kind.joined ∷ kind.input ∷ []) (of_input fault) (faults.Trace f) refl (kind_of_input fault) same;
+          λ f same. never_answered (kind.memory ∷ kind.joined ∷ kind.input ∷ []) (of_input fault) (faults.Trace f) refl
+          (kind_of_input fault) same;
       joined = λ same. long (long_input fault (cc (same)));
       most = most;
       known = known;
@@ -275,7 +276,8 @@ module _ (t : TraceValue) (rest : RestValue) (r : Reading)
       (record {
         given = tt;
         evidence_refused =
-            λ f same. never_answered (kind.memory ∷ kind.joined ∷ kind.input ∷ []) (of_input fault) (faults.Evidence f) refl (kind_of_input fault) same;
+            λ f same. never_answered (kind.memory ∷ kind.joined ∷ kind.input ∷ []) (of_input fault) (faults.Evidence f)
+            refl (kind_of_input fault) same;
         joined = λ same. long (long_input fault (cc (same)));
         most = most;
         known = known;
@@ -349,7 +351,8 @@ parts_without_front r e read =
       given = tt;
       trace_refused = λ f is. read.trace_refused f (same_fault e (faults.Trace f) is);
       evidence_refused =
-          λ f is. never_answered (kind.trace ∷ kind.memory ∷ kind.joined ∷ kind.input ∷ []) e (faults.Evidence f) refl read.kinds is;
+          λ f is. never_answered (kind.trace ∷ kind.memory ∷ kind.joined ∷ kind.input ∷ []) e (faults.Evidence f) refl
+          read.kinds is;
       joined = λ is. read.joined (same_fault e faults.Joined is);
       most = read.most;
       known = read.known;
@@ -374,7 +377,8 @@ module _ (old mid new : Reader) (t : TraceValue) (rest : RestValue)
       record {
         given = tt;
         trace_refused =
-            λ f is. never_answered (kind.evidence ∷ kind.memory ∷ kind.joined ∷ kind.input ∷ []) e (faults.Trace f) refl read.kinds is;
+            λ f is. never_answered (kind.evidence ∷ kind.memory ∷ kind.joined ∷ kind.input ∷ []) e (faults.Trace f) refl
+            read.kinds is;
         evidence_refused = λ f is.
             parts_read old mid new rest (λ a. trace_of true a ≡ Ok t) front.given (λ b. RefusesEvidenceFor t b f)
             (λ a b. RefusesEvidence a b f) front.ended (read.evidence_refused f (same_fault e (faults.Evidence f) is))
@@ -429,7 +433,8 @@ joined_unread r w e read =
       evidence_refused = λ f is. read.evidence_refused f (same_fault e (faults.Evidence f) is);
       joined = λ is. read.joined (same_fault e faults.Joined is);
       write =
-          λ n is. never_answered (kind.trace ∷ kind.evidence ∷ kind.memory ∷ kind.joined ∷ kind.input ∷ []) e (faults.Write n) refl read.kinds is;
+          λ n is. never_answered (kind.trace ∷ kind.evidence ∷ kind.memory ∷ kind.joined ∷ kind.input ∷ []) e
+          (faults.Write n) refl read.kinds is;
       unwritten = λ is. refl;
       most = read.most;
       known = read.known;
@@ -494,7 +499,8 @@ module _ (r : Reading) (out : Writing) (t : TraceValue) (v : Vec Judged Global) 
         headline = λ is. absurd (cc (is));
         wrong_replies = tt;
         trace_refused = λ f is. never_answered (kind.write ∷ kind.memory ∷ []) e (faults.Trace f) refl told.kinds is;
-        evidence_refused = λ f is. never_answered (kind.write ∷ kind.memory ∷ []) e (faults.Evidence f) refl told.kinds is;
+        evidence_refused =
+            λ f is. never_answered (kind.write ∷ kind.memory ∷ []) e (faults.Evidence f) refl told.kinds is;
         joined = λ is. never_answered (kind.write ∷ kind.memory ∷ []) e faults.Joined refl told.kinds is;
         write = λ n is.
             let h = told.write n is in

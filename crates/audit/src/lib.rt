@@ -12,9 +12,10 @@
 //!
 //! What the first three answer is one record, `Audited` of `specs/Answers.antt`; that of `audit_made` is `AuditedMade`
 //! beside it, and that of `audit_joined` is `AuditedJoined` of `specs/Joined.antt`. A call's own clauses say what it
-//! alone does, and `kinds` which faults it answers (`specs/Kinds.antt`). [`make_records`] writes evidence for a trace, and [`history`] a tuple's touches in it, the
-//! newest first. What is found, and its text, are of the crate `findings`. Contracts see a reader and a writer as
-//! `specs/Devices.antt` says: the bytes that they gave and took, and counts of failures, ends and flushes.
+//! alone does, and `kinds` which faults it answers (`specs/Kinds.antt`). [`make_records`] writes evidence for a trace,
+//! and [`history`] a tuple's touches in it, the newest first. What is found, and its text, are of the crate `findings`.
+//! Contracts see a reader and a writer as `specs/Devices.antt` says: the bytes that they gave and took, and counts of
+//! failures, ends and flushes.
 //!
 //! Callers may rely on this: what is written is the report text of the findings of the values read, and nothing else;
 //! the verdict is clean exactly where there is none; nothing is written where input is refused. Where it is clean,

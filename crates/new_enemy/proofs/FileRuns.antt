@@ -28,8 +28,8 @@ use Rattle.new_enemy.proofs.FileStatuses.{no_audit, no_trace}
 use Rattle.new_enemy.proofs.Statuses.{Ends, answer_of, done_ends, done_is_not_one, ends_at_limits, ends_few, of_clean, of_dirty, of_done, verdict_ends}
 
 -- what holds of all that a file gave, whose history began with the call
-pub whole : {F : Type 0} (old new : Counted F) (P : List ℕ → Type 0) → IsUnused old → OfWhole moved_by stops_of old new P
-    → (stops_of new ≡ 1) × P (moved_by new)
+pub whole : {F : Type 0} (old new : Counted F) (P : List ℕ → Type 0) → IsUnused old
+    → OfWhole moved_by stops_of old new P → (stops_of new ≡ 1) × P (moved_by new)
 whole old new P unused h = (
   h.0 ∙ ap (λ n. n + 1) unused.1,
   subst P (sym (h.1.1 ∙ ap (λ (l : List ℕ). l ++ h.1.0) unused.0)) h.1.2,
@@ -94,40 +94,33 @@ module _ {F : Type 0} (left : Counted F → Option (List ℕ)) (a0 a1 : Counted 
       (kinds-more (kind.trace ∷ kind.write ∷ kind.memory ∷ [])
       (kind.trace ∷ kind.write ∷ kind.memory ∷ kind.limits ∷ []) refl answer kinds) h
 
-  clean_made : (answer : Result Verdict AuditFault) → IsStatusOf answer s
-      → AuditedMade (reads moved_by stops_of failures_of left a0 a1) out answer → s ≡ 0
-      → IsCleanAuditMade a1 out.before.taken out.after.taken
-  clean_made answer st h zero =
-      let is : answer ≡ Ok Clean = of_clean answer s st zero in
-      let all =
-      whole a0 a1 (λ a. AuditsMade a out.before.taken out.after.taken Clean) unused
-      (answer_of answer Clean
-      (λ v. OfAll (reads moved_by stops_of failures_of left a0 a1)
-      (λ a. AuditsMade a out.before.taken out.after.taken v)) is h.tells.told) in
-      (all.0, all.1, (whole a0 a1 IsTraceRightAndFresh unused (h.headline is)).1)
+  module _ (answer : Result Verdict AuditFault) (st : IsStatusOf answer s)
+      (h : AuditedMade (reads moved_by stops_of failures_of left a0 a1) out answer) where
+    made_by : (v : Verdict) → answer ≡ Ok v
+        → (stops_of a1 ≡ 1) × AuditsMade (moved_by a1) out.before.taken out.after.taken v
+    made_by v is =
+        whole a0 a1 (λ a. AuditsMade a out.before.taken out.after.taken v) unused
+        (answer_of answer v
+        (λ x. OfAll (reads moved_by stops_of failures_of left a0 a1)
+        (λ a. AuditsMade a out.before.taken out.after.taken x)) is h.tells.told)
 
-  dirty_made : (answer : Result Verdict AuditFault) → IsStatusOf answer s
-      → AuditedMade (reads moved_by stops_of failures_of left a0 a1) out answer → s ≡ 1
-      → IsDirtyAuditMade a1 out.before.taken out.after.taken
-  dirty_made answer st h one =
-      let is : answer ≡ Ok Dirty = of_dirty answer s st one in
-      let all =
-      whole a0 a1 (λ a. AuditsMade a out.before.taken out.after.taken Dirty) unused
-      (answer_of answer Dirty
-      (λ v. OfAll (reads moved_by stops_of failures_of left a0 a1)
-      (λ a. AuditsMade a out.before.taken out.after.taken v)) is h.tells.told) in
-      (all.0, all.1, tt)
+    clean_made : s ≡ 0 → IsCleanAuditMade a1 out.before.taken out.after.taken
+    clean_made zero =
+        let is : answer ≡ Ok Clean = of_clean answer s st zero in
+        let all = made_by Clean is in
+        (all.0, all.1, (whole a0 a1 IsTraceRightAndFresh unused (h.headline is)).1)
 
-  -- of an audit by evidence that is made
-  pub runs_audit_made : (answer : Result Verdict AuditFault) → IsStatusOf answer s
-      → IfErr answer (IsOneOf (kind.trace ∷ kind.write ∷ kind.memory ∷ kind.limits ∷ []))
-      → (answer ≡ Err faults.Limits → a1 ≡ a0)
-      → AuditedMade (reads moved_by stops_of failures_of left a0 a1) out answer
-      → RunsFiles (codes "audit") out s (ran.AuditedAlone a1)
-  runs_audit_made answer st kinds unread h =
-      runs_of_trace AuditsMade BreaksMade answer (codes "audit") (ran.AuditedAlone a1) (λ is. absurd (cc (is))) refl
-      (λ P p. p) (λ none. none) refl (clean_made answer st h) (dirty_made answer st h)
-      (λ is. ap (λ (file : Counted F). moved_by file) (unread is) ∙ unused.0) (verdict_ends answer s st) kinds h.tells
+    dirty_made : s ≡ 1 → IsDirtyAuditMade a1 out.before.taken out.after.taken
+    dirty_made one = let all = made_by Dirty (of_dirty answer s st one) in (all.0, all.1, tt)
+
+    -- of an audit by evidence that is made
+    pub runs_audit_made : IfErr answer (IsOneOf (kind.trace ∷ kind.write ∷ kind.memory ∷ kind.limits ∷ []))
+        → (answer ≡ Err faults.Limits → a1 ≡ a0) → RunsFiles (codes "audit") out s (ran.AuditedAlone a1)
+    runs_audit_made kinds unread =
+        runs_of_trace AuditsMade BreaksMade answer (codes "audit") (ran.AuditedAlone a1) (λ is. absurd (cc (is))) refl
+        (λ P p. p) (λ none. none) refl clean_made dirty_made
+        (λ is. ap (λ (file : Counted F). moved_by file) (unread is) ∙ unused.0) (verdict_ends answer s st) kinds
+        h.tells
 
   module _ (b0 b1 : Counted F) (unused_yet : IsUnused b0) (answer : Result Verdict AuditFault)
       (st : IsStatusOf answer s)

@@ -49,7 +49,8 @@ module _ (input : Reading) (out : Writing) (s : ℕ) where
   refused faults.Input five two h = two_or_five s two five
 
   -- the reader is blamed only by a fault of the input
-  input_unblamed : (e : AuditFault) → IsStatus e s → s ≢ 5 → ◌≢◌ {A = Result Verdict AuditFault} (Err e) (Err faults.Input)
+  input_unblamed : (e : AuditFault) → IsStatus e s → s ≢ 5
+      → ◌≢◌ {A = Result Verdict AuditFault} (Err e) (Err faults.Input)
   input_unblamed faults.Input five other is = other five
   input_unblamed (faults.Trace f) st other is = cc (is)
   input_unblamed (faults.Evidence f) st other is = cc (is)

@@ -145,5 +145,6 @@ of_dirty (Ok Dirty) s st one = refl
 of_dirty (Err e) s st one = absurd (omega (arith, st.0, one))
 
 -- what holds of an answer, by which it is
-pub answer_of : {V : Type 0} (answer : Result V AuditFault) (v : V) (P : V → Type 0) → answer ≡ Ok v → IfOk answer P → P v
+pub answer_of : {V : Type 0} (answer : Result V AuditFault) (v : V) (P : V → Type 0) → answer ≡ Ok v
+    → IfOk answer P → P v
 answer_of {V} answer v P is h = subst (λ (r : Result V AuditFault). IfOk r P) is h

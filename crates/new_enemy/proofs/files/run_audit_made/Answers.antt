@@ -11,7 +11,7 @@ returns-clause-runs g c =
     (c.new-trace.ensures.moved, c.new-trace.ensures.stops, c.new-trace.ensures.failures)
     (writes g.W.Sink.taken g.W.Sink.flushes g.W.Sink.failures g.W.Sink.idle g.W.Write.contents c.args.out.now
     answer.new.out) c.status_with.result
-    answer.result c.status_with.ensures answer.ensures.kinds (λ is. (answer.ensures.unread is).0) answer.ensures.made
+    answer.result c.status_with.ensures answer.ensures.made answer.ensures.kinds (λ is. (answer.ensures.unread is).0)
 
 pub returns-clause-limits : goal.returns-clause-limits
 returns-clause-limits g c =
