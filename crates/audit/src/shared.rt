@@ -262,8 +262,8 @@ impl<'r, B: Source, R: Threads + Wait + Sync> Finder<B> for Workers<'r, R> {
 }
 
 /// Audits a trace by its evidence as [`audit_plain`](crate::audit_plain) does, on 1 to 16 workers: the calling
-/// thread, and threads of their own. They share the evidence, cut into blocks of lines as it is read, of which no record
-/// is kept, and then the entries, cut into slices of 1 to 4,096; the report stands in the order of the entries,
+/// thread, and threads of their own. They share the evidence, cut into blocks of lines as it is read, of which no
+/// record is kept, and then the entries, cut into slices of 1 to 4,096; the report stands in the order of the entries,
 /// whatever the schedule.
 ///
 /// `Limits` is answered where there are other numbers of workers or entries in a slice, and then nothing is read or

@@ -12,34 +12,47 @@ use Rattle.line_blocks.specs.Reads.{LinesRead}
 
 module _ {S C : Type 0} (taken : ℕ → S → List ℕ → Result S C) where
   -- a cause that was answered is what some line gave
-  some_line : (whole : Bool) (n room : ℕ) (s : S) (lines : List (List ℕ)) (e : LineFault C) → read_from taken whole n room s lines ≡ Err e → IsOfSomeLine taken e
+  some_line : (whole : Bool) (n room : ℕ) (s : S) (lines : List (List ℕ)) (e : LineFault C)
+      → read_from taken whole n room s lines ≡ Err e → IsOfSomeLine taken e
   some_line whole n room s [] e is = absurd cc
-  some_line whole n room s (line ∷ lines) e is = over (passes_limit room line (not (eqb (length lines) 0))) (not whole && eqb (length lines) 0) (λ t. some_line whole (n + 1) (room - (length line + 1)) t lines e) is
+  some_line whole n room s (line ∷ lines) e is =
+      over (passes_limit room line (not (eqb (length lines) 0))) (not whole && eqb (length lines) 0)
+      (λ t. some_line whole (n + 1) (room - (length line + 1)) t lines e) is
     where
       rest : S → Result S (LineFault C)
       rest t = read_from taken whole (n + 1) (room - (length line + 1)) t lines
 
-      step : (r : Result S C) → taken n s line ≡ r → ((t : S) → rest t ≡ Err e → IsOfSomeLine taken e) → (at_line n r >>= rest) ≡ Err e → IsOfSomeLine taken e
+      step : (r : Result S C) → taken n s line ≡ r → ((t : S) → rest t ≡ Err e → IsOfSomeLine taken e)
+          → (at_line n r >>= rest) ≡ Err e → IsOfSomeLine taken e
       step (Ok t) by later h = later t h
       step (Err c) by later h = λ d stop. (n, s, line, by ∙ ap (λ (x : C). Err x) (cc (h, stop)))
 
       over : (long cut : Bool) → ((t : S) → rest t ≡ Err e → IsOfSomeLine taken e)
-          → cond long (Err (record { line = n; stop = Input TooLong })) (cond cut (Err (record { line = n; stop = Input Read })) (at_line n (taken n s line) >>= rest)) ≡ Err e → IsOfSomeLine taken e
+          → cond long (Err (record { line = n; stop = Input TooLong }))
+          (cond cut (Err (record { line = n; stop = Input Read })) (at_line n (taken n s line) >>= rest)) ≡ Err e
+          → IsOfSomeLine taken e
       over true cut later h = λ d stop. absurd (cc (h, stop))
       over false true later h = λ d stop. absurd (cc (h, stop))
       over false false later h = step (taken n s line) refl later h
 
-module _ {R S T C : Type 0} (given : R → List ℕ) (ends failures : R → ℕ) (remaining : R → Option (List ℕ)) (taken by : ℕ → S → List ℕ → Result S C) (old new : R) (start now : S) where
-  read_so : (result : Result T (LineFault C)) → ((whole : Bool) (input : List ℕ) → read_all by whole start input ≡ read_all taken whole start input)
-      → IfErr result (λ e. IsReadFault e → OfBytes given old new (λ came. read_all by false start came ≡ Err e)) → IfErr result (λ e. IsReadFault e → OfBytes given old new (λ came. read_all taken false start came ≡ Err e))
+module _ {R S T C : Type 0} (given : R → List ℕ) (ends failures : R → ℕ) (remaining : R → Option (List ℕ))
+    (taken by : ℕ → S → List ℕ → Result S C) (old new : R) (start now : S) where
+  read_so : (result : Result T (LineFault C))
+      → ((whole : Bool) (input : List ℕ) → read_all by whole start input ≡ read_all taken whole start input)
+      → IfErr result (λ e. IsReadFault e → OfBytes given old new (λ came. read_all by false start came ≡ Err e))
+      → IfErr result (λ e. IsReadFault e → OfBytes given old new (λ came. read_all taken false start came ≡ Err e))
   read_so (Ok u) same h = tt
   read_so (Err e) same h = λ fault. of_bytes-map given old new _ _ (λ came is. sym (same false came) ∙ is) (h fault)
 
-  pub read_alike : (result : Result T (LineFault C)) → ((whole : Bool) (input : List ℕ) → read_all by whole start input ≡ read_all taken whole start input)
-      → LinesRead given ends failures remaining by old new start now result → LinesRead given ends failures remaining taken old new start now result
+  pub read_alike : (result : Result T (LineFault C))
+      → ((whole : Bool) (input : List ℕ) → read_all by whole start input ≡ read_all taken whole start input)
+      → LinesRead given ends failures remaining by old new start now result
+      → LinesRead given ends failures remaining taken old new start now result
   read_alike result same h =
       record {
-        exact = of_input-map given ends old new _ _ (λ input reads. subst (λ (r : Result S (LineFault C)). Reads result now r) (same true input) reads) h.exact;
+        exact =
+            of_input-map given ends old new _ _
+            (λ input reads. subst (λ (r : Result S (LineFault C)). Reads result now r) (same true input) reads) h.exact;
         failed = read_so result same h.failed;
         ended = h.ended;
         most = h.most;
@@ -50,10 +63,13 @@ module _ {R S T C : Type 0} (given : R → List ℕ) (ends failures : R → ℕ)
         unfailed = h.unfailed;
       }
 
-module _ {R S T C : Type 0} (given : R → List ℕ) (ends failures : R → ℕ) (remaining : R → Option (List ℕ)) (taken : ℕ → S → List ℕ → Result S C) (old new : R) (start now : S) where
-  pub told : (e : LineFault C) → LinesRead {T = T} given ends failures remaining taken old new start now (Err e) → IsOfSomeLine taken e
+module _ {R S T C : Type 0} (given : R → List ℕ) (ends failures : R → ℕ) (remaining : R → Option (List ℕ))
+    (taken : ℕ → S → List ℕ → Result S C) (old new : R) (start now : S) where
+  pub told : (e : LineFault C) → LinesRead {T = T} given ends failures remaining taken old new start now (Err e)
+      → IsOfSomeLine taken e
   unfolding read_all
   told e h = λ c stop.
       let input : List ℕ = h.exact.0 ++ [] in
-      let is : read_all taken true start input ≡ Err e = subst (λ (x : Stop C). Fails x e (read_all taken true start input)) stop (h.exact.2 [] (λ _. refl)) in
+      let is : read_all taken true start input ≡ Err e =
+      subst (λ (x : Stop C). Fails x e (read_all taken true start input)) stop (h.exact.2 [] (λ _. refl)) in
       some_line taken true 1 (2 ^ 30) start (parts input) e is c stop

@@ -24,7 +24,8 @@ module _ (t : TraceValue) (lines line : List ℕ) where
   unfolding verdict_told json_line
   is_no_text e f = rw (e, f) refl
 
-  by_text : (b : Bool) (r : Result (Option Verdict) EvidenceCause) → r ≡ Err causes.NotJson → cond b r (Err causes.NotJson) ≡ Err causes.NotJson
+  by_text : (b : Bool) (r : Result (Option Verdict) EvidenceCause) → r ≡ Err causes.NotJson
+      → cond b r (Err causes.NotJson) ≡ Err causes.NotJson
   by_text true r e = e
   by_text false r e = refl
 
@@ -32,12 +33,17 @@ module _ (t : TraceValue) (lines line : List ℕ) where
   unfolding verdict_told json_line
   is_no_json e f = rw (e, f) (by_text (is_utf8 line) (Err causes.NotJson) refl)
 
-  pub is_of : (d : Data) → is_blank line ≡ false → is_utf8 line ≡ true → read line ≡ Some d → verdict_told t lines line ≡ (verdict_in t lines d >>= λ v. Ok (Some v))
+  pub is_of : (d : Data) → is_blank line ≡ false → is_utf8 line ≡ true → read line ≡ Some d
+      → verdict_told t lines line ≡ (verdict_in t lines d >>= λ v. Ok (Some v))
   unfolding verdict_told json_line
   is_of d e f h = rw (e, f, h) refl
 
-  pub is_verdict : (d : Data) (v : Verdict) → is_blank line ≡ false → is_utf8 line ≡ true → read line ≡ Some d → verdict_in t lines d ≡ Ok v → verdict_told t lines line ≡ Ok (Some v)
-  is_verdict d v e f h g = is_of d e f h ∙ ap (λ (r : Result Verdict EvidenceCause). r >>= (λ (w : Verdict). Ok (Some w))) g
+  pub is_verdict : (d : Data) (v : Verdict) → is_blank line ≡ false → is_utf8 line ≡ true → read line ≡ Some d
+      → verdict_in t lines d ≡ Ok v → verdict_told t lines line ≡ Ok (Some v)
+  is_verdict d v e f h g =
+      is_of d e f h ∙ ap (λ (r : Result Verdict EvidenceCause). r >>= (λ (w : Verdict). Ok (Some w))) g
 
-  pub is_refusal : (d : Data) (c : EvidenceCause) → is_blank line ≡ false → is_utf8 line ≡ true → read line ≡ Some d → verdict_in t lines d ≡ Err c → verdict_told t lines line ≡ Err c
-  is_refusal d c e f h g = is_of d e f h ∙ ap (λ (r : Result Verdict EvidenceCause). r >>= (λ (w : Verdict). Ok (Some w))) g
+  pub is_refusal : (d : Data) (c : EvidenceCause) → is_blank line ≡ false → is_utf8 line ≡ true → read line ≡ Some d
+      → verdict_in t lines d ≡ Err c → verdict_told t lines line ≡ Err c
+  is_refusal d c e f h g =
+      is_of d e f h ∙ ap (λ (r : Result Verdict EvidenceCause). r >>= (λ (w : Verdict). Ok (Some w))) g

@@ -36,45 +36,57 @@ IsOf t lines j = (j.trace ≡ t) × (j.lines ≡ lines)
 
 too_many : (b : Bool) (j : Judgements) (place : ℕ) (judged : Judged)
     → cond b (Err causes.TooMany) (Ok (record j { judgements = slice_set j.judgements place judged }))
-    ≡ (needed causes.TooMany (cond b None (Some judged)) >>= λ judgement. Ok (record j { judgements = slice_set j.judgements place judgement }))
+    ≡ (needed causes.TooMany (cond b None (Some judged)) >>= λ judgement. Ok
+    (record j { judgements = slice_set j.judgements place judgement }))
 too_many true j place judged = refl
 too_many false j place judged = refl
 
-put_is_settled : (j : Judgements) (place : ℕ) (steps : List StepValue) → put_judged j place steps ≡ settled j (record { place = place; judgement = judgement_at j.trace place steps })
+put_is_settled : (j : Judgements) (place : ℕ) (steps : List StepValue)
+    → put_judged j place steps ≡ settled j (record { place = place; judgement = judgement_at j.trace place steps })
 unfolding put_judged settled
 put_is_settled j place steps =
-    ap (λ (r : Result Judgements EvidenceCause). cond (is_judged (slice_get j.judgements place)) (Err causes.RepeatedLine) r)
+    ap (λ (r : Result Judgements EvidenceCause). cond (is_judged (slice_get j.judgements place))
+    (Err causes.RepeatedLine) r)
     (too_many (ltb 100000 (fact_count steps)) j place (judged_by j.trace (slice_get j.trace.entries place) steps))
 
 judge_splits : (j : Judgements) (d : Data) → judge_line j d ≡ (verdict_in j.trace j.lines d >>= λ v. settled j v)
 unfolding judge_line verdict_in
 judge_splits j d =
     bind_same (placed_steps j.lines d) _ _ (λ p. put_is_settled j p.0 p.1)
-    ∙ sym (bind_bind (placed_steps j.lines d) (λ p. Ok (record { place = p.0; judgement = judgement_at j.trace p.0 p.1 })) (λ v. settled j v))
+    ∙ sym (bind_bind (placed_steps j.lines d)
+    (λ p. Ok (record { place = p.0; judgement = judgement_at j.trace p.0 p.1 })) (λ v. settled j v))
 
 -- ---- a line splits
 
 of_value : (j : Judgements) (d : Option Data)
-    → of_json causes.NotJson (judge_line j) d ≡ (of_json causes.NotJson (λ e. verdict_in j.trace j.lines e >>= λ v. Ok (Some v)) d >>= λ v. put_verdict j v)
+    → of_json causes.NotJson (judge_line j) d
+    ≡ (of_json causes.NotJson (λ e. verdict_in j.trace j.lines e >>= λ v. Ok (Some v)) d >>= λ v. put_verdict j v)
 of_value j None = refl
-of_value j (Some d) = judge_splits j d ∙ sym (bind_bind (verdict_in j.trace j.lines d) (λ v. Ok (Some v)) (λ v. put_verdict j v))
+of_value j (Some d) =
+    judge_splits j d ∙ sym (bind_bind (verdict_in j.trace j.lines d) (λ v. Ok (Some v)) (λ v. put_verdict j v))
 
-cond_bind : {A B E : Type 0} (b : Bool) (x y : Result A E) (f : A → Result B E) → (cond b x y >>= f) ≡ cond b (x >>= f) (y >>= f)
+cond_bind : {A B E : Type 0} (b : Bool) (x y : Result A E) (f : A → Result B E)
+    → (cond b x y >>= f) ≡ cond b (x >>= f) (y >>= f)
 cond_bind true x y f = refl
 cond_bind false x y f = refl
 
-line_splits : (n : ℕ) (j : Judgements) (line : List ℕ) → evidence_taken n j line ≡ taken_by (verdict_told j.trace j.lines) put_verdict n j line
+line_splits : (n : ℕ) (j : Judgements) (line : List ℕ)
+    → evidence_taken n j line ≡ taken_by (verdict_told j.trace j.lines) put_verdict n j line
 unfolding json_line verdict_told
 line_splits n j line =
     let f : Option Verdict → Result Judgements EvidenceCause = λ v. put_verdict j v in
-    let said : Result (Option Verdict) EvidenceCause = of_json causes.NotJson (λ e. verdict_in j.trace j.lines e >>= λ v. Ok (Some v)) (read line) in
+    let said : Result (Option Verdict) EvidenceCause =
+    of_json causes.NotJson (λ e. verdict_in j.trace j.lines e >>= λ v. Ok (Some v)) (read line) in
     sym (cond_bind (is_blank line) (Ok None) (cond (is_utf8 line) said (Err causes.NotJson)) f
-    ∙ ap (λ (r : Result Judgements EvidenceCause). cond (is_blank line) (Ok j) r) (cond_bind (is_utf8 line) said (Err causes.NotJson) f
-    ∙ ap (λ (r : Result Judgements EvidenceCause). cond (is_utf8 line) r (Err causes.NotJson)) (sym (of_value j (read line)))))
+    ∙ ap (λ (r : Result Judgements EvidenceCause). cond (is_blank line) (Ok j) r)
+    (cond_bind (is_utf8 line) said (Err causes.NotJson) f
+    ∙ ap (λ (r : Result Judgements EvidenceCause). cond (is_utf8 line) r (Err causes.NotJson))
+    (sym (of_value j (read line)))))
 
 module _ (t : TraceValue) (lines : List ℕ) where
   -- lines of evidence split, at judgements of this trace
-  splits : (n : ℕ) (j : Judgements) (line : List ℕ) → IsOf t lines j → evidence_taken n j line ≡ taken_by (verdict_told t lines) put_verdict n j line
+  splits : (n : ℕ) (j : Judgements) (line : List ℕ) → IsOf t lines j
+      → evidence_taken n j line ≡ taken_by (verdict_told t lines) put_verdict n j line
   splits n j line fits =
       line_splits n j line
       ∙ ap (λ (u : TraceValue). verdict_told u j.lines line >>= (λ (v : Option Verdict). put_verdict j v)) fits.0
@@ -82,7 +94,9 @@ module _ (t : TraceValue) (lines : List ℕ) where
 
   -- and stay judgements of this trace
   same_trace : (j k : Judgements) (b : Bool) (o : Option Judged) (place : ℕ) → IsOf t lines j
-      → cond b (Err causes.RepeatedLine) (needed causes.TooMany o >>= λ judgement. Ok (record j { judgements = slice_set j.judgements place judgement })) ≡ Ok k → IsOf t lines k
+      → cond b (Err causes.RepeatedLine)
+      (needed causes.TooMany o >>= λ judgement. Ok
+      (record j { judgements = slice_set j.judgements place judgement })) ≡ Ok k → IsOf t lines k
   same_trace j k true o place fits is = absurd cc
   same_trace j k false None place fits is = absurd cc
   same_trace j k false (Some judged) place fits is =
@@ -91,7 +105,9 @@ module _ (t : TraceValue) (lines : List ℕ) where
 
   keeps : (j k : Judgements) (v : Option Verdict) → IsOf t lines j → put_verdict j v ≡ Ok k → IsOf t lines k
   unfolding settled
-  keeps j k None fits is = let e : j ≡ k = cc in (ap (λ (x : Judgements). x.trace) (sym e) ∙ fits.0, ap (λ (x : Judgements). x.lines) (sym e) ∙ fits.1)
+  keeps j k None fits is =
+      let e : j ≡ k =
+      cc in (ap (λ (x : Judgements). x.trace) (sym e) ∙ fits.0, ap (λ (x : Judgements). x.lines) (sym e) ∙ fits.1)
   keeps j k (Some v) fits is = same_trace j k (is_judged (slice_get j.judgements v.place)) v.judgement v.place fits is
 
   line_ok : (n : ℕ) (x : Result Judgements EvidenceCause) (k : Judgements) → at_line n x ≡ Ok k → x ≡ Ok k
@@ -99,13 +115,16 @@ module _ (t : TraceValue) (lines : List ℕ) where
   line_ok n (Err c) k e = absurd cc
 
   read_alike : (whole : Bool) (n room : ℕ) (j : Judgements) (ls : List (List ℕ)) → IsOf t lines j
-      → read_from evidence_taken whole n room j ls ≡ read_from (taken_by (verdict_told t lines) put_verdict) whole n room j ls
+      → read_from evidence_taken whole n room j ls ≡ read_from (taken_by (verdict_told t lines) put_verdict) whole n
+      room j ls
   read_alike whole n room j [] fits = refl
   read_alike whole n room j (line ∷ ls) fits =
       let by : Result Judgements EvidenceCause = taken_by (verdict_told t lines) put_verdict n j line in
-      let f : Judgements → Result Judgements (LineFault EvidenceCause) = λ k. read_from evidence_taken whole (n + 1) (room - (length line + 1)) k ls in
+      let f : Judgements → Result Judgements (LineFault EvidenceCause) =
+      λ k. read_from evidence_taken whole (n + 1) (room - (length line + 1)) k ls in
       ap
-      (λ (r : Result Judgements (LineFault EvidenceCause)). cond (passes_limit room line (not (eqb (length ls) 0))) (Err (record { line = n; stop = Input TooLong }))
+      (λ (r : Result Judgements (LineFault EvidenceCause)). cond (passes_limit room line (not (eqb (length ls) 0)))
+      (Err (record { line = n; stop = Input TooLong }))
       (cond (not whole && eqb (length ls) 0) (Err (record { line = n; stop = Input Read })) r))
       (ap (λ (x : Result Judgements EvidenceCause). at_line n x >>= f) (splits n j line fits)
       ∙ bind_kept (at_line n by) f _ (λ k is.
@@ -113,6 +132,7 @@ module _ (t : TraceValue) (lines : List ℕ) where
       read_alike whole (n + 1) (room - (length line + 1)) k ls (keeps j k said.0 fits said.2)))
 
   -- evidence reads the same either way
-  pub all_alike : (whole : Bool) (j : Judgements) (input : List ℕ) → IsOf t lines j → read_all (taken_by (verdict_told t lines) put_verdict) whole j input ≡ read_all evidence_taken whole j input
+  pub all_alike : (whole : Bool) (j : Judgements) (input : List ℕ) → IsOf t lines j
+      → read_all (taken_by (verdict_told t lines) put_verdict) whole j input ≡ read_all evidence_taken whole j input
   unfolding read_all
   all_alike whole j input fits = sym (read_alike whole 1 (2 ^ 30) j (parts input) fits)

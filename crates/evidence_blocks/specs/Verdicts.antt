@@ -11,7 +11,8 @@ use Rattle.evidence_check.specs.declared.cause.EvidenceCause.TheVariants as caus
 
 -- what a line says: nothing where it is blank
 unfoldable pub verdict_told : TraceValue → List ℕ → List ℕ → Result (Option Verdict) EvidenceCause
-verdict_told t lines line = if is_blank line then Ok None else json_line causes.NotJson (λ d. verdict_in t lines d >>= λ v. Ok (Some v)) line
+verdict_told t lines line =
+    if is_blank line then Ok None else json_line causes.NotJson (λ d. verdict_in t lines d >>= λ v. Ok (Some v)) line
 
 abbrev pub put_verdict : Judgements → Option Verdict → Result Judgements EvidenceCause
 put_verdict j None = Ok j

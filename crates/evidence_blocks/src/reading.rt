@@ -31,8 +31,8 @@ fn before_first<'t>(
     Ok((Records { trace, lines }, judgings))
 }
 
-/// Judges the entries of a trace by the evidence for it, as `judge_evidence` of `evidence_check` does, with so many workers that read and
-/// judge the records of a block each.
+/// Judges the entries of a trace by the evidence for it, as `judge_evidence` of `evidence_check` does, with so many
+/// workers that read and judge the records of a block each.
 pub fn judge_evidence_by<R: Source, T: Threads + Sync>(
     rt: &T,
     alloc: Global,
@@ -42,9 +42,11 @@ pub fn judge_evidence_by<R: Source, T: Threads + Sync>(
 ) -> Result<Vec<Judged>, EvidenceFault>
     requires { (0 < workers) × (workers ≤ 16) }
     // Of every input that the reader may have: the evidence that it says judges so, or its first fault is answered.
-    ensures exact { OfInput R.given R.ends reader.old reader.new (λ input. GivesJudged trace.now result (evidence_of trace.now.entries true input)) }
+    ensures exact { OfInput R.given R.ends reader.old reader.new
+        (λ input. GivesJudged trace.now result (evidence_of trace.now.entries true input)) }
     // Of a reader that failed, by the bytes that came before.
-    ensures failed { IfErr result (λ e. e.cause ≡ Read → OfBytes R.given reader.old reader.new (λ came. evidence_of trace.now.entries false came ≡ Err e)) }
+    ensures failed { IfErr result (λ e. e.cause ≡ Read
+        → OfBytes R.given reader.old reader.new (λ came. evidence_of trace.now.entries false came ≡ Err e)) }
     ensures ended { OnOk result (R.ends reader.new ≡ R.ends reader.old + 1) }
     // Also of a reader that never ends.
     ensures most { OfBytes R.given reader.old reader.new (λ came. length came ≤ MAX_INPUT + CHUNK) }

@@ -22,7 +22,8 @@ pub(crate) struct Records<'t> {
     pub(crate) lines: EntryLines,
 }
 
-/// What a thread keeps from one record to the next: the rules that it asked, and the place behind the entry that it found last.
+/// What a thread keeps from one record to the next: the rules that it asked, and the place behind the entry that it
+/// found last.
 #[derive(Drop)]
 pub(crate) struct Desk<'t> {
     json: Scratch,

@@ -16,7 +16,8 @@ use Rattle.line_blocks.specs.Values.{long_line, no_memory}
 use Rattle.line_blocks.specs.declared.reading.Place.{Place}
 use Rattle.line_blocks.proofs.Places.{few_on, goes_lines}
 
-module _ {R S C : Type 0} (given : R → List ℕ) (ends failures : R → ℕ) (remaining : R → Option (List ℕ)) (taken : ℕ → S → List ℕ → Result S C) (old : R) (start : S) where
+module _ {R S C : Type 0} (given : R → List ℕ) (ends failures : R → ℕ) (remaining : R → Option (List ℕ))
+    (taken : ℕ → S → List ℕ → Result S C) (old : R) (start : S) where
   -- all whole lines that came are read, and what came behind them is no more than a line may be
   pub record Ahead (reader : R) (value : S) (place : Place) (bytes chunk : List ℕ) (turn : ℕ) : Type 0 where
     pub used : List ℕ
@@ -32,7 +33,8 @@ module _ {R S C : Type 0} (given : R → List ℕ) (ends failures : R → ℕ) (
     pub going : ends reader ≡ ends old
     pub kept : failures reader ≡ failures old
 
-  pub at_start : (chunk bytes : List ℕ) → 65536 ≤ length chunk → bytes ≡ [] → Ahead old start (record { number = 1; room = 2 ^ 30 }) bytes chunk 0
+  pub at_start : (chunk bytes : List ℕ) → 65536 ≤ length chunk → bytes ≡ []
+      → Ahead old start (record { number = 1; room = 2 ^ 30 }) bytes chunk 0
   at_start chunk bytes le none =
       record {
         used = [];
@@ -49,28 +51,44 @@ module _ {R S C : Type 0} (given : R → List ℕ) (ends failures : R → ℕ) (
         kept = refl;
       }
 
-  module _ (reader : R) (value : S) (place : Place) (bytes chunk : List ℕ) (turn : ℕ) (a : Ahead reader value place bytes chunk turn) (new : R)
-      (most : ComeAtMost (place.room + 65536) (given reader) (given new) bytes) (next : AreNext given ends remaining reader new) where
+  module _ (reader : R) (value : S) (place : Place) (bytes chunk : List ℕ) (turn : ℕ)
+      (a : Ahead reader value place bytes chunk turn) (new : R)
+      (most : ComeAtMost (place.room + 65536) (given reader) (given new) bytes)
+      (next : AreNext given ends remaining reader new) where
     came_few : OfBytes given old new (λ came. length came ≤ 2 ^ 30 + 65536)
-    came_few = came_in_all given old new (2 ^ 30) place.room place.room 65536 a.used (omega (arith, a.size)) (omega arith) (most (given old ++ a.used) a.came)
+    came_few =
+        came_in_all given old new (2 ^ 30) place.room place.room 65536 a.used (omega (arith, a.size)) (omega arith)
+        (most (given old ++ a.used) a.came)
 
     came_next : AreNext given ends remaining old new
     came_next = next-trans given ends remaining old reader new a.known next
 
     line_there : OfBytes given old new (λ came. place.number ≤ length (parts came))
-    line_there = let b = most (given old ++ a.used) a.came in line_came taken start given old new place.number place.room value a.used b.0 a.goes b.1
+    line_there =
+        let b =
+        most (given old ++ a.used) a.came in line_came taken start given old new place.number place.room value a.used
+        b.0 a.goes b.1
 
     -- no more came: the reader failed, or memory ran out
-    pub none_came : {T : Type 0} (now : S) (fault : InputFault) → fault ≢ TooLong → (fault ≡ Read → given new ≡ given reader) → (fault ≡ Read → failures new ≡ failures reader + 1) → (fault ≢ Read → failures new ≡ failures reader)
-        → LinesRead {T = T} given ends failures remaining taken old new start now (Err (record { line = place.number; stop = Input fault }))
+    pub none_came : {T : Type 0} (now : S) (fault : InputFault) → fault ≢ TooLong
+        → (fault ≡ Read → given new ≡ given reader) → (fault ≡ Read → failures new ≡ failures reader + 1)
+        → (fault ≢ Read → failures new ≡ failures reader)
+        → LinesRead {T = T} given ends failures remaining taken old new start now
+        (Err (record { line = place.number; stop = Input fault }))
     none_came now fault short cut failed kept =
         let b = most (given old ++ a.used) a.came in
         record {
-          exact = cut_ends taken start given ends old new place.number place.room value a.used b.0 fault a.goes b.1 (λ e. absurd (short e));
+          exact =
+              cut_ends taken start given ends old new place.number place.room value a.used b.0 fault a.goes b.1
+              (λ e. absurd (short e));
           failed = λ e.
               let read : fault ≡ Read = cc in
-              subst (λ (f : InputFault). OfBytes given old new (λ came. read_all taken false start came ≡ Err (record { line = place.number; stop = Input f }))) (sym read)
-              (read_fails taken start given ends old new place.number place.room value a.used bytes a.goes (cut read ∙ a.came ∙ ap (λ (l : List ℕ). (given old ++ a.used) ++ l) (sym (append-nil bytes))) a.lacking a.short);
+              subst (λ (f : InputFault). OfBytes given old new
+              (λ came. read_all taken false start came ≡ Err (record { line = place.number; stop = Input f })))
+              (sym read)
+              (read_fails taken start given ends old new place.number place.room value a.used bytes a.goes
+              (cut read ∙ a.came ∙ ap (λ (l : List ℕ). (given old ++ a.used) ++ l) (sym (append-nil bytes)))
+              a.lacking a.short);
           ended = tt;
           most = came_few;
           known = came_next;
@@ -80,12 +98,14 @@ module _ {R S C : Type 0} (given : R → List ℕ) (ends failures : R → ℕ) (
           unfailed = λ other. kept (λ (e : fault ≡ Read). other (ap (λ (f : InputFault). Input f) e)) ∙ a.kept;
         }
 
-    module _ (all : List ℕ) (takes : Takes (given reader) (given new) bytes all []) (same_fails : failures new ≡ failures reader) where
+    module _ (all : List ℕ) (takes : Takes (given reader) (given new) bytes all [])
+        (same_fails : failures new ≡ failures reader) where
       now_there : given new ≡ (given old ++ a.used) ++ all
       now_there = takes (given old ++ a.used) a.came
 
       -- a line was refused, or memory ran out
-      pub stopped_at : {T : Type 0} (now : S) (e : LineFault C) → StopsAt taken place value all e → LinesRead {T = T} given ends failures remaining taken old new start now (Err e)
+      pub stopped_at : {T : Type 0} (now : S) (e : LineFault C) → StopsAt taken place value all e
+          → LinesRead {T = T} given ends failures remaining taken old new start now (Err e)
       unfolding read_all
       stopped_at now e h =
           record {
@@ -108,18 +128,27 @@ module _ {R S C : Type 0} (given : R → List ℕ) (ends failures : R → ℕ) (
             unfailed = λ _. same_fails ∙ a.kept;
           }
         where
-          says : (rest : List ℕ) → read_all taken true start ((a.used ++ all) ++ rest) ≡ read_from taken true place.number place.room value (parts (all ++ rest))
-          says rest = ap (λ (l : List ℕ). read_from taken true 1 (2 ^ 30) start (parts l)) (append_assoc a.used all rest) ∙ a.goes.same true (all ++ rest)
+          says : (rest : List ℕ) → read_all taken true start ((a.used ++ all) ++ rest) ≡ read_from taken true
+              place.number place.room value (parts (all ++ rest))
+          says rest =
+              ap (λ (l : List ℕ). read_from taken true 1 (2 ^ 30) start (parts l)) (append_assoc a.used all rest)
+              ∙ a.goes.same true (all ++ rest)
 
-      module _ (lines left : List ℕ) (to : Place) (t : S) (split : all ≡ lines ++ left) (h : LeadsTo taken place value lines to t) where
+      module _ (lines left : List ℕ) (to : Place) (t : S) (split : all ≡ lines ++ left)
+          (h : LeadsTo taken place value lines to t) where
         there : given new ≡ (given old ++ (a.used ++ lines)) ++ left
-        there = now_there ∙ ap (λ (l : List ℕ). (given old ++ a.used) ++ l) split ∙ sym (append_assoc (given old ++ a.used) lines left) ∙ ap (λ (l : List ℕ). l ++ left) (append_assoc (given old) a.used lines)
+        there =
+            now_there ∙ ap (λ (l : List ℕ). (given old ++ a.used) ++ l) split
+            ∙ sym (append_assoc (given old ++ a.used) lines left)
+            ∙ ap (λ (l : List ℕ). l ++ left) (append_assoc (given old) a.used lines)
 
         goes_now : GoesFrom taken start to.number to.room t (a.used ++ lines)
         goes_now = goes_lines taken start place value a.used lines to t a.goes h
 
         -- all whole lines are read
-        pub goes_on : (after : List ℕ) → 65536 ≤ length after → lacks left ≡ true → length left ≤ min to.room (2 ^ 20) → length bytes < length all → ends new ≡ ends reader → Ahead new t to left after (turn + 1)
+        pub goes_on : (after : List ℕ) → 65536 ≤ length after → lacks left ≡ true
+            → length left ≤ min to.room (2 ^ 20) → length bytes < length all → ends new ≡ ends reader
+            → Ahead new t to left after (turn + 1)
         goes_on after chunk lacking short more going =
             record {
               used = a.used ++ lines;
@@ -137,11 +166,15 @@ module _ {R S C : Type 0} (given : R → List ℕ) (ends failures : R → ℕ) (
             }
 
         -- what stands behind them is longer than a line may be
-        pub too_long : {T : Type 0} (now : S) → lacks left ≡ true → min to.room (2 ^ 20) < length left → LinesRead {T = T} given ends failures remaining taken old new start now (Err (long_line to.number))
+        pub too_long : {T : Type 0} (now : S) → lacks left ≡ true → min to.room (2 ^ 20) < length left
+            → LinesRead {T = T} given ends failures remaining taken old new start now (Err (long_line to.number))
         too_long now lacking over =
-            let behind : given new ≡ (given old ++ (a.used ++ lines)) ++ (left ++ []) = there ∙ ap (λ (l : List ℕ). (given old ++ (a.used ++ lines)) ++ l) (sym (append-nil left)) in
+            let behind : given new ≡ (given old ++ (a.used ++ lines)) ++ (left ++ []) =
+            there ∙ ap (λ (l : List ℕ). (given old ++ (a.used ++ lines)) ++ l) (sym (append-nil left)) in
             record {
-              exact = cut_ends taken start given ends old new to.number to.room t (a.used ++ lines) left TooLong goes_now there (λ _. (left, [], behind, lacking, over));
+              exact =
+                  cut_ends taken start given ends old new to.number to.room t (a.used ++ lines) left TooLong goes_now
+                  there (λ _. (left, [], behind, lacking, over));
               failed = λ e. cc;
               ended = tt;
               most = came_few;
@@ -155,7 +188,9 @@ module _ {R S C : Type 0} (given : R → List ℕ) (ends failures : R → ℕ) (
       -- the reader is at its end
       module _ (same_bytes : all ≡ bytes) (end : ends new ≡ ends reader + 1) where
         last_there : given new ≡ (given old ++ a.used) ++ ((bytes ++ []) ++ [])
-        last_there = now_there ∙ ap (λ (l : List ℕ). (given old ++ a.used) ++ l) (same_bytes ∙ sym (append-nil (bytes ++ []) ∙ append-nil bytes))
+        last_there =
+            now_there ∙ ap (λ (l : List ℕ). (given old ++ a.used) ++ l)
+            (same_bytes ∙ sym (append-nil (bytes ++ []) ∙ append-nil bytes))
 
         at_end : ends old < ends new
         at_end = omega (arith, end, a.going)
@@ -163,10 +198,13 @@ module _ {R S C : Type 0} (given : R → List ℕ) (ends failures : R → ℕ) (
         within : passes_limit place.room bytes false ≡ false
         within = within_from place.room bytes false a.short refl
 
-        last_taken : (now : S) → taken place.number value bytes ≡ Ok now → LinesRead {T = Unit {0}} given ends failures remaining taken old new start now (Ok tt)
+        last_taken : (now : S) → taken place.number value bytes ≡ Ok now
+            → LinesRead {T = Unit {0}} given ends failures remaining taken old new start now (Ok tt)
         last_taken now is =
             record {
-              exact = last_ends taken start given ends old new place.number place.room value a.used bytes [] now a.goes last_there a.lacking refl at_end within is;
+              exact =
+                  last_ends taken start given ends old new place.number place.room value a.used bytes [] now a.goes
+                  last_there a.lacking refl at_end within is;
               failed = tt;
               ended = end ∙ ap (λ (n : ℕ). n + 1) a.going;
               most = came_few;
@@ -177,11 +215,15 @@ module _ {R S C : Type 0} (given : R → List ℕ) (ends failures : R → ℕ) (
               unfailed = tt;
             }
 
-        last_refused : {T : Type 0} (now : S) (stop : Stop C) → Refuses (taken place.number value bytes) stop → LinesRead {T = T} given ends failures remaining taken old new start now (Err (record { line = place.number; stop = stop }))
+        last_refused : {T : Type 0} (now : S) (stop : Stop C) → Refuses (taken place.number value bytes) stop
+            → LinesRead {T = T} given ends failures remaining taken old new start now
+            (Err (record { line = place.number; stop = stop }))
         last_refused now stop refuses =
             let other : stop ≢ Input Read = no_reader stop refuses in
             record {
-              exact = step_cut taken start given ends old new place.number place.room value a.used bytes false [] stop a.goes last_there a.lacking (λ _. (refl, at_end)) within refuses;
+              exact =
+                  step_cut taken start given ends old new place.number place.room value a.used bytes false [] stop
+                  a.goes last_there a.lacking (λ _. (refl, at_end)) within refuses;
               failed = λ e. absurd (other e);
               ended = tt;
               most = came_few;
@@ -198,14 +240,18 @@ module _ {R S C : Type 0} (given : R → List ℕ) (ends failures : R → ℕ) (
             no_reader (Input Read) h = λ e. absurd h
             no_reader (Input TooLong) h = λ e. absurd h
 
-        pub last_read : (now : S) (r : Result (Unit {0}) (LineFault C)) → OnOk r (taken place.number value bytes ≡ Ok now)
-            → IfErr r (λ e. (e.line ≡ place.number) × Refuses (taken place.number value bytes) e.stop) → LinesRead given ends failures remaining taken old new start now r
+        pub last_read : (now : S) (r : Result (Unit {0}) (LineFault C))
+            → OnOk r (taken place.number value bytes ≡ Ok now)
+            → IfErr r (λ e. (e.line ≡ place.number) × Refuses (taken place.number value bytes) e.stop)
+            → LinesRead given ends failures remaining taken old new start now r
         last_read now (Ok tt) is none = last_taken now is
         last_read now (Err e) none h =
-            subst (λ (n : ℕ). LinesRead {T = Unit {0}} given ends failures remaining taken old new start now (Err (record { line = n; stop = e.stop }))) (sym h.0) (last_refused now e.stop h.1)
+            subst (λ (n : ℕ). LinesRead {T = Unit {0}} given ends failures remaining taken old new start now
+            (Err (record { line = n; stop = e.stop }))) (sym h.0) (last_refused now e.stop h.1)
 
   -- there was no memory to begin with
-  pub no_chunk : {T : Type 0} (now : S) → LinesRead {T = T} given ends failures remaining taken old old start now (Err (no_memory 1))
+  pub no_chunk : {T : Type 0} (now : S)
+      → LinesRead {T = T} given ends failures remaining taken old old start now (Err (no_memory 1))
   no_chunk now =
       record {
         exact = ([], sym (append-nil (given old)), λ rest ended. tt);

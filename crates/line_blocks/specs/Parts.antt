@@ -19,7 +19,8 @@ abbrev pub before : {V C : Type 0} → Result V C → PartTold V C → PartTold 
 before (Ok v) p = record { values = v ∷ p.values; fault = p.fault }
 before (Err c) p = stopped (Line c)
 
--- What lines say, each with a newline behind it, where so many bytes may come from the first on. Nothing here depends on what the lines
+-- What lines say, each with a newline behind it, where so many bytes may come from the first on. Nothing here depends
+-- on what the lines
 -- before made of a value, or on their number.
 abbrev pub lines_told : {V C : Type 0} → (List ℕ → Result V C) → ℕ → List (List ℕ) → PartTold V C
 lines_told told room [] = record { values = []; fault = None }
@@ -31,7 +32,8 @@ ended n s None = Ok s
 ended n s (Some stop) = Err (record { line = n; stop = stop })
 
 -- what the values of lines make of s, from line number n on
-abbrev pub put_values : {S V C : Type 0} → (S → V → Result S C) → ℕ → S → List V → Option (Stop C) → Result S (LineFault C)
+abbrev pub put_values : {S V C : Type 0} → (S → V → Result S C) → ℕ → S → List V → Option (Stop C)
+    → Result S (LineFault C)
 put_values put n s [] fault = ended n s fault
 put_values put n s (v ∷ vs) fault = at_line n (put s v) >>= λ t. put_values put (n + 1) t vs fault
 

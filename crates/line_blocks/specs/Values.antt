@@ -35,7 +35,8 @@ AreTold told (r ∷ rs) (b ∷ bs) = IfOk r (λ t. told_value t ≡ block_told t
 -- each block is of whole lines, and has the room that those before it left
 abbrev pub AreBlocks : ℕ → List Block → Type 0
 AreBlocks room [] = ⊤
-AreBlocks room (b ∷ bs) = (b.room ≡ room) × (has_whole_lines b.bytes.now ≡ true) × AreBlocks (room - length b.bytes.now) bs
+AreBlocks room (b ∷ bs) =
+    (b.room ≡ room) × (has_whole_lines b.bytes.now ≡ true) × AreBlocks (room - length b.bytes.now) bs
 
 -- the bytes, in blocks
 abbrev pub IsCut : ℕ → List ℕ → List Block → Type 0

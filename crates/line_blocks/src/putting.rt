@@ -56,8 +56,8 @@ fn put_told<J: TellLine, P: PutTold<J>>(
     }
 }
 
-/// Puts what the lines of blocks say into a value, one block after the other, and answers the number of the next line. Threads tell what
-/// the lines say.
+/// Puts what the lines of blocks say into a value, one block after the other, and answers the number of the next
+/// line. Threads tell what the lines say.
 pub(crate) fn put_blocks<J: TellLine + Sync, P: PutTold<J>, T: Threads + Sync>(
     rt: &T,
     alloc: Global,
@@ -68,7 +68,8 @@ pub(crate) fn put_blocks<J: TellLine + Sync, P: PutTold<J>, T: Threads + Sync>(
 ) -> Result<u64, LineFault<J::Cause>>
     requires blocks { (room : ℕ) × AreBlocks room blocks.now }
     requires few { first + length (joined (bytes_in blocks.now)) < 2 ^ 64 }
-    ensures put { PutsAs result value.new (put_parts P.put first value.old (map (block_told (J.told teller.now)) blocks.now)) }
+    ensures put { PutsAs result value.new
+        (put_parts P.put first value.old (map (block_told (J.told teller.now)) blocks.now)) }
     ensures next { IfOk result (λ n. n ≡ first + lines_in (bytes_in blocks.now)) }
     ensures line { IfErr result (λ e. e.line ≤ first + lines_in (bytes_in blocks.now)) }
 {

@@ -30,8 +30,8 @@ pub(crate) struct Place {
     pub(crate) room: usize,
 }
 
-/// Reads more behind the bytes at hand, by one call of the reader, and says whether anything came. The chunk is what it is read into, and
-/// shrinks where less may come.
+/// Reads more behind the bytes at hand, by one call of the reader, and says whether anything came. The chunk is what
+/// it is read into, and shrinks where less may come.
 fn refill<R: Source>(
     reader: &mut R,
     chunk: &mut Vec<u8>,
@@ -124,7 +124,8 @@ fn take_lines<J: TellLine + Sync, P: PutTold<J>, T: Threads + Sync>(
 ) -> Result<Place, LineFault<J::Cause>>
     requires some { 0 < workers }
     requires few { place.number + vec_len bytes.old < 2 ^ 64 }
-    ensures { TakesLines (taken_by (J.told teller.now) P.put) place value.old bytes.old.items result bytes.new.items value.new }
+    ensures { TakesLines (taken_by (J.told teller.now) P.put) place value.old bytes.old.items result bytes.new.items
+        value.new }
 {
     let count = whole_len(bytes);
     let behind = match take_whole(rt, alloc, teller, value, place, &bytes[..count], workers) {
@@ -146,7 +147,8 @@ fn take_last<J: TellLine, P: PutTold<J>>(
     line: &[u8],
 ) -> Result<(), LineFault<J::Cause>>
     ensures ok { OnOk result (taken_by (J.told teller.now) P.put number value.old line.now ≡ Ok value.new) }
-    ensures refused { IfErr result (λ e. (e.line ≡ number) × Refuses (taken_by (J.told teller.now) P.put number value.old line.now) e.stop) }
+    ensures refused { IfErr result (λ e. (e.line ≡ number)
+        × Refuses (taken_by (J.told teller.now) P.put number value.old line.now) e.stop) }
 {
     let mut scratch = teller.scratch(alloc);
     let stop = match teller.tell(alloc, &mut scratch, line) {
@@ -160,8 +162,9 @@ fn take_last<J: TellLine, P: PutTold<J>>(
     Err(LineFault { line: number, stop })
 }
 
-/// Hands what the lines of a reader say to `value`, up to the first that is refused, as `read_lines` of `json_lines` does: lines and limits
-/// are those that it has. So many workers tell what lines say, several blocks at once; one puts it into the value.
+/// Hands what the lines of a reader say to `value`, up to the first that is refused, as `read_lines` of `json_lines`
+/// does: lines and limits are those that it has. So many workers tell what lines say, several blocks at once; one
+/// puts it into the value.
 pub fn read_blocks<R: Source, J: TellLine + Sync, P: PutTold<J>, T: Threads + Sync>(
     rt: &T,
     alloc: Global,
@@ -171,7 +174,8 @@ pub fn read_blocks<R: Source, J: TellLine + Sync, P: PutTold<J>, T: Threads + Sy
     workers: usize,
 ) -> Result<(), LineFault<J::Cause>>
     requires { (0 < workers) × (workers ≤ 16) }
-    ensures { LinesRead R.given R.ends R.failures R.remaining (taken_by (J.told teller.now) P.put) reader.old reader.new value.old value.new result }
+    ensures { LinesRead R.given R.ends R.failures R.remaining (taken_by (J.told teller.now) P.put)
+        reader.old reader.new value.old value.new result }
 {
     let Ok(mut chunk) = vec![in alloc; 0u8; workers * BLOCK] else {
         return Err(out_of_memory(1));

@@ -117,7 +117,8 @@ pub(crate) fn tell_blocks<J: TellLine + Sync, T: Threads + Sync>(
 ) -> Result<Vec<Result<Told<J::Value, J::Cause>, AllocError>>, AllocError>
     ensures count { IfOk result (λ v. vec_len v ≡ length blocks.now) }
     ensures told { IfOk result (λ v. (i : ℕ) (d : _) (b : _) → i < length blocks.now
-        → IfOk (slice_index_or v.items i d) (λ t. told_value t ≡ block_told (J.told teller.now) (slice_index_or blocks.now i b))) }
+        → IfOk (slice_index_or v.items i d)
+        (λ t. told_value t ≡ block_told (J.told teller.now) (slice_index_or blocks.now i b))) }
 {
     thread::map_indices(
         rt,

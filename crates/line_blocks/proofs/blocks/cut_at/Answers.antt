@@ -17,4 +17,5 @@ returns-then-end-lines-clause-block c =
     let at = c.min-at.result in
     let lines = c.args.lines.now in
     let end : c.line_end.result ≡ line_len (drop at lines) = c.line_end.ensures ∙ ap line_len c.split_at.ensures.back in
-    ap (λ n. has_whole_lines (take (at + n + 1) lines)) end ∙ cut_whole lines at c.requires.whole (omega (arith, c.min-at.ensures, c.requires.some))
+    ap (λ n. has_whole_lines (take (at + n + 1) lines)) end
+    ∙ cut_whole lines at c.requires.whole (omega (arith, c.min-at.ensures, c.requires.some))

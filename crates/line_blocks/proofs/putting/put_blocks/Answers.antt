@@ -9,8 +9,11 @@ use Rattle.line_blocks.proofs.putting.put_blocks.Goals as goal
 
 pub loop-part-init : goal.loop-part-init
 loop-part-init g c =
-    let len : length c.in-Ok.parts.items ≡ length c.args.blocks.now = omega (arith, c.in-Ok.parts.ok.0, c.in-Ok.ensures.count) in
-    let all = are_told (g.J.TellLine.told c.args.teller.now) c.in-Ok.parts.items c.args.blocks.now len (λ i d b lt. c.in-Ok.ensures.told i d b lt) in (
+    let len : length c.in-Ok.parts.items ≡ length c.args.blocks.now =
+    omega (arith, c.in-Ok.parts.ok.0, c.in-Ok.ensures.count) in
+    let all =
+    are_told (g.J.TellLine.told c.args.teller.now) c.in-Ok.parts.items c.args.blocks.now len
+    (λ i d b lt. c.in-Ok.ensures.told i d b lt) in (
       c.args.blocks.now,
       c.requires.blocks.0,
       c.requires.blocks.1,
@@ -25,8 +28,12 @@ put_told-requires-after_bounds g c =
     let put = g.P.PutTold.put in
     let all = put_parts put c.args.first c.args.value.now (map (block_told told) c.args.blocks.now) in
     let last = c.args.first + lines_in (bytes_in c.args.blocks.now) in
-    let inv = subst (λ rs. Left told put all last rs c.loop-part.number c.loop-part.value) c.in-Some.ensures.steps.0 c.loop-part.invariant in
-    let few = few_left told put all last c.loop-part.number c.loop-part.value c.in-Ok-part.told c.in-Some.part (into_iter_items c.next.new.self) c.in-Ok-part.is inv in
+    let inv =
+    subst (λ rs. Left told put all last rs c.loop-part.number c.loop-part.value) c.in-Some.ensures.steps.0
+    c.loop-part.invariant in
+    let few =
+    few_left told put all last c.loop-part.number c.loop-part.value c.in-Ok-part.told c.in-Some.part
+    (into_iter_items c.next.new.self) c.in-Ok-part.is inv in
     let within = lines_few c.requires.blocks.0 c.args.blocks.now c.requires.blocks.1 in
     omega (arith, few, within, c.requires.few, c.in-Ok-part.told.values.ok.0)
 
@@ -36,8 +43,11 @@ loop-part-preserved g c =
     let put = g.P.PutTold.put in
     let all = put_parts put c.args.first c.args.value.now (map (block_told told) c.args.blocks.now) in
     let last = c.args.first + lines_in (bytes_in c.args.blocks.now) in
-    let inv = subst (λ rs. Left told put all last rs c.loop-part.number c.loop-part.value) c.in-Some.ensures.steps.0 c.loop-part.invariant in
-    goes_on told put all last c.loop-part.number c.loop-part.value c.in-Ok-part.told c.in-Some.part (into_iter_items c.next.new.self) c.in-Ok-put_told.next c.put_told.new.value c.in-Ok-part.is inv
+    let inv =
+    subst (λ rs. Left told put all last rs c.loop-part.number c.loop-part.value) c.in-Some.ensures.steps.0
+    c.loop-part.invariant in
+    goes_on told put all last c.loop-part.number c.loop-part.value c.in-Ok-part.told c.in-Some.part
+    (into_iter_items c.next.new.self) c.in-Ok-put_told.next c.put_told.new.value c.in-Ok-part.is inv
     c.in-Ok-put_told.ensures.put (omega (arith, c.in-Ok-put_told.ensures.next, c.in-Ok-part.told.values.ok.0))
 
 pub returns-in-Err-clause-put : goal.returns-in-Err-clause-put
@@ -46,8 +56,11 @@ returns-in-Err-clause-put g c =
     let put = g.P.PutTold.put in
     let all = put_parts put c.args.first c.args.value.now (map (block_told told) c.args.blocks.now) in
     let last = c.args.first + lines_in (bytes_in c.args.blocks.now) in
-    let inv = subst (λ rs. Left told put all last rs c.loop-part.number c.loop-part.value) c.in-Some.ensures.steps.0 c.loop-part.invariant in
-    inr (refused told put all last c.loop-part.number c.loop-part.value c.in-Ok-part.told c.in-Some.part (into_iter_items c.next.new.self) c.in-Err.fault c.in-Ok-part.is inv c.in-Err.ensures.put)
+    let inv =
+    subst (λ rs. Left told put all last rs c.loop-part.number c.loop-part.value) c.in-Some.ensures.steps.0
+    c.loop-part.invariant in
+    inr (refused told put all last c.loop-part.number c.loop-part.value c.in-Ok-part.told c.in-Some.part
+    (into_iter_items c.next.new.self) c.in-Err.fault c.in-Ok-part.is inv c.in-Err.ensures.put)
 
 pub returns-in-Err-clause-line : goal.returns-in-Err-clause-line
 returns-in-Err-clause-line g c =
@@ -55,6 +68,10 @@ returns-in-Err-clause-line g c =
     let put = g.P.PutTold.put in
     let all = put_parts put c.args.first c.args.value.now (map (block_told told) c.args.blocks.now) in
     let last = c.args.first + lines_in (bytes_in c.args.blocks.now) in
-    let inv = subst (λ rs. Left told put all last rs c.loop-part.number c.loop-part.value) c.in-Some.ensures.steps.0 c.loop-part.invariant in
-    let few = few_left told put all last c.loop-part.number c.loop-part.value c.in-Ok-part.told c.in-Some.part (into_iter_items c.next.new.self) c.in-Ok-part.is inv in
+    let inv =
+    subst (λ rs. Left told put all last rs c.loop-part.number c.loop-part.value) c.in-Some.ensures.steps.0
+    c.loop-part.invariant in
+    let few =
+    few_left told put all last c.loop-part.number c.loop-part.value c.in-Ok-part.told c.in-Some.part
+    (into_iter_items c.next.new.self) c.in-Ok-part.is inv in
     omega (arith, few, c.in-Err.ensures.line, c.in-Ok-part.told.values.ok.0)
