@@ -14,12 +14,12 @@ use Rattle.evidence_check.specs.declared.judged.Judged.{Judged}
 use Rattle.audit.specs.Devices.{HasRisen}
 use Rattle.audit.specs.Early.{IsEarlyLine, WriterState, WasLast, WentOut, TellsEarly, early_text}
 use Rattle.findings.specs.Findings.{found_on, on_line}
-use Rattle.audit.specs.Shared.{nothing_found, found_at, found_judged, has_finding}
+use Rattle.audit.specs.Shared.{nothing_found, found_judged, has_finding}
 use Rattle.audit.specs.Told.{IsLineOf, line_for}
 use Rattle.findings.specs.declared.finding.Finding.{Finding}
 use Rattle.findings.specs.declared.finding.What.{What}
 use Rattle.audit.specs.declared.shared.Found.{Found}
-use Rattle.audit.proofs.SharedLemmas.{judged_alike}
+use Rattle.audit.proofs.SharedLemmas.{found_at, judged_alike}
 
 -- ---- what went out grows
 

@@ -10,9 +10,19 @@ use Rattle.evidence_check.specs.Steps.{StepValue}
 use Rattle.evidence_check.specs.declared.judged.Judged.{Judged}
 use Rattle.evidence_check.specs.declared.judged.Judged.TheVariants.{Missing}
 use Rattle.findings.specs.Findings.{found_on, found_where, on_line, findings_from, findings_of}
-use Rattle.audit.specs.Shared.{nothing_found, found_at, found_judged, all_found, all_judged, found_lines}
+use Rattle.audit.specs.Shared.{nothing_found, found_judged, all_judged, found_lines}
 use Rattle.findings.specs.declared.finding.Finding.{Finding}
 use Rattle.audit.specs.declared.shared.Found.{Found}
+
+-- what is found on entry i, and its line
+abbrev pub found_at : TraceValue → List (Option (List StepValue)) → ℕ → Found
+found_at t evidence i =
+    option_map_or (λ e. record { line = e.line; what = found_on t evidence i e })
+    (slice_get t.entries i) nothing_found
+
+-- that of each entry, in order
+abbrev pub all_found : TraceValue → List (Option (List StepValue)) → List Found
+all_found t evidence = map (found_at t evidence) (range_with_len 0 (length t.entries))
 
 found_from : (t : TraceValue) (evidence : List (Option (List StepValue))) (i : ℕ) (es : List EntryValue)
     → ((k : ℕ) → slice_get t.entries (i + k) ≡ slice_get es k)

@@ -1,13 +1,12 @@
 -- What several workers find on the entries of a trace, and what they may be asked for.
-use Rattle.std.specs.Prelude.{ℕ, Bool, nat_le, ◌&&◌, List, [], Option, is_some, length, map, slice_get, unwrap_or}
+use Rattle.std.specs.Prelude.{ℕ, Bool, nat_le, ◌&&◌, List, [], is_some, length, map, slice_get, unwrap_or}
 use Rattle.std.specs.List.{flat_map, list_any, range_with_len}
 use Rattle.std.specs.Option.{option_map_or}
 use Rattle.slice_core.specs.declared.opening.TheConstants.{MOST_WORKERS}
 use Rattle.trace_lines.specs.Values.{TraceValue}
-use Rattle.evidence_check.specs.Steps.{StepValue}
 use Rattle.evidence_check.specs.declared.judged.Judged.{Judged}
 use Rattle.evidence_check.specs.declared.judged.Judged.TheVariants.{Missing}
-use Rattle.findings.specs.Findings.{found_on, found_where, on_line}
+use Rattle.findings.specs.Findings.{found_where, on_line}
 use Rattle.findings.specs.declared.finding.Finding.{Finding}
 use Rattle.audit.specs.declared.shared.Found.{Found}
 use Rattle.audit.specs.declared.shared.TheConstants.{LARGEST_SLICE}
@@ -20,13 +19,7 @@ are_within_limits workers slice =
 abbrev pub nothing_found : Found
 nothing_found = record { line = 0; what = [] }
 
--- what is found on entry i, and its line
-abbrev pub found_at : TraceValue → List (Option (List StepValue)) → ℕ → Found
-found_at t evidence i =
-    option_map_or (λ e. record { line = e.line; what = found_on t evidence i e })
-    (slice_get t.entries i) nothing_found
-
--- the same where the entries are judged so
+-- what is found on entry i where the entries are judged so, and its line
 abbrev pub found_judged : TraceValue → List Judged → ℕ → Found
 found_judged t judgements i =
     option_map_or (λ e. record { line = e.line; what = found_where t (unwrap_or (slice_get judgements i) Missing) i e })
@@ -35,9 +28,6 @@ found_judged t judgements i =
 -- that of each entry, in order
 abbrev pub all_judged : TraceValue → List Judged → List Found
 all_judged t judgements = map (found_judged t judgements) (range_with_len 0 (length t.entries))
-
-abbrev pub all_found : TraceValue → List (Option (List StepValue)) → List Found
-all_found t evidence = map (found_at t evidence) (range_with_len 0 (length t.entries))
 
 abbrev pub has_finding : Found → Bool
 has_finding f = list_any is_some f.what

@@ -12,7 +12,7 @@ onto_first-append x [] qs h = absurd (omega (arith, h))
 onto_first-append x (p ∷ ps) qs h = refl
 
 -- the lines before a newline, and those behind it
-parts_at : (a b : List ℕ) → parts (a ++ 10 ∷ b) ≡ parts a ++ parts b
+pub parts_at : (a b : List ℕ) → parts (a ++ 10 ∷ b) ≡ parts a ++ parts b
 parts_at [] b = refl
 parts_at (x ∷ xs) b = at_byte (parts_at xs b) (eqb x 10)
   where

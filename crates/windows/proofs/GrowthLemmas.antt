@@ -1,7 +1,6 @@
 -- What the first lines of a log say stands when it has grown.
 use Rattle.std.proofs.Common.{◌≡◌, ℕ, ◌+◌, ◌-◌, ◌^◌, ◌<◌, ◌≤◌, ◌==◌, ◌&&◌, ◌||◌, not, min, Bool, true, false, cond, eqb, List, [], ◌∷◌, ◌++◌, length, map, Option, Some, None, Result, Ok, Err, refl, sym, ◌∙◌, ap, subst, arith, append_assoc, append-nil, length-append}
 use Rattle.std.specs.Prelude.{codes, bytes_eq, option_and_then, Contains}
-use Rattle.std.specs.List.{onto_first}
 use Rattle.std.specs.Str.{is_utf8}
 use Rattle.std.proofs.lemmas.Bool.{ne_eqb, le-ltb}
 use Rattle.std.proofs.lemmas.List.{map-append}
@@ -19,6 +18,7 @@ use Rattle.namespaces.specs.Declaration.{Namespace, Declaration, addition, chang
 use Rattle.namespaces.specs.declared.fault.RulesFault.{RulesFault}
 use Rattle.version_chains.specs.Commits.{Commit, added}
 use Rattle.version_chains.specs.Appends.{append_fault}
+use Rattle.line_blocks.proofs.WholeLines.{parts_at}
 use Rattle.json_lines.specs.Fields.{optional_number_at}
 use Rattle.json_lines.specs.Json.{is_blank, of_json, json_line, taken_line}
 use Rattle.json_lines.specs.Reading.{at_line, passes_limit, read_from, read_all, parts}
@@ -345,22 +345,6 @@ has_first n room s (x ∷ xs) ys t some le h =
         }
 
 -- ---- bytes
-
-onto_first-append : (x : ℕ) (ps qs : List (List ℕ)) → 0 < length ps → onto_first x (ps ++ qs) ≡ onto_first x ps ++ qs
-onto_first-append x [] qs h = absurd (omega (arith, h))
-onto_first-append x (p ∷ ps) qs h = refl
-
--- the lines before a newline, and those behind it
-parts_at : (a b : List ℕ) → parts (a ++ 10 ∷ b) ≡ parts a ++ parts b
-parts_at [] b = refl
-parts_at (x ∷ xs) b = at_byte (parts_at xs b) (eqb x 10)
-  where
-    at_byte : parts (xs ++ 10 ∷ b) ≡ parts xs ++ parts b → (hit : Bool)
-        → cond hit ([] ∷ parts (xs ++ 10 ∷ b)) (onto_first x (parts (xs ++ 10 ∷ b))) ≡ cond hit ([] ∷ parts xs)
-        (onto_first x (parts xs)) ++ parts b
-    at_byte e true = ap (λ (l : List (List ℕ)). [] ∷ l) e
-    at_byte e false = ap (onto_first x) e
-        ∙ onto_first-append x (parts xs) (parts b) (let n = length-slice_split (λ b. eqb b 10) xs in omega (arith, n))
 
 read_ok : (r : Result TraceValue (LineFault Cause)) (t : TraceValue) → faulted r ≡ Ok t → r ≡ Ok t
 read_ok (Ok s) t h = let same : s ≡ t = cc in ap Ok same
