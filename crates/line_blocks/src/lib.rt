@@ -7,7 +7,7 @@
 //! Callers may rely on this: what is read, and what is refused, is as `read_lines` of `json_lines` reads it where a
 //! line makes of the value what it says, put into the value (`taken_by`). The reader is asked for more only once all
 //! whole lines that came are put in, so that a line's fault comes before a later failure of the reader, which then
-//! does not come. Want of memory in a block is answered only where no line before that block is refused.
+//! does not come. That memory ran out in a block is answered only where no line before that block is refused.
 //!
 //! ```text
 //! read_blocks(rt, alloc, &mut reader, &telling, &mut judgements, 4)?;

@@ -30,7 +30,7 @@ pub trait TellLine {
     fn scratch(&self, alloc: Global) -> Self::Scratch
         ensures { suits self.now result };
 
-    /// What a line says, or why it is refused. The outer error is want of memory.
+    /// What a line says, or why it is refused. The outer error is out of memory.
     fn tell(
         &self,
         alloc: Global,
