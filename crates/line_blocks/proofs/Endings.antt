@@ -1,8 +1,9 @@
 -- Bytes that end in a newline.
-use Rattle.std.proofs.Common.{◌≡◌, ℕ, ◌+◌, ◌<◌, ◌≤◌, ◌⊎◌, inl, inr, Bool, true, false, eqb, not, List, [], ◌∷◌, ◌++◌, length, take, drop, get_or, get_or-drop, suc, arith, refl, sym, ap, ◌∙◌, append_assoc, length-append}
-use Rattle.std.proofs.Math.Seq.{take-suc}
+use Rattle.std.proofs.Common.{◌≡◌, ℕ, ◌+◌, ◌-◌, ◌<◌, ◌≤◌, ◌⊎◌, inl, inr, Bool, true, false, eqb, not, List, [], ◌∷◌, ◌++◌, length, take, drop, get_or, get_or-drop, suc, arith, refl, sym, ap, ◌∙◌, append_assoc, length-append}
+use Rattle.std.proofs.Math.Seq.{take-length, take-suc}
 use Rattle.std.proofs.lemmas.Bool.{and_parts, cases_lt, eqb-true, false_from_ne_true, lt-ltb}
 use Rattle.std.proofs.lemmas.List.{length-drop, length-take-le, take_at, take-append-drop}
+use Rattle.std.proofs.lemmas.List.Folds.{list_all-append}
 use Rattle.std.proofs.lemmas.List.Sums.{position_or_len_is}
 use Rattle.memchr.specs.Find.{is_byte}
 use Rattle.json_lines.specs.Lines.{lacks, line_len, first_line, after_line}
@@ -100,3 +101,28 @@ none_behind xs n none =
           (ap (is_byte 10) (sym (get_or-drop n xs k 0)) ∙ e)))
           (λ lt. absurd (omega arith)),
     ))
+
+-- ---- where the first bytes were seen before
+
+pub all_behind : (xs : List ℕ) (seen : ℕ) → take (length xs - seen) (drop seen xs) ≡ drop seen xs
+all_behind xs seen = ap (λ (n : ℕ). take n (drop seen xs)) (sym (length-drop seen xs)) ∙ take-length (drop seen xs)
+
+pub newline_last_from : (xs : List ℕ) (seen last : ℕ) → last < length (drop seen xs) → seen ≤ length xs
+    → is_byte 10 (get_or (drop seen xs) last 0) ≡ true → has_whole_lines (take (seen + last + 1) xs) ≡ true
+newline_last_from xs seen last lt le is =
+    newline_last xs (seen + last) (omega (arith, lt, length-drop seen xs))
+    (ap (is_byte 10) (sym (get_or-drop seen xs last 0)) ∙ is)
+
+pub none_behind_from : (xs : List ℕ) (seen n : ℕ) → seen ≤ length xs
+    → ((k : ℕ) → n ≤ k → k < length (drop seen xs) → ¬ (is_byte 10 (get_or (drop seen xs) k 0) ≡ true))
+    → lacks (drop (seen + n) xs) ≡ true
+none_behind_from xs seen n le none =
+    none_behind xs (seen + n) (λ k from lt is.
+    let there : seen + (k - seen) ≡ k = omega (arith, from) in
+    none (k - seen) (omega (arith, from)) (omega (arith, from, lt, length-drop seen xs))
+    (ap (is_byte 10) (get_or-drop seen xs (k - seen) 0 ∙ ap (λ (i : ℕ). get_or xs i 0) there) ∙ is))
+
+pub lacks_all_of : (xs : List ℕ) (seen : ℕ) → lacks (take seen xs) ≡ true → lacks (drop seen xs) ≡ true → lacks xs ≡ true
+lacks_all_of xs seen front behind =
+    ap lacks (sym (take-append-drop seen xs))
+    ∙ list_all-append (λ b. not (eqb b 10)) (take seen xs) (drop seen xs) ∙ rw (front, behind) refl

@@ -16,14 +16,17 @@ pub(crate) struct Block<'a> {
     pub(crate) room: usize,
 }
 
-/// How many bytes the whole lines have that bytes begin with.
-pub(crate) fn whole_len(bytes: &[u8]) -> usize
+/// How many bytes the whole lines have that bytes begin with, where no newline stands among the first of these, which
+/// are not looked at again.
+pub(crate) fn whole_len(bytes: &[u8], seen: usize) -> usize
+    requires within { seen ≤ length bytes.now }
+    requires seen { lacks (take seen bytes.now) ≡ true }
     ensures within { result ≤ length bytes.now }
     ensures whole { has_whole_lines (take result bytes.now) ≡ true }
     ensures rest { lacks (drop result bytes.now) ≡ true }
 {
-    match memrchr(b'\n', bytes) {
-        Some(last) => last + 1,
+    match memrchr(b'\n', &bytes[seen..]) {
+        Some(last) => seen + last + 1,
         None => 0,
     }
 }

@@ -43,6 +43,7 @@ fn refill<R: Source>(
     requires few { room ≤ MAX_INPUT }
     ensures chunk { CHUNK ≤ vec_len chunk.new }
     ensures came { OnOk result (Takes (R.given reader.old) (R.given reader.new) bytes.old.items bytes.new.items []) }
+    ensures behind { OnOk result (take (vec_len bytes.old) bytes.new.items ≡ bytes.old.items) }
     ensures some { result ≡ Ok true → vec_len bytes.old < vec_len bytes.new }
     ensures none { result ≡ Ok false → bytes.new.items ≡ bytes.old.items }
     ensures few { OnOk result (vec_len bytes.new ≤ room + CHUNK) }
@@ -112,7 +113,8 @@ fn take_whole<J: TellLine + Sync, P: PutTold<J>, T: Threads + Sync>(
     }
 }
 
-/// Puts what the whole lines at hand say into a value, and leaves what stands behind them.
+/// Puts what the whole lines at hand say into a value, and leaves what stands behind them. Among the first bytes, which
+/// were seen before, no newline stands: so a long line that comes in pieces is gone over once.
 fn take_lines<J: TellLine + Sync, P: PutTold<J>, T: Threads + Sync>(
     rt: &T,
     alloc: Global,
@@ -120,14 +122,20 @@ fn take_lines<J: TellLine + Sync, P: PutTold<J>, T: Threads + Sync>(
     value: &mut P,
     place: Place,
     bytes: &mut Vec<u8>,
+    seen: usize,
     workers: usize,
 ) -> Result<Place, LineFault<J::Cause>>
     requires some { 0 < workers }
     requires few { place.number + vec_len bytes.old < 2 ^ 64 }
+    requires within { seen ≤ vec_len bytes.old }
+    requires seen { lacks (take seen bytes.old.items) ≡ true }
     ensures { TakesLines (taken_by (J.told teller.now) P.put) place value.old bytes.old.items result bytes.new.items
         value.new }
 {
-    let count = whole_len(bytes);
+    let count = whole_len(bytes, seen);
+    if count == 0 {
+        return Ok(place);
+    }
     let behind = match take_whole(rt, alloc, teller, value, place, &bytes[..count], workers) {
         Ok(behind) => behind,
         Err(fault) => return Err(fault),
@@ -187,8 +195,11 @@ pub fn read_blocks<R: Source, J: TellLine + Sync, P: PutTold<J>, T: Threads + Sy
     };
     // bounded by the bytes that may come: each turn but the last brings some
     for _turn in 0..u64::MAX {
+        let seen = bytes.len();
         match refill(reader, &mut chunk, place.room, &mut bytes) {
-            Ok(true) => match take_lines(rt, alloc, teller, value, place, &mut bytes, workers) {
+            Ok(true) => match take_lines(
+                rt, alloc, teller, value, place, &mut bytes, seen, workers,
+            ) {
                 Ok(behind) if bytes.len() <= behind.room.min(MAX_LINE) => place = behind,
                 Ok(behind) => return Err(too_long(behind.number)),
                 Err(fault) => return Err(fault),
