@@ -11,6 +11,7 @@ pub mod NodeWalk
 pub mod NumberTexts
 pub mod Places
 pub mod InRange
+pub mod InputReads
 pub mod ReadFaults
 pub mod RestLines
 pub mod Sent

@@ -1,15 +1,15 @@
 -- An input is refused as a failure of the reader only where the reader failed.
-use Rattle.std.proofs.Common.{◌≡◌, ◌≢◌, ℕ, Bool, true, false, List, Result, Err, refl, ap, ◌∙◌}
+use Rattle.std.proofs.Common.{◌≡◌, ◌≢◌, ℕ, Bool, true, false, List, Option, Result, Err, refl, ap, ◌∙◌}
 use Rattle.refusals.specs.Refusals.{Unless, Fails}
-use Rattle.json_lines.specs.Given.{OfBytes, OfInput}
 use Rattle.json_lines.specs.Reading as reading
-use Rattle.json_lines.specs.Reading.{cause_of, read_all, IsOfLine, IsOfSomeLine}
+use Rattle.json_lines.specs.Reading.{cause_of, read_all, IsOfLine, IsOfSomeLine, IsReadFault}
 use Rattle.json_lines.specs.declared.lines.InputFault.{InputFault}
 use Rattle.json_lines.specs.declared.lines.InputFault.TheVariants.{Read, TooLong, OutOfMemory}
 use Rattle.json_lines.specs.declared.reading.Stop.{Stop}
 use Rattle.json_lines.specs.declared.reading.Stop.TheVariants.{Input, Line}
 use Rattle.json_lines.specs.declared.reading.LineFault.{LineFault}
-use Rattle.json_lines.proofs.Given.{of_input-map}
+use Rattle.json_lines.specs.InputRead.{InputRead, LinesRead}
+use Rattle.json_lines.proofs.InputReads.{refused}
 
 -- no line gives the cause of a reader's failure, and no other fault of the input is told by it
 pub record IsReadersOwn {S C : Type 0} (taken : ℕ → S → List ℕ → Result S C) (of_input : InputFault → C) : Type 0 where
@@ -39,12 +39,6 @@ pub of_line_alone : {S C : Type 0} (taken : ℕ → S → List ℕ → Result S 
     → IsReadersOwn taken of_input → IsOfLine fault.stop → IsOfSomeLine taken fault → cause_of of_input fault.stop ≢ of_input Read
 of_line_alone taken of_input fault own line told h = of_no_input fault.stop line (reader_failed taken of_input fault own told h)
 
--- what a reading gives of the bytes that came, told in other words
-pub failed_so_far : {R S C V F : Type 0} (given : R → List ℕ) (old new : R) (taken : ℕ → S → List ℕ → Result S C) (told : Result S (LineFault C) → Result V F) (start began : S) (fault : LineFault C) (e : F)
-    → start ≡ began → told (Err fault) ≡ Err e → OfBytes given old new (λ came. read_all taken false start came ≡ Err fault)
-    → OfBytes given old new (λ came. told (read_all taken false began came) ≡ Err e)
-failed_so_far given old new taken told start began fault e s t h = (h.0, h.1, rw (← s) (ap told h.2 ∙ t))
-
 kept_unless : (test : Bool) (P : Type 0) → P → Unless test P
 kept_unless true P h = tt
 kept_unless false P h = h
@@ -65,10 +59,22 @@ refused_in_words {S} {C} told is_open fault e read t failed ran_out h = at_stop 
     at_stop (Input Read) is k = opened (is_open e) (told read ≡ Err e) (failed is)
     at_stop (Input OutOfMemory) is k = opened (is_open e) (told read ≡ Err e) (ran_out is)
 
--- and of every input that the reader may have
-pub refused_so_far : {R S C V F : Type 0} (given : R → List ℕ) (ends : R → ℕ) (old new : R) (taken : ℕ → S → List ℕ → Result S C) (told : Result S (LineFault C) → Result V F) (is_open : F → Bool) (start began : S) (fault : LineFault C) (e : F)
-    → start ≡ began → told (Err fault) ≡ Err e → (fault.stop ≡ Input Read → is_open e ≡ true) → (fault.stop ≡ Input OutOfMemory → is_open e ≡ true)
-    → OfInput given ends old new (λ input. reading.Fails fault.stop fault (read_all taken true start input)) → OfInput given ends old new (λ input. Fails is_open e (told (read_all taken true began input)))
-refused_so_far given ends old new taken told is_open start began fault e s t failed ran_out h =
-    of_input-map given ends old new (λ input. reading.Fails fault.stop fault (read_all taken true start input)) (λ input. Fails is_open e (told (read_all taken true began input)))
-    (λ input k. rw (← s) (refused_in_words told is_open fault e (read_all taken true start input) t failed ran_out k)) h
+-- The fault of lines is told in other words: `told` of what they give is what is answered.
+module _ {R S T U C V F : Type 0} (taken : ℕ → S → List ℕ → Result S C) (of_input : InputFault → C)
+    (told : Result S (LineFault C) → Result V F) (is_open : F → Bool) (IsRead : F → Type 0) (line_of : F → ℕ)
+    (Gives : Result U F → List ℕ → Type 0) (Cuts : F → List ℕ → Type 0)
+    (given : R → List ℕ) (ends failures : R → ℕ) (remaining : R → Option (List ℕ)) (old new : R) (start now : S) where
+  pub retold : (fault : LineFault C) (e : F) → told (Err fault) ≡ Err e → fault.line ≡ line_of e
+      → IsReadersOwn taken of_input → IsOfSomeLine taken fault
+      → (IsRead e → cause_of of_input fault.stop ≡ of_input Read) → (fault.stop ≡ Input Read → IsRead e)
+      → (fault.stop ≡ Input Read → is_open e ≡ true) → (fault.stop ≡ Input OutOfMemory → is_open e ≡ true)
+      → ((input : List ℕ) → Fails is_open e (told (read_all taken true start input)) → Gives (Err e) input)
+      → ((came : List ℕ) → told (read_all taken false start came) ≡ Err e → Cuts e came)
+      → LinesRead {T = T} given ends failures remaining taken old new start now (Err fault)
+      → InputRead IsRead line_of Gives Cuts given ends failures remaining old new (Err e)
+  retold fault e t line own of_some back on failed ran_out gives cuts read =
+      refused IsReadFault (λ (f : LineFault C). f.line) _ _ IsRead line_of Gives Cuts given ends failures remaining old
+      new fault e line on (λ is. reader_failed taken of_input fault own of_some (back is))
+      (λ input fails. gives input
+      (refused_in_words told is_open fault e (read_all taken true start input) t failed ran_out fails))
+      (λ came is. cuts came (ap told is ∙ t)) read

@@ -3,6 +3,7 @@ pub mod Devices
 pub mod Fields
 pub mod Given
 pub mod History
+pub mod InputRead
 pub mod Joined
 pub mod Json
 pub mod Lines

@@ -1,11 +1,9 @@
 //! The lines of a reader, handed to a value that takes them.
 
-ghost use Rattle.std.specs.Prelude.{◌≡◌, ◌≢◌, ◌+◌, ◌≤◌, ℕ, length, IfErr, Err, OnOk, ◌&&◌, ◌==◌, true, false};
-ghost use Rattle.json_lines.specs.Given.{OfBytes, OfInput, AreNext};
+ghost use Rattle.std.specs.Prelude.{◌≡◌, ◌≤◌, IfErr, ◌&&◌, ◌==◌};
+ghost use Rattle.json_lines.specs.InputRead.{LinesRead};
 ghost use Rattle.json_lines.specs.Json.{taken_line};
-ghost use Rattle.json_lines.specs.Reading.{cause_of, parts, read_all, Reads, IsReadFault, IsOfSomeLine};
-ghost use Rattle.json_lines.specs.declared.lines.InputFault.TheVariants.{Read};
-ghost use Rattle.json_lines.specs.declared.reading.Stop.TheVariants.{Input};
+ghost use Rattle.json_lines.specs.Reading.{cause_of, IsOfSomeLine};
 
 use crate::lines::{CHUNK, InputFault, Lines};
 use crate::source::Source;
@@ -63,22 +61,10 @@ pub fn read_lines<R: Source, T: TakeJson>(
     value: &mut T,
 ) -> Result<(), LineFault<T::Cause>>
     requires { T.next value.old ≤ 1 }
-    // Of every input that the reader may have: it begins with the bytes that came, and is these where the reader was at its end.
-    ensures exact { OfInput R.given R.ends reader.old reader.new (λ input. Reads result value.new (read_all (taken_line T.Cause.not_json T.taken) true value.old input)) }
-    // Of a reader that failed, by the bytes that came before.
-    ensures failed { IfErr result (λ e. IsReadFault e → OfBytes R.given reader.old reader.new (λ came. read_all (taken_line T.Cause.not_json T.taken) false value.old came ≡ Err e)) }
-    ensures ended { OnOk result (R.ends reader.new ≡ R.ends reader.old + 1) }
-    // Also of a reader that never ends.
-    ensures most { OfBytes R.given reader.old reader.new (λ came. length came ≤ MAX_INPUT + CHUNK) }
-    ensures known { AreNext R.given R.ends R.remaining reader.old reader.new }
-    // Also where memory ran out: a line is one of those that came.
-    ensures line { IfErr result (λ e. OfBytes R.given reader.old reader.new (λ came. e.line ≤ length (parts came))) }
+    ensures read { LinesRead R.given R.ends R.failures R.remaining (taken_line T.Cause.not_json T.taken)
+        reader.old reader.new value.old value.new result }
     // A cause is what some line gave.
     ensures told { IfErr result (IsOfSomeLine (taken_line T.Cause.not_json T.taken)) }
-    // A reader's failure is told, and nothing else is called one.
-    ensures counted { IfErr result (λ e. IsReadFault e → R.failures reader.new ≡ R.failures reader.old + 1) }
-    ensures kept { OnOk result (R.failures reader.new ≡ R.failures reader.old) }
-    ensures unfailed { IfErr result (λ e. e.stop ≢ Input Read → R.failures reader.new ≡ R.failures reader.old) }
 {
     let mut lines = match Lines::new(alloc) {
         Ok(lines) => lines,
