@@ -4,7 +4,9 @@ use Rattle.std.specs.declared.vec.Vec.{Vec}
 use Rattle.std.specs.declared.alloc.Global.{Global}
 use Rattle.trace_lines.specs.Values.{TraceValue}
 use Rattle.trace_lines.specs.Traces.{trace_of}
-use Rattle.evidence_check.specs.Judging.{AreJudged}
+use Rattle.json_lines.proofs.Given.{of_ended}
+use Rattle.evidence_check.specs.Judging.{AreJudged, GivesJudged}
+use Rattle.evidence_check.specs.Reading as reading
 use Rattle.evidence_check.specs.Reading.{evidence_of}
 use Rattle.evidence_check.specs.Steps.{StepValue}
 use Rattle.evidence_check.specs.declared.cause.EvidenceCause.TheVariants as evidence_causes
@@ -19,7 +21,7 @@ use Rattle.findings.proofs.WrongReplies.{named_by_bytes}
 use Rattle.audit.specs.Answers.{TellsOfTrace, Audited}
 use Rattle.audit.specs.Parts.{TraceRead, EvidenceRead, Told, IsReport, AreFound}
 use Rattle.audit.specs.Audit.{Audits, Breaks, RefusesEvidenceFor, IsOfBytes, BlamesNoDevice, verdict_of}
-use Rattle.audit.specs.Devices.{Reader, Reading, Writer, Writing, OfAll, OfAny, OfBoth, OfCame, GivesFew, GivesNext, ReaderFailed, ReaderNeverFailed, WriterNeverFailed, FailsWriting, StandsBehind}
+use Rattle.audit.specs.Devices.{Reader, Reading, Writer, Writing, OfAll, OfAny, OfBoth, OfCame, GivesFew, GivesNext, reads, ReaderFailed, ReaderNeverFailed, WriterNeverFailed, FailsWriting, StandsBehind}
 use Rattle.audit.specs.Kinds.{IsOneOf}
 use Rattle.audit.specs.Kinds as kind
 use Rattle.audit.specs.declared.plain.Verdict.{Verdict}
@@ -174,6 +176,27 @@ module _ (t : TraceValue) (r : Reading) where
           unfailed = λ none. h.kept;
           kinds = (refl, tt);
         }
+
+-- what judging evidence as it is read answers
+module _ {R : Type 0} (given : R → List ℕ) (ends failures : R → ℕ) (remaining : R → Option (List ℕ)) (old new : R)
+    (t : TraceValue) where
+  pub judged_whole : (v : Vec Judged Global)
+      → reading.EvidenceRead (GivesJudged t) t.entries given ends failures remaining old new (Ok v)
+      → EvidenceRead (λ given v. AreJudged t given v.items) t (reads given ends failures remaining old new) (Ok v)
+  judged_whole v h =
+      let all =
+      of_ended given ends old new (λ b. GivesJudged t (Ok v) (evidence_of t.entries true b)) h.ended h.exact in
+      evidence_whole t (reads given ends failures remaining old new) (λ given v. AreJudged t given v.items) v all.1.2.0
+      all.1.2.2 (all.0, (all.1.0, all.1.1, all.1.2.1)) h.most h.known h.kept
+
+  pub judged_stopped : (fault : EvidenceFault) (e : AuditFault)
+      → ((f : EvidenceFault) → e ≡ faults.Evidence f → f ≡ fault)
+      → (BlamesNoDevice e → fault.cause ≢ evidence_causes.Read) → IsOneOf (kind.evidence ∷ kind.memory ∷ []) e
+      → reading.EvidenceRead (GivesJudged t) t.entries given ends failures remaining old new (Err fault)
+      → EvidenceRead (λ given v. AreJudged t given v.items) t (reads given ends failures remaining old new) (Err e)
+  judged_stopped fault e told device kinds h =
+      evidence_stopped t (reads given ends failures remaining old new) _ fault e h.exact h.failed h.most h.known
+      h.counted h.unfailed told device kinds
 
 -- ---- calls that read a trace alone
 

@@ -2,13 +2,13 @@
 use Rattle.std.proofs.Common.{◌≡◌, ℕ, ◌+◌, ◌-◌, ◌^◌, Bool, true, false, not, ◌&&◌, eqb, cond, List, [], ◌∷◌, ◌++◌, length, Option, Result, Ok, Err, IfErr, refl, sym, ap, subst, ◌∙◌}
 use Rattle.refusals.specs.Refusals.{◌>>=◌}
 use Rattle.json_lines.specs.Given.{OfBytes}
+use Rattle.json_lines.specs.InputRead.{LinesRead}
 use Rattle.json_lines.specs.Reading.{at_line, parts, passes_limit, read_all, read_from, Fails, IsOfSomeLine, IsReadFault, Reads}
 use Rattle.json_lines.specs.declared.lines.InputFault.TheVariants.{Read, TooLong}
 use Rattle.json_lines.specs.declared.reading.LineFault.{LineFault}
 use Rattle.json_lines.specs.declared.reading.Stop.{Stop}
 use Rattle.json_lines.specs.declared.reading.Stop.TheVariants.{Input}
-use Rattle.json_lines.proofs.Given.{of_bytes-map, of_input-map}
-use Rattle.line_blocks.specs.Reads.{LinesRead}
+use Rattle.json_lines.proofs.InputReads.{answered, refused}
 
 module _ {S C : Type 0} (taken : ℕ → S → List ℕ → Result S C) where
   -- a cause that was answered is what some line gave
@@ -37,31 +37,17 @@ module _ {S C : Type 0} (taken : ℕ → S → List ℕ → Result S C) where
 
 module _ {R S T C : Type 0} (given : R → List ℕ) (ends failures : R → ℕ) (remaining : R → Option (List ℕ))
     (taken by : ℕ → S → List ℕ → Result S C) (old new : R) (start now : S) where
-  read_so : (result : Result T (LineFault C))
-      → ((whole : Bool) (input : List ℕ) → read_all by whole start input ≡ read_all taken whole start input)
-      → IfErr result (λ e. IsReadFault e → OfBytes given old new (λ came. read_all by false start came ≡ Err e))
-      → IfErr result (λ e. IsReadFault e → OfBytes given old new (λ came. read_all taken false start came ≡ Err e))
-  read_so (Ok u) same h = tt
-  read_so (Err e) same h = λ fault. of_bytes-map given old new _ _ (λ came is. sym (same false came) ∙ is) (h fault)
-
   pub read_alike : (result : Result T (LineFault C))
       → ((whole : Bool) (input : List ℕ) → read_all by whole start input ≡ read_all taken whole start input)
       → LinesRead given ends failures remaining by old new start now result
       → LinesRead given ends failures remaining taken old new start now result
-  read_alike result same h =
-      record {
-        exact =
-            of_input-map given ends old new _ _
-            (λ input reads. subst (λ (r : Result S (LineFault C)). Reads result now r) (same true input) reads) h.exact;
-        failed = read_so result same h.failed;
-        ended = h.ended;
-        most = h.most;
-        known = h.known;
-        line = h.line;
-        counted = h.counted;
-        kept = h.kept;
-        unfailed = h.unfailed;
-      }
+  read_alike (Ok u) same read =
+      answered _ _ _ _ _ _ _ _ given ends failures remaining old new u u
+      (λ input is. sym (same true input) ∙ is) read
+  read_alike (Err e) same read =
+      refused _ _ _ _ _ _ _ _ given ends failures remaining old new e e refl (λ is. is) (λ is. is)
+      (λ input fails. subst (λ (r : Result S (LineFault C)). Fails e.stop e r) (same true input) fails)
+      (λ came is. sym (same false came) ∙ is) read
 
 module _ {R S T C : Type 0} (given : R → List ℕ) (ends failures : R → ℕ) (remaining : R → Option (List ℕ))
     (taken : ℕ → S → List ℕ → Result S C) (old new : R) (start now : S) where

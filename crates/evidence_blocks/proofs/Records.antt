@@ -1,8 +1,8 @@
 -- What lines of evidence say, put into judgements, is what its records make of them one after the other.
 use Rattle.std.proofs.Common.{◌≡◌, ℕ, List, Option, Result, sym, ap, ◌∙◌}
+use Rattle.json_lines.specs.InputRead.{LinesRead}
 use Rattle.json_lines.specs.declared.reading.LineFault.{LineFault}
 use Rattle.line_blocks.specs.Parts.{taken_by}
-use Rattle.line_blocks.specs.Reads.{LinesRead}
 use Rattle.trace_lines.specs.Values.{TraceValue, entry_lines}
 use Rattle.evidence_check.specs.Judging.{no_judgements}
 use Rattle.evidence_check.specs.Records.{Judgements}

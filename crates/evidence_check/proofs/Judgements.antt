@@ -1,31 +1,35 @@
 -- Records that are judged as they are read, beside records that are kept.
-use Rattle.std.proofs.Common.{◌≡◌, ◌≢◌, ℕ, zero, suc, ◌<◌, Bool, true, false, not, ltb, List, [], ◌∷◌, length, Option, Some, None, Result, Ok, Err, inl, inr, arith, refl, sym, ap, subst, ◌∙◌}
+use Rattle.std.proofs.Common.{◌≡◌, ◌≢◌, ℕ, zero, suc, ◌<◌, Bool, true, false, not, ltb, ◌||◌, List, [], ◌∷◌, length, Option, Some, None, Result, Ok, Err, inl, inr, arith, refl, sym, ap, subst, ◌∙◌}
+use Rattle.std.specs.declared.alloc.Global.{Global}
+use Rattle.std.specs.declared.vec.Vec.{Vec}
 use Rattle.std.specs.Prelude.{replicate, slice_get, slice_set, unwrap_or, if◌then◌else◌}
 use Rattle.std.proofs.lemmas.Bool.Decides.{eqb_tells}
 use Rattle.std.proofs.lemmas.List.{get_or-replicate, length-replicate}
 use Rattle.std.proofs.lemmas.Option.{slice_get-get_or, slice_get_cases, slice_get_past, slice_get_within}
-use Rattle.refusals.specs.Refusals.{◌>>=◌, Fails, Unless}
+use Rattle.refusals.specs.Refusals.{◌>>=◌, Unless}
 use Rattle.serde_json.specs.Data.{Data}
 use Rattle.serde_json.specs.Read.{read}
 use Rattle.std.specs.Str.{is_utf8}
 use Rattle.json_lines.specs.Json.{is_blank, json_line, of_json, taken_line}
-use Rattle.json_lines.specs.Reading.{cause_of, read_all}
+use Rattle.json_lines.specs.Reading.{cause_of, read_all, IsOfSomeLine}
 use Rattle.json_lines.specs.declared.reading.LineFault.{LineFault}
-use Rattle.json_lines.specs.Given.{OfInput}
-use Rattle.json_lines.proofs.Given.{of_input-map}
+use Rattle.json_lines.specs.InputRead.{LinesRead}
+use Rattle.json_lines.proofs.InputReads.{answered}
+use Rattle.json_lines.proofs.ReadFaults.{retold}
 use Rattle.json_lines.proofs.Simulated.{Match, match_bind, match_if, both_read}
 use Rattle.version_chains.proofs.PlacedLemmas.{length-set}
 use Rattle.trace_lines.specs.Values.{TraceValue, EntryValue}
 use Rattle.namespaces.specs.Lookup.{rule_at}
 use Rattle.version_chains.specs.Commits.{store_at}
 use Rattle.evidence_check.specs.Accepted.{after_steps, nothing_known}
-use Rattle.evidence_check.specs.Causes.{of_input}
+use Rattle.evidence_check.specs.Causes.{of_input, is_memory, is_read}
 use Rattle.evidence_check.specs.Evidences.{steps_of}
 use Rattle.evidence_check.specs.Judged.{by_reply, by_steps, first_bad, is_among, judged}
-use Rattle.evidence_check.specs.Judging.{AreJudged, is_judged, judge_line, judged_by, no_judgements, put_judged}
-use Rattle.evidence_check.specs.Reading.{evidence_of, fact_count, faulted, is_taken, no_records, placed_steps, put_steps, record_line}
+use Rattle.evidence_check.specs.Judging.{AreJudged, GivesJudged, is_judged, judge_line, judged_by, no_judgements, put_judged}
+use Rattle.evidence_check.specs.Reading.{EvidenceRead, evidence_of, fact_count, faulted, is_taken, no_records, placed_steps, put_steps, record_line}
 use Rattle.evidence_check.specs.Records.{Judgements, Records}
 use Rattle.evidence_check.specs.Steps.{StepValue}
+use Rattle.evidence_check.proofs.LineCauses.{judging_own}
 use Rattle.judgement.specs.Judgement.{KnownValue}
 use Rattle.evidence_check.specs.declared.cause.EvidenceCause.{EvidenceCause}
 use Rattle.evidence_check.specs.declared.cause.EvidenceCause.TheVariants as causes
@@ -199,23 +203,36 @@ refused_by_evidence t whole input e = by_both (read_all (taken_line causes.NotJs
         let same : record { line = f.line; cause = cause_of of_input f.stop } ≡ e = cc (is) in
         ap (λ (f : LineFault EvidenceCause). Err (record { line = f.line; cause = cause_of of_input f.stop })) h ∙ ap (λ (f : EvidenceFault). Err f) same
 
--- ---- of every input that a reader may have
-
 pub unless_also : (b : Bool) (P Q : Type 0) → (P → Q) → Unless b P → Unless b Q
 unless_also true P Q f h = tt
 unless_also false P Q f h = f h
 
-module _ {R : Type 0} (given : R → List ℕ) (ends : R → ℕ) (old new : R) (t : TraceValue) where
-  pub refused_so_by_evidence : (is_open : EvidenceFault → Bool) (e : EvidenceFault)
-      → OfInput given ends old new (λ input. Fails is_open e (judgements_told (read_all judging true (no_judgements t) input)))
-      → OfInput given ends old new (λ input. Unless (is_open e) (evidence_of t.entries true input ≡ Err e))
-  refused_so_by_evidence is_open e h =
-      of_input-map given ends old new (λ input. Fails is_open e (judgements_told (read_all judging true (no_judgements t) input))) (λ input. Unless (is_open e) (evidence_of t.entries true input ≡ Err e))
-      (λ input k. unless_also (is_open e) (judgements_told (read_all judging true (no_judgements t) input) ≡ Err e) (evidence_of t.entries true input ≡ Err e) (refused_by_evidence t true input e) k) h
+-- ---- judgements that were made as evidence was read
 
-  pub judged_so_by_evidence : (start j : Judgements) (judgements : List Judged) → start ≡ no_judgements t → judgements ≡ j.judgements
-      → OfInput given ends old new (λ input. read_all judging true start input ≡ Ok j)
-      → OfInput given ends old new (λ input. (evidence : List (Option (List StepValue))) × (evidence_of t.entries true input ≡ Ok evidence) × AreJudged t evidence judgements)
-  judged_so_by_evidence start j judgements none same h =
-      of_input-map given ends old new (λ input. read_all judging true start input ≡ Ok j) (λ input. (evidence : List (Option (List StepValue))) × (evidence_of t.entries true input ≡ Ok evidence) × AreJudged t evidence judgements)
-      (λ input is. rw same (judged_by_evidence t input j (subst (λ (s : Judgements). read_all judging true s input ≡ Ok j) none is))) h
+module _ {R T : Type 0} (given : R → List ℕ) (ends failures : R → ℕ) (remaining : R → Option (List ℕ)) (old new : R)
+    (t : TraceValue) (start now : Judgements) (none : start ≡ no_judgements t) where
+  from_none : (whole : Bool) (input : List ℕ) (P : Result Judgements (LineFault EvidenceCause) → Type 0)
+      → P (read_all judging whole start input) → P (read_all judging whole (no_judgements t) input)
+  from_none whole input P h = subst (λ (s : Judgements). P (read_all judging whole s input)) none h
+
+  pub judged_read : (u : T) (v : Vec Judged Global) → v.items ≡ now.judgements
+      → LinesRead given ends failures remaining judging old new start now (Ok u)
+      → EvidenceRead (GivesJudged t) t.entries given ends failures remaining old new (Ok v)
+  judged_read u v same read =
+      answered _ _ _ _ _ _ _ _ given ends failures remaining old new u v
+      (λ input is. rw same (judged_by_evidence t input now (from_none true input (λ r. r ≡ Ok now) is))) read
+
+  pub refused_read : (fault : LineFault EvidenceCause) (cause : EvidenceCause) → cause ≡ cause_of of_input fault.stop
+      → IsOfSomeLine judging fault
+      → LinesRead {T = T} given ends failures remaining judging old new start now (Err fault)
+      → EvidenceRead (GivesJudged t) t.entries given ends failures remaining old new
+      (Err (record { line = fault.line; cause = cause }))
+  refused_read fault cause is some read =
+      retold judging of_input judgements_told (λ e. is_memory e.cause || is_read e.cause) _ _ _ _ given ends failures
+      remaining old new start now fault (record { line = fault.line; cause = cause }) (rw is refl) refl judging_own some
+      (λ e. sym is ∙ e) (λ stop. is ∙ ap (cause_of of_input) stop) (λ h. rw (is, h) refl) (λ h. rw (is, h) refl)
+      (λ input h. unless_also (is_memory cause || is_read cause) _ _ (refused_by_evidence t true input _)
+      (from_none true input (λ r. Unless (is_memory cause || is_read cause)
+      (judgements_told r ≡ Err (record { line = fault.line; cause = cause }))) h))
+      (λ came h. refused_by_evidence t false came _
+      (from_none false came (λ r. judgements_told r ≡ Err (record { line = fault.line; cause = cause })) h)) read

@@ -6,6 +6,7 @@ use Rattle.tuple_text.specs.Reading.{fact_at}
 use Rattle.tuple_text.specs.Tuples.{FactValue}
 use Rattle.json_lines.specs.Fields.{number_at, is_string, are_strings}
 use Rattle.refusals.specs.Refusals.{◌>>=◌, needed, Unless, Gives}
+use Rattle.json_lines.specs.InputRead.{InputRead}
 use Rattle.json_lines.specs.Json.{taken_line}
 use Rattle.json_lines.specs.Reading.{cause_of, read_all}
 use Rattle.trace_lines.specs.Values.{EntryValue, entry_lines}
@@ -157,3 +158,11 @@ FailsBy cause e given = Unless (is_memory cause || is_read cause) (given ≡ Err
 
 abbrev pub GivesEvidence : {X Y : Type 0} → (X → Y) → Result X EvidenceFault → Result Y EvidenceFault → Type 0
 GivesEvidence view result given = Gives (λ e. is_memory e.cause || is_read e.cause) view result given
+
+-- The evidence for entries was read, or refused. Says tells what an answer has to do with the evidence of an input.
+abbrev pub EvidenceRead : {R X : Type 0}
+    → (Result X EvidenceFault → Result (List (Option (List StepValue))) EvidenceFault → Type 0) → List EntryValue
+    → (R → List ℕ) → (R → ℕ) → (R → ℕ) → (R → Option (List ℕ)) → R → R → Result X EvidenceFault → Type 0
+EvidenceRead Says entries given ends failures remaining old new result =
+    InputRead (λ e. e.cause ≡ causes.Read) (λ e. e.line) (λ r input. Says r (evidence_of entries true input))
+    (λ e came. evidence_of entries false came ≡ Err e) given ends failures remaining old new result

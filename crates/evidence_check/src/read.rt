@@ -1,14 +1,8 @@
 //! Reading the evidence for a trace, to keep it or to judge by it.
 
-ghost use Rattle.std.specs.Prelude.{◌≡◌, ◌≢◌, ◌+◌, ◌≤◌, length, true, false, Err, IfErr, OnOk};
-ghost use Rattle.json_lines.specs.Given.{OfBytes, OfInput, AreNext};
-ghost use Rattle.json_lines.specs.Reading.{parts};
-ghost use Rattle.json_lines.specs.declared.lines.TheConstants.{CHUNK};
-ghost use Rattle.json_lines.specs.declared.reading.TheConstants.{MAX_INPUT};
 ghost use Rattle.evidence_check.specs.Evidences.{evidence_value};
 ghost use Rattle.evidence_check.specs.Judging.{GivesJudged};
-ghost use Rattle.evidence_check.specs.Reading.{evidence_of, GivesEvidence};
-ghost use Rattle.evidence_check.specs.declared.cause.EvidenceCause.TheVariants.{Read};
+ghost use Rattle.evidence_check.specs.Reading.{EvidenceRead, GivesEvidence};
 
 use crate::cause::{EvidenceCause, EvidenceFault};
 use crate::evidence::Evidence;
@@ -26,20 +20,8 @@ pub fn read_evidence<R: Source>(
     reader: &mut R,
     trace: &Trace,
 ) -> Result<Evidence, EvidenceFault>
-    // Of every input that the reader may have: it begins with the bytes that came, and is these where the reader was at its end.
-    ensures exact { OfInput R.given R.ends reader.old reader.new (λ input. GivesEvidence evidence_value result (evidence_of trace.now.entries true input)) }
-    // Of a reader that failed, by the bytes that came before.
-    ensures failed { IfErr result (λ e. e.cause ≡ Read → OfBytes R.given reader.old reader.new (λ came. evidence_of trace.now.entries false came ≡ Err e)) }
-    ensures ended { OnOk result (R.ends reader.new ≡ R.ends reader.old + 1) }
-    // Also of a reader that never ends.
-    ensures most { OfBytes R.given reader.old reader.new (λ came. length came ≤ MAX_INPUT + CHUNK) }
-    ensures known { AreNext R.given R.ends R.remaining reader.old reader.new }
-    // Also where memory ran out: a line is one of those that came.
-    ensures line { IfErr result (λ e. OfBytes R.given reader.old reader.new (λ came. e.line ≤ length (parts came))) }
-    // A reader's failure is told, and nothing else is called one.
-    ensures counted { IfErr result (λ e. e.cause ≡ Read → R.failures reader.new ≡ R.failures reader.old + 1) }
-    ensures kept { OnOk result (R.failures reader.new ≡ R.failures reader.old) }
-    ensures unfailed { IfErr result (λ e. e.cause ≢ Read → R.failures reader.new ≡ R.failures reader.old) }
+    ensures { EvidenceRead (GivesEvidence evidence_value) trace.now.entries R.given R.ends R.failures R.remaining
+        reader.old reader.new result }
 {
     let mut recorder = match Recorder::new(alloc, trace) {
         Ok(recorder) => recorder,
@@ -66,20 +48,9 @@ pub fn judge_evidence<R: Source>(
     reader: &mut R,
     trace: &Trace,
 ) -> Result<Vec<Judged>, EvidenceFault>
-    // Of every input that the reader may have: the evidence that it says judges so, or its first fault is answered.
-    ensures exact { OfInput R.given R.ends reader.old reader.new (λ input. GivesJudged trace.now result (evidence_of trace.now.entries true input)) }
-    // Of a reader that failed, by the bytes that came before.
-    ensures failed { IfErr result (λ e. e.cause ≡ Read → OfBytes R.given reader.old reader.new (λ came. evidence_of trace.now.entries false came ≡ Err e)) }
-    ensures ended { OnOk result (R.ends reader.new ≡ R.ends reader.old + 1) }
-    // Also of a reader that never ends.
-    ensures most { OfBytes R.given reader.old reader.new (λ came. length came ≤ MAX_INPUT + CHUNK) }
-    ensures known { AreNext R.given R.ends R.remaining reader.old reader.new }
-    // Also where memory ran out: a line is one of those that came.
-    ensures line { IfErr result (λ e. OfBytes R.given reader.old reader.new (λ came. e.line ≤ length (parts came))) }
-    // A reader's failure is told, and nothing else is called one.
-    ensures counted { IfErr result (λ e. e.cause ≡ Read → R.failures reader.new ≡ R.failures reader.old + 1) }
-    ensures kept { OnOk result (R.failures reader.new ≡ R.failures reader.old) }
-    ensures unfailed { IfErr result (λ e. e.cause ≢ Read → R.failures reader.new ≡ R.failures reader.old) }
+    // The evidence that is read judges so.
+    ensures { EvidenceRead (GivesJudged trace.now) trace.now.entries R.given R.ends R.failures R.remaining
+        reader.old reader.new result }
 {
     let mut judging = match Judging::new(alloc, trace) {
         Ok(judging) => judging,

@@ -2,8 +2,9 @@
 use Rattle.std.proofs.Common.{◌≡◌, ◌≢◌, ℕ, ◌+◌, ◌^◌, ◌<◌, ◌≤◌, min, true, false, ◌==◌, List, [], ◌++◌, length, Option, Result, Ok, Err, IfErr, OnOk, arith, refl, sym, ap, subst, ◌∙◌, append_assoc, append-nil, length-append}
 use Rattle.std.proofs.lemmas.List.Splits.{length-slice_split}
 use Rattle.json_lines.specs.Given.{OfBytes, AreNext}
+use Rattle.json_lines.specs.InputRead.{LinesRead}
 use Rattle.json_lines.specs.Lines.{ComeAtMost, Takes, lacks}
-use Rattle.json_lines.specs.Reading.{parts, passes_limit, read_all, read_from, Fails, Refuses}
+use Rattle.json_lines.specs.Reading.{parts, passes_limit, read_all, read_from, Fails, IsReadFault, Refuses}
 use Rattle.json_lines.specs.declared.lines.InputFault.{InputFault}
 use Rattle.json_lines.specs.declared.lines.InputFault.TheVariants.{OutOfMemory, Read, TooLong}
 use Rattle.json_lines.specs.declared.reading.LineFault.{LineFault}
@@ -11,7 +12,8 @@ use Rattle.json_lines.specs.declared.reading.Stop.{Stop}
 use Rattle.json_lines.specs.declared.reading.Stop.TheVariants.{Input, Line}
 use Rattle.json_lines.proofs.Folds.{GoesFrom, came_in_all, cut_ends, goes_first, last_ends, line_came, read_fails, step_cut, within_from}
 use Rattle.json_lines.proofs.Given.{next-refl, next-trans}
-use Rattle.line_blocks.specs.Reads.{LeadsTo, LinesRead, StopsAt}
+use Rattle.json_lines.proofs.InputReads.{unread}
+use Rattle.line_blocks.specs.Reads.{LeadsTo, StopsAt}
 use Rattle.line_blocks.specs.Values.{long_line, no_memory}
 use Rattle.line_blocks.specs.declared.reading.Place.{Place}
 use Rattle.line_blocks.proofs.Places.{few_on, goes_lines}
@@ -253,14 +255,4 @@ module _ {R S C : Type 0} (given : R → List ℕ) (ends failures : R → ℕ) (
   pub no_chunk : {T : Type 0} (now : S)
       → LinesRead {T = T} given ends failures remaining taken old old start now (Err (no_memory 1))
   no_chunk now =
-      record {
-        exact = ([], sym (append-nil (given old)), λ rest ended. tt);
-        failed = λ e. cc;
-        ended = tt;
-        most = ([], sym (append-nil (given old)), omega arith);
-        known = next-refl given ends remaining old;
-        line = ([], sym (append-nil (given old)), let n = length-slice_split (λ b. b == 10) [] in omega (arith, n));
-        counted = λ e. cc;
-        kept = tt;
-        unfailed = λ _. refl;
-      }
+      unread IsReadFault (λ e. e.line) _ _ given ends failures remaining old (no_memory 1) refl (λ e. cc) (λ input. tt)

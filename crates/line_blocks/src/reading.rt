@@ -2,6 +2,7 @@
 
 ghost use Rattle.std.specs.Prelude.{◌≡◌, ◌≢◌, ◌+◌, ◌-◌, ◌^◌, ◌<◌, ◌≤◌, [], min, length, vec_len, take, drop, true, false, Ok, Err, IfOk, IfErr, OnOk};
 ghost use Rattle.json_lines.specs.Given.{AreNext};
+ghost use Rattle.json_lines.specs.InputRead.{LinesRead};
 ghost use Rattle.json_lines.specs.Lines.{ComeAtMost, Takes, lacks};
 ghost use Rattle.json_lines.specs.Moves.{end_count};
 ghost use Rattle.json_lines.specs.Reading.{Refuses};
@@ -10,7 +11,7 @@ ghost use Rattle.json_lines.specs.declared.lines.TheConstants.{CHUNK};
 ghost use Rattle.json_lines.specs.declared.reading.TheConstants.{MAX_INPUT};
 ghost use Rattle.line_blocks.specs.Blocks.{has_whole_lines};
 ghost use Rattle.line_blocks.specs.Parts.{taken_by};
-ghost use Rattle.line_blocks.specs.Reads.{LinesRead, TakesLines, TakesWhole};
+ghost use Rattle.line_blocks.specs.Reads.{TakesLines, TakesWhole};
 ghost use Rattle.line_blocks.specs.Values.{long_line};
 
 use crate::blocks::{cut_blocks, whole_len};

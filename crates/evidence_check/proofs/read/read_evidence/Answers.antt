@@ -1,27 +1,28 @@
-use Rattle.std.proofs.Common.{sym, ◌∙◌, ◌||◌, [], append-nil, refl, rules, arith, eqb}
-use Rattle.std.proofs.lemmas.List.Splits.{length-slice_split}
+use Rattle.std.proofs.Common.{sym, ap, ◌∙◌, ◌||◌, refl}
+use Rattle.json_lines.specs.Reading.{cause_of}
+use Rattle.json_lines.proofs.InputReads.{answered, unread}
+use Rattle.json_lines.proofs.ReadFaults.{retold}
 use Rattle.evidence_check.specs.Causes.{of_input, is_memory, is_read}
 use Rattle.evidence_check.specs.Reading.{faulted}
 use Rattle.evidence_check.proofs.LineCauses.{readers_own}
-use Rattle.json_lines.proofs.ReadFaults.{reader_failed, failed_so_far, refused_so_far}
 use Rattle.evidence_check.proofs.read.read_evidence.Goals as goal
 
-pub returns-in-Err-read_lines-clause-failed : goal.returns-in-Err-read_lines-clause-failed
-returns-in-Err-read_lines-clause-failed g c = λ e.
-    let stop = reader_failed _ of_input c.in-Err-read_lines.fault readers_own c.in-Err-read_lines.ensures.told (sym c.cause.ensures ∙ e) in
-    failed_so_far g.R.Source.given c.args.reader.now c.read_lines.new.reader _ faulted c.in-Ok.recorder _ c.in-Err-read_lines.fault _ c.in-Ok.ensures (search rules) (c.in-Err-read_lines.ensures.failed stop)
+pub returns-in-Err : goal.returns-in-Err
+returns-in-Err g c =
+    unread _ _ _ _ g.R.Source.given g.R.Source.ends g.R.Source.failures g.R.Read.remaining c.args.reader.now _ refl
+    (λ e. cc) (λ input. tt)
 
-pub returns-in-Err-read_lines-clause-counted : goal.returns-in-Err-read_lines-clause-counted
-returns-in-Err-read_lines-clause-counted g c = λ e.
-    c.in-Err-read_lines.ensures.counted (reader_failed _ of_input c.in-Err-read_lines.fault readers_own c.in-Err-read_lines.ensures.told (sym c.cause.ensures ∙ e))
+pub returns-in-Ok-read_lines : goal.returns-in-Ok-read_lines
+returns-in-Ok-read_lines g c =
+    answered _ _ _ _ _ _ _ _ g.R.Source.given g.R.Source.ends g.R.Source.failures g.R.Read.remaining
+    c.args.reader.now c.read_lines.new.reader _ _
+    (λ input is. rw c.into_steps.ensures (ap faulted (rw c.in-Ok.ensures at is))) c.in-Ok-read_lines.ensures.read
 
-pub returns-in-Err-read_lines-clause-exact : goal.returns-in-Err-read_lines-clause-exact
-returns-in-Err-read_lines-clause-exact g c =
-    refused_so_far g.R.Source.given g.R.Source.ends c.args.reader.now c.read_lines.new.reader _ faulted (λ e. is_memory e.cause || is_read e.cause) c.in-Ok.recorder _ c.in-Err-read_lines.fault _ c.in-Ok.ensures (search rules)
-    (λ h. rw (c.cause.ensures, h) refl) (λ h. rw (c.cause.ensures, h) refl) c.in-Err-read_lines.ensures.exact
-
-pub returns-in-Err-clause-exact : goal.returns-in-Err-clause-exact
-returns-in-Err-clause-exact g c = ([], sym (append-nil (g.R.Source.given c.args.reader.now)), λ rest ended. tt)
-
-pub returns-in-Err-clause-line : goal.returns-in-Err-clause-line
-returns-in-Err-clause-line g c = ([], sym (append-nil (g.R.Source.given c.args.reader.now)), omega (arith, length-slice_split (λ b. eqb b 10) []))
+pub returns-in-Err-read_lines : goal.returns-in-Err-read_lines
+returns-in-Err-read_lines g c =
+    retold _ of_input faulted (λ e. is_memory e.cause || is_read e.cause) _ _ _ _ g.R.Source.given g.R.Source.ends
+    g.R.Source.failures g.R.Read.remaining c.args.reader.now c.read_lines.new.reader c.in-Ok.recorder _
+    c.in-Err-read_lines.fault _ (rw c.cause.ensures refl) refl readers_own c.in-Err-read_lines.ensures.told
+    (λ e. sym c.cause.ensures ∙ e) (λ stop. c.cause.ensures ∙ ap (cause_of of_input) stop)
+    (λ h. rw (c.cause.ensures, h) refl) (λ h. rw (c.cause.ensures, h) refl)
+    (λ input h. rw c.in-Ok.ensures at h) (λ came h. rw c.in-Ok.ensures at h) c.in-Err-read_lines.ensures.read
