@@ -3,7 +3,7 @@ use Rattle.std.proofs.lemmas.List.{drop_all}
 use Rattle.json.specs.Tape.{node_token}
 use Rattle.json_lines.specs.Places.{is_in_range}
 use Rattle.json_lines.proofs.NodeWalk.{at_node, levels_after-most}
-use Rattle.json_lines.proofs.ranges.is_in_range.Goals as goal
+use Rattle.json_lines.proofs.ranges.nests_in_range.Goals as goal
 
 pub returns-in-None : goal.returns-in-None
 returns-in-None c =
