@@ -4,8 +4,8 @@ use crate::marks::MarkedUser;
 use crate::texts::Span;
 use tuple_text::SetRef;
 
-/// A tuple: where its userset stands in the text of all rows, and its user where that is a userset too; the mark of its user, which of an id is
-/// the id; and the place of its newest touch, or 0 where it has none.
+/// A tuple: where its userset stands in the text of all rows, and its user where that is a userset too; the mark of its
+/// user, which of an id is the id; and the place of its newest touch, or 0 where it has none.
 #[derive(Clone, Copy, Drop)]
 pub struct Row {
     pub set: Span,

@@ -15,8 +15,8 @@ use std::alloc::{AllocError, Global};
 use std::marker::Model;
 use tuple_text::{TupleRef, UserRef};
 
-/// Tuples, each with the mark of its user and the place of its newest touch. Their texts stand one behind the other in one, so that a tuple wants
-/// no memory of its own.
+/// Tuples, each with the mark of its user and the place of its newest touch. Their texts stand one behind the other in
+/// one, so that a tuple wants no memory of its own.
 #[derive(Drop)]
 pub struct Rows {
     text: String,
@@ -59,7 +59,8 @@ fn push_user(text: &mut String, user: UserRef<'_>) -> Result<Option<Span>, Alloc
     requires { IsUser (user_value user) }
     ensures goes_on { GoesOn (string_bytes text.old) (string_bytes text.new) }
     ensures spans { IfOk result (λ user. IfSome user (IsSpan (string_bytes text.new))) }
-    ensures user { IfOk result (λ span. user_in (string_bytes text.new) span (marks.user_mark (user_value user.entry)) ≡ user_value user.entry) }
+    ensures user { IfOk result (λ span. user_in (string_bytes text.new) span (marks.user_mark (user_value user.entry))
+        ≡ user_value user.entry) }
 {
     match user {
         UserRef::Id(_) => Ok(None),
@@ -75,7 +76,8 @@ fn push_texts(text: &mut String, tuple: TupleRef<'_>, user_mark: u64) -> Result<
     requires { user_mark ≡ marks.user_mark (tuple_value tuple).user }
     ensures goes_on { GoesOn (string_bytes text.old) (string_bytes text.new) }
     ensures row { IfOk result (IsRow (string_bytes text.new)) }
-    ensures kept { IfOk result (λ row. kept_in (string_bytes text.new) row ≡ record { tuple = tuple_value tuple.entry; latest = 0 }) }
+    ensures kept { IfOk result (λ row. kept_in (string_bytes text.new) row
+        ≡ record { tuple = tuple_value tuple.entry; latest = 0 }) }
 {
     let set = push_set(text, tuple.set())?;
     let user = push_user(text, tuple.user())?;
