@@ -60,6 +60,19 @@ levels_after levels (Token.boolean b) = Some levels
 levels_after levels Token.null = Some levels
 levels_after levels Token.bad = Some levels
 
+-- whether serde_json reads a token, whatever it stands in
+abbrev pub is_read : Token → Bool
+is_read Token.begin_object = true
+is_read Token.end_object = true
+is_read Token.begin_array = true
+is_read Token.end_array = true
+is_read (Token.key s) = true
+is_read (Token.string s) = true
+is_read (Token.number s) = is_some (number_of s)
+is_read (Token.boolean b) = true
+is_read Token.null = true
+is_read Token.bad = true
+
 -- The tokens of a value nest no deeper than so many levels, and each number is in range.
 unfoldable pub is_in_range : ℕ → List Token → Bool
 is_in_range levels [] = true

@@ -1,9 +1,11 @@
 //! Whether `serde_json` reads what a tape holds.
 
 ghost use Rattle.std.specs.Prelude.{◌≡◌, ◌+◌, ◌<◌, ◌^◌, map};
+ghost use Rattle.std.specs.List.{list_all};
 ghost use Rattle.json.specs.Tape.{node_token};
+ghost use Rattle.json.specs.declared.tape.Node.{Node};
 ghost use Rattle.serde_json.specs.Read.{max_depth};
-ghost use Rattle.json_lines.specs.Places.{levels_after, is_in_range};
+ghost use Rattle.json_lines.specs.Places.{levels_after, is_in_range, is_read};
 
 use crate::numbers::is_number;
 use json::Node;
@@ -26,8 +28,24 @@ fn levels_after(levels: usize, node: &Node<'_>) -> Option<usize>
     }
 }
 
-/// Whether the nodes of a value nest no deeper than `serde_json` allows, and each number is one that it reads.
-pub(crate) fn is_in_range(nodes: &[Node<'_>]) -> bool
+/// Whether the node is one that `serde_json` reads, whatever it stands in.
+fn is_read(node: &Node<'_>) -> bool
+    ensures { result ≡ is_read (node_token node.now) }
+{
+    match node {
+        Node::Number(text) => is_number(text),
+        _ => true,
+    }
+}
+
+fn are_read(nodes: &[Node<'_>]) -> bool
+    ensures { result ≡ list_all (λ (n : Node). is_read (node_token n)) nodes.now }
+{
+    nodes.iter().all(|node| is_read(node))
+}
+
+/// As [`is_in_range`], of any number of nodes.
+fn nests_in_range(nodes: &[Node<'_>]) -> bool
     ensures { result ≡ is_in_range max_depth (map node_token nodes.now) }
 {
     let mut levels = MAX_DEPTH;
@@ -38,4 +56,15 @@ pub(crate) fn is_in_range(nodes: &[Node<'_>]) -> bool
         }
     }
     true
+}
+
+/// Whether the nodes of a value nest no deeper than `serde_json` allows, and each number is one that it reads.
+pub(crate) fn is_in_range(nodes: &[Node<'_>]) -> bool
+    ensures { result ≡ is_in_range max_depth (map node_token nodes.now) }
+{
+    // So few nodes nest no deeper, and most lines have no more.
+    if nodes.len() <= MAX_DEPTH {
+        return are_read(nodes);
+    }
+    nests_in_range(nodes)
 }

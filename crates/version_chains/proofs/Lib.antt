@@ -6,6 +6,7 @@ pub mod CallerLemmas
 pub mod CommitLemmas
 pub mod FindLemmas
 pub mod HistoryLemmas
+pub mod KeptLemmas
 pub mod KindLemmas
 pub mod NewestLemmas
 pub mod PlacedLemmas
@@ -15,6 +16,7 @@ pub mod RowLemmas
 pub mod SlotLemmas
 pub mod StoreLemmas
 pub mod TableLemmas
+pub mod TextLemmas
 pub mod UserLemmas
 pub mod WalkLemmas
 pub mod WordLemmas

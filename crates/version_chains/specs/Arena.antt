@@ -4,10 +4,10 @@ use Rattle.tuple_text.specs.Tuples.{TupleValue}
 use Rattle.tuple_text.specs.declared.users.User.TheVariants.{Id}
 use Rattle.version_chains.specs.Commits.{Touch}
 use Rattle.version_chains.specs.Jumps.{AreJumps}
-use Rattle.version_chains.specs.Marks.{held_mark, tuple_mark, user_mark}
+use Rattle.version_chains.specs.Marks.{held_mark, tuple_mark}
 use Rattle.version_chains.specs.Placed.{last_place, most}
 use Rattle.version_chains.specs.declared.node.Node.{Node}
-use Rattle.version_chains.specs.declared.row.Row.{Row}
+use Rattle.version_chains.specs.Rows.{Kept}
 
 -- the tuples, each once, in the order in which they were first named; the touches, in order; and how many more touches
 -- there is room for
@@ -27,16 +27,12 @@ nobody = record { set = record { namespace = []; id = []; relation = [] }; user 
 abbrev pub touch_of : List TupleValue → Node → Touch
 touch_of tuples n = record { at = n.at; live = n.live; tuple = unwrap_or (slice_get tuples n.tuple) nobody }
 
--- the tuples of rows, and the places of their newest touches
-abbrev pub tuples_of : List Row → List TupleValue
+-- the tuples that are kept, and the places of their newest touches
+abbrev pub tuples_of : List Kept → List TupleValue
 tuples_of rows = map (λ r. r.tuple) rows
 
-abbrev pub latest_of : List Row → List ℕ
+abbrev pub latest_of : List Kept → List ℕ
 latest_of rows = map (λ r. r.latest) rows
-
--- each row has the mark of its user
-abbrev pub AreMarked : List Row → Type 0
-AreMarked rows = (i : ℕ) (r : Row) → slice_get rows i ≡ Some r → r.user_mark ≡ user_mark r.tuple.user
 
 -- the tuple of a number
 abbrev pub IsNumber : List TupleValue → TupleValue → ℕ → Type 0

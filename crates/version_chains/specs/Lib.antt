@@ -7,7 +7,9 @@ pub mod Jumps
 pub mod Links
 pub mod Marks
 pub mod Placed
+pub mod Rows
 pub mod Slots
+pub mod Texts
 pub mod Touches
 pub mod Walks
 pub mod Words

@@ -12,9 +12,9 @@ use Rattle.version_chains.specs.Words.{words, hash_of}
 abbrev pub lengths : SetValue → ℕ
 lengths g = bit_xor (bit_xor (length g.namespace) (rotate_left w64 (length g.id) 21)) (rotate_left w64 (length g.relation) 42)
 
--- first the lengths, by which the texts behind them are told apart
+-- by the lengths, which tell the texts apart
 unfoldable pub set_mark : SetValue → ℕ
-set_mark g = hash_of (lengths g ∷ words g.namespace ++ words g.id ++ words g.relation)
+set_mark g = hash_of (lengths g) (words g.namespace ++ words g.id ++ words g.relation)
 
 -- an id is its own mark
 abbrev pub user_mark : User → ℕ
@@ -23,7 +23,7 @@ user_mark (Set g) = set_mark g
 
 -- of two marks, in this order
 unfoldable pub pair_mark : ℕ → ℕ → ℕ
-pair_mark m n = hash_of (m ∷ n ∷ [])
+pair_mark m n = hash_of m (n ∷ [])
 
 abbrev pub tuple_mark : TupleValue → ℕ
 tuple_mark t = pair_mark (set_mark t.set) (user_mark t.user)

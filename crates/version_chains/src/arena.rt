@@ -1,6 +1,6 @@
 //! The arena in which tuples and touches are kept.
 
-ghost use Rattle.std.specs.Prelude.{◌≡◌, ℕ, ◌<◌, ◌≤◌, ◌+◌, ◌∷◌, ◌++◌, [], Some, length, slice_get, IfOk, IfSome, OnOk, OnErr, MatchOption, false, true, None, option_map, vec_len, vec_capacity};
+ghost use Rattle.std.specs.Prelude.{◌≡◌, ℕ, ◌<◌, ◌≤◌, ◌+◌, ◌∷◌, ◌++◌, [], Some, length, slice_get, IfOk, IfSome, OnOk, OnErr, MatchOption, false, true, None, option_map};
 ghost use Rattle.tuple_text.specs.Order.{tuple_eq};
 ghost use Rattle.tuple_text.specs.Refs.{set_value, user_value};
 ghost use Rattle.tuple_text.specs.TupleRefs.{tuple_value};
@@ -11,16 +11,18 @@ ghost use Rattle.version_chains.specs.Given.{AreLaterFrom, AreTouchesKnown, Give
 ghost use Rattle.version_chains.specs.Marks as marks;
 ghost use Rattle.version_chains.specs.Marks.{is_userset};
 ghost use Rattle.version_chains.specs.Placed.{last_place, most};
+ghost use Rattle.version_chains.specs.Rows.{row_value};
 ghost use Rattle.version_chains.specs.Touches.{touch_value};
 
 use crate::marks::{MarkedSet, MarkedUser, is_userset, kind_mark, tuple_mark};
 use crate::node::{Node, at_place, next_links};
 use crate::places::{MOST_PLACES, Places};
-use crate::row::Row;
+use crate::row::RowRef;
+use crate::rows::Rows;
 use crate::touch::TouchRef;
 use std::alloc::{AllocError, Global};
 use std::marker::Model;
-use tuple_text::{SetRef, Tuple, TupleRef, UserRef};
+use tuple_text::{SetRef, TupleRef, UserRef};
 
 /// Tuples, each kept once, and their touches in order. A tuple is named by its number, which counts from 0; a place
 /// counts from 1, and 0 is no place.
@@ -29,7 +31,7 @@ use tuple_text::{SetRef, Tuple, TupleRef, UserRef};
 /// the same userset whose user is of the same kind, a userset or an id, so that each question is a walk back from the newest.
 #[derive(Drop)]
 pub struct Arena {
-    rows: Vec<Row>,
+    rows: Rows,
     named: Places,
     held: Places,
     nodes: Vec<Node>,
@@ -42,12 +44,12 @@ impl Model for Arena {
     ghost Value = { Held };
 
     ghost use Rattle.std.specs.Prelude.{◌≤◌, length};
-    ghost use Rattle.version_chains.specs.Arena.{AreMarked, IsLinked, latest_of, touch_of};
+    ghost use Rattle.version_chains.specs.Arena.{IsLinked, latest_of, touch_of};
     ghost use Rattle.version_chains.specs.Placed.{most};
 
-    ghost view = { λ a. record { tuples = tuples_of a.rows.items; touches = map (touch_of (tuples_of a.rows.items)) a.nodes.items; room = room_of (vec_capacity a.nodes) (vec_len a.nodes) } };
+    ghost view = { λ a. record { tuples = tuples_of a.rows; touches = map (touch_of (tuples_of a.rows)) a.nodes.items; room = room_of (vec_capacity a.nodes) (vec_len a.nodes) } };
 
-    ghost invariant = { λ a. IsLinked (tuples_of a.rows.items) (latest_of a.rows.items) a.named a.held a.nodes.items × AreMarked a.rows.items × (length a.rows.items ≤ most) };
+    ghost invariant = { λ a. IsLinked (tuples_of a.rows) (latest_of a.rows) a.named a.held a.nodes.items × (length a.rows ≤ most) };
 }
 
 /// How many touches a tuple has before its newest where the last one up to a timestamp is looked for by time.
@@ -56,11 +58,20 @@ const MANY_TOUCHES: u32 = 16;
 /// At how many touches up to a timestamp, of any tuples, such a look goes on.
 const NEAR_TOUCHES: usize = 8;
 
-/// Whether the tuple has this userset and this user.
-fn names(tuple: &Tuple, set: SetRef<'_>, user: UserRef<'_>) -> bool
-    ensures { result ≡ tuple_eq tuple.now (tuple_of (set_value set.entry) (user_value user.entry)) }
+/// The marks of a tuple that is new: by which it and its userset's users of the kind are found, and that of its user.
+#[derive(Clone, Copy, Drop)]
+struct NewMarks {
+    name: u64,
+    kind: u64,
+    user: u64,
+}
+
+/// Whether the row has this userset and this user.
+#[inline(always)]
+fn names(row: &RowRef<'_>, set: SetRef<'_>, user: UserRef<'_>) -> bool
+    ensures { result ≡ tuple_eq (row_value row.now).tuple (tuple_of (set_value set.entry) (user_value user.entry)) }
 {
-    tuple.set() == set && tuple.user() == user
+    row.set == set && row.user.user == user
 }
 
 /// Adds a place with a mark to each of two lists. Where memory runs out, nothing changes.
@@ -78,14 +89,29 @@ fn push_both(named: &mut Places, held: &mut Places, name: u64, kind: u64) -> Res
     Ok(())
 }
 
-/// Adds a row for which there is room.
-fn push_row(rows: &mut Vec<Row>, row: Row)
-    requires { vec_len rows.old < vec_capacity rows.old }
-    ensures { rows.new.items ≡ rows.old.items ++ row ∷ [] }
+/// Adds a tuple without a touch, and its places. Where memory runs out, nothing changes.
+fn push_tuple(
+    rows: &mut Rows,
+    named: &mut Places,
+    held: &mut Places,
+    tuple: TupleRef<'_>,
+    of: NewMarks,
+) -> Result<(), AllocError>
+    requires { of.user ≡ marks.user_mark (tuple_value tuple).user }
+    ensures rows { OnOk result (rows.new ≡ rows.old ++ record { tuple = tuple_value tuple.entry; latest = 0 } ∷ []) }
+    ensures named { OnOk result (named.new ≡ named.old ++ of.name ∷ []) }
+    ensures held { OnOk result (held.new ≡ held.old ++ of.kind ∷ []) }
+    ensures rows_kept { OnErr result (rows.new ≡ rows.old) }
+    ensures named_kept { OnErr result (named.new ≡ named.old) }
+    ensures held_kept { OnErr result (held.new ≡ held.old) }
 {
-    if rows.push(row).is_err() {
-        unreachable!();
+    push_both(named, held, of.name, of.kind)?;
+    if let Err(fault) = rows.push(tuple, of.user) {
+        named.pop();
+        held.pop();
+        return Err(fault);
     }
+    Ok(())
 }
 
 impl Arena {
@@ -94,7 +120,7 @@ impl Arena {
         ensures touches { result.touches ≡ [] }
     {
         Arena {
-            rows: Vec::new(alloc),
+            rows: Rows::new(alloc),
             named: Places::new(alloc),
             held: Places::new(alloc),
             nodes: Vec::new(alloc),
@@ -118,6 +144,18 @@ impl Arena {
         self.find_marked(tuple_mark(set, user), set, user)
     }
 
+    /// Whether the tuple of the number has this userset and this user.
+    #[inline(always)]
+    fn is_named(&self, number: usize, set: SetRef<'_>, user: UserRef<'_>) -> bool
+        ensures { (t : TupleValue) → IsNumber self.now.tuples t number
+            → result ≡ tuple_eq t (tuple_of (set_value set.entry) (user_value user.entry)) }
+    {
+        match self.rows.get(number) {
+            Some(row) => names(&row, set, user),
+            None => false,
+        }
+    }
+
     /// The number of a tuple whose mark is at hand.
     fn find_marked(&self, mark: u64, set: MarkedSet<'_>, user: MarkedUser<'_>) -> Option<usize>
         requires { mark ≡ marks.tuple_mark (tuple_of (set_value set.set) (user_value user.user)) }
@@ -128,7 +166,7 @@ impl Arena {
         let mut place = self.named.newest(mark);
         while place > 0 {
             let number = place - 1;
-            if names(&self.rows[number].tuple, set.set, user.user) {
+            if self.is_named(number, set.set, user.user) {
                 return Some(number);
             }
             place = self.named.older(number);
@@ -158,10 +196,7 @@ impl Arena {
     pub fn newest(&self, number: usize) -> usize
         ensures { (t : TupleValue) → IsNumber self.now.tuples t number → result ≡ newest_of t self.now.touches (length self.now.touches) }
     {
-        match self.rows.get(number) {
-            Some(row) => row.latest as usize,
-            None => 0,
-        }
+        self.rows.latest(number) as usize
     }
 
     /// The place of the newest touch of this tuple.
@@ -191,11 +226,8 @@ impl Arena {
         Some(TouchRef {
             at: touch.at,
             live: touch.live,
-            set: row.tuple.set(),
-            user: MarkedUser {
-                user: row.tuple.user(),
-                mark: row.user_mark,
-            },
+            set: row.set,
+            user: row.user,
             older: touch.older as usize,
         })
     }
@@ -296,12 +328,8 @@ impl Arena {
             → Gives result (is_given (set_value set.entry) usersets at self.now.touches t) t.user }
     {
         let row = self.rows.get(number)?;
-        let user = row.tuple.user();
-        if row.tuple.set() == set && is_userset(user) == usersets && self.is_live(number, at) {
-            Some(MarkedUser {
-                user,
-                mark: row.user_mark,
-            })
+        if row.set == set && is_userset(row.user.user) == usersets && self.is_live(number, at) {
+            Some(row.user)
         } else {
             None
         }
@@ -323,15 +351,12 @@ impl Arena {
         if number >= MOST_PLACES {
             return Err(AllocError);
         }
-        self.rows.reserve(1)?;
-        let row = Row {
-            tuple: tuple.to_tuple(*self.rows.allocator())?,
-            user_mark: user.mark,
-            latest: 0,
+        let of = NewMarks {
+            name: mark,
+            kind: kind_mark(set, is_userset(user.user)),
+            user: user.mark,
         };
-        let kind = kind_mark(set, is_userset(user.user));
-        push_both(&mut self.named, &mut self.held, mark, kind)?;
-        push_row(&mut self.rows, row);
+        push_tuple(&mut self.rows, &mut self.named, &mut self.held, tuple, of)?;
         Ok(number)
     }
 
@@ -355,7 +380,7 @@ impl Arena {
             → self.new.touches ≡ self.old.touches ++ record { at = at; live = live; tuple = t } ∷ [] }
         ensures room { self.old.room ≤ self.new.room + 1 }
     {
-        let older = self.rows[number].latest;
+        let older = self.rows.latest(number);
         let (depth, jump) = next_links(self.nodes.as_slice(), older);
         let node = Node {
             at,
@@ -368,6 +393,7 @@ impl Arena {
         if self.nodes.push(node).is_err() {
             unreachable!();
         }
-        self.rows[number].latest = self.nodes.len() as u32;
+        let place = self.nodes.len() as u32;
+        self.rows.set_latest(number, place);
     }
 }

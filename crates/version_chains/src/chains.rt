@@ -91,7 +91,7 @@ fn numbers_of(
     ensures numbers { IfOk result (λ numbers. AreNumbersOf arena.new.tuples numbers.items (tuple_values adds.now ++ tuple_values removes.now)) }
     ensures touches { arena.new.touches ≡ arena.old.touches }
 {
-    let mut numbers = Vec::new(alloc);
+    let mut numbers = Vec::with_capacity(alloc, adds.len() + removes.len())?;
     number_all(arena, adds, &mut numbers)?;
     number_all(arena, removes, &mut numbers)?;
     Ok(numbers)

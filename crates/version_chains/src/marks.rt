@@ -38,8 +38,7 @@ fn lengths(set: SetRef<'_>) -> u64
 fn set_mark(set: SetRef<'_>) -> u64
     ensures { result ≡ marks.set_mark (set_value set.entry) }
 {
-    WordHasher::new()
-        .with(lengths(set))
+    WordHasher::keyed(lengths(set))
         .with_text(set.namespace)
         .with_text(set.id)
         .with_text(set.relation)
@@ -59,7 +58,7 @@ fn user_mark(user: UserRef<'_>) -> u64
 pub fn pair_mark(first: u64, second: u64) -> u64
     ensures { result ≡ marks.pair_mark first second }
 {
-    WordHasher::new().with(first).with(second).finish()
+    WordHasher::keyed(first).with(second).finish()
 }
 
 /// Whether the user is a userset.

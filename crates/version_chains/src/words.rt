@@ -2,14 +2,14 @@
 
 ghost use Rattle.std.specs.Prelude.{◌≡◌, ◌<◌, ◌-◌, ◌++◌, length, replicate, fold};
 ghost use Rattle.std.specs.Int.{w32, w64, from_le_bytes};
-ghost use Rattle.std.specs.Hash.DefaultHasher.{initial, round, write_word, finish};
-ghost use Rattle.version_chains.specs.Words.{state_of, words};
+ghost use Rattle.std.specs.Hash.DefaultHasher.{round, with_keys, write_word};
+ghost use Rattle.version_chains.specs.Words.{finished, state_of, words};
 
 /// The bytes of a word.
 const WORD: usize = 8;
 
 /// SipHash-1-3 of whole words. std's hasher takes bytes one by one where they end inside a word, and so costs twice as much
-/// for short texts.
+/// for short texts; and it takes one word more at the end, for how many bytes there were, which the key tells here.
 #[derive(Clone, Copy, Drop)]
 pub(crate) struct WordHasher {
     v0: u64,
@@ -51,14 +51,14 @@ fn last_word(bytes: &[u8]) -> u64
 }
 
 impl WordHasher {
-    /// No words.
-    pub(crate) fn new() -> WordHasher
-        ensures { state_of result ≡ initial }
+    /// No words, by a key.
+    pub(crate) fn keyed(key: u64) -> WordHasher
+        ensures { state_of result ≡ with_keys key 0 }
     {
         WordHasher {
-            v0: 0x736f_6d65_7073_6575,
+            v0: key ^ 0x736f_6d65_7073_6575,
             v1: 0x646f_7261_6e64_6f6d,
-            v2: 0x6c79_6765_6e65_7261,
+            v2: key ^ 0x6c79_6765_6e65_7261,
             v3: 0x7465_6462_7974_6573,
         }
     }
@@ -110,9 +110,9 @@ impl WordHasher {
 
     /// The hash of the words so far.
     pub(crate) fn finish(self) -> u64
-        ensures { result ≡ finish (state_of self) }
+        ensures { result ≡ finished (state_of self) }
     {
-        let mut state = self.with(0);
+        let mut state = self;
         state.v2 ^= 0xFF;
         let state = state.round().round().round();
         state.v0 ^ state.v1 ^ state.v2 ^ state.v3

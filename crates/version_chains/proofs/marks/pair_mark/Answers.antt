@@ -4,4 +4,4 @@ use Rattle.version_chains.proofs.marks.pair_mark.Goals as goal
 
 pub returns : goal.returns
 unfolding pair_mark hash_of
-returns c = simp (c.finish.ensures, c.with-2.ensures, c.with.ensures, c.new.ensures)
+returns c = simp (c.finish.ensures, c.with.ensures, c.keyed.ensures)

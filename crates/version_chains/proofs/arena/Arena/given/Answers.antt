@@ -1,35 +1,32 @@
-use Rattle.std.proofs.Common.{◌≡◌, ℕ, ◌≤◌, Bool, true, false, ◌&&◌, List, length, nat_lt, Some, refl, sym, ◌∙◌, ap, arith}
+use Rattle.std.proofs.Common.{◌≡◌, ℕ, Bool, true, false, ◌&&◌, List, None, Some, refl, sym, ◌∙◌, ap}
 use Rattle.std.specs.Prelude.{slice_get}
 use Rattle.std.specs.Bool.{beq}
-use Rattle.std.proofs.lemmas.List.{length-map}
-use Rattle.std.proofs.lemmas.Option.{slice_get_within}
-use Rattle.std.proofs.lemmas.Bool.Decides.{nat_tests}
 use Rattle.tuple_text.specs.Refs.{set_value}
 use Rattle.tuple_text.specs.Sets.{SetValue, set_eq}
 use Rattle.tuple_text.specs.Tuples.{TupleValue}
 use Rattle.tuple_text.specs.declared.users.User.{User}
 use Rattle.version_chains.specs.Arena.{Held, tuples_of}
 use Rattle.version_chains.specs.Given.{is_stored_by}
-use Rattle.version_chains.specs.Marks.{is_userset, user_mark}
-use Rattle.version_chains.specs.declared.row.Row.{Row}
-use Rattle.version_chains.proofs.ArenaLemmas.{item_of}
-use Rattle.version_chains.proofs.PlacedLemmas.{read_item}
+use Rattle.version_chains.specs.Marks.{is_userset}
+use Rattle.version_chains.specs.Rows.{Kept, row_value}
+use Rattle.version_chains.proofs.RowLemmas.{row-kept}
 use Rattle.version_chains.proofs.arena.Arena.given.Goals as goal
 use Rattle.version_chains.proofs.arena.Arena.given.Goals.{else-eq-via-then-eq+then-is_userset-usersets+else-is_live, else-eq-via-then-eq+else-is_userset-usersets, else-eq-via-else-eq}
 
-row_of : (rows : List Row) (tuples : List TupleValue) (i : ℕ) (row : Row) (t : TupleValue) → tuples_of rows ≡ tuples
-    → slice_get rows i ≡ Some row → slice_get tuples i ≡ Some t → row.tuple ≡ t
+row_of : (rows : List Kept) (tuples : List TupleValue) (i : ℕ) (row : Kept) (t : TupleValue) → tuples_of rows ≡ tuples
+    → Some row ≡ slice_get rows i → slice_get tuples i ≡ Some t → row.tuple ≡ t
 row_of rows tuples i row t shown at is =
-    let there : slice_get tuples i ≡ Some row.tuple = rw (← shown) (item_of (λ r. r.tuple) rows i row at) in
-    let same = sym there ∙ is in
-    cc
+    let kept = row-kept rows i t (rw shown is) in
+    let same : Some row ≡ Some kept.0 = at ∙ kept.1 in
+    let whole : row ≡ kept.0 = cc in
+    ap (λ (r : Kept). r.tuple) whole ∙ kept.2
 
-no_row : (rows slice : List Row) (tuples : List TupleValue) (i : ℕ) (t : TupleValue) → tuples_of rows ≡ tuples
-    → slice ≡ rows → false ≡ nat_lt i (length slice) → slice_get tuples i ≡ Some t → ⊥
-no_row rows slice tuples i t shown same none is =
-    let past : length slice ≤ i = grind (arith, nat_tests) in
-    let within = slice_get_within tuples i t is in
-    omega (arith, past, within, ap length same, ap length shown, length-map rows (λ r. r.tuple))
+no_row : (rows : List Kept) (tuples : List TupleValue) (i : ℕ) (t : TupleValue) → tuples_of rows ≡ tuples
+    → None ≡ slice_get rows i → slice_get tuples i ≡ Some t → ⊥
+no_row rows tuples i t shown none is =
+    let kept = row-kept rows i t (rw shown is) in
+    let never : None ≡ Some kept.0 = none ∙ kept.1 in
+    absurd cc
 
 all_true : (a b c : Bool) → a ≡ true → b ≡ true → c ≡ true → (a && (b && c)) ≡ true
 all_true a b c h i j = rw (h, i) j
@@ -57,25 +54,15 @@ module _ (g : SetValue) (usersets : Bool) (t : TupleValue) (one : SetValue) (u :
 
 pub returns-in_err-row : goal.returns-in_err-row
 returns-in_err-row c =
-    λ t is. absurd (no_row c.self.inside.rows.items c.deref.result.now c.args.self.now.tuples c.args.number t
-    (ap (λ (h : Held). h.tuples) c.self.view_is) c.deref.ensures.value c.in_err-row.ensures.lookup.0 is)
-
-pub invariant_of-result : goal.invariant_of-result
-invariant_of-result c =
-    let row = c.in_ok-row.row.now in
-    let at = read_item c.self.inside.rows.items c.deref.result.now c.args.number row c.deref.ensures.value
-    c.in_ok-row.ensures.lookup.3.0 c.in_ok-row.ensures.lookup.1 in
-    record { is_its_mark = c.self.invariant.1 c.args.number row at ∙ ap user_mark (sym c.user-user.ensures.parts) }
+    λ t is. absurd (no_row c.self.inside.rows c.args.self.now.tuples c.args.number t
+    (ap (λ (h : Held). h.tuples) c.self.view_is) c.in_err-row.ensures is)
 
 pub returns-then-is_live : goal.returns-then-is_live
 returns-then-is_live c = λ t is.
-    let row = c.in_ok-row.row.now in
-    let at = read_item c.self.inside.rows.items c.deref.result.now c.args.number row c.deref.ensures.value
-    c.in_ok-row.ensures.lookup.3.0 c.in_ok-row.ensures.lookup.1 in
-    let same = row_of c.self.inside.rows.items c.args.self.now.tuples c.args.number row t
-    (ap (λ (h : Held). h.tuples) c.self.view_is) at is in
-    let set = c.set.ensures.parts ∙ ap (λ (x : TupleValue). x.set) same in
-    let user = c.user-user.ensures.parts ∙ ap (λ (x : TupleValue). x.user) same in (
+    let same = row_of c.self.inside.rows c.args.self.now.tuples c.args.number (row_value c.in_ok-row.row) t
+    (ap (λ (h : Held). h.tuples) c.self.view_is) c.in_ok-row.ensures is in
+    let set = ap (λ (x : TupleValue). x.set) same in
+    let user = ap (λ (x : TupleValue). x.user) same in (
       all_true _ _ _ (same_set (set_value c.args.set) c.args.usersets t _ _ set user true _ c.eq.ensures c.if-eq.true)
           (same_kind (set_value c.args.set) c.args.usersets t _ _ set user true _ c.is_userset.ensures
           c.if-is_userset-usersets.true)
@@ -85,13 +72,10 @@ returns-then-is_live c = λ t is.
 
 pub returns-else-eq : goal.returns-else-eq
 returns-else-eq c = λ t is.
-    let row = c.in_ok-row.row.now in
-    let at = read_item c.self.inside.rows.items c.deref.result.now c.args.number row c.deref.ensures.value
-    c.in_ok-row.ensures.lookup.3.0 c.in_ok-row.ensures.lookup.1 in
-    let same = row_of c.self.inside.rows.items c.args.self.now.tuples c.args.number row t
-    (ap (λ (h : Held). h.tuples) c.self.view_is) at is in
-    let set = c.set.ensures.parts ∙ ap (λ (x : TupleValue). x.set) same in
-    let user = c.user-user.ensures.parts ∙ ap (λ (x : TupleValue). x.user) same in
+    let same = row_of c.self.inside.rows c.args.self.now.tuples c.args.number (row_value c.in_ok-row.row) t
+    (ap (λ (h : Held). h.tuples) c.self.view_is) c.in_ok-row.ensures is in
+    let set = ap (λ (x : TupleValue). x.set) same in
+    let user = ap (λ (x : TupleValue). x.user) same in
     elim c.else-eq.branch [
       | else-eq-via-then-eq+then-is_userset-usersets+else-is_live w ↦ third_false (set_eq t.set (set_value c.args.set))
           (beq (is_userset t.user) c.args.usersets) _ (sym (w.is_live.ensures t is) ∙ w.if-is_live.false)

@@ -10,4 +10,4 @@ returns-clause-apart c = subst (λ (h : Held). AreApartAt h.tuples) c.self.view_
 pub returns-clause-known : goal.returns-clause-known
 returns-clause-known c =
     subst AreTouchesKnown c.self.view_is
-    (touches_known (tuples_of c.self.inside.rows.items) (latest_of c.self.inside.rows.items) c.self.inside.named c.self.inside.held c.self.inside.nodes.items c.self.invariant.0)
+    (touches_known (tuples_of c.self.inside.rows) (latest_of c.self.inside.rows) c.self.inside.named c.self.inside.held c.self.inside.nodes.items c.self.invariant.0)

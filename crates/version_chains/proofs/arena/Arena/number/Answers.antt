@@ -5,61 +5,42 @@ use Rattle.tuple_text.specs.Order.{tuple_eq}
 use Rattle.tuple_text.specs.Refs.{set_value, user_value}
 use Rattle.tuple_text.specs.TupleRefs.{tuple_value}
 use Rattle.tuple_text.specs.Tuples.{TupleValue, tuple_of}
-use Rattle.tuple_text.specs.declared.users.User.{User}
-use Rattle.version_chains.specs.Arena.{AreMarked, Held, IsLinked, latest_of, tuples_of}
+use Rattle.version_chains.specs.Arena.{Held, IsLinked, latest_of, tuples_of}
 use Rattle.version_chains.specs.Placed.{most}
-use Rattle.version_chains.specs.Marks.{held_mark, kind_mark, set_mark, tuple_mark, user_mark}
+use Rattle.version_chains.specs.Marks.{held_mark, kind_mark, set_mark, tuple_mark}
+use Rattle.version_chains.specs.Rows.{Kept}
 use Rattle.version_chains.proofs.ArenaLemmas.{more_tuples, same_touches}
 use Rattle.version_chains.specs.declared.node.Node.{Node}
-use Rattle.version_chains.specs.declared.row.Row.{Row}
-use Rattle.version_chains.proofs.RowLemmas.{latest-more, marked-more, tuples-more}
+use Rattle.version_chains.proofs.RowLemmas.{latest-more, tuples-more}
 use Rattle.version_chains.proofs.PlacedLemmas.{length-more, slice_get-kept, slice_get-next}
 use Rattle.version_chains.proofs.arena.Arena.number.Goals as goal
 
-abbrev row_of : TupleValue → Row
-row_of t = record { tuple = t; user_mark = user_mark t.user; latest = 0 }
-
-pushed : (old base new : List Row) (tuple t : TupleValue) (mark : ℕ) (user : User)
-    → new ≡ base ++ record { tuple = tuple; user_mark = mark; latest = 0 } ∷ [] → base ≡ old
-    → tuple ≡ t → mark ≡ user_mark user → user ≡ t.user → new ≡ old ++ row_of t ∷ []
-pushed old base new tuple t mark user is same tuple_is mark_is user_is = is ∙ rw (same, tuple_is, mark_is, user_is) refl
+abbrev new_row : TupleValue → Kept
+new_row t = record { tuple = t; latest = 0 }
 
 marked : (old new : List ℕ) (m k : ℕ) → new ≡ old ++ m ∷ [] → m ≡ k → new ≡ old ++ k ∷ []
 marked old new m k is same = is ∙ rw same refl
 
-kept : (rows rs : List Row) (named ns held hs : List ℕ) (nodes : List Node) → rs ≡ rows → ns ≡ named → hs ≡ held
-    → IsLinked (tuples_of rows) (latest_of rows) named held nodes × AreMarked rows × (length rows ≤ most)
-    → IsLinked (tuples_of rs) (latest_of rs) ns hs nodes × AreMarked rs × (length rs ≤ most)
+kept : (rows rs : List Kept) (named ns held hs : List ℕ) (nodes : List Node) → rs ≡ rows → ns ≡ named → hs ≡ held
+    → IsLinked (tuples_of rows) (latest_of rows) named held nodes × (length rows ≤ most)
+    → IsLinked (tuples_of rs) (latest_of rs) ns hs nodes × (length rs ≤ most)
 kept rows rs named ns held hs nodes same same_named same_held are = rw (same, same_named, same_held) are
 
 pub invariant_of-self : goal.invariant_of-self
 invariant_of-self c =
-    kept c.self.inside.rows.items c.reserve.new.self.items c.self.inside.named _ c.self.inside.held _
-    c.self.inside.nodes.items c.reserve.ensures.items refl refl c.self.invariant
-
-pub invariant_of-self-in_err-to_tuple : goal.invariant_of-self-in_err-to_tuple
-invariant_of-self-in_err-to_tuple c =
-    kept c.self.inside.rows.items c.reserve.new.self.items c.self.inside.named _ c.self.inside.held _
-    c.self.inside.nodes.items c.reserve.ensures.items refl refl c.self.invariant
-
-pub invariant_of-self-in_err-push_both : goal.invariant_of-self-in_err-push_both
-invariant_of-self-in_err-push_both c =
-    kept c.self.inside.rows.items c.reserve.new.self.items c.self.inside.named c.push_both.new.named c.self.inside.held
-    c.push_both.new.held c.self.inside.nodes.items
-    c.reserve.ensures.items c.in_err-push_both.ensures.named_kept c.in_err-push_both.ensures.held_kept c.self.invariant
+    kept c.self.inside.rows c.push_tuple.new.rows c.self.inside.named c.push_tuple.new.named c.self.inside.held c.push_tuple.new.held
+    c.self.inside.nodes.items
+    c.in_err-push_tuple.ensures.rows_kept c.in_err-push_tuple.ensures.named_kept c.in_err-push_tuple.ensures.held_kept c.self.invariant
 
 pub invariant_of-self-2 : goal.invariant_of-self-2
 invariant_of-self-2 c =
-    let rows = pushed c.self.inside.rows.items c.reserve.new.self.items c.push_row.new.rows.items
-    c.in_ok-to_tuple.field-0 (tuple_value c.args.tuple) c.of-user.result.mark (user_value c.of-user.result.user)
-    c.push_row.ensures c.reserve.ensures.items c.in_ok-to_tuple.ensures c.of-user.result.is_its_mark
-    (ap user_value c.of-user.ensures ∙ c.user.ensures.parts) in
-    let tuples = tuples-more c.self.inside.rows.items (row_of (tuple_value c.args.tuple)) in
-    let latest = latest-more c.self.inside.rows.items (row_of (tuple_value c.args.tuple)) in
-    let len : c.len-number.result ≡ length c.self.inside.rows.items = c.len-number.ensures ∙ c.self.inside.rows.ok.0 in
-    let more = length-more c.self.inside.rows.items (row_of (tuple_value c.args.tuple)) in
+    let rows = c.in_ok-push_tuple.ensures.rows in
+    let tuples = tuples-more c.self.inside.rows (new_row (tuple_value c.args.tuple)) in
+    let latest = latest-more c.self.inside.rows (new_row (tuple_value c.args.tuple)) in
+    let len : c.len-number.result ≡ length c.self.inside.rows = c.len-number.ensures in
+    let more = length-more c.self.inside.rows (new_row (tuple_value c.args.tuple)) in
     let less = c.if-number-ge-MOST_PLACES.false in
-    let few : length (c.self.inside.rows.items ++ row_of (tuple_value c.args.tuple) ∷ []) ≤ most = omega (arith, len, more, less) in
+    let few : length (c.self.inside.rows ++ new_row (tuple_value c.args.tuple) ∷ []) ≤ most = omega (arith, len, more, less) in
     let same : tuple_of (set_value c.of-set.result.set) (user_value c.of-user.result.user) ≡ tuple_value c.args.tuple =
     λ j. record {
       set =
@@ -67,64 +48,41 @@ invariant_of-self-2 c =
       user =
           (ap user_value c.of-user.ensures ∙ c.user.ensures.parts) j;
     } in
-    let named = marked c.self.inside.named c.push_both.new.named _ _ c.in_ok-push_both.ensures.named
+    let named = marked c.self.inside.named c.push_tuple.new.named _ _ c.in_ok-push_tuple.ensures.named
     (c.tuple_mark-mark.ensures ∙ ap tuple_mark same) in
-    let held = marked c.self.inside.held c.push_both.new.held _ _ c.in_ok-push_both.ensures.held
-    (c.kind_mark-kind.ensures ∙ ap (kind_mark (set_mark (set_value c.of-set.result.set))) c.is_userset.ensures
+    let held = marked c.self.inside.held c.push_tuple.new.held _ _ c.in_ok-push_tuple.ensures.held
+    (c.kind_mark.ensures ∙ ap (kind_mark (set_mark (set_value c.of-set.result.set))) c.is_userset.ensures
     ∙ ap held_mark same) in
-    let absent : (i : ℕ) (u : TupleValue) → slice_get (tuples_of c.self.inside.rows.items) i ≡ Some u → tuple_eq u (tuple_value c.args.tuple) ≡ false =
+    let absent : (i : ℕ) (u : TupleValue) → slice_get (tuples_of c.self.inside.rows) i ≡ Some u → tuple_eq u (tuple_value c.args.tuple) ≡ false =
     λ i u h.
     subst (λ (t : TupleValue). tuple_eq u t ≡ false) same
     (c.in_default.ensures.found i u (subst (λ (x : Held). slice_get x.tuples i ≡ Some u) c.self.view_is h))
     in
-    (rw (rows, tuples, latest, named, held) (more_tuples (tuples_of c.self.inside.rows.items) (latest_of c.self.inside.rows.items) c.self.inside.named c.self.inside.held c.self.inside.nodes.items c.self.invariant.0 (tuple_value c.args.tuple) absent), rw rows (marked-more c.self.inside.rows.items (row_of (tuple_value c.args.tuple)) c.self.invariant.1 refl), rw rows few)
+    (rw (rows, tuples, latest, named, held) (more_tuples (tuples_of c.self.inside.rows) (latest_of c.self.inside.rows) c.self.inside.named c.self.inside.held c.self.inside.nodes.items c.self.invariant.0 (tuple_value c.args.tuple) absent), rw rows few)
 
 pub returns-clause-ok : goal.returns-clause-ok
 returns-clause-ok c =
-    let rows = pushed c.self.inside.rows.items c.reserve.new.self.items c.push_row.new.rows.items
-    c.in_ok-to_tuple.field-0 (tuple_value c.args.tuple) c.of-user.result.mark (user_value c.of-user.result.user)
-    c.push_row.ensures c.reserve.ensures.items c.in_ok-to_tuple.ensures c.of-user.result.is_its_mark
-    (ap user_value c.of-user.ensures ∙ c.user.ensures.parts) in
-    let tuples = tuples-more c.self.inside.rows.items (row_of (tuple_value c.args.tuple)) in
-    let len : c.len-number.result ≡ length c.self.inside.rows.items = c.len-number.ensures ∙ c.self.inside.rows.ok.0 in
-    let count = length-map c.self.inside.rows.items (λ r. r.tuple) in
-    rw (rows, tuples, len, sym count) (slice_get-next (tuples_of c.self.inside.rows.items) (tuple_value c.args.tuple))
+    let rows = c.in_ok-push_tuple.ensures.rows in
+    let tuples = tuples-more c.self.inside.rows (new_row (tuple_value c.args.tuple)) in
+    let len : c.len-number.result ≡ length c.self.inside.rows = c.len-number.ensures in
+    let count = length-map c.self.inside.rows (λ (r : Kept). r.tuple) in
+    rw (rows, tuples, len, sym count) (slice_get-next (tuples_of c.self.inside.rows) (tuple_value c.args.tuple))
 
 pub returns-clause-extends : goal.returns-clause-extends
 returns-clause-extends c i t h =
-    let rows = pushed c.self.inside.rows.items c.reserve.new.self.items c.push_row.new.rows.items
-    c.in_ok-to_tuple.field-0 (tuple_value c.args.tuple) c.of-user.result.mark (user_value c.of-user.result.user)
-    c.push_row.ensures c.reserve.ensures.items c.in_ok-to_tuple.ensures c.of-user.result.is_its_mark
-    (ap user_value c.of-user.ensures ∙ c.user.ensures.parts) in
-    let tuples = tuples-more c.self.inside.rows.items (row_of (tuple_value c.args.tuple)) in
-    rw (rows, tuples) (slice_get-kept (tuples_of c.self.inside.rows.items) ((tuple_value c.args.tuple) ∷ []) i t (subst (λ (h : Held). slice_get h.tuples i ≡ Some t) (sym c.self.view_is) h))
+    let rows = c.in_ok-push_tuple.ensures.rows in
+    let tuples = tuples-more c.self.inside.rows (new_row (tuple_value c.args.tuple)) in
+    rw (rows, tuples) (slice_get-kept (tuples_of c.self.inside.rows) ((tuple_value c.args.tuple) ∷ []) i t (subst (λ (h : Held). slice_get h.tuples i ≡ Some t) (sym c.self.view_is) h))
 
 pub returns-clause-touches : goal.returns-clause-touches
 returns-clause-touches c =
-    let rows = pushed c.self.inside.rows.items c.reserve.new.self.items c.push_row.new.rows.items
-    c.in_ok-to_tuple.field-0 (tuple_value c.args.tuple) c.of-user.result.mark (user_value c.of-user.result.user)
-    c.push_row.ensures c.reserve.ensures.items c.in_ok-to_tuple.ensures c.of-user.result.is_its_mark
-    (ap user_value c.of-user.ensures ∙ c.user.ensures.parts) in
-    let tuples = tuples-more c.self.inside.rows.items (row_of (tuple_value c.args.tuple)) in
-    rw (rows, tuples) (same_touches (tuples_of c.self.inside.rows.items) (latest_of c.self.inside.rows.items) c.self.inside.named c.self.inside.held c.self.inside.nodes.items c.self.invariant.0 (tuple_value c.args.tuple) ∙ ap (λ (h : Held). h.touches) c.self.view_is)
+    let rows = c.in_ok-push_tuple.ensures.rows in
+    let tuples = tuples-more c.self.inside.rows (new_row (tuple_value c.args.tuple)) in
+    rw (rows, tuples) (same_touches (tuples_of c.self.inside.rows) (latest_of c.self.inside.rows) c.self.inside.named c.self.inside.held c.self.inside.nodes.items c.self.invariant.0 (tuple_value c.args.tuple) ∙ ap (λ (h : Held). h.touches) c.self.view_is)
 
-pub returns-in_err-reserve-clause-touches : goal.returns-in_err-reserve-clause-touches
-returns-in_err-reserve-clause-touches c = rw c.reserve.ensures.items (ap (λ (h : Held). h.touches) c.self.view_is)
+pub returns-in_err-push_tuple-clause-touches : goal.returns-in_err-push_tuple-clause-touches
+returns-in_err-push_tuple-clause-touches c = rw c.in_err-push_tuple.ensures.rows_kept (ap (λ (h : Held). h.touches) c.self.view_is)
 
-pub returns-in_err-to_tuple-clause-touches : goal.returns-in_err-to_tuple-clause-touches
-returns-in_err-to_tuple-clause-touches c = rw c.reserve.ensures.items (ap (λ (h : Held). h.touches) c.self.view_is)
-
-pub returns-in_err-push_both-clause-touches : goal.returns-in_err-push_both-clause-touches
-returns-in_err-push_both-clause-touches c = rw c.reserve.ensures.items (ap (λ (h : Held). h.touches) c.self.view_is)
-
-pub returns-in_err-reserve-clause-extends : goal.returns-in_err-reserve-clause-extends
-returns-in_err-reserve-clause-extends c i t h =
-    rw c.reserve.ensures.items (subst (λ (x : Held). slice_get x.tuples i ≡ Some t) (sym c.self.view_is) h)
-
-pub returns-in_err-to_tuple-clause-extends : goal.returns-in_err-to_tuple-clause-extends
-returns-in_err-to_tuple-clause-extends c i t h =
-    rw c.reserve.ensures.items (subst (λ (x : Held). slice_get x.tuples i ≡ Some t) (sym c.self.view_is) h)
-
-pub returns-in_err-push_both-clause-extends : goal.returns-in_err-push_both-clause-extends
-returns-in_err-push_both-clause-extends c i t h =
-    rw c.reserve.ensures.items (subst (λ (x : Held). slice_get x.tuples i ≡ Some t) (sym c.self.view_is) h)
+pub returns-in_err-push_tuple-clause-extends : goal.returns-in_err-push_tuple-clause-extends
+returns-in_err-push_tuple-clause-extends c i t h =
+    rw c.in_err-push_tuple.ensures.rows_kept (subst (λ (x : Held). slice_get x.tuples i ≡ Some t) (sym c.self.view_is) h)

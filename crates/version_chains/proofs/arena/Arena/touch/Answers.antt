@@ -20,16 +20,16 @@ returns c =
     (pick c.get.result c.get.ensures.lookup.0 c.get.ensures.lookup.1)
   where
     touches : List Touch
-    touches = map (touch_of (tuples_of c.self.inside.rows.items)) c.self.inside.nodes.items
+    touches = map (touch_of (tuples_of c.self.inside.rows)) c.self.inside.nodes.items
 
     pick : (o : Option (Bor Node)) → is_some o ≡ nat_lt c.args.index (length c.deref.result.now) → IfSome o (λ x. x.now ≡ slice_index_or c.deref.result.now c.args.index x.now) → MatchOption o (length touches ≤ c.args.index) (IsTouch c.args.index touches)
     pick None test is =
         let no : false ≡ nat_lt c.args.index (length c.deref.result.now) = test in
         let past : length c.deref.result.now ≤ c.args.index = grind (arith, nat_tests) in
-        subst (λ (n : ℕ). n ≤ c.args.index) (sym (length-map c.self.inside.nodes.items (touch_of (tuples_of c.self.inside.rows.items))))
+        subst (λ (n : ℕ). n ≤ c.args.index) (sym (length-map c.self.inside.nodes.items (touch_of (tuples_of c.self.inside.rows))))
         (subst (λ (xs : List Node). length xs ≤ c.args.index) c.deref.ensures.value past)
     pick (Some n) test is =
         let yes : true ≡ nat_lt c.args.index (length c.deref.result.now) = test in
         let within : c.args.index < length c.deref.result.now = grind (arith, nat_tests) in
-        touch_at (tuples_of c.self.inside.rows.items) (latest_of c.self.inside.rows.items) c.self.inside.named c.self.inside.held c.self.inside.nodes.items c.self.invariant.0 c.args.index n.now
+        touch_at (tuples_of c.self.inside.rows) (latest_of c.self.inside.rows) c.self.inside.named c.self.inside.held c.self.inside.nodes.items c.self.invariant.0 c.args.index n.now
         (read_item c.self.inside.nodes.items c.deref.result.now c.args.index n.now c.deref.ensures.value within is)
