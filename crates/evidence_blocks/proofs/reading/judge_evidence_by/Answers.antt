@@ -7,7 +7,7 @@ use Rattle.evidence_check.specs.Causes.{of_input, is_memory, is_read}
 use Rattle.evidence_check.specs.Judging.{no_judgements}
 use Rattle.evidence_check.proofs.LineCauses.{judging_own}
 use Rattle.evidence_check.proofs.Judgements.{judgements_told, refused_by_evidence, refused_so_by_evidence, judged_so_by_evidence}
-use Rattle.evidence_blocks.proofs.Alike.{told}
+use Rattle.line_blocks.proofs.Alike.{told}
 use Rattle.evidence_blocks.proofs.DeskSend.{desk_send}
 use Rattle.evidence_blocks.proofs.Records.{as_records}
 use Rattle.evidence_blocks.proofs.TraceSync.{trace_sync}
