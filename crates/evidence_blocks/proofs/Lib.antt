@@ -1,4 +1,3 @@
-pub mod Alike
 pub mod DeskSend
 pub mod Records
 pub mod TraceSync

@@ -71,7 +71,7 @@ cond_bind true x y f = refl
 cond_bind false x y f = refl
 
 line_splits : (n : ℕ) (j : Judgements) (line : List ℕ)
-    → evidence_taken n j line ≡ taken_by (verdict_told j.trace j.lines) put_verdict n j line
+    → evidence_taken n j line ≡ taken_by (verdict_told j.trace j.lines) (λ _. put_verdict) n j line
 unfolding json_line verdict_told
 line_splits n j line =
     let f : Option Verdict → Result Judgements EvidenceCause = λ v. put_verdict j v in
@@ -86,7 +86,7 @@ line_splits n j line =
 module _ (t : TraceValue) (lines : List ℕ) where
   -- lines of evidence split, at judgements of this trace
   splits : (n : ℕ) (j : Judgements) (line : List ℕ) → IsOf t lines j
-      → evidence_taken n j line ≡ taken_by (verdict_told t lines) put_verdict n j line
+      → evidence_taken n j line ≡ taken_by (verdict_told t lines) (λ _. put_verdict) n j line
   splits n j line fits =
       line_splits n j line
       ∙ ap (λ (u : TraceValue). verdict_told u j.lines line >>= (λ (v : Option Verdict). put_verdict j v)) fits.0
@@ -115,11 +115,11 @@ module _ (t : TraceValue) (lines : List ℕ) where
   line_ok n (Err c) k e = absurd cc
 
   read_alike : (whole : Bool) (n room : ℕ) (j : Judgements) (ls : List (List ℕ)) → IsOf t lines j
-      → read_from evidence_taken whole n room j ls ≡ read_from (taken_by (verdict_told t lines) put_verdict) whole n
+      → read_from evidence_taken whole n room j ls ≡ read_from (taken_by (verdict_told t lines) (λ _. put_verdict)) whole n
       room j ls
   read_alike whole n room j [] fits = refl
   read_alike whole n room j (line ∷ ls) fits =
-      let by : Result Judgements EvidenceCause = taken_by (verdict_told t lines) put_verdict n j line in
+      let by : Result Judgements EvidenceCause = taken_by (verdict_told t lines) (λ _. put_verdict) n j line in
       let f : Judgements → Result Judgements (LineFault EvidenceCause) =
       λ k. read_from evidence_taken whole (n + 1) (room - (length line + 1)) k ls in
       ap
@@ -133,6 +133,6 @@ module _ (t : TraceValue) (lines : List ℕ) where
 
   -- evidence reads the same either way
   pub all_alike : (whole : Bool) (j : Judgements) (input : List ℕ) → IsOf t lines j
-      → read_all (taken_by (verdict_told t lines) put_verdict) whole j input ≡ read_all evidence_taken whole j input
+      → read_all (taken_by (verdict_told t lines) (λ _. put_verdict)) whole j input ≡ read_all evidence_taken whole j input
   unfolding read_all
   all_alike whole j input fits = sym (read_alike whole 1 (2 ^ 30) j (parts input) fits)

@@ -8,7 +8,7 @@ use evidence_check::{
     AskedRules, EntryLines, EvidenceCause, Judged, Judging, Verdict, judge_alone,
 };
 use json::Scratch;
-use json_lines::{JsonLine, LineCause, is_blank};
+use json_lines::{JsonLine, LineCause, Stop, is_blank};
 use line_blocks::{PutTold, TellLine};
 use simdutf8::basic::from_utf8;
 use std::alloc::{AllocError, Global};
@@ -112,11 +112,13 @@ impl<'t> Judgings<'t> {
 impl<'t> PutTold<Records<'t>> for Judgings<'t> {
     ghost use Rattle.evidence_blocks.specs.Verdicts.{put_verdict};
 
-    ghost put = { put_verdict };
+    ghost next = { λ _. 0 };
 
-    fn put(&mut self, value: Option<Verdict>) -> Result<(), EvidenceCause> {
+    ghost put = { λ _. put_verdict };
+
+    fn put(&mut self, _number: u64, value: Option<Verdict>) -> Result<(), Stop<EvidenceCause>> {
         match value {
-            Some(verdict) => self.judging.settle(verdict),
+            Some(verdict) => self.judging.settle(verdict).map_err(Stop::Line),
             None => Ok(()),
         }
     }

@@ -22,13 +22,13 @@ are_told told (r ∷ rs) (b ∷ bs) e h =
     (h 0 r b (omega arith), are_told told rs bs (omega (arith, e)) (λ i d c lt. h (suc i) d c (omega (arith, lt))))
 
 -- what is known before a block is put in
-abbrev pub Left : {S V C : Type 0} → (List ℕ → Result V C) → (S → V → Result S C) → Result S (LineFault C) → ℕ
+abbrev pub Left : {S V C : Type 0} → (List ℕ → Result V C) → (ℕ → S → V → Result S C) → Result S (LineFault C) → ℕ
     → List (Result (Told V C) AllocError) → ℕ → S → Type 0
 Left told put goal last rs n s =
     (rest : List Block) × (room : ℕ) × AreBlocks room rest × AreTold told rs rest
     × (goal ≡ put_parts put n s (map (block_told told) rest)) × (n + lines_in (bytes_in rest) ≡ last)
 
-module _ {S V C : Type 0} (told : List ℕ → Result V C) (put : S → V → Result S C) (goal : Result S (LineFault C))
+module _ {S V C : Type 0} (told : List ℕ → Result V C) (put : ℕ → S → V → Result S C) (goal : Result S (LineFault C))
     (last n : ℕ) (s : S) where
   -- a block's part has no more values than the lines that are left
   pub few_left : (t : Told V C) (r : Result (Told V C) AllocError) (rs : List (Result (Told V C) AllocError))

@@ -1,3 +1,4 @@
+pub mod Alike
 pub mod AllTold
 pub mod BlockLines
 pub mod Cutting

@@ -102,7 +102,7 @@ pub bind_err : {A B E : Type 0} (x : Result A E) (f : A → Result B E) (c : E) 
 bind_err (Ok a) f c e = inr (a, refl, e)
 bind_err (Err d) f c e = inl (cc)
 
-module _ {S V C : Type 0} (put : S → V → Result S C) where
+module _ {S V C : Type 0} (put : ℕ → S → V → Result S C) where
   -- where all was put in, nothing was refused
   pub put_ok : (n : ℕ) (s t : S) (vs : List V) (fault : Option (Stop C)) → put_values put n s vs fault ≡ Ok t
       → fault ≡ None
@@ -110,7 +110,7 @@ module _ {S V C : Type 0} (put : S → V → Result S C) where
   put_ok n s t [] (Some stop) e = absurd cc
   put_ok n s t (v ∷ vs) fault e =
       let h =
-      bind_ok (at_line n (put s v)) (λ u. put_values put (n + 1) u vs fault) t e in put_ok (n + 1) h.0 t vs fault h.2
+      bind_ok (at_line n (put n s v)) (λ u. put_values put (n + 1) u vs fault) t e in put_ok (n + 1) h.0 t vs fault h.2
 
   at_line_stop : (n : ℕ) (r : Result S C) (e : LineFault C) → at_line n r ≡ Err e → e.stop ≢ Input Read
   at_line_stop n (Ok s) e is = absurd cc
@@ -123,12 +123,12 @@ module _ {S V C : Type 0} (put : S → V → Result S C) where
   put_stop n s [] (Some stop) e other is =
       λ h. other (let same : stop ≡ e.stop = cc in ap (λ (x : Stop C). Some x) (same ∙ h))
   put_stop n s (v ∷ vs) fault e other is =
-      elim (bind_err (at_line n (put s v)) (λ u. put_values put (n + 1) u vs fault) e is) [
-        | inl here ↦ at_line_stop n (put s v) e here
+      elim (bind_err (at_line n (put n s v)) (λ u. put_values put (n + 1) u vs fault) e is) [
+        | inl here ↦ at_line_stop n (put n s v) e here
         | inr later ↦ put_stop (n + 1) later.0 vs fault e other later.2
       ]
 
-module _ {S V C : Type 0} (told : List ℕ → Result V C) (put : S → V → Result S C) where
+module _ {S V C : Type 0} (told : List ℕ → Result V C) (put : ℕ → S → V → Result S C) where
   moved : (whole : Bool) (n m room left : ℕ) (s : S) (ys : List (List ℕ)) → n ≡ m → room ≡ left
       → read_from (taken_by told put) whole n room s ys ≡ read_from (taken_by told put) whole m left s ys
   moved whole n m room left s ys e f =
@@ -158,16 +158,16 @@ module _ {S V C : Type 0} (told : List ℕ → Result V C) (put : S → V → Re
 
       at : ((t : S) → f t ≡ (put_part put (n + 1) t p >>= λ u. read_from (taken_by told put) whole
           ((n + 1) + length xs) ((room - (length x + 1)) - size_of xs) u ys)) → (over : Bool) (said : Result V C)
-          → cond over (Err (record { line = n; stop = Input TooLong })) (at_line n (said >>= λ v. put s v) >>= f)
+          → cond over (Err (record { line = n; stop = Input TooLong })) (at_line n (said >>= λ v. put n s v) >>= f)
           ≡ (put_part put n s (cond over (stopped (Input TooLong)) (before said p)) >>= g)
       at h true said = refl
       at h false (Err c) = refl
       at h false (Ok v) =
-          bind_same (at_line n (put s v)) f (λ t. put_part put (n + 1) t p >>= g)
+          bind_same (at_line n (put n s v)) f (λ t. put_part put (n + 1) t p >>= g)
           (λ t. h t ∙ bind_same (put_part put (n + 1) t p) _ g
           (λ u. moved whole ((n + 1) + length xs) (n + length (x ∷ xs)) ((room - (length x + 1)) - size_of xs)
           (room - size_of (x ∷ xs)) u ys (omega arith) (omega arith)))
-          ∙ sym (bind_bind (at_line n (put s v)) (λ t. put_part put (n + 1) t p) g)
+          ∙ sym (bind_bind (at_line n (put n s v)) (λ t. put_part put (n + 1) t p) g)
 
   -- a block's part, where it has this room
   part_of : (room : ℕ) (b : Block) → b.room ≡ room

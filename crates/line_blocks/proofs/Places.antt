@@ -28,7 +28,7 @@ read_fails (Input TooLong) e read is = is
 read_fails (Input Read) e read is = tt
 read_fails (Input OutOfMemory) e read is = tt
 
-module _ {S V C : Type 0} (told : List ℕ → Result V C) (put : S → V → Result S C) (from : Place) (s : S)
+module _ {S V C : Type 0} (told : List ℕ → Result V C) (put : ℕ → S → V → Result S C) (from : Place) (s : S)
     (lines : List ℕ) (bs : List Block) (cut : IsCut from.room lines bs) where
   -- what the lines of the blocks say, put in, and then what stands behind them
   in_blocks : (whole : Bool) (ys : List ℕ)

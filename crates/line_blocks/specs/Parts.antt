@@ -32,24 +32,21 @@ ended n s None = Ok s
 ended n s (Some stop) = Err (record { line = n; stop = stop })
 
 -- what the values of lines make of s, from line number n on
-abbrev pub put_values : {S V C : Type 0} → (S → V → Result S C) → ℕ → S → List V → Option (Stop C)
+abbrev pub put_values : {S V C : Type 0} → (ℕ → S → V → Result S C) → ℕ → S → List V → Option (Stop C)
     → Result S (LineFault C)
 put_values put n s [] fault = ended n s fault
-put_values put n s (v ∷ vs) fault = at_line n (put s v) >>= λ t. put_values put (n + 1) t vs fault
+put_values put n s (v ∷ vs) fault = at_line n (put n s v) >>= λ t. put_values put (n + 1) t vs fault
 
-abbrev pub put_part : {S V C : Type 0} → (S → V → Result S C) → ℕ → S → PartTold V C → Result S (LineFault C)
+abbrev pub put_part : {S V C : Type 0} → (ℕ → S → V → Result S C) → ℕ → S → PartTold V C → Result S (LineFault C)
 put_part put n s p = put_values put n s p.values p.fault
 
 -- of one part after the other
-abbrev pub put_parts : {S V C : Type 0} → (S → V → Result S C) → ℕ → S → List (PartTold V C) → Result S (LineFault C)
+abbrev pub put_parts : {S V C : Type 0} → (ℕ → S → V → Result S C) → ℕ → S → List (PartTold V C)
+    → Result S (LineFault C)
 put_parts put n s [] = Ok s
 put_parts put n s (p ∷ ps) = put_part put n s p >>= λ t. put_parts put (n + length p.values) t ps
 
--- what a call answered, and made of the value
-abbrev pub answered : {S T E : Type 0} → Result T E → S → Result S E
-answered (Ok u) s = Ok s
-answered (Err e) s = Err e
-
--- what a line makes of s is what it says, put into s
-abbrev pub taken_by : {S V C : Type 0} → (List ℕ → Result V C) → (S → V → Result S C) → ℕ → S → List ℕ → Result S C
-taken_by told put n s line = told line >>= λ v. put s v
+-- what line number n makes of s is what it says, put into s
+abbrev pub taken_by : {S V C : Type 0} → (List ℕ → Result V C) → (ℕ → S → V → Result S C) → ℕ → S → List ℕ
+    → Result S C
+taken_by told put n s line = told line >>= λ v. put n s v

@@ -100,7 +100,9 @@ fn take_whole<J: TellLine + Sync, P: PutTold<J>, T: Threads + Sync>(
     requires some { 0 < workers }
     requires whole { has_whole_lines lines.now ≡ true }
     requires few { place.number + length lines.now < 2 ^ 64 }
-    ensures { TakesWhole (taken_by (J.told teller.now) P.put) place value.old lines.now result value.new }
+    requires place { P.next value.old ≤ place.number }
+    ensures takes { TakesWhole (taken_by (J.told teller.now) P.put) place value.old lines.now result value.new }
+    ensures further { IfOk result (λ to. P.next value.new ≤ to.number) }
 {
     let Ok(blocks) = cut_blocks(alloc, lines, place.room, workers) else {
         return Err(out_of_memory(place.number));
@@ -130,8 +132,10 @@ fn take_lines<J: TellLine + Sync, P: PutTold<J>, T: Threads + Sync>(
     requires few { place.number + vec_len bytes.old < 2 ^ 64 }
     requires within { seen ≤ vec_len bytes.old }
     requires seen { lacks (take seen bytes.old.items) ≡ true }
-    ensures { TakesLines (taken_by (J.told teller.now) P.put) place value.old bytes.old.items result bytes.new.items
-        value.new }
+    requires place { P.next value.old ≤ place.number }
+    ensures takes { TakesLines (taken_by (J.told teller.now) P.put) place value.old bytes.old.items result
+        bytes.new.items value.new }
+    ensures further { IfOk result (λ to. P.next value.new ≤ to.number) }
 {
     let count = whole_len(bytes, seen);
     if count == 0 {
@@ -155,15 +159,16 @@ fn take_last<J: TellLine, P: PutTold<J>>(
     number: u64,
     line: &[u8],
 ) -> Result<(), LineFault<J::Cause>>
+    requires { P.next value.old ≤ number }
     ensures ok { OnOk result (taken_by (J.told teller.now) P.put number value.old line.now ≡ Ok value.new) }
     ensures refused { IfErr result (λ e. (e.line ≡ number)
         × Refuses (taken_by (J.told teller.now) P.put number value.old line.now) e.stop) }
 {
     let mut scratch = teller.scratch(alloc);
     let stop = match teller.tell(alloc, &mut scratch, line) {
-        Ok(Ok(said)) => match value.put(said) {
+        Ok(Ok(said)) => match value.put(number, said) {
             Ok(()) => return Ok(()),
-            Err(cause) => Stop::Line(cause),
+            Err(stop) => stop,
         },
         Ok(Err(cause)) => Stop::Line(cause),
         Err(_) => return Err(out_of_memory(number)),
@@ -182,7 +187,8 @@ pub fn read_blocks<R: Source, J: TellLine + Sync, P: PutTold<J>, T: Threads + Sy
     value: &mut P,
     workers: usize,
 ) -> Result<(), LineFault<J::Cause>>
-    requires { (0 < workers) × (workers ≤ 16) }
+    requires workers { (0 < workers) × (workers ≤ 16) }
+    requires place { P.next value.old ≤ 1 }
     ensures { LinesRead R.given R.ends R.failures R.remaining (taken_by (J.told teller.now) P.put)
         reader.old reader.new value.old value.new result }
 {

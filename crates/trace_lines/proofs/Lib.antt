@@ -8,6 +8,7 @@ pub mod IssuedVersions
 pub mod IssuerWalk
 pub mod Keeping
 pub mod LineCauses
+pub mod LineSplits
 pub mod OfBytes
 pub mod Orderly
 pub mod Placing
@@ -15,3 +16,4 @@ pub mod Reading
 pub mod Recording
 pub mod RisingLines
 pub mod Sampling
+pub mod TraceTold

@@ -13,6 +13,10 @@ use Rattle.namespaces.specs.Changing.{rules_change}
 use Rattle.version_chains.specs.Commits.{Commit, added}
 use Rattle.version_chains.specs.Appends.{append_fault}
 use Rattle.refusals.proofs.Steps.{OkHas, passes, passes_with, either_passes, value_has}
+use Rattle.serde_json.specs.Read.{read}
+use Rattle.json_lines.specs.Json.{of_json}
+use Rattle.trace_lines.specs.LineValues.{LineValue, commits, declares, placed_at, put_line, records}
+use Rattle.trace_lines.specs.declared.cause.Cause.TheVariants as causes
 use Rattle.json_lines.specs.Fields.{number_at, optional_number_at, flag_at, text_at, optional_text_at}
 use Rattle.trace_lines.specs.Causes.{needed, namespace_cause, Gives}
 use Rattle.trace_lines.specs.Texts.{goal_of, token_of, version_at}
@@ -132,6 +136,23 @@ fits_value n t d le = fits_kind n t d (option_and_then as_str (get (codes "kind"
 pub line_further : (n : ℕ) (t u : TraceValue) (d : Data) (result : Result (Unit {0}) Cause) → next_line t ≤ n → Gives (λ _. u) result (value_line n t d) → OnOk result (next_line u ≤ n + 1)
 line_further n t u d (Ok x) le e = value_has (Fits n) (value_line n t d) u e (fits_value n t d le)
 line_further n t u d (Err c) le e = tt
+
+fits_text : (n : ℕ) (t : TraceValue) (o : Option Data) → next_line t ≤ n
+    → OkHas (Fits n) (of_json causes.NotJson (declaration_line n t) o)
+fits_text n t None le = tt
+fits_text n t (Some d) le = fits_declaration n t d le
+
+fits_put : (n : ℕ) (t : TraceValue) (l : LineValue) → next_line t ≤ n → OkHas (Fits n) (put_line n t l)
+fits_put n t (declares text) le = fits_text n t (read text) le
+fits_put n t (commits c) le = fits_commit n t c le
+fits_put n t (records e) le =
+    fits_entry n (length t.commits) t (placed_at n (length t.commits) e) le (refl, refl)
+
+-- so does what a line says, put in
+pub put_further : (n : ℕ) (t u : TraceValue) (l : LineValue) (result : Result (Unit {0}) Cause) → next_line t ≤ n
+    → Gives (λ _. u) result (put_line n t l) → OnOk result (next_line u ≤ n + 1)
+put_further n t u l (Ok x) le e = value_has (Fits n) (put_line n t l) u e (fits_put n t l le)
+put_further n t u l (Err c) le e = tt
 
 pub entry_stands : (kind : EntryKind) (n before : ℕ) (d : Data) (e : EntryValue) → entry_of kind n before d ≡ Ok e → (e.line ≡ n) × (e.before ≡ before)
 entry_stands kind n before d e h = value_has (StandsAt n before) (entry_of kind n before d) e h (stands_at kind n before d)

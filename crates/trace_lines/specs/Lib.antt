@@ -3,13 +3,17 @@ pub mod Declaring
 pub mod Indexed
 pub mod Issued
 pub mod Kept
+pub mod LineCode
 pub mod LineFields
+pub mod LineValues
+pub mod LineViews
 pub mod Placed
 pub mod Reads
 pub mod Recorded
 pub mod Results
 pub mod Texts
 pub mod TraceCode
+pub mod TraceReads
 pub mod Traces
 pub mod Tuples
 pub mod Values

@@ -15,7 +15,7 @@ use Rattle.trace_lines.specs.declared.entry.EntryKind.{EntryKind}
 use Rattle.trace_lines.specs.declared.entry.EntryKind.TheVariants.{Check, Content}
 use Rattle.trace_lines.specs.Values.{EntryValue, TraceValue}
 
-abbrev text_code : Coded (List ℕ)
+abbrev pub text_code : Coded (List ℕ)
 text_code = coded_list coded_ℕ
 
 abbrev set_code : Coded SetValue
@@ -44,7 +44,7 @@ tuple_code = code_by (SetValue × User) (coded× set_code user_code) (λ t. (t.s
 abbrev pub fact_code : Coded FactValue
 fact_code = code_by (SetValue × ℕ) (coded× set_code coded_ℕ) (λ f. (f.set, f.user)) (λ p. record { set = p.0; user = p.1 }) (λ _. refl)
 
-abbrev commit_code : Coded Commit
+abbrev pub commit_code : Coded Commit
 commit_code =
     code_by (ℕ × (List TupleValue × List TupleValue)) (coded× coded_ℕ (coded× (coded_list tuple_code) (coded_list tuple_code)))
     (λ c. (c.at, (c.adds, c.removes))) (λ p. record { at = p.0; adds = p.1.0; removes = p.1.1 }) (λ _. refl)
@@ -82,7 +82,7 @@ entry_kind-is_check Content = refl
 abbrev entry_kind_code : Coded EntryKind
 entry_kind_code = code_by Bool coded_bool is_check entry_kind entry_kind-is_check
 
-abbrev entry_code : Coded EntryValue
+abbrev pub entry_code : Coded EntryValue
 entry_code =
     code_by (EntryKind × (ℕ × (FactValue × (ℕ × (Bool × (Option Token × (Option (List ℕ) × ℕ)))))))
     (coded× entry_kind_code (coded× coded_ℕ (coded× fact_code (coded× coded_ℕ (coded× coded_bool (coded× (coded_option token_code) (coded× (coded_option text_code) coded_ℕ)))))))

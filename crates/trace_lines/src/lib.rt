@@ -3,6 +3,8 @@
 //! [`read_trace`] makes a [`Trace`] of the lines of a source, and [`read_trace_front`] of those in front of the marker of joined input,
 //! with what stands behind it still to be read. Contracts see a trace as `TraceValue`: its declarations, its commits with
 //! the lines that they stand on, and its entries.
+//! [`TraceLine`] is what a line says by itself, and [`Trace::put_line`] puts that into a trace: so several threads may
+//! tell what lines say.
 //!
 //! Callers may rely on this: what is read is `trace_of` the bytes, value or first fault, with its line, also of a reader that fails. Input
 //! that never ends is refused at the limits. Commits and entries stand on lines that rise. No look-up takes memory. Strata are valid at
@@ -18,6 +20,7 @@
 
 mod cause;
 mod checks;
+mod commits;
 mod declaring;
 mod edge_index;
 mod entry;
@@ -29,6 +32,7 @@ mod reads;
 mod recorded;
 mod sample;
 mod texts;
+mod told;
 mod trace;
 mod version_ref;
 mod versions;
@@ -38,4 +42,5 @@ pub use entry::{Entry, EntryKind};
 pub use front::{TraceFront, read_trace_front};
 pub use json_lines::{Counted, Failing, Sink, Source, Unsent, send};
 pub use read::read_trace;
+pub use told::TraceLine;
 pub use trace::Trace;

@@ -1,6 +1,6 @@
 //! Reading a whole trace.
 
-ghost use Rattle.trace_lines.specs.Results.{TraceRead};
+ghost use Rattle.trace_lines.specs.TraceReads.{TraceRead};
 
 use crate::cause::TraceFault;
 use crate::trace::Trace;

@@ -3,14 +3,14 @@
 ghost use Rattle.std.specs.Prelude.{◌≡◌, ◌+◌, ◌<◌, ◌≤◌, Some, None, slice_get, ◌^◌, ◌&&◌, [], length, take, drop, All, true, false, ℕ, ◌++◌, map, option_map, option_and_then, Ok, IfOk, OnOk, OnErr, IfErr, IfSome, IsErr};
 ghost use Rattle.std.specs.Io.KnownBytes.{Consumes};
 ghost use Rattle.std.specs.Option.{ForSome};
-ghost use Rattle.serde_json.specs.Data.{Data};
 ghost use Rattle.serde_json.specs.View.{view};
 ghost use Rattle.json_lines.specs.Data.{value_data, line_data};
 ghost use Rattle.tuple_text.specs.Refs.{set_value};
 ghost use Rattle.tuple_text.specs.TupleRefs.{tuple_values};
 ghost use Rattle.trace_lines.specs.Causes.{Gives};
 ghost use Rattle.trace_lines.specs.Indexed.{IsIndex};
-ghost use Rattle.trace_lines.specs.LineFields.{commit_fields};
+ghost use Rattle.trace_lines.specs.LineValues.{commits, declares, put_line, records};
+ghost use Rattle.trace_lines.specs.LineViews.{owned_value};
 ghost use Rattle.trace_lines.specs.Values.{empty_trace, entry_value, entry_lines, next_line};
 ghost use Rattle.trace_lines.specs.Traces.{is_declared, are_declared, is_begun, namespace_line, change_line, declaration_line, commit_checked, commit_of, with_commit, commit_line, entry_of, recorded, with_entry, entry_line, value_line};
 ghost use Rattle.trace_lines.specs.Versions.{entry_version, version_issued, issuer, content_among, content_of, AreIssuedOnce};
@@ -30,14 +30,16 @@ ghost use Rattle.userset_index.specs.Index.{IsUsersetIndex};
 
 use crate::cause::Cause;
 use crate::checks::entry_of;
+use crate::commits::{OwnedCommit, commit_of, tuple_refs};
 use crate::declaring::{change, declare, late_change};
 use crate::edge_index::EdgeIndex;
 use crate::entry::{Entry, EntryKind};
 use crate::recorded::Recorded;
 use crate::sample::{Sample, is_of_relation};
-use crate::texts::tuples_of;
+use crate::told::{Said, TraceLine};
 use crate::versions::{Versions, version_of};
-use json_lines::fields::{number_of, optional_number_at, strings_of, text_at};
+use json::Scratch;
+use json_lines::fields::{optional_number_at, text_at};
 use json_lines::{JsonLine, JsonRef, TakeJson};
 use namespaces::{Rules, RulesFault};
 use serde_json::Value;
@@ -138,7 +140,8 @@ fn commit(
 }
 
 impl Trace {
-    pub(crate) fn new(alloc: Global) -> Trace
+    /// The trace of no lines.
+    pub fn new(alloc: Global) -> Trace
         ensures { result ≡ empty_trace }
     {
         Trace {
@@ -177,7 +180,7 @@ impl Trace {
     }
 
     /// Makes that index, when all lines are read. Where memory is refused there is none, and whoever asks walks over all usersets.
-    pub(crate) fn settle(&mut self)
+    pub fn settle(&mut self)
         ensures { self.new ≡ self.old }
     {
         match UsersetIndex::of(self.alloc, &self.chains, &self.rules) {
@@ -351,29 +354,8 @@ impl Trace {
         requires { next_line self.old ≤ line }
         ensures { Gives (λ _. self.new) result (commit_line line self.old (value_data value.now)) }
     {
-        let names = ["at", "add", "remove"];
-        let mut places = [None, None, None];
-        // A slice: the proof knows what a call leaves in one, and not in an array.
-        let found: &mut [Option<JsonRef<'_, '_>>] = &mut places;
-        value.get_all(&names, found);
-        self.take_changes(line, found)
-    }
-
-    /// Takes the changes that fields commit.
-    #[tactic(auto, unfolding(crate::specs::Traces::commit_of, crate::specs::Traces::with_commit))]
-    fn take_changes(&mut self, line: u64, fields: &[Option<JsonRef<'_, '_>>]) -> Result<(), Cause>
-        requires { next_line self.old ≤ line }
-        ensures { (d : Data) → map (option_map value_data) fields.now ≡ commit_fields d → Gives (λ _. self.new) result (commit_line line self.old d) }
-    {
-        let [at, add, remove] = fields else {
-            return Err(Cause::Shape);
-        };
-        let at = number_of(at.as_ref()).ok_or(Cause::Shape)?;
-        let add = strings_of(add.as_ref()).ok_or(Cause::Shape)?;
-        let remove = strings_of(remove.as_ref()).ok_or(Cause::Shape)?;
-        let adds = tuples_of(self.alloc, add)?;
-        let removes = tuples_of(self.alloc, remove)?;
-        self.append(line, at, &adds, &removes)
+        let commit = commit_of(self.alloc, value)?;
+        self.append(line, commit.at, &commit.adds, &commit.removes)
     }
 
     #[tactic(auto, unfolding(crate::specs::Traces::with_commit))]
@@ -416,7 +398,6 @@ impl Trace {
     }
 
     /// Takes a line that records a check.
-    #[tactic(auto, unfolding(crate::specs::Traces::with_entry))]
     fn take_entry(
         &mut self,
         kind: EntryKind,
@@ -427,6 +408,16 @@ impl Trace {
         ensures { Gives (λ _. self.new) result (entry_line kind line self.old (value_data value.now)) }
     {
         let entry = entry_of(self.alloc, kind, line, self.commit_lines.len(), value)?;
+        self.take_recorded(entry)
+    }
+
+    /// Takes an entry that stands behind all others.
+    #[tactic(auto, unfolding(crate::specs::Traces::with_entry))]
+    fn take_recorded(&mut self, entry: Entry) -> Result<(), Cause>
+        requires line { next_line self.old ≤ entry.line }
+        requires before { entry.before ≡ length self.old.commit_lines }
+        ensures { Gives (λ _. self.new) result (with_entry self.old (entry_value entry)) }
+    {
         if !self.is_declared(entry.goal.set()) {
             return Err(Cause::Unknown);
         }
@@ -509,6 +500,49 @@ impl Trace {
                 }
             }
             None => Err(Cause::Kind),
+        }
+    }
+
+    /// Takes a line of this text that declares a namespace.
+    fn put_declaration(&mut self, line: u64, text: &str) -> Result<(), Cause>
+        requires { next_line self.old ≤ line }
+        ensures { Gives (λ _. self.new) result (put_line line self.old (declares text.now)) }
+    {
+        let mut scratch = Scratch::new(self.alloc);
+        match JsonLine::read(self.alloc, text, &mut scratch)? {
+            Some(json) => self.take_declaration(line, &json),
+            None => Err(Cause::NotJson),
+        }
+    }
+
+    fn put_commit(&mut self, line: u64, commit: &OwnedCommit) -> Result<(), Cause>
+        requires { next_line self.old ≤ line }
+        ensures { Gives (λ _. self.new) result (put_line line self.old (commits (owned_value commit.now))) }
+    {
+        let adds = tuple_refs(self.alloc, &commit.adds)?;
+        let removes = tuple_refs(self.alloc, &commit.removes)?;
+        self.append(line, commit.at, &adds, &removes)
+    }
+
+    fn put_entry(&mut self, line: u64, mut entry: Entry) -> Result<(), Cause>
+        requires { next_line self.old ≤ line }
+        ensures { Gives (λ _. self.new) result (put_line line self.old (records (entry_value entry))) }
+    {
+        entry.line = line;
+        entry.before = self.commit_lines.len();
+        self.take_recorded(entry)
+    }
+
+    /// Puts in what the line of this number says.
+    pub fn put_line(&mut self, number: u64, line: TraceLine) -> Result<(), Cause>
+        requires { next_line self.old ≤ number }
+        ensures answer { Gives (λ _. self.new) result (put_line number self.old line) }
+        ensures further { OnOk result (next_line self.new ≤ number + 1) }
+    {
+        match line.into_said() {
+            Said::Declares(text) => self.put_declaration(number, &text),
+            Said::Commits(commit) => self.put_commit(number, &commit),
+            Said::Records(entry) => self.put_entry(number, entry),
         }
     }
 }

@@ -3,7 +3,7 @@ use Rattle.std.proofs.Common.{refl}
 use Rattle.std.proofs.Crossing.{crosses}
 use Rattle.json_lines.proofs.InputReads.{unread}
 use Rattle.evidence_check.proofs.Judgements.{judged_read, refused_read}
-use Rattle.evidence_blocks.proofs.Alike.{told}
+use Rattle.line_blocks.proofs.Alike.{told}
 use Rattle.evidence_blocks.proofs.DeskSend.{desk_send}
 use Rattle.evidence_blocks.proofs.Records.{as_records}
 use Rattle.evidence_blocks.proofs.TraceSync.{trace_sync}

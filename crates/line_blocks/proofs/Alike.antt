@@ -9,6 +9,7 @@ use Rattle.json_lines.specs.declared.reading.LineFault.{LineFault}
 use Rattle.json_lines.specs.declared.reading.Stop.{Stop}
 use Rattle.json_lines.specs.declared.reading.Stop.TheVariants.{Input}
 use Rattle.json_lines.proofs.InputReads.{answered, refused}
+use Rattle.line_blocks.proofs.Parts.{bind_same}
 
 module _ {S C : Type 0} (taken : ℕ → S → List ℕ → Result S C) where
   -- a cause that was answered is what some line gave
@@ -34,6 +35,27 @@ module _ {S C : Type 0} (taken : ℕ → S → List ℕ → Result S C) where
       over true cut later h = λ d stop. absurd (cc (h, stop))
       over false true later h = λ d stop. absurd (cc (h, stop))
       over false false later h = step (taken n s line) refl later h
+
+-- two ways make the same of each line, and so of an input
+module _ {S C : Type 0} (by taken : ℕ → S → List ℕ → Result S C)
+    (same : (n : ℕ) (s : S) (line : List ℕ) → by n s line ≡ taken n s line) where
+  lines_alike : (whole : Bool) (n room : ℕ) (s : S) (lines : List (List ℕ))
+      → read_from by whole n room s lines ≡ read_from taken whole n room s lines
+  lines_alike whole n room s [] = refl
+  lines_alike whole n room s (line ∷ lines) =
+      let rest : S → Result S (LineFault C) =
+      λ t. read_from by whole (n + 1) (room - (length line + 1)) t lines in
+      ap
+      (λ (r : Result S (LineFault C)). cond (passes_limit room line (not (eqb (length lines) 0)))
+      (Err (record { line = n; stop = Input TooLong }))
+      (cond (not whole && eqb (length lines) 0) (Err (record { line = n; stop = Input Read })) r))
+      (ap (λ (x : Result S C). at_line n x >>= rest) (same n s line)
+      ∙ bind_same (at_line n (taken n s line)) rest _
+      (λ t. lines_alike whole (n + 1) (room - (length line + 1)) t lines))
+
+  pub inputs_alike : (whole : Bool) (s : S) (input : List ℕ) → read_all by whole s input ≡ read_all taken whole s input
+  unfolding read_all
+  inputs_alike whole s input = lines_alike whole 1 (2 ^ 30) s (parts input)
 
 module _ {R S T C : Type 0} (given : R → List ℕ) (ends failures : R → ℕ) (remaining : R → Option (List ℕ))
     (taken by : ℕ → S → List ℕ → Result S C) (old new : R) (start now : S) where

@@ -1,0 +1,2 @@
+pub mod LinesOfTrace
+pub mod ToldLines

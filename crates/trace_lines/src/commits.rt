@@ -1,0 +1,96 @@
+//! Lines that commit changes.
+
+ghost use Rattle.std.specs.Prelude.{◌≡◌, IfOk, map, option_map};
+ghost use Rattle.serde_json.specs.Data.{Data};
+ghost use Rattle.json_lines.specs.Data.{value_data};
+ghost use Rattle.tuple_text.specs.TupleRefs.{tuple_values};
+ghost use Rattle.trace_lines.specs.Causes.{Gives};
+ghost use Rattle.trace_lines.specs.LineFields.{commit_fields};
+ghost use Rattle.trace_lines.specs.LineViews.{commit_value, owned_value};
+ghost use Rattle.trace_lines.specs.Traces.{commit_of};
+
+use crate::cause::Cause;
+use crate::texts::tuples_of;
+use json_lines::JsonRef;
+use json_lines::fields::{number_of, strings_of};
+use std::alloc::{AllocError, Global};
+use tuple_text::{Tuple, TupleRef};
+
+/// What a line commits. The tuples borrow from the line.
+#[derive(Drop)]
+pub(crate) struct CommitRef<'a> {
+    pub(crate) at: u64,
+    pub(crate) adds: Vec<TupleRef<'a>>,
+    pub(crate) removes: Vec<TupleRef<'a>>,
+}
+
+/// What a line commits, in texts of its own.
+#[derive(Drop)]
+pub(crate) struct OwnedCommit {
+    pub(crate) at: u64,
+    pub(crate) adds: Vec<Tuple>,
+    pub(crate) removes: Vec<Tuple>,
+}
+
+/// What a line commits.
+pub(crate) fn commit_of<'a>(alloc: Global, value: &JsonRef<'_, 'a>) -> Result<CommitRef<'a>, Cause>
+    ensures { Gives commit_value result (commit_of (value_data value.now)) }
+{
+    let names = ["at", "add", "remove"];
+    let mut places = [None, None, None];
+    // A slice: the proof knows what a call leaves in one, and not in an array.
+    let found: &mut [Option<JsonRef<'_, '_>>] = &mut places;
+    value.get_all(&names, found);
+    commit_in(alloc, found)
+}
+
+/// What fields commit.
+#[tactic(auto, unfolding(crate::specs::Traces::commit_of))]
+fn commit_in<'a>(alloc: Global, fields: &[Option<JsonRef<'_, 'a>>]) -> Result<CommitRef<'a>, Cause>
+    ensures { (d : Data) → map (option_map value_data) fields.now ≡ commit_fields d → Gives commit_value result (commit_of d) }
+{
+    let [at, add, remove] = fields else {
+        return Err(Cause::Shape);
+    };
+    let at = number_of(at.as_ref()).ok_or(Cause::Shape)?;
+    let add = strings_of(add.as_ref()).ok_or(Cause::Shape)?;
+    let remove = strings_of(remove.as_ref()).ok_or(Cause::Shape)?;
+    let adds = tuples_of(alloc, add)?;
+    let removes = tuples_of(alloc, remove)?;
+    Ok(CommitRef { at, adds, removes })
+}
+
+/// Tuples with texts of their own.
+fn owned_tuples(alloc: Global, tuples: &[TupleRef<'_>]) -> Result<Vec<Tuple>, AllocError>
+    ensures { IfOk result (λ v. v.items ≡ tuple_values tuples.now) }
+{
+    let mut owned = Vec::with_capacity(alloc, tuples.len())?;
+    for tuple in tuples {
+        owned.push(tuple.to_tuple(alloc)?)?;
+    }
+    Ok(owned)
+}
+
+/// Tuples, borrowed.
+pub(crate) fn tuple_refs(alloc: Global, tuples: &[Tuple]) -> Result<Vec<TupleRef<'_>>, AllocError>
+    ensures { IfOk result (λ v. tuple_values v.items ≡ tuples.now) }
+{
+    let mut refs = Vec::with_capacity(alloc, tuples.len())?;
+    for tuple in tuples {
+        refs.push(tuple.as_ref())?;
+    }
+    Ok(refs)
+}
+
+impl CommitRef<'_> {
+    /// The same, in texts of its own.
+    pub(crate) fn to_owned(&self, alloc: Global) -> Result<OwnedCommit, AllocError>
+        ensures { IfOk result (λ c. owned_value c ≡ commit_value self.now) }
+    {
+        Ok(OwnedCommit {
+            at: self.at,
+            adds: owned_tuples(alloc, &self.adds)?,
+            removes: owned_tuples(alloc, &self.removes)?,
+        })
+    }
+}
