@@ -41,6 +41,12 @@ KIND is one of
   few_through    a rule of 14 relations through one tupleset, which stores usersets of 250 namespaces that declare none of them
   many_names     a rule of 30 relations through a tupleset that stores usersets of a namespace with 250 others
   many_tuplesets a rule through 100 tuplesets, each of which stores usersets of 17 namespaces that do not declare what is read
+  tuplesets_in_turn  the same with 240 namespaces that declare what is read and of which nothing is stored, and facts of two objects in turn
+  snapshots_in_turn  the same, and records of one fact each at two snapshots in turn
+  objects_in_turn    the same, and facts of 16 objects, of which each is asked for again and again
+  wide_tuples    a rule of many intersections of relations that are read through ten tuplesets, no two alike and none declared
+  wide_stored    the same, and each tupleset stores 17 usersets, among 250 namespaces
+  same_object    a tupleset that stores usersets of one object alone, and facts that name what is read of it
   wide_folders   as `wide_through`, and each fact is of another object, in whose tupleset a userset is stored
   ring           groups in a circle, and checks that each of many strangers is not in it: for `make`
   wide_make      a rule of many places that compute one relation, and objects in a chain of such rules: for `make`
@@ -571,6 +577,67 @@ def many_tuplesets(size):
     return asked_of_many(given)
 
 
+def read_tuplesets(size, objects):
+    """A rule through 100 tuplesets, each of which stores 17 usersets of namespaces that do not declare what 240 others declare."""
+    sets = [f"p{k}" for k in range(100)]
+    rule = nested([{"tuple_to": {"tupleset": name, "computed": "m"}} for name in sets])
+    others = [{"name": f"n{k}", "relations": [relation("m" if k < 240 else "r")]} for k in range(250)]
+    given = Input(size, [{"name": "doc", "relations": [*map(relation, [*sets, "m"]), relation("viewer", rule)]}, *others])
+    given.bytes = sum(map(len, given.lines))
+    for one in objects:
+        for name in sets:
+            given.commit([f"doc:{one}#{name}@n{240 + k % 10}:p{k}#r" for k in range(17)])
+    return given
+
+
+def asked_in_turn(size, objects):
+    given = read_tuplesets(size, objects)
+    user = 0
+    while not given.is_full():
+        count = min(max((given.size - given.bytes) // 20, 1), 40000)
+        refused(given, [f"doc:{objects[one % len(objects)]}#viewer@{one}" for one in range(user, user + count)])
+        user += count
+    return given
+
+
+def snapshots_in_turn(size):
+    given = read_tuplesets(size, ["a"])
+    user = 0
+    while not given.is_full():
+        refused(given, [f"doc:a#viewer@{user}"], given.at - user % 2)
+        user += 1
+    return given
+
+
+def wide_tuples(size, names=0):
+    """A rule of many intersections of what is read through ten tuplesets, and so many further namespaces."""
+    sets = [f"p{k}" for k in range(10)]
+    places = [{"intersection": [{"tuple_to": {"tupleset": sets[k % 10], "computed": "c%x" % (2 * k + j)}} for j in range(2)]}
+              for k in range(min(size // 3, LINE * 8 // 10) // 120)]
+    others = [{"name": f"n{k}", "relations": [relation("r")]} for k in range(names)]
+    given = Input(size, [{"name": "doc", "relations": [*map(relation, sets), relation("viewer", nested(places))]}, *others])
+    given.bytes = sum(map(len, given.lines))
+    for name in sets:
+        given.commit([f"doc:a#{name}@n{k}:p#r" for k in range(17)] if names else [f"doc:b#{name}@1"])
+    return asked_of_many(given)
+
+
+def same_object(size):
+    rule = {"tuple_to": {"tupleset": "parent", "computed": "member"}}
+    given = Input(size, [{"name": "doc", "relations": [relation("parent"), relation("viewer", rule)]},
+                         {"name": "group", "relations": [relation("member")]}])
+    k = 0
+    while given.bytes < size // 2:
+        given.commit([f"doc:a#parent@group:g#x{j}" for j in range(k, k + 100)])
+        k += 100
+    user = 0
+    while not given.is_full():
+        users = range(user, user + min(max((given.size - given.bytes) // 40, 1), 20000))
+        refused(given, [f"{goal}@{one}" for one in users for goal in ("doc:a#viewer", "group:g#member")])
+        user += len(users)
+    return given
+
+
 def wide_folders(size):
     given = through_many(size)
     k = 0
@@ -739,6 +806,12 @@ KINDS = {
     "few_through": few_through,
     "many_names": many_names,
     "many_tuplesets": many_tuplesets,
+    "tuplesets_in_turn": lambda size: asked_in_turn(size, "ab"),
+    "snapshots_in_turn": snapshots_in_turn,
+    "objects_in_turn": lambda size: asked_in_turn(size, "abcdefghijklmnop"),
+    "wide_tuples": wide_tuples,
+    "wide_stored": lambda size: wide_tuples(size, 250),
+    "same_object": same_object,
     "wide_folders": wide_folders,
     "ring": ring,
     "wide_make": wide_make,

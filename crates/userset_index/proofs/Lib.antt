@@ -1,3 +1,5 @@
 pub mod BuildLemmas
 pub mod CallerLemmas
+pub mod MomentLemmas
+pub mod NumberLemmas
 pub mod SpanLemmas

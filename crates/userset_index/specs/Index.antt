@@ -8,19 +8,25 @@ use Rattle.version_chains.specs.Commits.{Commit, Touch, changelog}
 use Rattle.version_chains.specs.Marks.{pair_mark, set_mark}
 use Rattle.version_chains.specs.Placed.{passes}
 use Rattle.userset_index.specs.Lives.{is_alive}
+use Rattle.userset_index.specs.Numbers.{Has}
 use Rattle.userset_index.specs.declared.life.Life.{Life}
 use Rattle.userset_index.specs.declared.life.Way.{Way}
+use Rattle.userset_index.specs.declared.numbers.Numbers.{Numbers}
 use Rattle.userset_index.specs.declared.life.Way.TheVariants.{Own, Through, Object}
 
 -- what a contract sees of an index: whether it holds of the changelog and the rules; the counts by which usersets are
 -- crowded; the lives by the mark of the userset that is stored in; those by that and a namespace; and those by that
--- and an object
+-- and an object. And whether the moments hold of them: lives by the mark of the userset that is stored in, at whose
+-- places stand the namespaces of which something is stored there while they last
 pub record IndexValue : Type 0 where
   pub is_whole : Bool
   pub crowds : List ℕ
   pub own : List Life
   pub through : List Life
   pub objects : List Life
+  pub is_timed : Bool
+  pub moments : List Life
+  pub numbers : List Numbers
 
 -- at how many touches a userset is no longer passed over one by one
 abbrev pub few : ℕ
@@ -71,11 +77,35 @@ Holds ds way touches crowds lives =
     → is_crowded crowds (set_mark x.tuple.set) ≡ true → at < 2 ^ 64 → IsMark ds way x.tuple.set g at mark
     → IsFound lives mark at i
 
+-- one of the lives with a mark holds a timestamp, and what stands at its place has a number
+pub record IsCovered (lives : List Life) (numbers : List Numbers) (mark n t : ℕ) : Type 0 where
+  pub life : Life
+  pub set : Numbers
+  pub there : Contains lives life
+  pub marked : life.mark ≡ mark
+  pub alive : is_alive t life ≡ true
+  pub here : slice_get numbers life.touch ≡ Some set
+  pub has : Has set n
+
+-- each userset that is stored in another at a timestamp is of a namespace that the moment there has
+abbrev pub HaveMoments : List Declaration → List Touch → List Life → List Numbers → Type 0
+HaveMoments ds touches lives numbers =
+    (i at n : ℕ) (x : Touch) (g : SetValue) → IsLastTouch touches at i x → x.tuple.user ≡ Set g → at < 2 ^ 64
+    → place_of g.namespace (namespace_names ds) ≡ Some n → IsCovered lives numbers (set_mark x.tuple.set) n at
+
 pub record IsWhole (ds : List Declaration) (commits : List Commit) (v : IndexValue) : Type 0 where
   pub own : Holds ds Own (changelog commits) v.crowds v.own
   pub through : Holds ds Through (changelog commits) v.crowds v.through
   pub objects : Holds ds Object (changelog commits) v.crowds v.objects
+  pub timed : v.is_timed ≡ true → HaveMoments ds (changelog commits) v.moments v.numbers
 
 -- an index of these declarations and commits, unless it was given up
 abbrev pub IsUsersetIndex : List Declaration → List Commit → IndexValue → Type 0
 IsUsersetIndex ds commits v = v.is_whole ≡ true → IsWhole ds commits v
+
+-- each userset that is stored in `s` at a timestamp is of a namespace among these
+abbrev pub AreNamespaces : IndexValue → SetValue → ℕ → Numbers → Type 0
+AreNamespaces v s at numbers =
+    (ds : List Declaration) (commits : List Commit) (i n : ℕ) (x : Touch) (g : SetValue) → IsUsersetIndex ds commits v
+    → IsLastTouch (changelog commits) at i x → x.tuple.set ≡ s → x.tuple.user ≡ Set g → at < 2 ^ 64
+    → place_of g.namespace (namespace_names ds) ≡ Some n → Has numbers n

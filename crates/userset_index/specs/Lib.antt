@@ -1,4 +1,6 @@
 pub mod Building
 pub mod Index
 pub mod Lives
+pub mod Moments
+pub mod Numbers
 pub mod Spans

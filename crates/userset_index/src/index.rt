@@ -1,14 +1,16 @@
 //! The index.
 
-ghost use Rattle.std.specs.Prelude.{◌≡◌, ◌&&◌, length, false, IfOk};
+ghost use Rattle.std.specs.Prelude.{◌≡◌, ◌&&◌, length, false, IfOk, IfSome};
 ghost use Rattle.tuple_text.specs.Refs.{set_value};
 ghost use Rattle.version_chains.specs.Marks as marks;
 ghost use Rattle.userset_index.specs.Index as spec;
-ghost use Rattle.userset_index.specs.Index.{IsUsersetIndex};
+ghost use Rattle.userset_index.specs.Index.{AreNamespaces, IsUsersetIndex};
 ghost use Rattle.userset_index.specs.Lives.{touches_alive};
 
 use crate::build::{count_crowds, ends_of, is_any_crowded, is_crowded, linked_lives, object_mark};
 use crate::life::Way;
+use crate::moments::Times;
+use crate::numbers::Numbers;
 use crate::spans::{Alive, Spans};
 use namespaces::Rules;
 use std::alloc::{AllocError, Global};
@@ -25,6 +27,7 @@ pub struct UsersetIndex {
     own: Spans,
     through: Spans,
     objects: Spans,
+    times: Times,
 }
 
 impl Model for UsersetIndex {
@@ -32,7 +35,16 @@ impl Model for UsersetIndex {
 
     ghost Value = { IndexValue };
 
-    ghost view = { λ x. record { is_whole = x.is_whole; crowds = x.crowds.items; own = x.own; through = x.through; objects = x.objects } };
+    ghost view = { λ x. record {
+      is_whole = x.is_whole;
+      crowds = x.crowds.items;
+      own = x.own;
+      through = x.through;
+      objects = x.objects;
+      is_timed = x.times.is_whole;
+      moments = x.times.moments;
+      numbers = x.times.numbers.items;
+    } };
 }
 
 impl UsersetIndex {
@@ -46,18 +58,21 @@ impl UsersetIndex {
             own: Spans::new(alloc),
             through: Spans::new(alloc),
             objects: Spans::new(alloc),
+            times: Times::new(alloc),
         }
     }
 
     /// Makes the index of a store under these rules.
     ///
     /// It takes time in the logarithm of the touches for each touch of a userset, and of its memory some 270 bytes for
-    /// each that adds one to a crowded userset.
+    /// each that adds one to a crowded userset. Where a rule of many places reads tuplesets, it takes some 110 bytes more
+    /// for each touch that adds a userset, and for each that ends one.
     pub fn of(alloc: Global, chains: &Chains, rules: &Rules) -> Result<UsersetIndex, AllocError>
         ensures { IfOk result (λ index. IsUsersetIndex rules.now chains.now.commits index) }
     {
         let ends = ends_of(alloc, chains)?;
         let crowds = count_crowds(alloc, chains, ends.len())?;
+        let times = Times::of(alloc, chains, rules, &ends)?;
         if !is_any_crowded(&crowds) {
             return Ok(UsersetIndex {
                 is_whole: true,
@@ -65,6 +80,7 @@ impl UsersetIndex {
                 own: Spans::new(alloc),
                 through: Spans::new(alloc),
                 objects: Spans::new(alloc),
+                times,
             });
         }
         let own = linked_lives(alloc, Way::Own, chains, rules, &crowds, &ends)?;
@@ -76,6 +92,7 @@ impl UsersetIndex {
             own,
             through,
             objects,
+            times,
         })
     }
 
@@ -92,6 +109,18 @@ impl UsersetIndex {
             ≡ (self.now.is_whole && spec.is_crowded self.now.crowds (marks.set_mark (set_value set.entry.set))) }
     {
         self.is_whole && is_crowded(&self.crowds, set.mark)
+    }
+
+    /// The namespaces of the usersets that are stored in a userset at a timestamp, and maybe others. `None` where that was not noted: it is
+    /// for a trace in which a rule of many places reads tuplesets.
+    pub fn namespaces(&self, set: MarkedSet<'_>, at: u64) -> Option<Numbers>
+        ensures { IfSome result (AreNamespaces self.now (set_value set.entry.set) at) }
+    {
+        if self.is_whole && self.times.is_whole {
+            Some(self.times.at(set.mark, at))
+        } else {
+            None
+        }
     }
 
     /// The touches of usersets that are stored in a userset and declared at a timestamp, and maybe others.

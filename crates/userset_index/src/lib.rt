@@ -9,7 +9,8 @@
 //! Callers may rely on this: of a userset that is crowded the index gives each userset that is stored in it and
 //! declared at a timestamp ([`UsersetIndex::own`]), and of a namespace or an object each that is stored in it
 //! ([`UsersetIndex::through`], [`UsersetIndex::of_object`]), as touches of the changelog. It may give more; who asks
-//! looks whether a touch's tuple is stored.
+//! looks whether a touch's tuple is stored. Of any userset it says of which namespaces usersets are stored there, and maybe
+//! of others ([`UsersetIndex::namespaces`]), in a trace that has a rule which may ask for many.
 //!
 //! ```text
 //! let index = UsersetIndex::of(alloc, &chains, &rules)?;
@@ -20,8 +21,11 @@
 mod build;
 mod index;
 mod life;
+mod moments;
+mod numbers;
 mod spans;
 
 pub use index::UsersetIndex;
 pub use life::{Life, Way};
+pub use numbers::Numbers;
 pub use spans::Alive;

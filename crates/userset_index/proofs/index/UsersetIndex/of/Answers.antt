@@ -9,16 +9,17 @@ use Rattle.userset_index.proofs.index.UsersetIndex.of.Goals as goal
 pub returns : goal.returns
 returns c =
     λ _. record {
-      own = subst (λ (crowds : List ℕ). Holds c.args.rules.now Own (changelog c.args.chains.now.commits) crowds c.in_ok-own.own) c.deref-2.ensures.value c.in_ok-own.ensures;
-      through = subst (λ (crowds : List ℕ). Holds c.args.rules.now Through (changelog c.args.chains.now.commits) crowds c.in_ok-through.through) c.deref-4.ensures.value c.in_ok-through.ensures;
-      objects = subst (λ (crowds : List ℕ). Holds c.args.rules.now Object (changelog c.args.chains.now.commits) crowds c.in_ok-objects.objects) c.deref-6.ensures.value c.in_ok-objects.ensures;
+      own = subst (λ (crowds : List ℕ). Holds c.args.rules.now Own (changelog c.args.chains.now.commits) crowds c.in_ok-own.own) c.deref-3.ensures.value c.in_ok-own.ensures;
+      through = subst (λ (crowds : List ℕ). Holds c.args.rules.now Through (changelog c.args.chains.now.commits) crowds c.in_ok-through.through) c.deref-5.ensures.value c.in_ok-through.ensures;
+      objects = subst (λ (crowds : List ℕ). Holds c.args.rules.now Object (changelog c.args.chains.now.commits) crowds c.in_ok-objects.objects) c.deref-7.ensures.value c.in_ok-objects.ensures;
+      timed = c.in_ok-times.ensures;
     }
 
 pub returns-then-not-is_any_crowded : goal.returns-then-not-is_any_crowded
 returns-then-not-is_any_crowded c =
     let touches = changelog c.args.chains.now.commits in
     let none : list_any (nat_lt few) c.in_ok-crowds.crowds.items ≡ false =
-    ap (list_any (nat_lt few)) (sym c.deref.ensures.value) ∙ sym c.is_any_crowded.ensures ∙ c.if-not-is_any_crowded.true in
+    ap (list_any (nat_lt few)) (sym c.deref-2.ensures.value) ∙ sym c.is_any_crowded.ensures ∙ c.if-not-is_any_crowded.true in
     λ _. record {
       own = subst (Holds c.args.rules.now Own touches c.in_ok-crowds.crowds.items) (sym c.new.ensures) (holds_none c.args.rules.now Own touches c.in_ok-crowds.crowds.items none);
       through =
@@ -27,4 +28,5 @@ returns-then-not-is_any_crowded c =
       objects =
           subst (Holds c.args.rules.now Object touches c.in_ok-crowds.crowds.items) (sym c.new-then-not-is_any_crowded-2.ensures)
           (holds_none c.args.rules.now Object touches c.in_ok-crowds.crowds.items none);
+      timed = c.in_ok-times.ensures;
     }
