@@ -209,18 +209,19 @@ unless_also false P Q f h = f h
 
 -- ---- judgements that were made as evidence was read
 
+from_none : (t : TraceValue) (start : Judgements) → start ≡ no_judgements t → (whole : Bool) (input : List ℕ)
+    (P : Result Judgements (LineFault EvidenceCause) → Type 0)
+    → P (read_all judging whole start input) → P (read_all judging whole (no_judgements t) input)
+from_none t start none whole input P h = subst (λ (s : Judgements). P (read_all judging whole s input)) none h
+
 module _ {R T : Type 0} (given : R → List ℕ) (ends failures : R → ℕ) (remaining : R → Option (List ℕ)) (old new : R)
     (t : TraceValue) (start now : Judgements) (none : start ≡ no_judgements t) where
-  from_none : (whole : Bool) (input : List ℕ) (P : Result Judgements (LineFault EvidenceCause) → Type 0)
-      → P (read_all judging whole start input) → P (read_all judging whole (no_judgements t) input)
-  from_none whole input P h = subst (λ (s : Judgements). P (read_all judging whole s input)) none h
-
   pub judged_read : (u : T) (v : Vec Judged Global) → v.items ≡ now.judgements
       → LinesRead given ends failures remaining judging old new start now (Ok u)
       → EvidenceRead (GivesJudged t) t.entries given ends failures remaining old new (Ok v)
   judged_read u v same read =
       answered _ _ _ _ _ _ _ _ given ends failures remaining old new u v
-      (λ input is. rw same (judged_by_evidence t input now (from_none true input (λ r. r ≡ Ok now) is))) read
+      (λ input is. rw same (judged_by_evidence t input now (from_none t start none true input (λ r. r ≡ Ok now) is))) read
 
   pub refused_read : (fault : LineFault EvidenceCause) (cause : EvidenceCause) → cause ≡ cause_of of_input fault.stop
       → IsOfSomeLine judging fault
@@ -232,7 +233,7 @@ module _ {R T : Type 0} (given : R → List ℕ) (ends failures : R → ℕ) (re
       remaining old new start now fault (record { line = fault.line; cause = cause }) (rw is refl) refl judging_own some
       (λ e. sym is ∙ e) (λ stop. is ∙ ap (cause_of of_input) stop) (λ h. rw (is, h) refl) (λ h. rw (is, h) refl)
       (λ input h. unless_also (is_memory cause || is_read cause) _ _ (refused_by_evidence t true input _)
-      (from_none true input (λ r. Unless (is_memory cause || is_read cause)
+      (from_none t start none true input (λ r. Unless (is_memory cause || is_read cause)
       (judgements_told r ≡ Err (record { line = fault.line; cause = cause }))) h))
       (λ came h. refused_by_evidence t false came _
-      (from_none false came (λ r. judgements_told r ≡ Err (record { line = fault.line; cause = cause })) h)) read
+      (from_none t start none false came (λ r. judgements_told r ≡ Err (record { line = fault.line; cause = cause })) h)) read
