@@ -7,3 +7,4 @@ pub mod MadeReadBack
 pub mod MadeAuditLemmas
 pub mod Readers
 pub mod SharedLemmas
+pub mod TracesRead

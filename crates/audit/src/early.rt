@@ -19,7 +19,7 @@ ghost use Rattle.findings.specs.Findings.{findings_of, on_line};
 
 use crate::finder::Finder;
 use crate::plain::{AuditFault, Verdict, audit_with};
-use crate::reading::judgements_by;
+use crate::reading::{judgements_by, trace_by};
 use crate::shared::{Crew, Found, found_by, gathered};
 use audit_slices::{Alert, Board, Names, SliceReport, Watch};
 use evidence_check::Judged;
@@ -157,7 +157,8 @@ struct Tellers<'r, 'e, R: Threads + Wait + Sync, E: Sink> {
     crew: Crew,
 }
 
-impl<'r, 'e, B: Source, R: Threads + Wait + Sync, E: Sink> Finder<B> for Tellers<'r, 'e, R, E> {
+impl<'r, 'e, A: Source, B: Source, R: Threads + Wait + Sync, E: Sink> Finder<A, B>
+    for Tellers<'r, 'e, R, E> {
     ghost use Rattle.std.specs.Thread.{IsSync};
 
     ghost asks = { λ _. IsSync R.row };
@@ -167,6 +168,10 @@ impl<'r, 'e, B: Source, R: Threads + Wait + Sync, E: Sink> Finder<B> for Tellers
     ghost tells = { λ t given old new. TellsEarly t given
         (state_of E.taken E.failures E.idle E.since old.early.now)
         (state_of E.taken E.failures E.idle E.since new.early.now) };
+
+    fn trace_of(&self, alloc: Global, reader: &mut A) -> Result<Trace, AuditFault> {
+        trace_by(self.rt, alloc, reader, self.crew.workers)
+    }
 
     fn findings(
         &mut self,

@@ -4,18 +4,18 @@ ghost use Rattle.std.specs.Prelude.{◌≡◌, ◌⊎◌, ℕ, true, List, Optio
 ghost use Rattle.trace_lines.specs.Values.{TraceValue};
 ghost use Rattle.evidence_check.specs.Reading.{evidence_of};
 ghost use Rattle.evidence_check.specs.Steps.{StepValue};
-ghost use Rattle.audit.specs.Parts.{AreFound, EvidenceRead};
+ghost use Rattle.audit.specs.Parts.{AreFound, EvidenceRead, TraceRead};
 ghost use Rattle.audit.specs.Devices.{reads, OfAll};
 
 use crate::plain::AuditFault;
-use crate::reading::judgements_from;
+use crate::reading::{judgements_from, trace_from};
 use findings::{Finding, findings_judged};
 use json_lines::Source;
 use std::alloc::Global;
 use trace_lines::Trace;
 
-/// How an audit comes by the findings on a trace, by the evidence of a reader.
-pub(crate) trait Finder<B: Source> {
+/// How an audit comes by a trace of a reader, and by the findings on it, by the evidence of another.
+pub(crate) trait Finder<A: Source, B: Source> {
     // What it needs of its handles.
     ghost asks: { Self → Type 0 };
 
@@ -24,6 +24,10 @@ pub(crate) trait Finder<B: Source> {
 
     // What it tells of them elsewhere, from its value before to that after.
     ghost tells: { TraceValue → List (Option (List StepValue)) → Self → Self → Type 0 };
+
+    fn trace_of(&self, alloc: Global, reader: &mut A) -> Result<Trace, AuditFault>
+        requires { asks self.now }
+        ensures { TraceRead (reads A.given A.ends A.failures A.remaining reader.old reader.new) result };
 
     fn findings(
         &mut self,
@@ -41,11 +45,11 @@ pub(crate) trait Finder<B: Source> {
             × tells trace.now given self.old self.new) };
 }
 
-/// It finds them in the calling thread, and lets each record go once it has judged by it.
+/// It does both in the calling thread, and lets each record go once it has judged by it.
 #[derive(Drop)]
 pub(crate) struct OneThread;
 
-impl<B: Source> Finder<B> for OneThread {
+impl<A: Source, B: Source> Finder<A, B> for OneThread {
     ghost use Rattle.std.specs.Prelude.{⊤};
 
     ghost asks = { λ _. ⊤ };
@@ -53,6 +57,10 @@ impl<B: Source> Finder<B> for OneThread {
     ghost mark = { λ _. 0 };
 
     ghost tells = { λ _ _ _ _. ⊤ };
+
+    fn trace_of(&self, alloc: Global, reader: &mut A) -> Result<Trace, AuditFault> {
+        trace_from(alloc, reader)
+    }
 
     fn findings(
         &mut self,

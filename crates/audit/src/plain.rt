@@ -15,7 +15,6 @@ ghost use Rattle.findings.specs.Headline.{IsRightAndFresh};
 ghost use Rattle.findings.specs.WrongReplies.{HasOnlyWrongRepliesNamed};
 
 use crate::finder::{Finder, OneThread};
-use crate::reading::trace_from;
 use crate::telling::tell_findings;
 use evidence_check::{Evidence, EvidenceFault};
 use findings::findings_of;
@@ -85,7 +84,7 @@ pub fn audit_values<W: Sink>(
 }
 
 /// Audits a trace by its evidence, and writes the report of what this finder finds.
-pub(crate) fn audit_with<A: Source, B: Source, W: Sink, F: Finder<B>>(
+pub(crate) fn audit_with<A: Source, B: Source, W: Sink, F: Finder<A, B>>(
     alloc: Global,
     trace: &mut A,
     evidence: &mut B,
@@ -104,7 +103,7 @@ pub(crate) fn audit_with<A: Source, B: Source, W: Sink, F: Finder<B>>(
         (reads B.given B.ends B.failures B.remaining evidence.old evidence.new)
         (λ a b. IsOfBytes a b (λ t given. F.tells t given finder.old finder.new)) }
 {
-    let trace = match trace_from(alloc, trace) {
+    let trace = match finder.trace_of(alloc, trace) {
         Ok(trace) => trace,
         Err(fault) => return Err(fault),
     };

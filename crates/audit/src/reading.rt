@@ -19,6 +19,7 @@ use evidence_check::{EvidenceCause, EvidenceFault, Judged, judge_evidence};
 use json_lines::Source;
 use std::alloc::Global;
 use std::thread::Threads;
+use trace_blocks::read_trace_by;
 use trace_lines::{Cause, Trace, TraceFault, read_trace};
 
 /// The trace of a reader.
@@ -26,6 +27,25 @@ pub(crate) fn trace_from<R: Source>(alloc: Global, reader: &mut R) -> Result<Tra
     ensures { TraceRead (reads R.given R.ends R.failures R.remaining reader.old reader.new) result }
 {
     match read_trace(alloc, reader) {
+        Ok(trace) => Ok(trace),
+        Err(fault) => Err(of_trace(fault)),
+    }
+}
+
+/// The trace of a reader, by so many workers, of which several read a block of lines each.
+pub(crate) fn trace_by<R: Source, T: Threads + Sync>(
+    rt: &T,
+    alloc: Global,
+    reader: &mut R,
+    workers: usize,
+) -> Result<Trace, AuditFault>
+    requires { (0 < workers) × (workers ≤ 16) }
+    ensures { TraceRead (reads R.given R.ends R.failures R.remaining reader.old reader.new) result }
+{
+    if workers == 1 {
+        return trace_from(alloc, reader);
+    }
+    match read_trace_by(rt, alloc, reader, workers) {
         Ok(trace) => Ok(trace),
         Err(fault) => Err(of_trace(fault)),
     }

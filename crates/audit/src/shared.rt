@@ -16,7 +16,7 @@ ghost use Rattle.findings.specs.Findings.{findings_of};
 
 use crate::finder::Finder;
 use crate::plain::{AuditFault, Verdict, audit_plain, audit_with};
-use crate::reading::judgements_by;
+use crate::reading::{judgements_by, trace_by};
 use audit_slices::{
     Blind, Board, Check, Free, MOST_WORKERS, Names, SliceReport, Watch, cut, run_pool,
 };
@@ -234,7 +234,7 @@ struct Workers<'r, R: Threads + Wait + Sync> {
     crew: Crew,
 }
 
-impl<'r, B: Source, R: Threads + Wait + Sync> Finder<B> for Workers<'r, R> {
+impl<'r, A: Source, B: Source, R: Threads + Wait + Sync> Finder<A, B> for Workers<'r, R> {
     ghost use Rattle.std.specs.Prelude.{⊤};
     ghost use Rattle.std.specs.Thread.{IsSync};
 
@@ -243,6 +243,10 @@ impl<'r, B: Source, R: Threads + Wait + Sync> Finder<B> for Workers<'r, R> {
     ghost mark = { λ _. 0 };
 
     ghost tells = { λ _ _ _ _. ⊤ };
+
+    fn trace_of(&self, alloc: Global, reader: &mut A) -> Result<Trace, AuditFault> {
+        trace_by(self.rt, alloc, reader, self.crew.workers)
+    }
 
     fn findings(
         &mut self,
@@ -262,9 +266,9 @@ impl<'r, B: Source, R: Threads + Wait + Sync> Finder<B> for Workers<'r, R> {
 }
 
 /// Audits a trace by its evidence as [`audit_plain`](crate::audit_plain) does, on 1 to 16 workers: the calling
-/// thread, and threads of their own. They share the evidence, cut into blocks of lines as it is read, of which no
-/// record is kept, and then the entries, cut into slices of 1 to 4,096; the report stands in the order of the entries,
-/// whatever the schedule.
+/// thread, and threads of their own. They share the trace and the evidence, each cut into blocks of lines as it is
+/// read, and keep no record of evidence; and then the entries, cut into slices of 1 to 4,096. The report stands in the
+/// order of the entries, whatever the schedule.
 ///
 /// `Limits` is answered where there are other numbers of workers or entries in a slice, and then nothing is read or
 /// written.
