@@ -1,15 +1,20 @@
 -- Of which namespaces something matters that is stored in a tupleset.
 use Rattle.std.proofs.Common.{◌≡◌, ◌≤◌, ◌<◌, ◌^◌, ℕ, suc, List, [], None, Some, length, ap, sym, ◌∙◌, subst, inl, arith}
-use Rattle.std.specs.Prelude.{Contains, slice_get}
+use Rattle.std.specs.Prelude.{Contains, IfSome, IsSomeAnd, Option, slice_get}
 use Rattle.tuple_text.specs.Sets.{SetValue}
-use Rattle.tuple_text.specs.Tuples.{fact_of}
+use Rattle.tuple_text.specs.Tuples.{TupleValue, fact_of, tuple_of}
 use Rattle.tuple_text.specs.declared.users.User.TheVariants.{Set}
 use Rattle.namespaces.specs.Declaration.{Declaration}
 use Rattle.namespaces.specs.Lookup.{namespace_names, namespace_numbered, place_of, rule_at}
 use Rattle.strata.specs.Meaning.{with_relation, IsStored}
 use Rattle.version_chains.specs.Commits.{Commit, store_at}
+use Rattle.version_chains.proofs.StoreLemmas.{store_at-iff}
+use Rattle.userset_index.specs.Index.{AreNamespaces, IndexValue, IsUsersetIndex}
+use Rattle.userset_index.specs.Numbers.{Has}
+use Rattle.userset_index.specs.declared.numbers.Numbers.{Numbers}
+use Rattle.userset_index.proofs.CallerLemmas.{stored_by_touch}
 use Rattle.judgement.specs.Decided.{dec_undeclared}
-use Rattle.judgement.specs.Declaring.{AreDeclaring, AreLive, DeclaresNone}
+use Rattle.judgement.specs.Declaring.{AreDeclaring, AreLive, DeclaresNone, HaveStored}
 use Rattle.judgement.specs.Judgement.{KnownValue, IsOut}
 use Rattle.judgement.specs.Passes.{AreBarred}
 use Rattle.judgement.proofs.IndexLemmas.{numbered}
@@ -74,3 +79,32 @@ live_by_numbers ds commits at set names numbers live small are each = record {
       let p = place_of_element numbers n there in
       each p.0 n p.1 p.2 g name stored place named declared;
 }
+
+-- ---- by the namespaces of what is stored
+
+pub have_stored : (ds : List Declaration) (commits : List Commit) (at : ℕ) (set : SetValue) (v : IndexValue) (numbers : Numbers) → at < 2 ^ 64
+    → IsUsersetIndex ds commits v → AreNamespaces v set at numbers → HaveStored ds commits at set numbers
+have_stored ds commits at set v numbers small index told n g stored place =
+    let w = stored_by_touch commits at (tuple_of set (Set g)) ((store_at-iff commits at (tuple_of set (Set g))).0 stored) in
+    told ds commits w.0 n w.1 g index w.2 (ap (λ (t : TupleValue). t.set) w.3) (ap (λ (t : TupleValue). t.user) w.3) small place
+
+-- none where no namespace of what is stored declares one at some time
+pub none_shared : (ds : List Declaration) (commits : List Commit) (at : ℕ) (set : SetValue) (names : List (List ℕ)) (numbers : List ℕ) (stored all : Numbers)
+    → at < 2 ^ 64 → AreDeclaring ds names numbers → ((n : ℕ) → Contains numbers n → Has all n) → HaveStored ds commits at set stored
+    → ((n : ℕ) → Has stored n → Has all n → ⊥) → AreLive ds commits at set names []
+none_shared ds commits at set names numbers stored all small are each have apart = record {
+  few = are.few;
+  all = λ n g name there place named declared.
+      absurd (apart n (have n g there place) (each n ((live_declaring ds commits at set names numbers small are).all n g name there place named declared)));
+}
+
+-- nor of a number that is not among those of what is stored
+pub none_absent : (ds : List Declaration) (commits : List Commit) (at : ℕ) (set : SetValue) (stored : Option Numbers) (n : ℕ) (g : SetValue)
+    → IfSome stored (HaveStored ds commits at set) → IsSomeAnd stored (λ s. ¬ Has s n) → IsStored (store_at commits at) set (Set g)
+    → place_of g.namespace (namespace_names ds) ≡ Some n → ⊥
+none_absent ds commits at set None n g have absent there place = absent
+none_absent ds commits at set (Some s) n g have absent there place = absent (have n g there place)
+
+pub some_weaker : {X : Type 0} {P Q : X → Type 0} (o : Option X) → ((x : X) → P x → Q x) → IfSome o P → IfSome o Q
+some_weaker None f h = h
+some_weaker (Some x) f h = f x h

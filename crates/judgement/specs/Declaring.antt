@@ -12,6 +12,8 @@ use Rattle.namespaces.specs.declared.parts.Part.{Part}
 use Rattle.namespaces.specs.declared.parts.Through.{Through}
 use Rattle.strata.specs.Meaning.{IsStored}
 use Rattle.version_chains.specs.Commits.{Commit, store_at}
+use Rattle.userset_index.specs.Numbers.{Has}
+use Rattle.userset_index.specs.declared.numbers.Numbers.{Numbers}
 use Rattle.trace_lines.specs.Values.{TraceValue}
 use Rattle.judgement.specs.declared.kept.Kept.{Kept}
 
@@ -32,6 +34,11 @@ pub record AreLive (ds : List Declaration) (commits : List Commit) (at : ℕ) (s
       → place_of g.namespace (namespace_names ds) ≡ Some n → Contains names relation → ¬ (rule_at ds at g.namespace relation ≡ None)
       → Contains numbers n
 
+-- the namespaces, by their numbers, of all usersets that are stored in `set` at a timestamp, and maybe others
+abbrev pub HaveStored : List Declaration → List Commit → ℕ → SetValue → Numbers → Type 0
+HaveStored ds commits at set numbers =
+    (n : ℕ) (g : SetValue) → IsStored (store_at commits at) set (Set g) → place_of g.namespace (namespace_names ds) ≡ Some n → Has numbers n
+
 -- the tupleset for whose usersets numbers are kept
 abbrev pub kept_set : Kept → Through → SetValue
 kept_set k through = record { namespace = string_bytes k.namespace; id = string_bytes k.id; relation = string_bytes through.tupleset }
@@ -39,6 +46,7 @@ kept_set k through = record { namespace = string_bytes k.namespace; id = string_
 -- what is kept of a part that reads through a tupleset
 pub record IsKept (trace : TraceValue) (through : Through) (k : Kept) : Type 0 where
   pub declaring : AreDeclaring trace.declarations (computed_names through) k.declaring.items
+  pub numbers : (n : ℕ) → Contains k.declaring.items n → Has k.numbers n
   pub live : AreLive trace.declarations trace.commits k.at (kept_set k through) (computed_names through) k.live.items
 
 abbrev pub MayBeKept : TraceValue → Through → Option (Box Kept Global) → Type 0

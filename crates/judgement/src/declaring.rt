@@ -3,11 +3,13 @@
 ghost use Rattle.std.specs.Prelude.{◌≡◌, ◌<◌, ◌^◌, ℕ, List, Contains, None, false, slice_get, option_map, IfOk};
 ghost use Rattle.namespaces.specs.Lookup.{rule_at};
 ghost use Rattle.namespaces.specs.Parts.{computed_names};
+ghost use Rattle.userset_index.specs.Numbers.{Has};
 ghost use Rattle.judgement.specs.Declaring.{AreDeclaring, DeclaresNone};
 
 use namespaces::{Rules, Through};
 use std::alloc::{AllocError, Global};
 use tuple_text::SetRef;
+use userset_index::Numbers;
 
 /// How many namespaces there are at most.
 pub(crate) const MOST_NAMESPACES: u16 = 256;
@@ -100,4 +102,15 @@ pub(crate) fn is_among(rules: &Rules, namespace: &str, numbers: &[u16]) -> bool
         Some(number) => numbers.contains(&number),
         None => false,
     }
+}
+
+/// These numbers as a set. They are 256 at most.
+pub(crate) fn numbers_of(numbers: &[u16]) -> Numbers
+    ensures { (n : ℕ) → Contains numbers.now n → Has result n }
+{
+    let mut all = Numbers::none();
+    for number in numbers {
+        all = all.with(*number);
+    }
+    all
 }

@@ -1,26 +1,27 @@
 //! What is kept of a part that reads through a tupleset, for the facts behind.
 
-ghost use Rattle.std.specs.Prelude.{◌≡◌, ◌↔◌, IsTrue, true, string_bytes, IfOk};
+ghost use Rattle.std.specs.Prelude.{◌≡◌, ◌↔◌, [], IsTrue, true, string_bytes, IfOk};
 ghost use Rattle.tuple_text.specs.Refs.{set_value};
 ghost use Rattle.tuple_text.specs.Tuples.{fact_of};
 ghost use Rattle.namespaces.specs.Lookup.{rule_at};
 ghost use Rattle.namespaces.specs.Parts.{computed_names, through_expression};
 ghost use Rattle.strata.specs.Meaning.{with_relation};
 ghost use Rattle.version_chains.specs.Commits.{store_at};
-ghost use Rattle.judgement.specs.Declaring.{AreDeclaring, IsKept, MayBeKept, kept_set};
+ghost use Rattle.judgement.specs.Declaring.{AreDeclaring, AreLive, IsKept, MayBeKept, kept_set};
 ghost use Rattle.judgement.specs.Judgement.{Refuted};
 ghost use Rattle.judgement.specs.Passes.{AreBarred};
 
-use crate::declaring::declaring;
+use crate::declaring::{declaring, numbers_of};
 use crate::fact::KnownFact;
 use crate::known::Known;
-use crate::live::live_in;
+use crate::live::{live_in, stored_in};
 use crate::stored::under;
 use crate::through::are_barred;
 use namespaces::Through;
 use std::alloc::{AllocError, Global};
 use trace_lines::Trace;
 use tuple_text::SetRef;
+use userset_index::Numbers;
 use version_chains::MarkedSet;
 
 /// The namespaces that declare what is read, and those of them of which something matters that is stored in the tupleset of one object at
@@ -28,6 +29,8 @@ use version_chains::MarkedSet;
 #[derive(Drop)]
 pub(crate) struct Kept {
     declaring: Vec<u16>,
+    // the same as a set
+    numbers: Numbers,
     namespace: String,
     id: String,
     at: u64,
@@ -65,8 +68,10 @@ fn kept_of(
 {
     let tupleset = MarkedSet::of(under(set, through.tupleset.as_str()));
     let live = live_in(alloc, trace, at, through, tupleset, &declaring)?;
+    let numbers = numbers_of(&declaring);
     Ok(Kept {
         declaring,
+        numbers,
         namespace: copied(alloc, set.namespace)?,
         id: copied(alloc, set.id)?,
         at,
@@ -93,6 +98,7 @@ fn kept_after(
     };
     let Kept {
         declaring,
+        numbers: _,
         namespace: _,
         id: _,
         at: _,
@@ -130,7 +136,18 @@ fn bars<F: KnownFact>(
     )
 }
 
-/// Whether all that is read through a tupleset rules a fact out. What matters of the tupleset is looked for once, and kept.
+/// Whether it is known at one look that nothing matters that is stored in a tupleset, of whatever object.
+fn is_quiet(trace: &Trace, at: u64, through: &Through, tupleset: MarkedSet<'_>, kept: &Kept) -> bool
+    requires { IsKept trace.now through.now kept.now }
+    ensures { IsTrue result → AreLive trace.now.declarations trace.now.commits at (set_value tupleset.entry.set) (computed_names through.now) [] }
+{
+    match stored_in(trace, at, tupleset) {
+        Some(stored) => !stored.meets(kept.numbers),
+        None => false,
+    }
+}
+
+/// Whether all that is read through a tupleset rules a fact out. Where something matters of the tupleset, it is looked for once, and kept.
 pub(crate) fn through_bars<F: KnownFact>(
     alloc: Global,
     through: &Through,
@@ -151,6 +168,9 @@ pub(crate) fn through_bars<F: KnownFact>(
     if let Some(found) = kept {
         if is_of(found, set.set, at) {
             return Ok(bars(trace, at, known, through, tupleset, user, found));
+        }
+        if is_quiet(trace, at, through, tupleset, found) {
+            return Ok(true);
         }
     }
     let now = kept_after(alloc, trace, at, through, set.set, kept.take())?;

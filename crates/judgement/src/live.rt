@@ -1,6 +1,6 @@
 //! Of which namespaces something matters that is stored in a tupleset.
 
-ghost use Rattle.std.specs.Prelude.{◌≡◌, ◌≤◌, ◌&&◌, length, true, false, Some, IsTrue, IfOk};
+ghost use Rattle.std.specs.Prelude.{◌≡◌, ◌≤◌, ◌&&◌, length, true, false, Some, IsTrue, IfOk, IfSome, IsSomeAnd};
 ghost use Rattle.tuple_text.specs.Refs.{set_value};
 ghost use Rattle.tuple_text.specs.Sets.{SetValue};
 ghost use Rattle.tuple_text.specs.declared.users.User.TheVariants.{Set};
@@ -10,15 +10,33 @@ ghost use Rattle.strata.specs.Meaning.{IsStored};
 ghost use Rattle.version_chains.specs.Commits.{store_at};
 ghost use Rattle.version_chains.specs.Marks.{set_mark};
 ghost use Rattle.userset_index.specs.Index.{IsUsersetIndex, is_crowded};
-ghost use Rattle.judgement.specs.Declaring.{AreDeclaring, AreLive, DeclaresNone};
+ghost use Rattle.userset_index.specs.Numbers.{Has};
+ghost use Rattle.judgement.specs.Declaring.{AreDeclaring, AreLive, DeclaresNone, HaveStored};
 ghost use Rattle.judgement.specs.Passes.{EachSet};
 
 use crate::declaring::{declares_some, is_among};
 use namespaces::{Rules, Through};
 use std::alloc::{AllocError, Global};
 use trace_lines::Trace;
-use userset_index::UsersetIndex;
+use userset_index::{Numbers, UsersetIndex};
 use version_chains::{MarkedSet, Usersets};
+
+/// The namespaces of the usersets that are stored in a set, and maybe others. `None` where that was not noted.
+pub(crate) fn stored_in(trace: &Trace, at: u64, set: MarkedSet<'_>) -> Option<Numbers>
+    ensures { IfSome result (HaveStored trace.now.declarations trace.now.commits at (set_value set.entry.set)) }
+{
+    trace.usersets().namespaces(set, at)
+}
+
+/// Whether nothing of the namespace of a number is stored, where it was noted of which something is.
+fn is_absent(stored: Option<Numbers>, number: u16) -> bool
+    ensures { result ≡ true → IsSomeAnd stored (λ s. ¬ Has s number) }
+{
+    match stored {
+        Some(stored) => !stored.has(number),
+        None => false,
+    }
+}
 
 /// Whether something may matter that is stored in a crowded set, of the namespace of a number.
 fn is_live(
@@ -27,15 +45,20 @@ fn is_live(
     at: u64,
     through: &Through,
     set: MarkedSet<'_>,
+    stored: Option<Numbers>,
     number: u16,
 ) -> bool
     requires few { length (namespace_names trace.now.declarations) ≤ 256 }
+    requires stored { IfSome stored (HaveStored trace.now.declarations trace.now.commits at (set_value set.set)) }
     requires index { IsUsersetIndex trace.now.declarations trace.now.commits index.now }
     requires crowded { (index.now.is_whole && is_crowded index.now.crowds (set_mark (set_value set.set))) ≡ true }
     ensures { result ≡ false → (g : SetValue) → IsStored (store_at trace.now.commits at) (set_value set.entry.set) (Set g)
         → place_of g.namespace (namespace_names trace.now.declarations) ≡ Some number
         → DeclaresNone trace.now.declarations at (computed_names through.now) g.namespace }
 {
+    if is_absent(stored, number) {
+        return false;
+    }
     let mut touches = index.through(set, number, at);
     if touches.next().is_none() {
         return false;
@@ -62,9 +85,10 @@ fn live_in_crowd(
     ensures { IfOk result (λ live. AreLive trace.now.declarations trace.now.commits at (set_value set.entry.set) (computed_names through.now)
         live.items) }
 {
+    let stored = stored_in(trace, at, set);
     let mut live = Vec::new(alloc);
     for number in declaring {
-        if is_live(trace, index, at, through, set, *number) {
+        if is_live(trace, index, at, through, set, stored, *number) {
             live.push(*number)?;
         }
     }

@@ -6,7 +6,7 @@ use Rattle.version_chains.specs.Marks.{set_mark}
 use Rattle.version_chains.proofs.PlacedLemmas.{and-left, and-right}
 use Rattle.userset_index.specs.Index.{is_crowded}
 use Rattle.judgement.proofs.IndexLemmas.{none_through}
-use Rattle.judgement.proofs.LiveLemmas.{none_of_number}
+use Rattle.judgement.proofs.LiveLemmas.{none_absent, none_of_number}
 use Rattle.judgement.proofs.live.is_live.Goals as goal
 
 pub returns-then-is_none : goal.returns-then-is_none
@@ -26,3 +26,9 @@ returns-in-Some c absent g stored place =
     rw c.rules.ensures.declarations at (sym c.in-Some.ensures.value) in
     none_of_number ds c.args.at (computed_names c.args.through.now) c.args.number c.in-Some.namespace.now g.namespace c.requires.few is
     (rw c.rules-in-Some.ensures.declarations at (c.declares_some.ensures absent)) place
+
+pub returns-then-is_absent : goal.returns-then-is_absent
+returns-then-is_absent c _ g stored place =
+    let trace = c.args.trace.now in
+    absurd (none_absent trace.declarations trace.commits c.args.at (set_value c.args.set.set) c.args.stored c.args.number g c.requires.stored
+    (c.is_absent.ensures c.if-is_absent.true) stored place)
