@@ -16,6 +16,7 @@ use Rattle.namespaces.specs.contracts.table.Namespace as namespace
 use Rattle.namespaces.specs.contracts.rules.Line as line
 use Rattle.namespaces.specs.contracts.rules.Rules as rules
 use Rattle.userset_index.specs.contracts.spans.Spans as spans
+use Rattle.userset_index.specs.contracts.moments.Times as times
 use Rattle.userset_index.specs.contracts.index.UsersetIndex as usersets
 use Rattle.trace_lines.specs.contracts.sample.Sample as sample
 use Rattle.trace_lines.specs.contracts.trace.Trace as trace
@@ -59,8 +60,11 @@ sample_sync = search (sendable, crosses, maps.crosses, tuple_sync) depth 40
 spans_sync : IsSync spans.the_row
 spans_sync = search (sendable, crosses, maps.crosses, places_sync) depth 40
 
+times_sync : IsSync times.the_row
+times_sync = search (sendable, crosses, maps.crosses, spans_sync) depth 40
+
 usersets_sync : IsSync usersets.the_row
-usersets_sync = search (sendable, crosses, maps.crosses, spans_sync) depth 40
+usersets_sync = search (sendable, crosses, maps.crosses, spans_sync, times_sync) depth 40
 
 pub trace_sync : IsSync trace.the_row
 trace_sync =
