@@ -24,8 +24,8 @@ pub record Audited (trace evidence : Reading) (out : Writing) (result : Result V
   pub audits : IfOk result (λ v. OfBoth trace evidence (λ a b. Audits a b out.before.taken out.after.taken v))
   pub flushed : OnOk result (out.after.flushes ≡ out.before.flushes + 1)
   -- A clean verdict says that each reply is what the rules mean over the tuples committed up to its snapshot, and
-  -- that no check is older than its zookie, nor than any access change committed before the content check of the
-  -- version that it names.
+  -- that no check is older than its zookie, nor than any commit on a line before the content check of the version that
+  -- it names; and that entries are closed, content checks latest, and issued tokens carry their snapshots.
   pub headline : result ≡ Ok Clean → OfAll trace IsTraceRightAndFresh
   -- whatever the verdict: a reply that a finding F10 calls wrong is wrong
   pub wrong_replies : OnOk result (OfBoth trace evidence NamesOnlyWrongReplies)
@@ -38,7 +38,7 @@ pub record Audited (trace evidence : Reading) (out : Writing) (result : Result V
       → OfAll trace (λ a. OfAny evidence (λ b. RefusesEvidence a b f))
   pub evidence_cut : (f : EvidenceFault) → result ≡ Err (faults.Evidence f) → f.cause ≡ evidence_causes.Read
       → OfAll trace (λ a. OfCame evidence (λ b. CutsEvidence a b f))
-  -- the first n bytes went out, and no others; where these are all, a flush failed, and else none was asked for
+  -- the first n bytes went out, and no others; where these are all, a flush was asked for, and else none was
   pub write : (n : ℕ) → result ≡ Err (faults.Write n)
       → OfBoth trace evidence (λ a b. Breaks a b out n)
   -- under any other fault nothing was written
@@ -48,14 +48,14 @@ pub record Audited (trace evidence : Reading) (out : Writing) (result : Result V
   -- of devices in memory: what came is what a reader had left, and what went out stands behind what the writer held
   pub known : GivesNext trace × GivesNext evidence
   pub held : StandsBehind out
-  -- a device is blamed only where it failed, and any other answer comes only where none did
+  -- a device is blamed only where it failed; a verdict, and a fault that blames none, come only where none failed
   pub devices : IfErr result (BlamesOnly ⊥ (ReaderFailed trace) (ReaderFailed evidence) (WriterFailed out))
   pub kept : OnOk result (ReaderNeverFailed trace × ReaderNeverFailed evidence × WriterNeverFailed out)
   pub unfailed : IfErr result (λ e. BlamesNoDevice e
       → ReaderNeverFailed trace × ReaderNeverFailed evidence × WriterNeverFailed out)
 
 -- A call that reads a trace and tells of it. Tells is what stands between the bytes of the trace, what the writer took
--- before and after, and the answer; Breaks is that where writing failed after so many bytes.
+-- before and after, and the answer; Breaks is what stands where the answer is Write.
 pub record TellsOfTrace {V : Type 0} (Tells : List ℕ → List ℕ → List ℕ → V → Type 0)
     (Breaks : List ℕ → Writing → ℕ → Type 0) (trace : Reading) (out : Writing)
     (result : Result V AuditFault) : Type 0 where
@@ -67,7 +67,7 @@ pub record TellsOfTrace {V : Type 0} (Tells : List ℕ → List ℕ → List ℕ
   -- where a reader failed, the fault is of the line that its bytes had come to
   pub trace_cut : (f : TraceFault) → result ≡ Err (faults.Trace f) → f.cause ≡ causes.Read
       → OfCame trace (λ a. trace_of false a ≡ Err f)
-  -- the first n bytes went out, and no others; where these are all, a flush failed, and else none was asked for
+  -- the first n bytes went out, and no others; where these are all, a flush was asked for, and else none was
   pub write : (n : ℕ) → result ≡ Err (faults.Write n) → OfAll trace (λ a. Breaks a out n)
   -- under any other fault nothing was written
   pub unwritten : IfErr result (λ e. IsUnwritten e → IsUntouched out)
@@ -76,7 +76,7 @@ pub record TellsOfTrace {V : Type 0} (Tells : List ℕ → List ℕ → List ℕ
   -- of devices in memory: what came is what a reader had left, and what went out stands behind what the writer held
   pub known : GivesNext trace
   pub held : StandsBehind out
-  -- a device is blamed only where it failed, and any other answer comes only where none did
+  -- a device is blamed only where it failed; a verdict, and a fault that blames none, come only where none failed
   pub devices : IfErr result (BlamesOnly ⊥ (ReaderFailed trace) ⊥ (WriterFailed out))
   pub kept : OnOk result (ReaderNeverFailed trace × WriterNeverFailed out)
   pub unfailed : IfErr result (λ e. BlamesNoDevice e → ReaderNeverFailed trace × WriterNeverFailed out)
@@ -87,13 +87,14 @@ pub record AuditedMade (trace : Reading) (out : Writing) (result : Result Verdic
   -- its last line
   pub tells : TellsOfTrace AuditsMade BreaksMade trace out result
   -- A clean verdict says that each reply is what the rules mean over the tuples committed up to its snapshot, and
-  -- that no check is older than its zookie, nor than any access change committed before the content check of the
-  -- version that it names.
+  -- that no check is older than its zookie, nor than any commit on a line before the content check of the version that
+  -- it names; and that entries are closed, content checks latest, and issued tokens carry their snapshots.
   pub headline : result ≡ Ok Clean → OfAll trace IsTraceRightAndFresh
   -- whatever the verdict: a reply that a finding F10 calls wrong is wrong
   pub wrong_replies : OnOk result (OfAll trace (WhateverIsMade HasOnlyWrongRepliesNamed))
-  -- whatever the verdict: F7 is found only where the maker gave up, and F8 and F9 nowhere
+  -- whatever evidence is made, and so of this report: F7 is found only where the entry is out of reach, and F8 and F9
+  -- nowhere
   pub given_up : OnOk result (OfAll trace (WhateverIsMade AreOfMaker))
-  -- whatever the verdict: a reply that is not what the rules mean has an F10, but for an entry that the maker gave
-  -- up, which has an F7
+  -- whatever evidence is made, and so of this report: a reply that is not what the rules mean has an F10, but for an
+  -- entry that is out of reach, which has an F7
   pub complete : OnOk result (OfAll trace (WhateverIsMade MissesNoWrongReply))

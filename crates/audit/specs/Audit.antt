@@ -32,7 +32,7 @@ abbrev pub IsWrite : AuditFault → Type 0
 IsWrite (faults.Write n) = ⊤
 IsWrite _ = ⊥
 
--- a fault under which nothing was written
+-- a fault that is no fault of writing
 abbrev pub IsUnwritten : AuditFault → Type 0
 IsUnwritten (faults.Write n) = ⊥
 IsUnwritten _ = ⊤
@@ -52,11 +52,11 @@ IsOfBytes a b P =
     (t : TraceValue) × (given : List (Option (List StepValue)))
     × (trace_of true a ≡ Ok t) × (evidence_of t.entries true b ≡ Ok given) × P t given
 
--- the fault is that of the bytes of a trace
+-- the bytes say no trace, and this is their first fault; where it is of memory or of the reader nothing is said of them
 abbrev pub RefusesTrace : List ℕ → TraceFault → Type 0
 RefusesTrace a f = FailsBy f.cause f (trace_of true a)
 
--- the fault is that of the bytes of evidence for a trace
+-- so it is with bytes of evidence for a trace
 abbrev pub RefusesEvidenceFor : TraceValue → List ℕ → EvidenceFault → Type 0
 RefusesEvidenceFor t b f = evidence.FailsBy f.cause f (evidence_of t.entries true b)
 

@@ -55,7 +55,7 @@ OfCame r P = OfBytes (λ (s : Reader). s.given) r.before r.after P
 abbrev pub OfAll : Reading → (List ℕ → Type 0) → Type 0
 OfAll r P = OfWhole (λ (s : Reader). s.given) (λ (s : Reader). s.ends) r.before r.after P
 
--- P holds of every input that begins with the bytes that came, and of these alone where the reader was at its end
+-- P holds of every input that begins with the bytes that came; where the reader was at its end that is these bytes alone
 abbrev pub OfAny : Reading → (List ℕ → Type 0) → Type 0
 OfAny r P = OfInput (λ (s : Reader). s.given) (λ (s : Reader). s.ends) r.before r.after P
 

@@ -19,7 +19,7 @@ use Rattle.audit.specs.declared.plain.AuditFault.TheVariants as faults
 abbrev pub OfParts : (List ℕ → List ℕ → Type 0) → List ℕ → Type 0
 OfParts P input = (a : List ℕ) × (b : List ℕ) × (joined_of input ≡ Some (a, b)) × (length input ≤ 2 ^ 30) × P a b
 
--- the input has no line that is exactly `---`, or too many bytes
+-- it is no joined input: it has no line that is exactly `---`, or too many bytes
 abbrev pub HasNoParts : List ℕ → Type 0
 HasNoParts input = (joined_of input ≡ None) ⊎ (2 ^ 30 < length input)
 
@@ -32,7 +32,7 @@ pub record AuditedJoined (input : Reading) (out : Writing) (result : Result Verd
   -- the report on the whole input, to the reader's end, went out whole, and the verdict is its last line
   pub audits : IfOk result (λ v. OfBothParts input (λ a b. Audits a b out.before.taken out.after.taken v))
   pub flushed : OnOk result (out.after.flushes ≡ out.before.flushes + 1)
-  -- a clean verdict says what it says of `Audited`
+  -- as the headline of `Audited`, of the first part
   pub headline : result ≡ Ok Clean → OfBothParts input (λ a b. IsTraceRightAndFresh a)
   -- whatever the verdict: a reply that a finding F10 calls wrong is wrong
   pub wrong_replies : OnOk result (OfBothParts input NamesOnlyWrongReplies)
@@ -42,7 +42,7 @@ pub record AuditedJoined (input : Reading) (out : Writing) (result : Result Verd
       → OfBothParts input (λ a b. RefusesEvidence a b f)
   -- of every input that begins with the bytes that came
   pub joined : result ≡ Err faults.Joined → OfAny input HasNoParts
-  -- the first n bytes went out, and no others; where these are all, a flush failed, and else none was asked for
+  -- the first n bytes went out, and no others; where these are all, a flush was asked for, and else none was
   pub write : (n : ℕ) → result ≡ Err (faults.Write n) → OfBothParts input (λ a b. Breaks a b out n)
   -- under any other fault nothing was written
   pub unwritten : IfErr result (λ e. IsUnwritten e → IsUntouched out)

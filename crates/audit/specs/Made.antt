@@ -25,8 +25,8 @@ pub record IsRecorded (t : TraceValue) (e : EntryValue) (steps : List StepValue)
   pub facts : fact_count steps ≤ MAX_FACTS
   pub bytes : record_length e.line steps ≤ 2 ^ 20
 
--- one step is not enough, and the goal outgrows the maker's search, or the record of its whole cone is too long for a
--- line
+-- one step is not enough, and the goal outgrows the maker's search, or some record over facts of its cone, none of them
+-- twice, is too long for a line; this is of the trace, whatever was tried
 abbrev pub IsOutOfReach : TraceValue → EntryValue → Type 0
 IsOutOfReach t e =
     (¬ IsOneStep t e)

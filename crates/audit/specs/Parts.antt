@@ -58,7 +58,8 @@ pub record EvidenceRead {V : Type 0} (Says : List (Option (List StepValue)) → 
 pub record Told {V : Type 0} (Says : List ℕ → V → Type 0) (out : Writing) (result : Result V AuditFault) : Type 0 where
   pub text : IfOk result (λ v. (text : List ℕ) × Says text v × (out.after.taken ≡ out.before.taken ++ text))
   pub flushed : OnOk result (out.after.flushes ≡ out.before.flushes + 1)
-  -- the first n bytes went out, and the writer failed or took none of some; where these are all, it failed to flush
+  -- the first n bytes went out, and the writer failed or took none of some; where these are all, a flush was asked
+  -- for, and else none was
   pub write : (n : ℕ) → result ≡ Err (faults.Write n)
       → (v : V) × (text : List ℕ) × Says text v × FailsWriting out n text
   pub failed : IfErr result (λ e. IsWrite e → WriterFailed out)

@@ -194,9 +194,10 @@ impl<'r, 'e, A: Source, B: Source, R: Threads + Wait + Sync, E: Sink> Finder<A, 
 /// Audits as [`audit`](crate::audit) does, and tells of findings as they come: for each alert that the pool shows, a
 /// line goes to `early`, which is `early ` and the report line of the first finding on an entry.
 ///
-/// The lines come in the order in which the workers find them, and each is flushed. A line that finds no memory is
-/// dropped. Where `early` fails or takes no byte nothing more is written there, and the audit goes on: its answer is
-/// that of `audit`.
+/// Whatever goes there is such lines: in any order, since the workers find them, maybe one of an entry twice, and maybe
+/// none, since a line that finds no memory is dropped. That a line goes out for each alert, and is flushed, no clause
+/// says. Where `early` fails or takes no byte nothing more is written there, and the audit goes on: its answer is that
+/// of `audit`.
 pub fn audit_early<A: Source, B: Source, W: Sink, E: Sink, R: Threads + Wait + Sync>(
     rt: &R,
     alloc: Global,
@@ -214,7 +215,7 @@ pub fn audit_early<A: Source, B: Source, W: Sink, E: Sink, R: Threads + Wait + S
     ensures limits { result ≡ Err faults.Limits ↔ (are_within_limits workers slice ≡ false) }
     ensures unread { result ≡ Err faults.Limits →
         (trace.new ≡ trace.old) × (evidence.new ≡ evidence.old) × (out.new ≡ out.old) × (early.new ≡ early.old) }
-    // Lines went out of entries that have just these findings. The last may be cut where `early` failed or took none of
+    // Lines of first findings went out, and nothing else. The last may be cut where `early` failed or took none of
     // some bytes; then no call came behind that one.
     ensures early { (early.new ≡ early.old)
         ⊎ OfBoth (reads A.given A.ends A.failures A.remaining trace.old trace.new)

@@ -82,7 +82,8 @@ fn parts_from<R: Source>(alloc: Global, input: &mut R) -> Result<(Trace, Vec<Jud
 /// each of the two parts has lines from 1.
 ///
 /// `Input` is a failure of the reader, and `Joined` is input without such a line, or with more than 2^30 bytes. Nothing
-/// is written then. Neither of its parts is refused as `Read`, and no text of it is kept once it is read.
+/// is written then. Neither of its parts is refused with the cause `Read`. No text is kept once it is read; no clause
+/// speaks of memory.
 pub fn audit_joined<R: Source, W: Sink>(
     alloc: Global,
     input: &mut R,

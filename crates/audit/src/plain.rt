@@ -121,8 +121,8 @@ pub(crate) fn audit_with<A: Source, B: Source, W: Sink, F: Finder<A, B>>(
 /// entries and findings there are, and the verdict.
 ///
 /// The report is whole before its first byte is written, and a flush is asked for behind its last; nothing is written
-/// where a reader's bytes are refused or memory runs out. `Read` of either reader, and `Write`, are answered only where
-/// that device failed; `Write` also where it took none of some bytes. At most 2^30 + 65,536 bytes are taken from either
+/// where a reader's bytes are refused or memory runs out. `Trace` or `Evidence` with the cause `Read`, and `Write`, are
+/// answered only where that device failed; `Write` also where it took none of some bytes. At most 2^30 + 65,536 bytes are taken from either
 /// reader, also from one that never ends.
 pub fn audit_plain<A: Source, B: Source, W: Sink>(
     alloc: Global,

@@ -224,7 +224,8 @@ pub fn run_words<R: Source, W: Sink, E: Sink, P: Files + Threads + Wait + Sync>(
     err: &mut E,
 ) -> (u8, Ran<P::File>)
     ensures joined { result.1 ≡ ran.Joined ↔ words.now ≡ [] }
-    // Words that name an audit are run as one, and so on: status 0 where nothing was read is help alone.
+    // Words without further options that name an audit are run as one, and so on: of these status 0 where nothing was
+    // read is help alone.
     ensures asked { IsAsked (map string_bytes words.now) (W.taken out.old) (W.taken out.new) result.0 result.1 }
     // What the status says of what was read and written.
     ensures says { SaysOfRun (reads R.given R.ends R.failures R.remaining input.old input.new)
@@ -251,7 +252,8 @@ pub fn run_on<R: Read, W: Write, E: Write, P: Files + Threads + Wait + Sync>(
     err: E,
 ) -> (u8, Ran<P::File>, (Counted<R>, Counted<W>, Counted<E>))
     ensures joined { result.1 ≡ ran.Joined ↔ words.now ≡ [] }
-    // Words that name an audit are run as one, and so on: status 0 where nothing was read is help alone.
+    // Words without further options that name an audit are run as one, and so on: of these status 0 where nothing was
+    // read is help alone.
     ensures asked { IsAsked (map string_bytes words.now) [] (moved_by result.2.1) result.0 result.1 }
     // All that was read, to its end, is a trace and evidence for it, all that was written is the report on them, and
     // the trace is right and fresh.
