@@ -11,8 +11,8 @@
 //!   where that reader failed.
 //! - [`audit_values`] takes a trace and evidence that are read already.
 //!
-//! What the contracts of the first three share is one record, `Audited` of `specs/Answers.antt`; that of `audit_made` is
-//! `AuditedMade` beside it, and that of `audit_joined` is `AuditedJoined` of `specs/Joined.antt`; `audit_values` reads
+//! What the contracts of the first three share is one record, `Audited` of `specs/Answers.antt`; that of `audit_made`
+//! is `AuditedMade` beside it, and that of `audit_joined` is `AuditedJoined` of `specs/Joined.antt`; `audit_values` reads
 //! nothing, and has clauses of its own. A call's other clauses say what it alone does, and `kinds` which faults it
 //! answers (`specs/Kinds.antt`). [`make_records`] writes evidence for a trace,
 //! and [`history`] a tuple's touches in it, the newest first. What is found, and its text, are of the crate `findings`.

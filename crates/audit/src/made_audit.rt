@@ -159,9 +159,9 @@ fn audit_made_by<A: Source, W: Sink, R: Threads + Wait + Sync>(
     }
 }
 
-/// Audits a trace by evidence that is made for it in place, and never written. The report is on some such evidence; that
-/// it is the same on any number of workers no clause says. `F7` is found only on the line of an entry that is out of the
-/// maker's reach, and `F8` and `F9` nowhere.
+/// Audits a trace by evidence that is made for it in place, and never written. The report is on some such evidence;
+/// that it is the same on any number of workers no clause says. `F7` is found only on the line of an entry that is out
+/// of the maker's reach, and `F8` and `F9` nowhere.
 ///
 /// 1 to 16 workers, the calling thread among them, share the entries, in slices of 1 to 4,096. Each makes the
 /// evidence for an entry, judges the entry by it and lets it go, so that no more of it stands in memory than one
