@@ -18,7 +18,7 @@ ghost use Rattle.audit.specs.declared.plain.AuditFault.TheVariants as faults;
 
 use crate::made::steps_for;
 use crate::plain::{AuditFault, Verdict};
-use crate::reading::trace_from;
+use crate::reading::trace_by;
 use crate::shared::{Crew, Found, gathered, is_any, reports_by};
 use crate::telling::tell_findings;
 use audit_slices::{Blind, Board, Check, Names, SliceReport};
@@ -145,7 +145,7 @@ fn audit_made_by<A: Source, W: Sink, R: Threads + Wait + Sync>(
         (writes W.taken W.flushes W.failures W.idle W.contents out.old out.new) result }
     ensures kinds { IfErr result (IsOneOf (kind.trace ∷ kind.write ∷ kind.memory ∷ [])) }
 {
-    let trace = match trace_from(alloc, trace) {
+    let trace = match trace_by(rt, alloc, trace, crew.workers) {
         Ok(trace) => trace,
         Err(fault) => return Err(fault),
     };
