@@ -193,7 +193,8 @@ module _ {R : Type 0} (given : R → List ℕ) (ends failures : R → ℕ) (rema
       → ((f : EvidenceFault) → e ≡ faults.Evidence f → f ≡ fault)
       → (BlamesNoDevice e → fault.cause ≢ evidence_causes.Read) → IsOneOf (kind.evidence ∷ kind.memory ∷ []) e
       → reading.EvidenceRead (GivesJudged t) t.entries given ends failures remaining old new (Err fault)
-      → EvidenceRead (λ given v. AreJudged t given v.items) t (reads given ends failures remaining old new) (Err e)
+      → EvidenceRead {V = Vec Judged Global} (λ given v. AreJudged t given v.items) t
+      (reads given ends failures remaining old new) (Err e)
   judged_stopped fault e told device kinds h =
       evidence_stopped t (reads given ends failures remaining old new) _ fault e h.exact h.failed h.most h.known
       h.counted h.unfailed told device kinds
