@@ -3,8 +3,8 @@ use denote.Param.Send.{IsSend, IsSync, sendable}
 use denote.Ref.{NamedLft}
 use Rattle.std.proofs.Crossing.{crosses}
 use Rattle.std.proofs.MapsCrossing as maps
-use Rattle.namespaces.proofs.rewrite.Rewrite.TheLaws.TheKnot.{sync-Rewrite}
-use Rattle.namespaces.specs.contracts.parts.Part as part
+use Rattle.rewrites.proofs.rewrite.Rewrite.TheLaws.TheKnot.{sync-Rewrite}
+use Rattle.rewrites.specs.contracts.parts.Part as part
 use Rattle.judgement.specs.contracts.answers.Answers as answers
 use Rattle.judgement.specs.contracts.kept.Kept as kept
 use Rattle.judgement.specs.contracts.paths.Path as path

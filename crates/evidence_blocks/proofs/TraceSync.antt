@@ -6,10 +6,10 @@ use Rattle.tuple_text.specs.contracts.tuples.Tuple as tuple
 use Rattle.version_chains.specs.contracts.places.Places as places
 use Rattle.version_chains.specs.contracts.arena.Arena as arena
 use Rattle.version_chains.specs.contracts.chains.Chains as chains
-use Rattle.namespaces.proofs.rewrite.Rewrite.TheLaws.TheKnot.{sync-Rewrite}
-use Rattle.namespaces.proofs.parts.Node.TheLaws.TheKnot.{sync-Node}
-use Rattle.namespaces.specs.contracts.parts.Through as through
-use Rattle.namespaces.specs.contracts.parts.PartedRule as parted
+use Rattle.rewrites.proofs.rewrite.Rewrite.TheLaws.TheKnot.{sync-Rewrite}
+use Rattle.rewrites.proofs.parts.Node.TheLaws.TheKnot.{sync-Node}
+use Rattle.rewrites.specs.contracts.parts.Through as through
+use Rattle.rewrites.specs.contracts.parts.PartedRule as parted
 use Rattle.namespaces.specs.contracts.relation.PlainRule as plain
 use Rattle.namespaces.specs.contracts.relation.Relation as relation
 use Rattle.namespaces.specs.contracts.table.Namespace as namespace

@@ -4,7 +4,7 @@ use Rattle.std.specs.Prelude.{Contains}
 use Rattle.std.specs.List.{AllByRecursion}
 use Rattle.std.proofs.lemmas.List.Elements.{Contains-append_left, Contains-append_right, Contains-append_cases, Contains-push, Contains-push_cases}
 use Rattle.tuple_text.specs.Tuples.{TupleValue, FactValue}
-use Rattle.namespaces.specs.Expression.{Expression, this, computed, tuple_to, union, inter, minus, Expressions, no_child, child}
+use Rattle.rewrites.specs.Expression.{Expression, this, computed, tuple_to, union, inter, minus, Expressions, no_child, child}
 use Rattle.namespaces.specs.Lookup.{Lookup}
 use Rattle.strata.proofs.Lists.{Contains-here, Contains-there, Contains-cons_cases, not_in_nil}
 use Rattle.strata.specs.Meaning.{with_relation, same_user}

@@ -10,14 +10,14 @@ use Rattle.std.proofs.lemmas.Map.Views.{Contains-from_any, list_any-from_Contain
 use Rattle.tuple_text.specs.Tuples.{TupleValue, FactValue}
 use Rattle.tuple_text.specs.OrderLaws.{fact_equiv}
 use Rattle.tuple_text.proofs.ValueLemmas.{fact_eq-same}
-use Rattle.namespaces.specs.Alike.{IsAlike, AreAlike}
-use Rattle.namespaces.specs.Expression.{Expression}
+use Rattle.rewrites.specs.Alike.{IsAlike, AreAlike}
+use Rattle.rewrites.specs.Expression.{Expression}
 use Rattle.namespaces.specs.Lookup.{Rule, Lookup, rule_at, rule_of}
-use Rattle.namespaces.specs.Plain.{ArePlain}
+use Rattle.rewrites.specs.Plain.{ArePlain}
 use Rattle.version_chains.specs.Commits.{store_at}
 use Rattle.strata.proofs.Rounds.{stable_law, closed_law}
 use Rattle.trace_lines.specs.Values.{TraceValue, EntryValue}
-use Rattle.namespaces.proofs.AlikeLemmas.{alike_back}
+use Rattle.rewrites.proofs.AlikeLemmas.{alike_back}
 use Rattle.judgement.specs.Asked.{Does}
 use Rattle.judgement.specs.Judgement.{KnownValue, Established, Refuted}
 use Rattle.judgement.proofs.AlikeLemmas.{alike_established, alike_refuted}

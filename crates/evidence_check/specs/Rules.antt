@@ -4,12 +4,12 @@ use Rattle.std.specs.Option.{ForSome}
 use Rattle.tuple_text.specs.Refs.{set_value}
 use Rattle.tuple_text.specs.Sets.{SetValue}
 use Rattle.tuple_text.specs.Tuples.{TupleValue, FactValue}
-use Rattle.namespaces.specs.Alike.{AreAlike}
+use Rattle.rewrites.specs.Alike.{AreAlike}
 use Rattle.namespaces.specs.Declaration.{Declaration}
-use Rattle.namespaces.specs.Expression.{Expression}
+use Rattle.rewrites.specs.Expression.{Expression}
 use Rattle.namespaces.specs.Lookup.{Lookup, expression_in, rule_at, rule_of}
-use Rattle.namespaces.specs.Parts.{rule_shown}
-use Rattle.namespaces.specs.View.{expression_of}
+use Rattle.rewrites.specs.Parts.{rule_shown}
+use Rattle.rewrites.specs.View.{expression_of}
 use Rattle.trace_lines.specs.Values.{TraceValue}
 use Rattle.judgement.specs.Judgement.{KnownValue}
 use Rattle.evidence_check.specs.Accepted.{IsProved, IsDisproved}

@@ -1,15 +1,16 @@
 //! Rules of many places that facts were asked for.
 
 ghost use Rattle.std.specs.Prelude.{◌≡◌, ◌↔◌, IsTrue, Some, IfOk};
-ghost use Rattle.namespaces.specs.Alike.{AreAlike};
-ghost use Rattle.namespaces.specs.Expression.{Expression};
+ghost use Rattle.rewrites.specs.Alike.{AreAlike};
+ghost use Rattle.rewrites.specs.Expression.{Expression};
 ghost use Rattle.namespaces.specs.Lookup.{expression_in};
-ghost use Rattle.namespaces.specs.Parts.{rule_shown};
+ghost use Rattle.rewrites.specs.Parts.{rule_shown};
 ghost use Rattle.judgement.specs.Asked.{Does};
 ghost use Rattle.judgement.specs.Facts.{marked_fact};
 
 use judgement::{AskedRule, Known, KnownFact, MarkedFact};
-use namespaces::{PartedRule, RulePlace};
+use namespaces::RulePlace;
+use rewrites::PartedRule;
 use std::alloc::{AllocError, Global};
 use std::collections::BTreeMap;
 use std::marker::Model;

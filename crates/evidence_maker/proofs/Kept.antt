@@ -1,7 +1,7 @@
 -- An expression stays established, or refuted, where what is known of its premises is kept.
 use Rattle.std.proofs.Common.{List, inl, inr}
 use Rattle.tuple_text.specs.Tuples.{TupleValue, FactValue}
-use Rattle.namespaces.specs.Expression.{Expression, this, computed, tuple_to, union, inter, minus, Expressions, no_child, child}
+use Rattle.rewrites.specs.Expression.{Expression, this, computed, tuple_to, union, inter, minus, Expressions, no_child, child}
 use Rattle.namespaces.specs.Lookup.{Lookup}
 use Rattle.strata.specs.Meaning.{with_relation, same_user}
 use Rattle.strata.specs.Strata.{EachPremise, EachPremises}

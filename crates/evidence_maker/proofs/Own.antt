@@ -4,12 +4,12 @@ use Rattle.std.specs.Prelude.{Contains}
 use Rattle.std.specs.List.{AllByRecursion, list_all, list_any}
 use Rattle.std.specs.Option.{option_or}
 use Rattle.std.specs.Str.{bytes_eq}
-use Rattle.namespaces.specs.Expression.{own_relations}
+use Rattle.rewrites.specs.Expression.{own_relations}
 use Rattle.namespaces.specs.Declaration.{Relation, Declaration}
 use Rattle.namespaces.specs.Adding.{reads_declared}
 use Rattle.namespaces.specs.Lookup.{Rule, relation_named, declared_in, in_force, relation_at, as_rule, rule_at}
 use Rattle.namespaces.specs.WellFormed.{IsFit, IsWellFormed}
-use Rattle.namespaces.proofs.Names.{by_bool, and_true}
+use Rattle.rewrites.proofs.Names.{by_bool, and_true}
 use Rattle.strata.proofs.Lists.{Contains-cons_cases, Contains-here, Contains-there, not_in_nil}
 use Rattle.evidence_maker.specs.Own.{HasOwnRelations}
 

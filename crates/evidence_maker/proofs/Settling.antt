@@ -5,7 +5,7 @@ use Rattle.std.proofs.lemmas.List.Elements.{Contains-append_left, Contains-appen
 use Rattle.tuple_text.specs.Sets.{SetValue}
 use Rattle.tuple_text.specs.Tuples.{TupleValue, FactValue}
 use Rattle.tuple_text.specs.declared.users.User.TheVariants.{Id, Set}
-use Rattle.namespaces.specs.Expression.{Expression, this, computed, tuple_to, union, inter, minus, Expressions, no_child, child, own_relations, own_relations_all}
+use Rattle.rewrites.specs.Expression.{Expression, this, computed, tuple_to, union, inter, minus, Expressions, no_child, child, own_relations, own_relations_all}
 use Rattle.namespaces.specs.Lookup.{Lookup}
 use Rattle.strata.specs.Meaning.{with_relation, same_user, IsStored}
 use Rattle.strata.specs.Strata.{EachPremise, EachPremises}

@@ -6,7 +6,7 @@ use Rattle.std.proofs.lemmas.Bool.{eqb-true, eq-eqb}
 use Rattle.std.proofs.lemmas.List.Elements.{Contains-push_cases}
 use Rattle.tuple_text.specs.Tuples.{FactValue}
 use Rattle.namespaces.specs.Declaration.{Relation, Declaration}
-use Rattle.namespaces.specs.Expression.{Expression}
+use Rattle.rewrites.specs.Expression.{Expression}
 use Rattle.namespaces.specs.Lookup.{Rule, Lookup, rule_of, relation_of, relation_at, as_rule, rule_at, history}
 use Rattle.namespaces.specs.WellFormed.{IsWellFormed}
 use Rattle.strata.specs.Strata.{IsAtMost}

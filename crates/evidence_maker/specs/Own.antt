@@ -1,7 +1,7 @@
 -- Rules that read declared relations of their own namespaces.
 use Rattle.std.specs.Prelude.{◌≡◌, ℕ, List, Some, Contains}
 use Rattle.tuple_text.specs.Sets.{SetValue}
-use Rattle.namespaces.specs.Expression.{Expression, own_relations}
+use Rattle.rewrites.specs.Expression.{Expression, own_relations}
 use Rattle.namespaces.specs.Lookup.{Rule, Lookup, rule_of}
 use Rattle.strata.specs.Meaning.{with_relation}
 use Rattle.judgement.specs.Judgement.{IsUndeclared}

@@ -3,7 +3,7 @@
 ghost use Rattle.std.specs.Prelude.{ℕ, List, ◌⊎◌};
 ghost use Rattle.tuple_text.specs.Tuples.{TupleValue, FactValue};
 ghost use Rattle.namespaces.specs.Declaration.{Declaration};
-ghost use Rattle.namespaces.specs.Expression.{Expression};
+ghost use Rattle.rewrites.specs.Expression.{Expression};
 ghost use Rattle.namespaces.specs.Lookup.{Lookup, rule_at};
 ghost use Rattle.namespaces.specs.WellFormed.{IsWellFormed};
 ghost use Rattle.strata.specs.Strata.{EachPremise, HasValidStrata};

@@ -7,11 +7,11 @@ use Rattle.std.specs.List.{list_any}
 use Rattle.std.specs.Prelude.{sum_by}
 use Rattle.tuple_text.specs.Sets.{SetValue}
 use Rattle.tuple_text.specs.Tuples.{TupleValue, FactValue}
-use Rattle.namespaces.specs.Expression.{Expression, this, computed, tuple_to, union, inter, minus}
-use Rattle.namespaces.specs.Expression.{Expressions, no_child, child}
-use Rattle.namespaces.specs.Plain.{leaves, leaves_of_all, IsThinned}
-use Rattle.namespaces.proofs.AlikeLemmas.{or_none}
-use Rattle.namespaces.proofs.Names.{by_bool, or_true}
+use Rattle.rewrites.specs.Expression.{Expression, this, computed, tuple_to, union, inter, minus}
+use Rattle.rewrites.specs.Expression.{Expressions, no_child, child}
+use Rattle.rewrites.specs.Plain.{leaves, leaves_of_all, IsThinned}
+use Rattle.rewrites.proofs.AlikeLemmas.{or_none}
+use Rattle.rewrites.proofs.Names.{by_bool, or_true}
 use Rattle.strata.specs.Meaning.{with_relation, same_user}
 use Rattle.strata.proofs.Decided.{dec_some_stored}
 use Rattle.strata.proofs.Lists.{dec_either}

@@ -5,12 +5,12 @@ use Rattle.std.proofs.lemmas.List.Elements.{Contains-append_cases}
 use Rattle.std.proofs.lemmas.Option.{slice_get_read, slice_get_within}
 use Rattle.std.specs.Prelude.{Contains, map}
 use Rattle.namespaces.specs.Declaration.{Declaration}
-use Rattle.namespaces.specs.Expression.{Expression}
-use Rattle.namespaces.specs.Leaves.{AreLeavesOf}
+use Rattle.rewrites.specs.Expression.{Expression}
+use Rattle.rewrites.specs.Leaves.{AreLeavesOf}
 use Rattle.namespaces.specs.Lookup.{expression_in}
-use Rattle.namespaces.specs.View.{expression_of}
+use Rattle.rewrites.specs.View.{expression_of}
 use Rattle.namespaces.specs.declared.number.RulePlace.{RulePlace}
-use Rattle.namespaces.proofs.Names.{and_true}
+use Rattle.rewrites.proofs.Names.{and_true}
 use Rattle.strata.proofs.Lists.{Contains-cons_cases}
 use Rattle.goal_cone.specs.Leaves.{ArePlaced}
 use Rattle.goal_cone.specs.declared.leaves.PlacedLeaves.{PlacedLeaves}

@@ -1,7 +1,7 @@
 -- How what holds of each premise follows the premises one by one.
 use Rattle.std.proofs.Common.{◌≡◌, List, inl, inr, refl, subst}
 use Rattle.tuple_text.specs.Tuples.{TupleValue, FactValue}
-use Rattle.namespaces.specs.Expression.{Expression, this, computed, tuple_to, union, inter, minus, Expressions, no_child, child}
+use Rattle.rewrites.specs.Expression.{Expression, this, computed, tuple_to, union, inter, minus, Expressions, no_child, child}
 use Rattle.strata.specs.Meaning.{with_relation, same_user}
 use Rattle.strata.specs.Strata.{EachPremise, EachPremises}
 use Rattle.goal_cone.specs.Premises.{SomePremise, SomePremises, ReadsPlainly, ReadsStrictly}

@@ -11,14 +11,14 @@ use Rattle.tuple_text.specs.Parts.{checked_fact}
 use Rattle.tuple_text.specs.declared.fault.TupleFault.{TupleFault}
 use Rattle.tuple_text.specs.Tuples.{TupleValue, FactValue, fact_of}
 use Rattle.tuple_text.specs.Grammar.{IsFact}
-use Rattle.namespaces.specs.Expression.{Expression, union}
+use Rattle.rewrites.specs.Expression.{Expression, union}
 use Rattle.namespaces.specs.Lookup.{Rule, Lookup, rule_of}
-use Rattle.namespaces.specs.View.{children}
+use Rattle.rewrites.specs.View.{children}
 use Rattle.judgement.specs.Judgement.{IsUndeclared}
 use Rattle.strata.proofs.Lists.{not_in_nil, Contains-cons_cases}
 use Rattle.goal_cone.specs.Bounds.{links, links_all, links_by, links_of}
 use Rattle.goal_cone.specs.Cone.{IsMet, IsNeeded}
-use Rattle.namespaces.specs.Leaves.{AreLeavesOf}
+use Rattle.rewrites.specs.Leaves.{AreLeavesOf}
 use Rattle.goal_cone.specs.Pass.{IsRead, IsUnderWay}
 use Rattle.goal_cone.specs.Premises.{Reads, ReadsSome}
 use Rattle.goal_cone.specs.Seen.{Sees, IsStuck}

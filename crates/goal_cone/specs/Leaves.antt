@@ -1,9 +1,9 @@
 -- The leaves of rules, where these stand. No public clause cites this module.
 use Rattle.std.specs.Prelude.{List, Contains, map}
 use Rattle.namespaces.specs.Declaration.{Declaration}
-use Rattle.namespaces.specs.Leaves.{AreLeavesOf}
+use Rattle.rewrites.specs.Leaves.{AreLeavesOf}
 use Rattle.namespaces.specs.Lookup.{expression_in}
-use Rattle.namespaces.specs.View.{expression_of}
+use Rattle.rewrites.specs.View.{expression_of}
 use Rattle.goal_cone.specs.declared.leaves.PlacedLeaves.{PlacedLeaves}
 
 -- each are those of the rule at their place

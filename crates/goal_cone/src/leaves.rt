@@ -4,7 +4,8 @@ ghost use Rattle.std.specs.Prelude.{◌≡◌, [], slice_get, Some, IfOk};
 ghost use Rattle.goal_cone.specs.Leaves.{ArePlaced};
 ghost use Rattle.goal_cone.specs.declared.leaves.PlacedLeaves.{PlacedLeaves};
 
-use namespaces::{Rewrite, RulePlace, Rules};
+use namespaces::{RulePlace, Rules};
+use rewrites::Rewrite;
 use std::alloc::{AllocError, Global};
 use std::collections::BTreeMap;
 

@@ -8,7 +8,7 @@
 use crate::leaning::Leaning;
 use crate::links::{Ends, Links, Way, small};
 use crate::wide::{Reached, WideRules};
-use namespaces::{Part, PartedRule, Rewrite, Through};
+use rewrites::{Part, PartedRule, Rewrite, Through};
 use std::alloc::{AllocError, Global};
 use std::collections::VecDeque;
 use trace_lines::Trace;

@@ -3,7 +3,8 @@
 //! Facts of one rule are alike where the same parts of it opened for them one after the other: what was found for one holds for the
 //! others. So a rule is walked over once for each way in which its parts opened, and not once for each fact. Nothing here is trusted.
 
-use namespaces::{Node, PartedRule, RulePlace};
+use namespaces::RulePlace;
+use rewrites::{Node, PartedRule};
 use std::alloc::{AllocError, Global};
 use std::collections::BTreeMap;
 

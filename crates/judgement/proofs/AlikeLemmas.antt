@@ -2,8 +2,8 @@
 use Rattle.std.proofs.Common.{◌≡◌, Bool, true, false, ◌||◌, ◌&&◌, List, refl, sym, ◌∙◌, inl, inr, true≢false}
 use Rattle.std.specs.Prelude.{◌⊎◌}
 use Rattle.tuple_text.specs.Tuples.{TupleValue, FactValue}
-use Rattle.namespaces.specs.Alike.{Leaves, gives, some_gives, each_gives, bars, some_bars, each_bars, IsAlike}
-use Rattle.namespaces.specs.Expression.{Expression, this, computed, tuple_to, union, inter, minus, Expressions, no_child, child}
+use Rattle.rewrites.specs.Alike.{Leaves, gives, some_gives, each_gives, bars, some_bars, each_bars, IsAlike}
+use Rattle.rewrites.specs.Expression.{Expression, this, computed, tuple_to, union, inter, minus, Expressions, no_child, child}
 use Rattle.namespaces.specs.Lookup.{Lookup}
 use Rattle.judgement.specs.Decided.{dec_established, dec_refuted}
 use Rattle.judgement.specs.Judgement.{KnownValue, Established, SomeEstablished, EachEstablished, Refuted, SomeRefuted, EachRefuted}

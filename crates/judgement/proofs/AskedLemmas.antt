@@ -4,11 +4,11 @@ use mathlib.Core.Bool.{beq}
 use Rattle.std.proofs.lemmas.List.Elements.{Contains-append_left, Contains-append_right, Contains-append_cases}
 use Rattle.std.specs.Prelude.{Contains}
 use Rattle.tuple_text.specs.Tuples.{FactValue}
-use Rattle.namespaces.specs.Alike.{Leaves}
-use Rattle.namespaces.specs.Expression.{Expression, union, inter, minus}
+use Rattle.rewrites.specs.Alike.{Leaves}
+use Rattle.rewrites.specs.Expression.{Expression, union, inter, minus}
 use Rattle.namespaces.specs.Lookup.{rule_at}
-use Rattle.namespaces.specs.Parts.{part_at}
-use Rattle.namespaces.specs.View.{children}
+use Rattle.rewrites.specs.Parts.{part_at}
+use Rattle.rewrites.specs.View.{children}
 use Rattle.version_chains.specs.Commits.{store_at}
 use Rattle.strata.proofs.Lists.{Contains-cons_cases}
 use Rattle.trace_lines.specs.Values.{TraceValue}

@@ -11,7 +11,7 @@ use Rattle.tuple_text.specs.declared.users.User.TheVariants.{Set}
 use Rattle.namespaces.specs.Declaration.{Declaration, Relation}
 use Rattle.namespaces.specs.Lookup.{as_rule, in_force, item_at, namespace_names, namespace_numbered, place_of, relation_at, relation_named, relations_of, rule_at, rule_of}
 use Rattle.namespaces.proofs.Growth.{is_declared-names}
-use Rattle.namespaces.proofs.Names.{one_name}
+use Rattle.rewrites.proofs.Names.{one_name}
 use Rattle.strata.proofs.Newest.{position_item, position_none}
 use Rattle.strata.specs.Meaning.{with_relation, IsStored}
 use Rattle.version_chains.specs.Commits.{Commit, Touch, changelog, is_stored, store_at}

@@ -11,7 +11,7 @@ use Rattle.tuple_text.specs.Tuples.{FactValue, TupleValue, fact_tuple}
 use Rattle.tuple_text.specs.declared.users.User.{User}
 use Rattle.tuple_text.specs.declared.users.User.TheVariants.{Id, Set}
 use Rattle.tuple_text.proofs.ValueLemmas.{tuple_eq-same, tuple_eq-itself, fact_eq-itself, fact_eq-same}
-use Rattle.namespaces.proofs.Names.{by_bool, clash}
+use Rattle.rewrites.proofs.Names.{by_bool, clash}
 use Rattle.strata.proofs.Lists.{Contains-cons_cases, not_in_nil}
 
 abbrev id_of : User → ℕ → ℕ

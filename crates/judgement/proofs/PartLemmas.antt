@@ -4,10 +4,10 @@ use Rattle.std.proofs.lemmas.Option.{slice_get-map, slice_get_past}
 use Rattle.std.specs.Prelude.{slice_get, slice_set, unwrap_or}
 use Rattle.std.specs.declared.alloc.Global.{Global}
 use Rattle.std.specs.declared.boxed.Box.{Box}
-use Rattle.namespaces.specs.Expression.{Expression, union, no_child}
-use Rattle.namespaces.specs.Parts.{part_at, part_expression, parts_shown}
-use Rattle.namespaces.specs.declared.parts.Part.{Part}
-use Rattle.namespaces.specs.declared.parts.Through.{Through}
+use Rattle.rewrites.specs.Expression.{Expression, union, no_child}
+use Rattle.rewrites.specs.Parts.{part_at, part_expression, parts_shown}
+use Rattle.rewrites.specs.declared.parts.Part.{Part}
+use Rattle.rewrites.specs.declared.parts.Through.{Through}
 use Rattle.version_chains.proofs.PlacedLemmas.{length-set, slice_get-set}
 use Rattle.tuple_text.specs.Tuples.{FactValue}
 use Rattle.trace_lines.specs.Values.{TraceValue}

@@ -1,11 +1,11 @@
 -- What was asked of the parts of a rule, and what follows for the rule.
 use Rattle.std.specs.Prelude.{◌≡◌, ℕ, Bool, true, false, ◌↔◌, IsTrue, List, Contains}
 use Rattle.tuple_text.specs.Tuples.{FactValue}
-use Rattle.namespaces.specs.Alike.{Leaves, gives, bars}
-use Rattle.namespaces.specs.Expression.{Expression, union, inter}
+use Rattle.rewrites.specs.Alike.{Leaves, gives, bars}
+use Rattle.rewrites.specs.Expression.{Expression, union, inter}
 use Rattle.namespaces.specs.Lookup.{rule_at}
-use Rattle.namespaces.specs.Parts.{part_at}
-use Rattle.namespaces.specs.View.{children}
+use Rattle.rewrites.specs.Parts.{part_at}
+use Rattle.rewrites.specs.View.{children}
 use Rattle.version_chains.specs.Commits.{store_at}
 use Rattle.trace_lines.specs.Values.{TraceValue}
 use Rattle.judgement.specs.Judgement.{KnownValue, Established, Refuted}

@@ -7,9 +7,9 @@ use Rattle.tuple_text.specs.Sets.{SetValue}
 use Rattle.tuple_text.specs.declared.users.User.TheVariants.{Set}
 use Rattle.namespaces.specs.Declaration.{Declaration}
 use Rattle.namespaces.specs.Lookup.{namespace_names, namespace_numbered, place_of, rule_at}
-use Rattle.namespaces.specs.Parts.{computed_names}
-use Rattle.namespaces.specs.declared.parts.Part.{Part}
-use Rattle.namespaces.specs.declared.parts.Through.{Through}
+use Rattle.rewrites.specs.Parts.{computed_names}
+use Rattle.rewrites.specs.declared.parts.Part.{Part}
+use Rattle.rewrites.specs.declared.parts.Through.{Through}
 use Rattle.strata.specs.Meaning.{IsStored}
 use Rattle.version_chains.specs.Commits.{Commit, store_at}
 use Rattle.userset_index.specs.Numbers.{Has}

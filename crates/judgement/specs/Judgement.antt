@@ -4,7 +4,7 @@ use Rattle.std.specs.Prelude.{◌≡◌, List, None, ◌⊎◌, Contains}
 use Rattle.tuple_text.specs.Sets.{SetValue}
 use Rattle.tuple_text.specs.Tuples.{TupleValue, FactValue}
 use Rattle.tuple_text.specs.declared.users.User.TheVariants.{Id, Set}
-use Rattle.namespaces.specs.Expression.{Expression, this, computed, tuple_to, union, inter, minus, Expressions, no_child, child}
+use Rattle.rewrites.specs.Expression.{Expression, this, computed, tuple_to, union, inter, minus, Expressions, no_child, child}
 use Rattle.namespaces.specs.Lookup.{Lookup, rule_of}
 use Rattle.strata.specs.Meaning.{with_relation, same_user, IsStored}
 

@@ -2,8 +2,8 @@
 use Rattle.std.specs.Prelude.{List, refl}
 use Rattle.std.specs.Coded.{Coded, code_by, coded×, coded_list}
 use Rattle.tuple_text.specs.Tuples.{FactValue}
-use Rattle.namespaces.specs.Expression.{Expression}
-use Rattle.namespaces.specs.ExpressionCode.{expression_code}
+use Rattle.rewrites.specs.Expression.{Expression}
+use Rattle.rewrites.specs.ExpressionCode.{expression_code}
 use Rattle.trace_lines.specs.TraceCode.{fact_code, trace_code}
 use Rattle.trace_lines.specs.Values.{TraceValue}
 use Rattle.judgement.specs.Asked.{PartsValue, RuleValue}

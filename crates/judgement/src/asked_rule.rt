@@ -3,7 +3,7 @@
 ghost use Rattle.std.specs.Prelude.{◌≡◌, ◌↔◌, IsTrue, IfOk};
 ghost use Rattle.tuple_text.specs.Refs.{set_value};
 ghost use Rattle.tuple_text.specs.Tuples.{fact_of};
-ghost use Rattle.namespaces.specs.Parts.{rule_shown};
+ghost use Rattle.rewrites.specs.Parts.{rule_shown};
 ghost use Rattle.judgement.specs.Asked.{AreRight, Does};
 
 use crate::answers::Answers;
@@ -11,7 +11,7 @@ use crate::asking::{Parts, node_does};
 use crate::fact::KnownFact;
 use crate::known::Known;
 use crate::paths::{Paths, Reached};
-use namespaces::{Node, PartedRule};
+use rewrites::{Node, PartedRule};
 use std::alloc::{AllocError, Global};
 use std::marker::Model;
 use trace_lines::Trace;
@@ -30,7 +30,7 @@ pub struct AskedRule<'r> {
 }
 
 impl<'r> Model for AskedRule<'r> {
-    ghost use Rattle.namespaces.specs.Parts.{parts_shown, rule_shown};
+    ghost use Rattle.rewrites.specs.Parts.{parts_shown, rule_shown};
     ghost use Rattle.judgement.specs.Asked.{AreRightPaths, RuleValue};
     ghost use Rattle.judgement.specs.KnownCode.{rule_code};
     ghost use Rattle.std.specs.Prelude.{◌≡◌};

@@ -3,9 +3,9 @@
 ghost use Rattle.std.specs.Prelude.{◌≡◌, ◌↔◌, IsTrue, List, IfOk};
 ghost use Rattle.tuple_text.specs.Refs.{set_value};
 ghost use Rattle.tuple_text.specs.Tuples.{fact_of};
-ghost use Rattle.namespaces.specs.Expression.{Expression};
-ghost use Rattle.namespaces.specs.Parts.{part_at, parts_shown, node_expression, nodes_shown};
-ghost use Rattle.namespaces.specs.View.{expression_of};
+ghost use Rattle.rewrites.specs.Expression.{Expression};
+ghost use Rattle.rewrites.specs.Parts.{part_at, parts_shown, node_expression, nodes_shown};
+ghost use Rattle.rewrites.specs.View.{expression_of};
 ghost use Rattle.trace_lines.specs.Values.{TraceValue};
 ghost use Rattle.judgement.specs.Asked.{Does, Follows, Tells, joined_of};
 ghost use Rattle.judgement.specs.Declaring.{AreKeptByPart};
@@ -16,7 +16,7 @@ use crate::kept::{Kept, through_bars};
 use crate::known::Known;
 use crate::table::{established, refuted};
 use crate::through::through_gives;
-use namespaces::{Node, Part, Rewrite};
+use rewrites::{Node, Part, Rewrite};
 use std::alloc::{AllocError, Global};
 use std::marker::Model;
 use trace_lines::Trace;
@@ -33,7 +33,7 @@ pub(crate) struct Parts<'r> {
 }
 
 impl<'r> Model for Parts<'r> {
-    ghost use Rattle.namespaces.specs.Parts.{parts_shown};
+    ghost use Rattle.rewrites.specs.Parts.{parts_shown};
     ghost use Rattle.judgement.specs.Asked.{PartsValue};
     ghost use Rattle.judgement.specs.Declaring.{AreKeptByPart};
     ghost use Rattle.judgement.specs.KnownCode.{parts_code};

@@ -4,7 +4,7 @@ ghost use Rattle.std.specs.Prelude.{◌≡◌, ◌↔◌, ◌&&◌, IsTrue, true
 ghost use Rattle.tuple_text.specs.Refs.{set_value};
 ghost use Rattle.namespaces.specs.InForce.{names_in_force};
 ghost use Rattle.namespaces.specs.Lookup.{namespace_names, namespace_numbered, rule_at};
-ghost use Rattle.namespaces.specs.Parts.{computed_names};
+ghost use Rattle.rewrites.specs.Parts.{computed_names};
 ghost use Rattle.version_chains.specs.Commits.{store_at};
 ghost use Rattle.version_chains.specs.Marks.{pair_mark, set_mark};
 ghost use Rattle.userset_index.specs.Index.{IsUsersetIndex, is_crowded};
@@ -15,7 +15,7 @@ ghost use Rattle.judgement.specs.Passes.{AreBarred, AreThroughOut, IsTouchOut};
 use crate::fact::KnownFact;
 use crate::indexed::are_out;
 use crate::known::Known;
-use namespaces::Through;
+use rewrites::Through;
 use trace_lines::Trace;
 use userset_index::UsersetIndex;
 use version_chains::MarkedSet;

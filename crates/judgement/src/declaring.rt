@@ -2,11 +2,12 @@
 
 ghost use Rattle.std.specs.Prelude.{◌≡◌, ◌<◌, ◌^◌, ℕ, List, Contains, None, false, slice_get, option_map, IfOk};
 ghost use Rattle.namespaces.specs.Lookup.{rule_at};
-ghost use Rattle.namespaces.specs.Parts.{computed_names};
+ghost use Rattle.rewrites.specs.Parts.{computed_names};
 ghost use Rattle.userset_index.specs.Numbers.{Has};
 ghost use Rattle.judgement.specs.Declaring.{AreDeclaring, DeclaresNone};
 
-use namespaces::{Rules, Through};
+use namespaces::Rules;
+use rewrites::Through;
 use std::alloc::{AllocError, Global};
 use tuple_text::SetRef;
 use userset_index::Numbers;

@@ -4,7 +4,7 @@ ghost use Rattle.std.specs.Prelude.{◌≡◌, ◌↔◌, [], IsTrue, true, stri
 ghost use Rattle.tuple_text.specs.Refs.{set_value};
 ghost use Rattle.tuple_text.specs.Tuples.{fact_of};
 ghost use Rattle.namespaces.specs.Lookup.{rule_at};
-ghost use Rattle.namespaces.specs.Parts.{computed_names, through_expression};
+ghost use Rattle.rewrites.specs.Parts.{computed_names, through_expression};
 ghost use Rattle.strata.specs.Meaning.{with_relation};
 ghost use Rattle.version_chains.specs.Commits.{store_at};
 ghost use Rattle.judgement.specs.Declaring.{AreDeclaring, AreLive, IsKept, MayBeKept, kept_set};
@@ -17,7 +17,7 @@ use crate::known::Known;
 use crate::live::{live_in, stored_in};
 use crate::stored::under;
 use crate::through::are_barred;
-use namespaces::Through;
+use rewrites::Through;
 use std::alloc::{AllocError, Global};
 use trace_lines::Trace;
 use tuple_text::SetRef;

@@ -5,7 +5,7 @@ ghost use Rattle.tuple_text.specs.Refs.{set_value};
 ghost use Rattle.tuple_text.specs.Sets.{SetValue};
 ghost use Rattle.tuple_text.specs.declared.users.User.TheVariants.{Set};
 ghost use Rattle.namespaces.specs.Lookup.{namespace_names, place_of};
-ghost use Rattle.namespaces.specs.Parts.{computed_names};
+ghost use Rattle.rewrites.specs.Parts.{computed_names};
 ghost use Rattle.strata.specs.Meaning.{IsStored};
 ghost use Rattle.version_chains.specs.Commits.{store_at};
 ghost use Rattle.version_chains.specs.Marks.{set_mark};
@@ -15,7 +15,8 @@ ghost use Rattle.judgement.specs.Declaring.{AreDeclaring, AreLive, DeclaresNone,
 ghost use Rattle.judgement.specs.Passes.{EachSet};
 
 use crate::declaring::{declares_some, is_among};
-use namespaces::{Rules, Through};
+use namespaces::Rules;
+use rewrites::Through;
 use std::alloc::{AllocError, Global};
 use trace_lines::Trace;
 use userset_index::{Numbers, UsersetIndex};

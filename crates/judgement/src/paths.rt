@@ -1,7 +1,7 @@
 //! What was asked for facts before, and what followed.
 
 ghost use Rattle.std.specs.Prelude.{◌≡◌, [], List, IfOk, IfSome};
-ghost use Rattle.namespaces.specs.Expression.{Expression};
+ghost use Rattle.rewrites.specs.Expression.{Expression};
 ghost use Rattle.judgement.specs.Asked.{AreRightPaths, Follows};
 
 use crate::answers::{Answers, Asked};

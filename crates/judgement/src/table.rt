@@ -4,14 +4,14 @@ ghost use Rattle.std.specs.Prelude.{◌≡◌, ◌↔◌, IsTrue};
 ghost use Rattle.tuple_text.specs.Refs.{set_value};
 ghost use Rattle.tuple_text.specs.Tuples.{fact_of};
 ghost use Rattle.namespaces.specs.Lookup.{rule_at};
-ghost use Rattle.namespaces.specs.View.{expression_of};
+ghost use Rattle.rewrites.specs.View.{expression_of};
 ghost use Rattle.version_chains.specs.Commits.{store_at};
 ghost use Rattle.judgement.specs.Judgement.{Established, Refuted};
 
 use crate::fact::KnownFact;
 use crate::known::Known;
 use crate::stored::{is_barred, is_led, is_stored, under};
-use namespaces::Rewrite;
+use rewrites::Rewrite;
 use trace_lines::Trace;
 use version_chains::MarkedSet;
 

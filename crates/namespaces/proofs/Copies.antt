@@ -12,7 +12,7 @@ use Rattle.namespaces.specs.Changing.{change_count}
 use Rattle.namespaces.specs.WellFormed.{Continues, AreContinued, IsFit, IsWellFormed}
 use Rattle.namespaces.specs.Shown.{show_line, show_lines}
 use Rattle.namespaces.specs.declared.rules.Line.{Line}
-use Rattle.namespaces.proofs.Names.{by_bool, or_false, list_any-append}
+use Rattle.rewrites.proofs.Names.{by_bool, or_false, list_any-append}
 
 -- ---- the first declarations of a list that is well formed
 

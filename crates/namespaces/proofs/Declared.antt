@@ -13,7 +13,7 @@ use Rattle.namespaces.specs.Adding.{is_declared}
 use Rattle.namespaces.specs.Changing.{keeps_names, keeps_strata}
 use Rattle.namespaces.specs.WellFormed.{IsWellFormed}
 use Rattle.namespaces.specs.declared.number.RelNo.{RelNo}
-use Rattle.namespaces.proofs.Names.{by_bool, one_name, and_true}
+use Rattle.rewrites.proofs.Names.{by_bool, one_name, and_true}
 use Rattle.namespaces.proofs.Kept.{absent_before}
 use Rattle.namespaces.proofs.Times.{IsKeptIn, newest_keeps, not_named}
 use Rattle.namespaces.proofs.Growth.{is_declared-names}

@@ -13,7 +13,7 @@ use Rattle.namespaces.specs.Declaration.{Declaration}
 use Rattle.namespaces.specs.Lookup.{as_rule, relation_named, relation_names, relations_of, namespace_names, namespace_numbered, relation_numbered, item_at}
 use Rattle.namespaces.specs.Adding.{is_declared}
 use Rattle.namespaces.specs.Changing.{change_count}
-use Rattle.namespaces.specs.View.{expression_of}
+use Rattle.rewrites.specs.View.{expression_of}
 use Rattle.namespaces.specs.WellFormed.{IsFit, IsWellFormed}
 use Rattle.namespaces.specs.Shown.{show_line, show_lines, show_relation, show_relations}
 use Rattle.namespaces.specs.Index.{show_index, revision, with_revision, index_of, revisions_of, relations_at, unless_empty}
@@ -22,6 +22,7 @@ use Rattle.namespaces.specs.declared.number.RelNo.{RelNo}
 use Rattle.namespaces.specs.declared.rules.Line.{Line}
 use Rattle.namespaces.specs.declared.index.Revision.{Revision}
 use Rattle.namespaces.proofs.Tables.{Entry, is_text}
+use Rattle.rewrites.proofs.Names.{none_there}
 use Rattle.namespaces.proofs.Indexes.{IndexEntry, lookup-index_of, lookup-show_index, names-index_of, names-show_index, index_of-push, length-mapped, position-map}
 use Rattle.namespaces.proofs.Revisions.{last_or-slice_get, relations_of-revisions, relations_at-revisions}
 use Rattle.namespaces.proofs.Times.{from_one}
@@ -144,10 +145,6 @@ pub none_placed : (q : List ℕ) (es : List Entry) → position (is_text q) (key
     → option_map (λ r. r.expression) (relation_named q (show_relations es)) ≡ None
 none_placed q es none =
     expression_found q es ∙ ap (option_map (λ r. expression_of r.rewrite)) (none_there (lookup (is_text q) es) (sym (some_index (is_text q) es) ∙ ap is_some none))
-  where
-    none_there : {X : Type 0} (o : Option X) → is_some o ≡ false → o ≡ None
-    none_there None is = refl
-    none_there (Some x) is = cc
 
 pub expression_of_rule : (o : Option declaration.Relation) → option_map (λ r. r.expression) (option_map as_rule o) ≡ option_map (λ r. r.expression) o
 expression_of_rule None = refl

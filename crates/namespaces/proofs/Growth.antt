@@ -13,12 +13,13 @@ use Rattle.namespaces.specs.declared.fault.RulesFault.TheVariants.{Name, Repeate
 use Rattle.refusals.specs.Refusals.{◌>>=◌}
 use Rattle.namespaces.specs.Declaration.{Relation, Namespace, Declaration, addition, change}
 use Rattle.namespaces.specs.Lookup.{relations_of, relation_names, with_name, names_after, namespace_names}
-use Rattle.namespaces.specs.Expression.{counts_fit}
+use Rattle.rewrites.specs.Expression.{counts_fit}
 use Rattle.namespaces.specs.Adding.{namespace, is_well_named, has_repeats, reads_declared, is_too_deep, is_over_limits, tested, is_declared, is_full, checked_addition, added, rules_add}
 use Rattle.tuple_text.specs.Forms.{is_name}
 use Rattle.namespaces.specs.Changing.{keeps_names, keeps_strata, continued, change_count, is_full_for, checked_change, changed, rules_change, IsLater}
 use Rattle.namespaces.specs.WellFormed.{Continues, AreContinued, IsFit, IsWellFormed}
-use Rattle.namespaces.proofs.Names.{by_bool, clash, same_name, one_name, list_any-append, has_repeats-with_name}
+use Rattle.rewrites.proofs.Names.{by_bool, clash, same_name, one_name, list_any-append}
+use Rattle.namespaces.proofs.Repeats.{has_repeats-with_name}
 use Rattle.namespaces.proofs.Kept.{keeps_names-through, keeps_strata-through}
 use Rattle.namespaces.proofs.Times.{IsKeptIn, newest_keeps}
 

@@ -10,7 +10,7 @@ use Rattle.namespaces.specs.Index.{relations_at}
 use Rattle.namespaces.specs.Lookup.{as_rule, relation_named, relation_names, rule_at}
 use Rattle.namespaces.specs.Shown.{show_relations}
 use Rattle.namespaces.specs.WellFormed.{IsWellFormed}
-use Rattle.namespaces.proofs.Names.{by_bool, one_name}
+use Rattle.rewrites.proofs.Names.{by_bool, one_name}
 use Rattle.namespaces.proofs.Tables.{Entry}
 use Rattle.namespaces.proofs.Times.{relation_at-relations_at}
 

@@ -10,7 +10,7 @@ use Rattle.namespaces.specs.Declaration.{Declaration}
 use Rattle.namespaces.specs.Lookup.{with_name, names_after, namespace_names}
 use Rattle.namespaces.specs.Index.{Index, show_index, revision, with_revision, with_revision_at, index_after, index_of, revisions_from, revisions_of, unless_empty}
 use Rattle.namespaces.specs.declared.index.Revision.{Revision}
-use Rattle.namespaces.proofs.Names.{by_bool, clash, one_name}
+use Rattle.rewrites.proofs.Names.{by_bool, clash, one_name}
 use Rattle.namespaces.proofs.Tables.{is_text}
 
 abbrev pub IndexEntry : Type 0

@@ -8,7 +8,7 @@ use Rattle.namespaces.specs.Lookup.{relation_named, relation_names}
 use Rattle.namespaces.specs.Adding.{has_repeats}
 use Rattle.namespaces.specs.Changing.{keeps_names, keeps_strata}
 use Rattle.namespaces.specs.Kept.{keeps_name_at, keeps_stratum_at}
-use Rattle.namespaces.proofs.Names.{by_bool, clash, same_name, one_name, or_false, and_true}
+use Rattle.rewrites.proofs.Names.{by_bool, clash, same_name, one_name, or_false, and_true}
 
 drop-nil : (i : ℕ) → drop {A = Relation} i [] ≡ []
 drop-nil zero = refl

@@ -1,4 +1,3 @@
-pub mod AlikeLemmas
 pub mod Copies
 pub mod Declared
 pub mod Exits
@@ -7,16 +6,10 @@ pub mod Growth
 pub mod InForceLemmas
 pub mod Indexes
 pub mod Kept
-pub mod LeavesLemmas
-pub mod NamedLemmas
-pub mod Names
 pub mod Numbers
-pub mod PartLemmas
-pub mod PlainLemmas
 pub mod Points
+pub mod Repeats
 pub mod Revisions
 pub mod Shapes
 pub mod Tables
-pub mod ThinnedLemmas
 pub mod Times
-pub mod Walks

@@ -10,7 +10,7 @@ use Rattle.namespaces.specs.WellFormed.{IsFit, IsWellFormed}
 use Rattle.namespaces.specs.Index.{revisions_of}
 use Rattle.namespaces.specs.declared.index.Revision.{Revision}
 use Rattle.namespaces.specs.declared.number.RelNo.{RelNo}
-use Rattle.namespaces.proofs.Names.{by_bool}
+use Rattle.rewrites.proofs.Names.{by_bool}
 use Rattle.namespaces.proofs.Times.{IsKeptIn, newest_keeps, not_named, from_one}
 use Rattle.namespaces.proofs.Kept.{named_before, keeps_names-length}
 use Rattle.namespaces.proofs.Revisions.{picked, revisions_lead}

@@ -7,7 +7,7 @@ use Rattle.namespaces.specs.Declaration.{Relation, Declaration}
 use Rattle.namespaces.specs.Lookup.{relations_of}
 use Rattle.namespaces.specs.Index.{revisions_from, revisions_of, relations_at}
 use Rattle.namespaces.specs.declared.index.Revision.{Revision}
-use Rattle.namespaces.proofs.Names.{by_bool}
+use Rattle.rewrites.proofs.Names.{by_bool}
 
 -- the declarations of a namespace that pass a test of their timestamp and their number of relations
 abbrev pub picked : (ℕ → ℕ → Bool) → List ℕ → List Declaration → List Declaration

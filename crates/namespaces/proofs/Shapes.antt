@@ -10,7 +10,7 @@ use Rattle.serde_json.specs.declared.value.Value.{Value}
 use Rattle.namespaces.specs.declared.fault.RulesFault.{RulesFault}
 use Rattle.namespaces.specs.Fault.{needed}
 use Rattle.refusals.specs.Refusals.{◌>>=◌}
-use Rattle.namespaces.specs.Expression.{minus}
+use Rattle.rewrites.specs.Expression.{minus}
 use Rattle.namespaces.specs.Shape.{forms_in, only_form, expression, child_list, expressions, exclusion, expression_at, child_list_at, exclusion_at}
 
 module _ {X : Type 0} (f : Data → Result X RulesFault) where

@@ -15,7 +15,7 @@ use Rattle.namespaces.specs.Lookup.{relation_names}
 use Rattle.namespaces.specs.Kept.{has_one_name, keeps_name_at, has_one_stratum, keeps_stratum_at}
 use Rattle.namespaces.specs.Shown.{show_relation, show_relations}
 use Rattle.namespaces.specs.declared.relation.Relation.{Relation}
-use Rattle.namespaces.proofs.Names.{has_repeats-there, has_repeats-push}
+use Rattle.namespaces.proofs.Repeats.{has_repeats-there, has_repeats-push}
 
 abbrev pub Entry : Type 0
 Entry = String Global × Relation
@@ -76,10 +76,6 @@ building_ends done all b =
 pub on_err_always : {T E P : Type 0} (r : Result T E) → P → OnErr r P
 on_err_always (Ok x) p = tt
 on_err_always (Err e) p = p
-
-pub none_there : {X : Type 0} (o : Option X) → is_some o ≡ false → o ≡ None
-none_there None h = refl
-none_there (Some x) h = cc
 
 pub not_refused : (b : Bool) (u : Unit {0}) → cond {A = Result (Unit {0}) RulesFault} b (Err RepeatedRelation) (Ok (tt {0})) ≡ Ok u → b ≡ false
 not_refused true u h = cc

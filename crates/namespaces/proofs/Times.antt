@@ -10,7 +10,7 @@ use Rattle.namespaces.specs.Changing.{keeps_names, keeps_strata}
 use Rattle.namespaces.specs.WellFormed.{Continues, AreContinued}
 use Rattle.namespaces.specs.Index.{revision, revisions_from, relations_at}
 use Rattle.namespaces.specs.declared.index.Revision.{Revision}
-use Rattle.namespaces.proofs.Names.{by_bool, clash, one_name, and_true}
+use Rattle.rewrites.proofs.Names.{by_bool, clash, one_name, and_true}
 use Rattle.namespaces.proofs.Kept.{absent_before, keeps_names-same, keeps_strata-same, keeps_names-length}
 
 -- a declaration of this namespace, with these relations, of which P holds

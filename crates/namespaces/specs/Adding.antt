@@ -9,7 +9,7 @@ use Rattle.namespaces.specs.declared.fault.RulesFault.TheVariants.{Shape, Name, 
 use Rattle.namespaces.specs.Fault.{needed}
 use Rattle.refusals.specs.Refusals.{◌>>=◌}
 use Rattle.tuple_text.specs.Forms.{is_name}
-use Rattle.namespaces.specs.Expression.{Expression, this, depth, names_in, own_relations, counts_fit}
+use Rattle.rewrites.specs.Expression.{Expression, this, depth, names_in, own_relations, counts_fit}
 use Rattle.namespaces.specs.Declaration.{Relation, Namespace, Declaration, addition}
 use Rattle.namespaces.specs.Lookup.{relations_of, relation_names, namespace_names}
 use Rattle.namespaces.specs.Shape.{text_at, expression}

@@ -1,8 +1,8 @@
 -- What the rules hold: every accepted value, in order, as a declaration.
 use Rattle.std.specs.Prelude.{ℕ, Bool, false, true, List, refl}
 use Rattle.std.specs.Coded.{Coded, code_by, coded×, coded_ℕ, coded_bool, coded_list}
-use Rattle.namespaces.specs.Expression.{Expression}
-use Rattle.namespaces.specs.ExpressionCode.{expression_code}
+use Rattle.rewrites.specs.Expression.{Expression}
+use Rattle.rewrites.specs.ExpressionCode.{expression_code}
 
 pub record Relation : Type 0 where
   pub name : List ℕ

@@ -4,7 +4,7 @@ use Rattle.std.specs.Option.{option_or}
 use Rattle.std.specs.List.{filter_map, list_any}
 use Rattle.std.specs.Str.{bytes_eq}
 use Rattle.tuple_text.specs.Sets.{SetValue}
-use Rattle.namespaces.specs.Expression.{Expression}
+use Rattle.rewrites.specs.Expression.{Expression}
 use Rattle.namespaces.specs.Declaration.{Relation, Declaration}
 use Rattle.namespaces.specs.declared.number.RelNo.{RelNo}
 use Rattle.namespaces.specs.declared.number.RulePlace.{RulePlace}

@@ -1,7 +1,7 @@
 -- The declarations that the lines of `Rules` show.
 use Rattle.std.specs.Prelude.{List, map, String, string_bytes}
 use Rattle.std.specs.declared.alloc.Global.{Global}
-use Rattle.namespaces.specs.View.{expression_of}
+use Rattle.rewrites.specs.View.{expression_of}
 use Rattle.namespaces.specs.Declaration as declaration
 use Rattle.namespaces.specs.declared.relation.Relation.{Relation}
 use Rattle.namespaces.specs.declared.table.Namespace.{Namespace}

@@ -3,8 +3,8 @@
 //!
 //! [`Rules`] reads a namespace from a JSON value by `add` (in force from 0) and `change` (in force from a timestamp on). Contracts see it
 //! as the list of its declarations: every accepted value in order, each with its timestamp, name, and relations (name, stratum, rule).
-//! A [`Rewrite`] is seen as the `Expression` that the meaning of the rules is defined over, and so is a [`PartedRule`], a rule of many places by
-//! its parts.
+//! Rules themselves are values of `rewrites`. [`Rules::plain_in`] gives one in its plain form, which is made once, when it is declared, and with it
+//! its parts where it has many places.
 //!
 //! Callers may rely on this: a value is accepted, or refused with the first fault that applies, exactly as the definitions over its JSON
 //! data say, running out of memory apart; after a refusal the rules hold what they held before; every look-up answers by the list. `IsWellFormed`,
@@ -22,20 +22,15 @@
 
 mod fault;
 mod index;
-mod leaves;
 mod lookups;
 mod number;
-mod parts;
-mod plain;
 mod reading;
 mod relation;
-mod rewrite;
 mod rules;
 mod table;
 
 pub use fault::RulesFault;
 pub use number::{RelNo, RulePlace};
-pub use parts::{Node, Part, PartedRule, Through};
 pub use relation::PlainRule;
-pub use rewrite::Rewrite;
+pub use rewrites::Rewrite;
 pub use rules::Rules;

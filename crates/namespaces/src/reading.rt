@@ -10,13 +10,13 @@ ghost use Rattle.namespaces.specs.Shape as shape;
 ghost use Rattle.namespaces.specs.Adding as adding;
 ghost use Rattle.namespaces.specs.Shown.{show_relation, show_relations};
 ghost use Rattle.namespaces.specs.Drafts.{show_draft};
-ghost use Rattle.namespaces.specs.Expression as form;
-ghost use Rattle.namespaces.specs.View.{expression_of, expressions_of};
+ghost use Rattle.rewrites.specs.Expression as form;
+ghost use Rattle.rewrites.specs.View.{expression_of, expressions_of};
 
 use crate::fault::RulesFault;
 use crate::relation::{Relation, relation_of};
-use crate::rewrite::{Rewrite, minus};
 use indexmap::IndexMap;
+use rewrites::{Rewrite, minus};
 use serde_json::Value;
 use std::alloc::Global;
 

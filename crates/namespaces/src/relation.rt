@@ -1,15 +1,13 @@
 //! Relations, with their rules in two forms.
 ghost use Rattle.std.specs.Prelude.{◌≡◌, ℕ, Ok, IfOk};
-ghost use Rattle.namespaces.specs.Expression.{Expression};
+ghost use Rattle.rewrites.specs.Expression.{Expression};
 ghost use Rattle.namespaces.specs.Fault.{Gives};
-ghost use Rattle.namespaces.specs.Parts.{ArePartsOf};
-ghost use Rattle.namespaces.specs.Plain.{IsPlainOf};
-ghost use Rattle.namespaces.specs.View.{expression_of};
+ghost use Rattle.rewrites.specs.Parts.{ArePartsOf};
+ghost use Rattle.rewrites.specs.Plain.{IsPlainOf};
+ghost use Rattle.rewrites.specs.View.{expression_of};
 
 use crate::fault::RulesFault;
-use crate::parts::{PartedRule, parted};
-use crate::plain::plain;
-use crate::rewrite::{Rewrite, has_more};
+use rewrites::{PartedRule, Rewrite, has_more_places, parts_of, plain_of};
 use std::alloc::{AllocError, Global};
 
 /// How many places a rule may have that is judged place by place.
@@ -36,8 +34,8 @@ pub(crate) struct Relation {
 fn plain_rule(alloc: Global, rewrite: Rewrite) -> Result<PlainRule, AllocError>
     ensures { IfOk result (λ r. expression_of r.rewrite ≡ expression_of rewrite) }
 {
-    let parted = if has_more(&rewrite, FEW_PLACES) {
-        Some(parted(alloc, &rewrite)?)
+    let parted = if has_more_places(&rewrite, FEW_PLACES) {
+        Some(parts_of(alloc, &rewrite)?)
     } else {
         None
     };
@@ -52,7 +50,7 @@ pub(crate) fn relation_of(
 ) -> Result<Relation, RulesFault>
     ensures { Gives {Y = ℕ × Expression} (λ r. (r.stratum, expression_of r.rewrite)) result (Ok (stratum, expression_of rewrite)) }
 {
-    let plain = plain_rule(alloc, plain(alloc, &rewrite)?)?;
+    let plain = plain_rule(alloc, plain_of(alloc, &rewrite)?)?;
     Ok(Relation {
         stratum,
         rewrite,

@@ -3,22 +3,21 @@ ghost use Rattle.std.specs.Prelude.{◌≡◌, ℕ, List, None, Contains, ◌<�
 ghost use Rattle.tuple_text.specs.Refs.{set_value};
 ghost use Rattle.namespaces.specs.Declaration.{declared};
 ghost use Rattle.namespaces.specs.InForce.{names_in_force};
-ghost use Rattle.namespaces.specs.Leaves.{AreLeavesOf};
+ghost use Rattle.rewrites.specs.Leaves.{AreLeavesOf};
 ghost use Rattle.namespaces.specs.Lookup.{expression_in, rule_of, rule_at, relation_of, relation_count, relations_of, number_of, place_of, namespace_names, namespace_numbered, relation_numbered, history_numbered};
-ghost use Rattle.namespaces.specs.Plain.{ArePlain};
-ghost use Rattle.namespaces.specs.View.{expression_of};
+ghost use Rattle.rewrites.specs.Plain.{ArePlain};
+ghost use Rattle.rewrites.specs.View.{expression_of};
 ghost use Rattle.namespaces.specs.WellFormed.{IsWellFormed};
 
 use crate::fault::RulesFault;
 use crate::index::{Revision, note, revision_at, revision_with};
-use crate::leaves::leaves_of;
 use crate::lookups::{place_in, value_in};
 use crate::number::{RelNo, RulePlace};
 use crate::reading::{Draft, read_draft};
 use crate::relation::{PlainRule, Relation};
-use crate::rewrite::Rewrite;
-use crate::table::{Namespace, copied_namespace, keeps_names, keeps_strata, tested};
+use crate::table::{Namespace, check_declaration, copied_namespace, keeps_names, keeps_strata};
 use indexmap::IndexMap;
+use rewrites::{Rewrite, leaves_of};
 use serde_json::Value;
 use std::alloc::{AllocError, Global};
 use std::marker::Model;
@@ -101,7 +100,7 @@ impl Rules {
         ensures later { (at : ℕ) → IsLater at self.old → IsLater at self.new }
     {
         let alloc = *self.lines.allocator();
-        let namespace = self.added(alloc, value)?;
+        let namespace = self.read_addition(alloc, value)?;
         self.push(alloc, 0, false, namespace)
     }
 
@@ -119,7 +118,7 @@ impl Rules {
         ensures later { (next : ℕ) → at < next → IsLater next self.new }
     {
         let alloc = *self.lines.allocator();
-        let namespace = self.changed(alloc, value)?;
+        let namespace = self.read_change(alloc, value)?;
         self.push(alloc, at, true, namespace)
     }
 
@@ -128,7 +127,7 @@ impl Rules {
         ensures { Gives (λ u. u) result (change_answer self.now (view value.now)) }
     {
         let alloc = *self.lines.allocator();
-        let _ = self.changed(alloc, value)?;
+        let _ = self.read_change(alloc, value)?;
         Ok(())
     }
 
@@ -140,8 +139,8 @@ impl Rules {
         ensures { Gives (λ rules. rules) result (rules_change self.now LAST_TIMESTAMP (view value.now)) }
     {
         let alloc = *self.lines.allocator();
-        let namespace = self.changed(alloc, value)?;
-        let mut rules = self.copied(alloc)?;
+        let namespace = self.read_change(alloc, value)?;
+        let mut rules = self.copy(alloc)?;
         rules.push(alloc, LAST_TIMESTAMP, true, namespace)?;
         Ok(rules)
     }
@@ -216,7 +215,7 @@ impl Rules {
         ensures { option_map (λ r. expression_of r.now) result
             ≡ option_map (λ r. r.expression) (slice_get (history_numbered number self.now) k) }
     {
-        let (_, revisions) = self.numbered(number.namespace)?;
+        let (_, revisions) = self.by_number(number.namespace)?;
         let index = number.relation.checked_sub(1)? as usize;
         let revision = revision_with(revisions.as_slice(), index, k)?;
         let (_, relation) = self.relation_in(RulePlace {
@@ -279,7 +278,7 @@ impl Rules {
         ensures value { option_map (λ s. s.now) result ≡ namespace_numbered number self.now }
         ensures well_formed { IsWellFormed self.now }
     {
-        let (name, _) = self.numbered(number)?;
+        let (name, _) = self.by_number(number)?;
         Some(name)
     }
 
@@ -288,7 +287,7 @@ impl Rules {
         ensures value { option_map (λ s. s.now) result ≡ option_map (λ r. r.name) (relation_numbered number self.now) }
         ensures well_formed { IsWellFormed self.now }
     {
-        let (name, _) = self.last_numbered(number)?;
+        let (name, _) = self.last_by_number(number)?;
         Some(name.as_str())
     }
 
@@ -297,12 +296,12 @@ impl Rules {
         ensures value { option_map (λ r. expression_of r.now) result ≡ option_map (λ r. r.expression) (relation_numbered number self.now) }
         ensures well_formed { IsWellFormed self.now }
     {
-        let (_, relation) = self.last_numbered(number)?;
+        let (_, relation) = self.last_by_number(number)?;
         Some(&relation.rewrite)
     }
 
     /// A copy of the rules.
-    fn copied(&self, alloc: Global) -> Result<Rules, RulesFault>
+    fn copy(&self, alloc: Global) -> Result<Rules, RulesFault>
         ensures { Gives (λ rules. rules) result (Ok self.now) }
     {
         let mut rules = Rules::new(alloc);
@@ -314,7 +313,7 @@ impl Rules {
     }
 
     /// The name and the revisions of the namespace that has this number.
-    fn numbered(&self, number: u16) -> Option<(&str, &Vec<Revision>)>
+    fn by_number(&self, number: u16) -> Option<(&str, &Vec<Revision>)>
         ensures name { option_map (λ p. p.0.now) result ≡ namespace_numbered number self.now }
         ensures revisions { IfSome result (λ p. p.1.now.items ≡ revisions_of p.0.now self.now) }
         ensures well_formed { IsWellFormed self.now }
@@ -326,11 +325,11 @@ impl Rules {
     }
 
     /// The relation that has this number, by the last declaration of its namespace.
-    fn last_numbered(&self, number: RelNo) -> Option<(&String, &Relation)>
+    fn last_by_number(&self, number: RelNo) -> Option<(&String, &Relation)>
         ensures relation { option_map (λ p. show_relation (p.0.now, p.1.now)) result ≡ relation_numbered number self.now }
         ensures well_formed { IsWellFormed self.now }
     {
-        let (_, revisions) = self.numbered(number.namespace)?;
+        let (_, revisions) = self.by_number(number.namespace)?;
         let index = number.relation.checked_sub(1)?;
         let newest = revisions.last().copied()?;
         self.relation_in(RulePlace {
@@ -396,21 +395,21 @@ impl Rules {
     }
 
     /// The namespace that `add` would declare.
-    fn added(&self, alloc: Global, value: &Value) -> Result<Namespace, RulesFault>
+    fn read_addition(&self, alloc: Global, value: &Value) -> Result<Namespace, RulesFault>
         ensures { Gives show_namespace result (adding.added self.now (view value.now)) }
     {
         let draft = read_draft(alloc, value)?;
         let repeated = self.is_declared(draft.name.as_str());
-        tested(alloc, draft, repeated, self.is_full())
+        check_declaration(alloc, draft, repeated, self.is_full())
     }
 
     /// The namespace that `change` would declare.
-    fn changed(&self, alloc: Global, value: &Value) -> Result<Namespace, RulesFault>
+    fn read_change(&self, alloc: Global, value: &Value) -> Result<Namespace, RulesFault>
         ensures { Gives show_namespace result (changing.changed self.now (view value.now)) }
     {
         let draft = read_draft(alloc, value)?;
         let full = self.is_full_for(draft.name.as_str());
-        let namespace = tested(alloc, draft, false, full)?;
+        let namespace = check_declaration(alloc, draft, false, full)?;
         self.check_kept(&namespace)?;
         Ok(namespace)
     }

@@ -6,18 +6,18 @@ ghost use Rattle.indexmap.specs.IndexMap.{get_by_text};
 ghost use Rattle.namespaces.specs.Adding as adding;
 ghost use Rattle.namespaces.specs.Changing as changing;
 ghost use Rattle.namespaces.specs.Drafts.{show_draft};
-ghost use Rattle.namespaces.specs.Expression as form;
+ghost use Rattle.rewrites.specs.Expression as form;
 ghost use Rattle.namespaces.specs.Fault.{Gives};
 ghost use Rattle.namespaces.specs.Kept.{keeps_name_at, keeps_stratum_at};
 ghost use Rattle.namespaces.specs.Lookup.{relation_names};
 ghost use Rattle.namespaces.specs.Shown.{show_relation, show_relations, show_namespace};
-ghost use Rattle.namespaces.specs.View.{expression_of};
+ghost use Rattle.rewrites.specs.View.{expression_of};
 
 use crate::fault::RulesFault;
 use crate::reading::{Draft, reads_declared};
 use crate::relation::{Relation, relation_of};
-use crate::rewrite::{Rewrite, copied, counts_fit, has_good_names, is_deeper};
 use indexmap::IndexMap;
+use rewrites::{Rewrite, copy_of, counts_fit, has_good_names, is_deeper};
 use std::alloc::Global;
 use tuple_text::is_name;
 
@@ -36,7 +36,7 @@ pub(crate) struct Namespace {
 
 /// The namespace of a draft, or the first fault that applies, where `repeated` says that the namespace may not be declared again, and
 /// `full` that there is no room for it.
-pub(crate) fn tested(
+pub(crate) fn check_declaration(
     alloc: Global,
     draft: Draft,
     repeated: bool,
@@ -123,7 +123,7 @@ fn copied_relation(
         (Ok (record { name = name.now; stratum = relation.now.stratum; expression = expression_of relation.now.rewrite })) }
 {
     let name = String::from_str(alloc, name)?;
-    let rewrite = copied(alloc, &relation.rewrite)?;
+    let rewrite = copy_of(alloc, &relation.rewrite)?;
     Ok((name, relation_of(alloc, relation.stratum, rewrite)?))
 }
 

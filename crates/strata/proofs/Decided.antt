@@ -2,7 +2,7 @@
 use Rattle.std.proofs.Common.{List}
 use Rattle.tuple_text.specs.Tuples.{TupleValue, FactValue}
 use Rattle.tuple_text.specs.declared.users.User.TheVariants.{Id}
-use Rattle.namespaces.specs.Expression.{Expression, this, computed, tuple_to, union, inter, minus, Expressions, no_child, child}
+use Rattle.rewrites.specs.Expression.{Expression, this, computed, tuple_to, union, inter, minus, Expressions, no_child, child}
 use Rattle.strata.specs.Meaning.{with_relation, same_user, Body, SomeBody, EachBody}
 use Rattle.strata.specs.Strata.{EachPremise, EachPremises}
 use Rattle.strata.specs.Decisions.{dec_not, dec_both, dec_either, dec_contains}

@@ -8,7 +8,7 @@ use Rattle.std.proofs.lemmas.List.Elements.{Contains-append_left, Contains-appen
 use Rattle.tuple_text.specs.Tuples.{TupleValue, FactValue}
 use Rattle.namespaces.specs.Declaration.{Relation, Declaration}
 use Rattle.namespaces.specs.Lookup.{Rule, as_rule, rule_of, rule_at, relation_at, relation_named, relation_names, in_force}
-use Rattle.namespaces.proofs.Names.{one_name}
+use Rattle.rewrites.proofs.Names.{one_name}
 use Rattle.strata.specs.Meaning.{Member, HasLeastRound}
 use Rattle.strata.specs.Strata.{HasValidStrata, HasNames}
 use Rattle.strata.proofs.LeastRound.{supported_law}

@@ -4,7 +4,7 @@ use Rattle.std.specs.List.{flat_map, filter_map, cons_option}
 use Rattle.namespaces.specs.declared.number.RelNo.{RelNo}
 use Rattle.namespaces.specs.Declaration.{Relation, Declaration}
 use Rattle.namespaces.specs.Lookup.{number_of}
-use Rattle.namespaces.proofs.Names.{by_bool}
+use Rattle.rewrites.proofs.Names.{by_bool}
 use Rattle.strata.specs.declared.edge.Edge.{Edge}
 use Rattle.strata.specs.Edges.{RelationName, Place, places, edge_to, edge_at, edges_in, stratum_numbered, is_broken, first_broken}
 use Rattle.strata.proofs.Walks.{both, edges_joined}

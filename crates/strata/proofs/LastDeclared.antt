@@ -9,7 +9,7 @@ use Rattle.std.proofs.lemmas.List.{append-nil}
 use Rattle.std.proofs.lemmas.Grind.{flat_map-append}
 use Rattle.std.proofs.lemmas.Option.{slice_get-map}
 use Rattle.namespaces.specs.declared.number.RelNo.{RelNo}
-use Rattle.namespaces.specs.Expression.{Expression, this, computed, tuple_to, union, inter, minus, Expressions, no_child, child, own_relations, own_relations_all}
+use Rattle.rewrites.specs.Expression.{Expression, this, computed, tuple_to, union, inter, minus, Expressions, no_child, child, own_relations, own_relations_all}
 use Rattle.namespaces.specs.Declaration.{Relation, Declaration}
 use Rattle.namespaces.specs.Lookup.{declared_in, history, with_name, relation_named, relation_names, relations_of, relation_of, namespace_names, namespace_numbered, relation_numbered, history_numbered, number_of, place_of, item_at}
 use Rattle.namespaces.specs.Adding.{has_repeats, reads_declared}
@@ -18,7 +18,7 @@ use Rattle.namespaces.specs.WellFormed.{Continues, AreContinued, IsFit, IsWellFo
 use Rattle.namespaces.proofs.Declared.{IsPlaced, stays_declared, numbered, history_of_number}
 use Rattle.namespaces.proofs.Growth.{change_count-push}
 use Rattle.namespaces.proofs.Kept.{named_by_place}
-use Rattle.namespaces.proofs.Names.{by_bool, clash, same_name, one_name, and_true}
+use Rattle.rewrites.proofs.Names.{by_bool, clash, same_name, one_name, and_true}
 use Rattle.namespaces.proofs.Numbers.{item_at-place}
 use Rattle.namespaces.proofs.Times.{IsKeptIn, from_one, newest_keeps}
 use Rattle.strata.specs.declared.edge.Edge.{Edge}

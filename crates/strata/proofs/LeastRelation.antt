@@ -1,7 +1,7 @@
 -- Members are the least relation that is closed under the rules.
 use Rattle.std.proofs.Common.{◌≡◌, ℕ, zero, suc, ◌≤◌, ◌<◌, Bool, true, false, IsTrue, List, Option, Some, None, ◌⊎◌, inl, inr, ◌↔◌, refl, sym, ◌∙◌, subst, ap, arith}
 use Rattle.tuple_text.specs.Tuples.{TupleValue, FactValue}
-use Rattle.namespaces.specs.Expression.{Expression, this, computed, tuple_to, union, inter, minus, Expressions, no_child, child}
+use Rattle.rewrites.specs.Expression.{Expression, this, computed, tuple_to, union, inter, minus, Expressions, no_child, child}
 use Rattle.namespaces.specs.Lookup.{Rule, Lookup, rule_of}
 use Rattle.strata.specs.Laws.{IsClosedUnderRules, Meets, HasMemberTest, IsWithoutExclusion, AreWithoutExclusion, HasNoExclusion, AgreesBelow, IsClosedAt}
 use Rattle.strata.specs.Meaning.{Body, Below, At, In, Member}

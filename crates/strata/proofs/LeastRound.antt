@@ -8,7 +8,7 @@ use Rattle.tuple_text.specs.Sets.{SetValue}
 use Rattle.tuple_text.specs.Tuples.{TupleValue, FactValue}
 use Rattle.tuple_text.specs.declared.users.User.{User}
 use Rattle.tuple_text.specs.declared.users.User.TheVariants.{Id, Set}
-use Rattle.namespaces.specs.Expression.{Expression, this, computed, tuple_to, union, inter, minus, Expressions, no_child, child}
+use Rattle.rewrites.specs.Expression.{Expression, this, computed, tuple_to, union, inter, minus, Expressions, no_child, child}
 use Rattle.namespaces.specs.Lookup.{Rule, Lookup, rule_of}
 use Rattle.strata.specs.Meaning.{with_relation, IsStored, Body, Below, At, In, Member, HasLeastRound}
 use Rattle.strata.specs.Strata.{EachPremise, EachPremises, HasValidStrata, HasNames}

@@ -4,7 +4,7 @@ use Rattle.std.specs.Prelude.{codes, Ok}
 use Rattle.tuple_text.specs.Sets.{SetValue}
 use Rattle.tuple_text.specs.Tuples.{TupleValue}
 use Rattle.tuple_text.specs.declared.users.User.TheVariants.{Id}
-use Rattle.namespaces.specs.Expression.{this, computed, minus}
+use Rattle.rewrites.specs.Expression.{this, computed, minus}
 use Rattle.namespaces.specs.Declaration.{Declaration, addition}
 use Rattle.namespaces.specs.Lookup.{rule_at}
 use Rattle.strata.specs.Edges.{first_broken, rule_edges}

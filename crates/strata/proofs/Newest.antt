@@ -8,7 +8,8 @@ use Rattle.namespaces.specs.Declaration.{Relation, Declaration}
 use Rattle.namespaces.specs.Lookup.{history, relations_of, with_name, names_after, namespace_names, namespace_numbered, history_numbered, number_of, place_of, relation_names, item_at}
 use Rattle.namespaces.specs.Adding.{has_repeats}
 use Rattle.namespaces.proofs.Growth.{names_after-push}
-use Rattle.namespaces.proofs.Names.{by_bool, clash, has_repeats-with_name, same_name, one_name, other_name, or_false}
+use Rattle.rewrites.proofs.Names.{by_bool, clash, same_name, one_name, other_name, or_false}
+use Rattle.namespaces.proofs.Repeats.{has_repeats-with_name}
 use Rattle.namespaces.proofs.Numbers.{item_at-place}
 use Rattle.strata.specs.declared.edge.Edge.{Edge}
 use Rattle.strata.specs.Edges.{RelationName, Place, at_this, at_computed, at_tuple_to, relation_edges, relations_in, namespace_edges, edges_of_namespace, rule_edges, read_by_rule, stratum_numbered, first_broken}

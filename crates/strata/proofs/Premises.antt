@@ -1,7 +1,7 @@
 -- How the body of a rule follows its premises.
 use Rattle.std.proofs.Common.{◌≡◌, ℕ, zero, suc, max, ◌≤◌, List, ◌⊎◌, inl, inr, ◌↔◌, subst, arith}
 use Rattle.tuple_text.specs.Tuples.{TupleValue, FactValue}
-use Rattle.namespaces.specs.Expression.{Expression, this, computed, tuple_to, union, inter, minus, Expressions, no_child, child}
+use Rattle.rewrites.specs.Expression.{Expression, this, computed, tuple_to, union, inter, minus, Expressions, no_child, child}
 use Rattle.strata.specs.Meaning.{with_relation, same_user, Body, SomeBody, EachBody}
 use Rattle.strata.specs.Strata.{EachPremise, EachPremises}
 

@@ -8,12 +8,12 @@ use Rattle.tuple_text.specs.Sets.{SetValue}
 use Rattle.tuple_text.specs.Tuples.{TupleValue, FactValue}
 use Rattle.tuple_text.specs.declared.users.User.TheVariants.{Set}
 use Rattle.namespaces.specs.declared.number.RelNo.{RelNo}
-use Rattle.namespaces.specs.Expression.{Expression, this, computed, tuple_to, union, inter, minus, Expressions, no_child, child}
+use Rattle.rewrites.specs.Expression.{Expression, this, computed, tuple_to, union, inter, minus, Expressions, no_child, child}
 use Rattle.namespaces.specs.Declaration.{Relation, Declaration}
 use Rattle.namespaces.specs.Lookup.{Rule, rule_of, as_rule, relation_at, rule_at, history, namespace_numbered, relation_numbered, history_numbered, number_of, place_of, namespace_names, relation_names, relations_of}
 use Rattle.namespaces.specs.WellFormed.{IsWellFormed}
 use Rattle.namespaces.proofs.Declared.{IsPlaced, one_stratum, in_force_placed, stays_declared, numbered, history_of_number}
-use Rattle.namespaces.proofs.Names.{same_name}
+use Rattle.rewrites.proofs.Names.{same_name}
 use Rattle.strata.specs.declared.edge.Edge.{Edge}
 use Rattle.strata.specs.Meaning.{with_relation, same_user, IsStored}
 use Rattle.strata.specs.Strata.{EachPremise, EachPremises, IsAtMost, IsLower, HasValidStrata}

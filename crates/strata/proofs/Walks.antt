@@ -5,11 +5,11 @@ use Rattle.std.specs.List.{flat_map, filter_map, enumerate_from, range_with_len,
 use Rattle.std.proofs.lemmas.List.Folds.{find-append}
 use Rattle.std.proofs.lemmas.List.Elements.{filter_map-append}
 use Rattle.namespaces.specs.declared.number.RelNo.{RelNo}
-use Rattle.namespaces.specs.declared.rewrite.Rewrite.{Rewrite}
-use Rattle.namespaces.specs.View.{expression_of, expressions_of}
+use Rattle.rewrites.specs.declared.rewrite.Rewrite.{Rewrite}
+use Rattle.rewrites.specs.View.{expression_of, expressions_of}
 use Rattle.namespaces.specs.Adding.{has_repeats}
 use Rattle.tuple_text.specs.Sets.{SetValue}
-use Rattle.namespaces.specs.Expression.{Expression, this, computed, tuple_to, union, inter, minus, Expressions, no_child, child}
+use Rattle.rewrites.specs.Expression.{Expression, this, computed, tuple_to, union, inter, minus, Expressions, no_child, child}
 use Rattle.namespaces.specs.Declaration.{Relation, Declaration}
 use Rattle.namespaces.specs.Lookup.{declared_in, history, relation_named, relation_names, relations_of, relation_of, namespace_names, namespace_numbered, relation_numbered, history_numbered, item_at}
 use Rattle.namespaces.specs.WellFormed.{IsFit, IsWellFormed}
@@ -17,7 +17,7 @@ use Rattle.namespaces.proofs.Kept.{named_by_place}
 use Rattle.namespaces.proofs.Times.{from_one}
 use Rattle.namespaces.proofs.Numbers.{item_at-place}
 use Rattle.std.proofs.lemmas.Option.{slice_get_within}
-use Rattle.namespaces.proofs.Walks as below
+use Rattle.rewrites.proofs.Walks as below
 use Rattle.strata.proofs.Unbroken.{item_least, item_there}
 use Rattle.strata.specs.declared.edge.Edge.{Edge}
 use Rattle.strata.specs.Edges.{RelationName, Place, edge_at, edges_in, relations_in, namespace_edges, last_relation_edges, read_by_rule, stratum_numbered, is_broken, refused, first_broken, places, all_places, read_through}

@@ -1,6 +1,6 @@
 -- What is looked for in a rule. No public clause cites this module.
 use Rattle.std.specs.Prelude.{Bool, true, false, ◌||◌, Option, None}
-use Rattle.namespaces.specs.Expression.{Expression, this, computed, tuple_to, union, inter, minus, Expressions, no_child, child}
+use Rattle.rewrites.specs.Expression.{Expression, this, computed, tuple_to, union, inter, minus, Expressions, no_child, child}
 use Rattle.tuple_text.specs.Refs.{set_value}
 use Rattle.strata.specs.Edges.{RelationName, Place, at_this, at_computed, at_tuple_to, read_by_rule, read_in_userset, read_through}
 use Rattle.tuple_text.specs.declared.sets.SetRef.{SetRef}

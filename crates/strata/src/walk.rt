@@ -3,12 +3,13 @@
 ghost use Rattle.std.specs.Prelude.{◌≡◌, [], option_map, option_and_then, false};
 ghost use Rattle.std.specs.List.{cons_option, filter_map, flat_map};
 ghost use Rattle.namespaces.specs.Lookup.{history_numbered};
-ghost use Rattle.namespaces.specs.View.{expression_of, expressions_of};
+ghost use Rattle.rewrites.specs.View.{expression_of, expressions_of};
 ghost use Rattle.strata.specs.Edges as edges;
 ghost use Rattle.strata.specs.Sights.{reads, name_of, leaf_read, reads_tupleset, some_reads_tupleset};
 
 use crate::edge::Edge;
-use namespaces::{RelNo, Rewrite, Rules};
+use namespaces::{RelNo, Rules};
+use rewrites::Rewrite;
 use tuple_text::SetRef;
 
 /// What is looked for in the rules of a relation.

@@ -4,7 +4,7 @@ use Rattle.std.specs.Prelude.{Contains, slice_get}
 use Rattle.std.proofs.lemmas.Bool.{eqb-true, eq-eqb}
 use Rattle.std.proofs.lemmas.Bool.Decides.{nat_tests}
 use Rattle.std.proofs.lemmas.Option.{slice_get_within}
-use Rattle.namespaces.proofs.Names.{by_bool, clash}
+use Rattle.rewrites.proofs.Names.{by_bool, clash}
 use Rattle.strata.proofs.Lists.{Contains-cons_cases, Contains-here, Contains-there, not_in_nil}
 use Rattle.version_chains.specs.Placed.{last_place, passes}
 use Rattle.version_chains.proofs.PlacedLemmas.{last_place-within, at_last_place}

@@ -14,7 +14,7 @@ use Rattle.namespaces.specs.Lookup as lookup
 use Rattle.namespaces.specs.Lookup.{declared_in, history, relations_of, relation_of, namespace_names, namespace_numbered, relation_numbered, history_numbered, number_of, place_of}
 use Rattle.namespaces.specs.WellFormed.{IsWellFormed}
 use Rattle.namespaces.proofs.Declared.{numbered, history_of_number, one_stratum, stays_declared}
-use Rattle.namespaces.proofs.Names.{by_bool, one_name}
+use Rattle.rewrites.proofs.Names.{by_bool, one_name}
 use Rattle.strata.specs.declared.edge.Edge.{Edge}
 use Rattle.strata.specs.Edges.{RelationName, Place, at_this, at_computed, at_tuple_to, places, read_in_userset, read_through, edge_at, edges_in, relation_edges, relations_in, this_edges, tuple_to_edges, user_edges, tuple_edges, edges_of_tuples, stratum_numbered, is_broken_between, first_broken}
 use Rattle.strata.proofs.LastTuple.{absent, placed}

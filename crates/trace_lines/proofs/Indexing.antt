@@ -16,7 +16,7 @@ use Rattle.namespaces.specs.Lookup as lookup
 use Rattle.namespaces.specs.Lookup.{relations_of, relation_of, relation_count, relation_names, namespace_names, namespace_numbered, relation_numbered, number_of, place_of, item_at}
 use Rattle.namespaces.specs.WellFormed.{IsWellFormed}
 use Rattle.namespaces.proofs.Declared.{numbered}
-use Rattle.namespaces.proofs.Names.{by_bool, one_name, same_name, and_true, clash}
+use Rattle.rewrites.proofs.Names.{by_bool, one_name, same_name, and_true, clash}
 use Rattle.namespaces.proofs.Numbers.{item_at-place}
 use Rattle.strata.specs.Edges.{places, stratum_numbered, is_broken_between}
 use Rattle.strata.proofs.LastDeclared as last

@@ -11,9 +11,9 @@ use Rattle.namespaces.specs.Declaration.{Relation, Declaration}
 use Rattle.namespaces.specs.Lookup.{relation_of, namespace_names, namespace_numbered, relation_count, relation_numbered}
 use Rattle.namespaces.specs.WellFormed.{IsWellFormed}
 use Rattle.namespaces.specs.declared.number.RelNo.{RelNo}
-use Rattle.namespaces.specs.Expression.{Expression}
+use Rattle.rewrites.specs.Expression.{Expression}
 use Rattle.namespaces.proofs.Declared.{numbered}
-use Rattle.namespaces.proofs.Names.{by_bool}
+use Rattle.rewrites.proofs.Names.{by_bool}
 use Rattle.strata.specs.Edges.{Place, at_this, at_computed, at_tuple_to, is_broken_between}
 use Rattle.strata.proofs.Lists.{Contains-cons_cases, Contains-here, not_in_nil}
 use Rattle.strata.proofs.Walks.{relation_within, few_relations, stratum_by_names}

@@ -13,7 +13,7 @@ use Rattle.strata.specs.declared.edge.Edge.{Edge}
 use Rattle.strata.specs.Edges.{userset_edges, user_edges, tuple_edges, edges_of_tuples, first_broken}
 use Rattle.strata.proofs.Lists.{Contains-cons_cases, not_in_nil}
 use Rattle.strata.proofs.Walks.{both, edges_joined}
-use Rattle.namespaces.proofs.Names.{and_true, one_name}
+use Rattle.rewrites.proofs.Names.{and_true, one_name}
 use Rattle.refusals.specs.Refusals.{◌>>=◌}
 use Rattle.trace_lines.specs.Traces.{strata_cause, tuples_checked}
 use Rattle.trace_lines.specs.Tuples.{is_of_relation, is_user_of_kind, is_of_kind, IsSomeOfKind, Represents}

@@ -6,14 +6,15 @@ ghost use Rattle.tuple_text.specs.Tuples.{TupleValue};
 ghost use Rattle.namespaces.specs.Declaration.{Relation};
 ghost use Rattle.namespaces.specs.Lookup.{namespace_numbered, relation_numbered};
 ghost use Rattle.namespaces.specs.WellFormed.{IsWellFormed};
-ghost use Rattle.namespaces.specs.View.{expression_of, expressions_of};
+ghost use Rattle.rewrites.specs.View.{expression_of, expressions_of};
 ghost use Rattle.strata.specs.Edges.{at_this, at_tuple_to, places, all_places};
 ghost use Rattle.trace_lines.specs.Reads as reads;
 ghost use Rattle.trace_lines.specs.Reads.{AreKinds, AreMarked, EachMarked, FitsOwn, FitsThrough, HasMark, IsFittingAt, IsLowAt, IsReadThrough};
 ghost use Rattle.trace_lines.specs.Reads.{IsSound, TakesAllAt, TakesAt, Widens, mark_of_pair, own, relation_number, tupleset_mark};
 
 use crate::kinds::{Kinds, has_mark, relation_mark, take_mark};
-use namespaces::{RelNo, Rewrite, Rules};
+use namespaces::{RelNo, Rules};
+use rewrites::Rewrite;
 use std::alloc::{AllocError, Global};
 use std::collections::BTreeMap;
 use tuple_text::{SetRef, Tuple, TupleFault, UserRef, Userset};

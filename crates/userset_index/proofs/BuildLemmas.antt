@@ -12,7 +12,7 @@ use Rattle.tuple_text.specs.Order.{tuple_eq}
 use Rattle.tuple_text.specs.Sets.{SetValue}
 use Rattle.tuple_text.specs.declared.users.User.TheVariants.{Set}
 use Rattle.tuple_text.proofs.ValueLemmas.{tuple_eq-same}
-use Rattle.namespaces.proofs.Names.{or_false}
+use Rattle.rewrites.proofs.Names.{or_false}
 use Rattle.namespaces.specs.Declaration.{Declaration}
 use Rattle.namespaces.specs.Lookup.{Rule, as_rule, declared_in, in_force, relation_at, rule_at, rule_of}
 use Rattle.version_chains.specs.Commits.{Touch}

@@ -1,7 +1,7 @@
 use Rattle.std.proofs.Common.{Some, true, false}
 use Rattle.std.proofs.lemmas.Result.{IfOk-weaker}
-use Rattle.namespaces.specs.Parts.{rule_shown}
-use Rattle.namespaces.specs.View.{expression_of}
+use Rattle.rewrites.specs.Parts.{rule_shown}
+use Rattle.rewrites.specs.View.{expression_of}
 use Rattle.judgement.specs.Facts.{marked_fact}
 use Rattle.evidence_check.specs.Rules.{IsRuleOf}
 use Rattle.evidence_check.proofs.JudgedLemmas.{settled_by_rule}

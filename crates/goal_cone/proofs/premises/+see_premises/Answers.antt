@@ -5,8 +5,8 @@ use Rattle.tuple_text.specs.Refs.{set_value}
 use Rattle.tuple_text.specs.Sets.{SetValue}
 use Rattle.tuple_text.specs.Tuples.{fact_of}
 use Rattle.namespaces.specs.Lookup.{rule_at}
-use Rattle.namespaces.specs.Expression.{this, computed, tuple_to, union, inter, minus, child}
-use Rattle.namespaces.specs.View.{expression_of, expressions_of}
+use Rattle.rewrites.specs.Expression.{this, computed, tuple_to, union, inter, minus, child}
+use Rattle.rewrites.specs.View.{expression_of, expressions_of}
 use Rattle.strata.specs.Meaning.{with_relation}
 use Rattle.version_chains.specs.Commits.{store_at}
 use Rattle.goal_cone.specs.Bounds.{stored_sets, links, links_all}
@@ -14,8 +14,8 @@ use Rattle.goal_cone.specs.Pass.{IsGiven}
 use Rattle.goal_cone.specs.Premises.{Reads, ReadsSome}
 use Rattle.goal_cone.specs.Seen.{Sees, IsStuck}
 use Rattle.goal_cone.proofs.SeenLemmas.{under_way_start, under_way_step, under_way_stuck, under_way_done, both_ok, second_stuck, first_stuck}
-use Rattle.namespaces.specs.declared.rewrite.Rewrite.{the_lemmas}
-use Rattle.namespaces.proofs.Walks.{children_step}
+use Rattle.rewrites.specs.declared.rewrite.Rewrite.{the_lemmas}
+use Rattle.rewrites.proofs.Walks.{children_step}
 use Rattle.goal_cone.proofs.premises.+see_premises.Goals as goal
 
 pub see_premises-returns-in-This-clause-seen : goal.see_premises-returns-in-This-clause-seen

@@ -3,7 +3,7 @@ use Rattle.std.specs.Prelude.{Contains}
 use Rattle.tuple_text.specs.Refs.{set_value}
 use Rattle.tuple_text.specs.Tuples.{fact_of}
 use Rattle.namespaces.specs.Lookup.{Rule, rule_at, rule_of}
-use Rattle.namespaces.specs.View.{expression_of}
+use Rattle.rewrites.specs.View.{expression_of}
 use Rattle.version_chains.specs.Commits.{store_at}
 use Rattle.judgement.specs.Judgement.{IsUndeclared}
 use Rattle.goal_cone.proofs.SeenLemmas.{sees_new, stuck_here, declared_by, given, refused}

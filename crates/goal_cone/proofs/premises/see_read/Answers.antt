@@ -1,7 +1,7 @@
 use Rattle.std.proofs.Common.{◌≡◌, map, option_map, subst}
 use Rattle.tuple_text.specs.Sets.{SetValue}
 use Rattle.namespaces.specs.Lookup.{Rule, rule_at, rule_of, expression_in}
-use Rattle.namespaces.specs.View.{children, expression_of}
+use Rattle.rewrites.specs.View.{children, expression_of}
 use Rattle.version_chains.specs.Commits.{store_at}
 use Rattle.goal_cone.specs.Bounds.{links_all, links_of}
 use Rattle.goal_cone.specs.Pass.{IsRead}

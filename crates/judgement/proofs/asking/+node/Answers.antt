@@ -4,9 +4,9 @@ use Rattle.std.proofs.Math.Seq.{drop-cons}
 use Rattle.std.proofs.lemmas.Result.{IfOk-weaker}
 use Rattle.tuple_text.specs.Refs.{set_value}
 use Rattle.tuple_text.specs.Tuples.{fact_of}
-use Rattle.namespaces.specs.Expression.{minus}
-use Rattle.namespaces.specs.Parts.{node_expression, nodes_shown}
-use Rattle.namespaces.specs.declared.parts.Node.{the_lemmas}
+use Rattle.rewrites.specs.Expression.{minus}
+use Rattle.rewrites.specs.Parts.{node_expression, nodes_shown}
+use Rattle.rewrites.specs.declared.parts.Node.{the_lemmas}
 use Rattle.judgement.specs.Asked.{joined_of}
 use Rattle.judgement.proofs.AskedLemmas.{same_beq, other_beq, not_false, left_step, left_stops, tells_minus, tells_as}
 use Rattle.judgement.proofs.asking.+node.Goals as goal

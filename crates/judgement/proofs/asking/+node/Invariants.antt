@@ -1,7 +1,7 @@
 use Rattle.std.proofs.Common.{◌≡◌, drop}
 use Rattle.tuple_text.specs.Refs.{set_value}
 use Rattle.tuple_text.specs.Tuples.{fact_of}
-use Rattle.namespaces.specs.Parts.{nodes_shown}
+use Rattle.rewrites.specs.Parts.{nodes_shown}
 use Rattle.judgement.specs.Asked.{joined_of}
 use Rattle.judgement.proofs.AskedLemmas.{IsLeft}
 use Rattle.judgement.proofs.asking.+node.Given as goal

@@ -1,7 +1,7 @@
 use Rattle.std.proofs.Common.{rules, ◌≡◌, sym, ◌∙◌, ap}
 use Rattle.std.specs.Prelude.{Contains}
-use Rattle.namespaces.specs.Parts.{part_at, node_expression, nodes_shown}
-use Rattle.namespaces.specs.declared.parts.Node.{the_lemmas}
+use Rattle.rewrites.specs.Parts.{part_at, node_expression, nodes_shown}
+use Rattle.rewrites.specs.declared.parts.Node.{the_lemmas}
 use Rattle.judgement.specs.Asked.{does}
 use Rattle.judgement.proofs.AskedLemmas.{joined_stops, same_beq}
 use Rattle.judgement.proofs.PassLemmas.{mapped_element}

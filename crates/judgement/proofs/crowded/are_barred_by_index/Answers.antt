@@ -4,7 +4,7 @@ use Rattle.std.specs.Prelude.{Contains}
 use Rattle.tuple_text.specs.Refs.{set_value}
 use Rattle.version_chains.specs.Marks.{set_mark}
 use Rattle.version_chains.proofs.PlacedLemmas.{and-left, and-right}
-use Rattle.namespaces.specs.Parts.{computed_names}
+use Rattle.rewrites.specs.Parts.{computed_names}
 use Rattle.userset_index.specs.Index.{is_crowded}
 use Rattle.judgement.specs.Passes.{AreThroughOut}
 use Rattle.judgement.proofs.IndexLemmas.{barred_by_through}

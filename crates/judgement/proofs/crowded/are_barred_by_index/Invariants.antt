@@ -1,7 +1,7 @@
 use Rattle.std.proofs.Common.{◌≡◌, ℕ, List, ◌<◌, Some}
 use Rattle.std.specs.Prelude.{Contains, slice_get}
 use Rattle.tuple_text.specs.Refs.{set_value}
-use Rattle.namespaces.specs.Parts.{computed_names}
+use Rattle.rewrites.specs.Parts.{computed_names}
 use Rattle.judgement.specs.Passes.{AreThroughOut}
 use Rattle.judgement.proofs.crowded.are_barred_by_index.Given as goal
 

@@ -3,7 +3,7 @@ use Rattle.std.specs.Prelude.{All, Contains, slice_get}
 use Rattle.tuple_text.specs.Refs.{set_value}
 use Rattle.namespaces.specs.InForce.{names_in_force}
 use Rattle.namespaces.specs.Lookup.{rule_at}
-use Rattle.namespaces.specs.Parts.{computed_names}
+use Rattle.rewrites.specs.Parts.{computed_names}
 use Rattle.version_chains.specs.Marks.{pair_mark, set_mark}
 use Rattle.userset_index.specs.Lives.{touches_alive}
 use Rattle.judgement.specs.Passes.{IsTouchOut}

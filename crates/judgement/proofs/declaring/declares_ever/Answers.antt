@@ -1,4 +1,4 @@
-use Rattle.namespaces.specs.Parts.{computed_names}
+use Rattle.rewrites.specs.Parts.{computed_names}
 use Rattle.judgement.proofs.DeclaringLemmas.{none_before}
 use Rattle.judgement.proofs.declaring.declares_ever.Goals as goal
 

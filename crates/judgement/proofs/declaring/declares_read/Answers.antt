@@ -1,5 +1,5 @@
 use Rattle.std.proofs.Common.{arith}
-use Rattle.namespaces.specs.Parts.{computed_names}
+use Rattle.rewrites.specs.Parts.{computed_names}
 use Rattle.judgement.proofs.DeclaringLemmas.{none_by_declared}
 use Rattle.judgement.proofs.declaring.declares_read.Goals as goal
 

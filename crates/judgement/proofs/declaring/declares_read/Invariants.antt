@@ -1,7 +1,7 @@
 use Rattle.std.proofs.Common.{◌≡◌, ℕ, List, ◌<◌, Some}
 use Rattle.std.specs.Prelude.{Contains, slice_get}
 use Rattle.namespaces.specs.InForce.{names_in_force}
-use Rattle.namespaces.specs.Parts.{computed_names}
+use Rattle.rewrites.specs.Parts.{computed_names}
 use Rattle.judgement.proofs.declaring.declares_read.Given as goal
 
 -- none so far is read

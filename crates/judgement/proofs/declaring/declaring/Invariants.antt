@@ -1,7 +1,7 @@
 use Rattle.std.proofs.Common.{◌≡◌, ℕ, suc, List, ◌<◌, ◌≤◌, ◌^◌, None, Some, length}
 use Rattle.std.specs.Prelude.{Contains}
 use Rattle.namespaces.specs.Lookup.{namespace_names, namespace_numbered, rule_at}
-use Rattle.namespaces.specs.Parts.{computed_names}
+use Rattle.rewrites.specs.Parts.{computed_names}
 use Rattle.judgement.proofs.declaring.declaring.Given as goal
 
 -- of the namespaces so far all are there that declare one

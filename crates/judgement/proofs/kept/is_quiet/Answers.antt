@@ -1,6 +1,6 @@
 use Rattle.std.proofs.Common.{◌≡◌, false, rules}
 use Rattle.tuple_text.specs.Refs.{set_value}
-use Rattle.namespaces.specs.Parts.{computed_names}
+use Rattle.rewrites.specs.Parts.{computed_names}
 use Rattle.judgement.proofs.LiveLemmas.{none_shared}
 use Rattle.judgement.proofs.kept.is_quiet.Goals as goal
 

@@ -4,7 +4,7 @@ use Rattle.tuple_text.specs.Tuples.{fact_of}
 use Rattle.namespaces.specs.Lookup.{rule_at}
 use Rattle.strata.specs.Meaning.{with_relation}
 use Rattle.version_chains.specs.Commits.{store_at}
-use Rattle.namespaces.specs.Parts.{computed_names}
+use Rattle.rewrites.specs.Parts.{computed_names}
 use Rattle.judgement.proofs.LiveLemmas.{none_live}
 use Rattle.judgement.proofs.ThroughLemmas.{through_barred}
 use Rattle.judgement.proofs.kept.through_bars.Goals as goal

@@ -1,7 +1,7 @@
 use Rattle.std.proofs.Common.{rules, ◌≡◌, ◌∷◌, sym, subst, refl}
 use Rattle.tuple_text.specs.Refs.{set_value}
 use Rattle.tuple_text.specs.Sets.{SetValue}
-use Rattle.namespaces.specs.Parts.{computed_names}
+use Rattle.rewrites.specs.Parts.{computed_names}
 use Rattle.judgement.specs.Declaring.{DeclaresNone}
 use Rattle.judgement.specs.Passes.{EachSet}
 use Rattle.judgement.proofs.live.are_quiet.Goals as goal

@@ -1,4 +1,4 @@
-use Rattle.namespaces.specs.Parts.{computed_names}
+use Rattle.rewrites.specs.Parts.{computed_names}
 use Rattle.judgement.specs.Declaring.{DeclaresNone}
 use Rattle.judgement.specs.Passes.{EachSet}
 use Rattle.judgement.proofs.live.are_quiet.Given as goal

@@ -1,4 +1,4 @@
-use Rattle.namespaces.specs.Parts.{computed_names}
+use Rattle.rewrites.specs.Parts.{computed_names}
 use Rattle.judgement.proofs.live.is_quiet.Goals as goal
 
 pub returns-then-not-is_among : goal.returns-then-not-is_among

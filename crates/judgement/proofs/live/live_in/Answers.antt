@@ -5,7 +5,7 @@ use Rattle.tuple_text.specs.Refs.{set_value}
 use Rattle.tuple_text.specs.Sets.{SetValue, set_eq}
 use Rattle.tuple_text.specs.Tuples.{tuple_of}
 use Rattle.tuple_text.specs.declared.users.User.TheVariants.{Set}
-use Rattle.namespaces.specs.Parts.{computed_names}
+use Rattle.rewrites.specs.Parts.{computed_names}
 use Rattle.version_chains.specs.Commits.{Commit, is_stored}
 use Rattle.judgement.specs.Declaring.{DeclaresNone}
 use Rattle.judgement.proofs.LiveLemmas.{live_declaring, live_nowhere}

@@ -6,7 +6,7 @@ use Rattle.tuple_text.specs.Refs.{set_value}
 use Rattle.tuple_text.specs.Sets.{SetValue}
 use Rattle.tuple_text.specs.declared.users.User.TheVariants.{Set}
 use Rattle.namespaces.specs.Lookup.{namespace_names, place_of, rule_at}
-use Rattle.namespaces.specs.Parts.{computed_names}
+use Rattle.rewrites.specs.Parts.{computed_names}
 use Rattle.strata.specs.Meaning.{IsStored}
 use Rattle.version_chains.specs.Commits.{store_at}
 use Rattle.judgement.proofs.LiveLemmas.{live_by_numbers}

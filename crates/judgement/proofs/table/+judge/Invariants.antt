@@ -2,7 +2,7 @@ use Rattle.std.proofs.Common.{◌↔◌, drop}
 use Rattle.tuple_text.specs.Refs.{set_value}
 use Rattle.tuple_text.specs.Tuples.{fact_of}
 use Rattle.namespaces.specs.Lookup.{rule_at}
-use Rattle.namespaces.specs.View.{expression_of, expressions_of}
+use Rattle.rewrites.specs.View.{expression_of, expressions_of}
 use Rattle.version_chains.specs.Commits.{store_at}
 use Rattle.judgement.specs.Judgement.{Established, SomeEstablished, EachEstablished, Refuted, EachRefuted, SomeRefuted}
 use Rattle.judgement.proofs.table.+judge.Given as goal

@@ -6,7 +6,7 @@ use Rattle.tuple_text.specs.Sets.{set_eq}
 use Rattle.tuple_text.specs.Tuples.{tuple_of}
 use Rattle.tuple_text.specs.declared.users.User.TheVariants.{Set}
 use Rattle.namespaces.specs.Lookup.{rule_at}
-use Rattle.namespaces.specs.Parts.{computed_names}
+use Rattle.rewrites.specs.Parts.{computed_names}
 use Rattle.version_chains.specs.Commits.{Commit, is_stored}
 use Rattle.judgement.specs.Passes.{BarsNames}
 use Rattle.judgement.proofs.LiveLemmas.{none_live}

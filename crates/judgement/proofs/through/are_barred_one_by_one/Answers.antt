@@ -3,7 +3,7 @@ use Rattle.std.proofs.lemmas.List.{length-map}
 use Rattle.std.specs.Prelude.{slice_get}
 use Rattle.tuple_text.specs.Refs.{set_value}
 use Rattle.namespaces.specs.Lookup.{rule_at}
-use Rattle.namespaces.specs.Parts.{computed_names}
+use Rattle.rewrites.specs.Parts.{computed_names}
 use Rattle.version_chains.specs.Commits.{store_at}
 use Rattle.judgement.specs.Passes.{IsBarred}
 use Rattle.judgement.proofs.PassLemmas.{each_element, element_at}

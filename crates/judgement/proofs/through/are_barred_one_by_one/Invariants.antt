@@ -2,7 +2,7 @@ use Rattle.std.proofs.Common.{◌≡◌, ℕ, List, ◌<◌, Some}
 use Rattle.std.specs.Prelude.{slice_get}
 use Rattle.tuple_text.specs.Refs.{set_value}
 use Rattle.namespaces.specs.Lookup.{rule_at}
-use Rattle.namespaces.specs.Parts.{computed_names}
+use Rattle.rewrites.specs.Parts.{computed_names}
 use Rattle.version_chains.specs.Commits.{store_at}
 use Rattle.judgement.specs.Passes.{IsBarred}
 use Rattle.judgement.proofs.through.are_barred_one_by_one.Given as goal

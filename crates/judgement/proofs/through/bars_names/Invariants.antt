@@ -3,7 +3,7 @@ use Rattle.std.specs.Prelude.{Contains, slice_get}
 use Rattle.tuple_text.specs.Refs.{set_value}
 use Rattle.namespaces.specs.InForce.{names_in_force}
 use Rattle.namespaces.specs.Lookup.{rule_at}
-use Rattle.namespaces.specs.Parts.{computed_names}
+use Rattle.rewrites.specs.Parts.{computed_names}
 use Rattle.judgement.specs.Passes.{BarsId}
 use Rattle.judgement.proofs.through.bars_names.Given as goal
 

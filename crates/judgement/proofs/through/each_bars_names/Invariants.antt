@@ -1,6 +1,6 @@
 use Rattle.std.proofs.Common.{◌↔◌}
 use Rattle.namespaces.specs.Lookup.{rule_at}
-use Rattle.namespaces.specs.Parts.{computed_names}
+use Rattle.rewrites.specs.Parts.{computed_names}
 use Rattle.judgement.specs.Passes.{BarsNames, EachSet}
 use Rattle.judgement.proofs.through.each_bars_names.Given as goal
 

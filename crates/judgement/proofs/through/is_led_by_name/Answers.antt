@@ -1,7 +1,7 @@
 use Rattle.std.proofs.Common.{List, ◌↔◌, sym, subst}
 use Rattle.tuple_text.specs.Refs.{set_value}
 use Rattle.tuple_text.specs.Sets.{SetValue}
-use Rattle.namespaces.specs.Parts.{computed_names}
+use Rattle.rewrites.specs.Parts.{computed_names}
 use Rattle.version_chains.specs.Commits.{store_at}
 use Rattle.judgement.specs.Passes.{IsLedByName, LeadsByName, SomeSet}
 use Rattle.judgement.proofs.LedLemmas.{led_by_either, led_by_known_names}

@@ -2,7 +2,7 @@ use Rattle.std.proofs.Common.{◌≡◌, List, ℕ, Some, length, string_bytes, 
 use Rattle.std.proofs.lemmas.List.{length-map}
 use Rattle.tuple_text.specs.Refs.{set_value}
 use Rattle.tuple_text.specs.Sets.{SetValue}
-use Rattle.namespaces.specs.Parts.{computed_names}
+use Rattle.rewrites.specs.Parts.{computed_names}
 use Rattle.version_chains.specs.Commits.{store_at}
 use Rattle.judgement.specs.Passes.{IsLed, LeadsByName, SomeSet}
 use Rattle.judgement.proofs.LedLemmas.{some_left}

@@ -1,7 +1,7 @@
 use Rattle.std.proofs.Common.{◌≡◌, ◌↔◌, ℕ, List, ◌<◌, Some}
 use Rattle.std.specs.Prelude.{slice_get}
 use Rattle.tuple_text.specs.Refs.{set_value}
-use Rattle.namespaces.specs.Parts.{computed_names}
+use Rattle.rewrites.specs.Parts.{computed_names}
 use Rattle.version_chains.specs.Commits.{store_at}
 use Rattle.judgement.specs.Passes.{IsLed, LeadsByName, SomeSet}
 use Rattle.judgement.proofs.through.leads_by_either.Given as goal

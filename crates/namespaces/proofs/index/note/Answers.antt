@@ -1,6 +1,6 @@
 use Rattle.std.proofs.Common.{sym, string_bytes}
 use Rattle.indexmap.specs.IndexMap.{get_by_text}
-use Rattle.namespaces.proofs.Tables.{none_there}
+use Rattle.rewrites.proofs.Names.{none_there}
 use Rattle.namespaces.proofs.Indexes.{with_revision-there, with_revision-new}
 use Rattle.namespaces.proofs.index.note.Goals as goal
 

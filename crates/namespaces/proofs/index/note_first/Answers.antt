@@ -3,7 +3,7 @@ use Rattle.std.specs.String.{string_eq}
 use Rattle.indexmap.specs.IndexMap.{get_by_text}
 use Rattle.indexmap.proofs.CallerLemmas.{insert_entry-new}
 use Rattle.namespaces.specs.Index.{show_index}
-use Rattle.namespaces.proofs.Tables.{none_there}
+use Rattle.rewrites.proofs.Names.{none_there}
 use Rattle.namespaces.proofs.Indexes.{show_index-push}
 use Rattle.namespaces.proofs.index.note_first.Goals as goal
 

@@ -1,13 +1,10 @@
-use Rattle.std.proofs.Common.{rules, ◌≡◌, ◌∙◌, Bool, String, Global, Option, None, Some, false, is_some, ap, sym}
+use Rattle.std.proofs.Common.{◌≡◌, ◌∙◌, Bool, String, Global, Option, None, Some, false, is_some, ap, sym}
 use Rattle.std.specs.Prelude.{bytes_eq, string_bytes, option_map}
 use Rattle.std.proofs.lemmas.Option.{slice_get-map}
 use Rattle.std.specs.Map.{lookup}
 use Rattle.indexmap.proofs.MapLemmas.{Found-position, some_index}
+use Rattle.rewrites.proofs.Names.{none_there}
 use Rattle.namespaces.proofs.lookups.value_in.Goals as goal
-
-none_there : {A : Type 0} (o : Option A) → is_some o ≡ false → o ≡ None
-none_there None is = search rules
-none_there (Some x) is = cc
 
 pub returns-in_err-place_in : goal.returns-in_err-place_in
 returns-in_err-place_in g c =

@@ -1,6 +1,6 @@
 use Rattle.std.proofs.Common.{sym, codes, arith, rules}
 use Rattle.serde_json.specs.View.{view}
-use Rattle.namespaces.specs.declared.rewrite.Rewrite.{the_lemmas}
+use Rattle.rewrites.specs.declared.rewrite.Rewrite.{the_lemmas}
 use Rattle.namespaces.specs.Shape.{only_form}
 use Rattle.namespaces.proofs.Shapes.{expression-get, exclusion-get, below_get, below_member_of, below_array}
 use Rattle.namespaces.proofs.reading.+reading.Goals as goal

@@ -1,7 +1,7 @@
 use Rattle.std.proofs.Common.{◌≡◌, ◌+◌, ◌*◌, map, drop}
 use Rattle.serde_json.specs.Data.{depth}
 use Rattle.serde_json.specs.View.{view, items_view}
-use Rattle.namespaces.specs.View.{expression_of}
+use Rattle.rewrites.specs.View.{expression_of}
 use Rattle.namespaces.specs.Shape.{expressions}
 use Rattle.namespaces.proofs.Shapes.{after}
 use Rattle.namespaces.proofs.reading.+reading.Given as goal

@@ -1,9 +1,9 @@
 use Rattle.std.proofs.Common.{◌≡◌, drop}
 use Rattle.std.specs.Str.{bytes_eq}
 use Rattle.std.specs.List.{list_any, list_all}
-use Rattle.namespaces.specs.Expression.{own_relations_all}
+use Rattle.rewrites.specs.Expression.{own_relations_all}
 use Rattle.namespaces.specs.Shown.{show_relations}
-use Rattle.namespaces.specs.View.{expressions_of}
+use Rattle.rewrites.specs.View.{expressions_of}
 use Rattle.namespaces.proofs.reading.+reads_declared.Given as goal
 
 -- what decides are the names in the children that are left

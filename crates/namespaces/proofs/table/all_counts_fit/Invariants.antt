@@ -1,6 +1,6 @@
 use Rattle.std.proofs.Common.{◌≡◌}
 use Rattle.std.specs.List.{list_all}
-use Rattle.namespaces.specs.Expression.{counts_fit}
+use Rattle.rewrites.specs.Expression.{counts_fit}
 use Rattle.namespaces.specs.Shown.{show_relations}
 use Rattle.namespaces.proofs.table.all_counts_fit.Given as goal
 

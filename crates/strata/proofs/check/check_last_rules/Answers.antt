@@ -1,5 +1,5 @@
 use Rattle.std.proofs.Common.{None, Some, refl, sym, ◌∙◌, rules, arith}
-use Rattle.namespaces.specs.View.{expression_of}
+use Rattle.rewrites.specs.View.{expression_of}
 use Rattle.strata.specs.Edges.{last_relation_edges}
 use Rattle.strata.specs.Sights.{reads}
 use Rattle.strata.proofs.Walks.{relations_next, relations_end, relation_within, few_relations, last_rule_edges}

@@ -1,7 +1,7 @@
 use Rattle.std.proofs.Common.{◌≡◌, List, ℕ, Bool, false, ◌∙◌, sym}
 use Rattle.std.specs.Str.{bytes_eq}
 use Rattle.tuple_text.specs.Refs.{set_value}
-use Rattle.namespaces.proofs.Names.{clash, one_name, same_name}
+use Rattle.rewrites.proofs.Names.{clash, one_name, same_name}
 use Rattle.strata.proofs.LastTuple.{last_rules_decide, others_unbroken}
 use Rattle.strata.proofs.check.check_tuple_by.Goals as goal
 use Rattle.strata.proofs.check.check_tuple_by.Goals.{else-has_more-via-then-has_more+else-eq, else-has_more-via-else-has_more}

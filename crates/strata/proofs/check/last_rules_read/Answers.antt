@@ -1,5 +1,5 @@
 use Rattle.std.proofs.Common.{[], None, Some, refl, sym, ◌∙◌, arith}
-use Rattle.namespaces.specs.View.{expression_of}
+use Rattle.rewrites.specs.View.{expression_of}
 use Rattle.strata.specs.Edges.{last_relation_edges, read_through}
 use Rattle.strata.proofs.Walks.{relations_next, relations_end, relation_within, few_relations, rule_unread}
 use Rattle.strata.proofs.check.last_rules_read.Goals as goal

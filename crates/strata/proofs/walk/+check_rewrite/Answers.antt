@@ -1,7 +1,7 @@
 use Rattle.std.proofs.Common.{◌≡◌, true, rules}
-use Rattle.namespaces.specs.declared.rewrite.Rewrite.{the_lemmas}
-use Rattle.namespaces.specs.Expression.{minus}
-use Rattle.namespaces.specs.View.{expression_of}
+use Rattle.rewrites.specs.declared.rewrite.Rewrite.{the_lemmas}
+use Rattle.rewrites.specs.Expression.{minus}
+use Rattle.rewrites.specs.View.{expression_of}
 use Rattle.strata.specs.Edges.{places}
 use Rattle.strata.specs.Sights.{reads}
 use Rattle.strata.proofs.Walks.{places_joined}

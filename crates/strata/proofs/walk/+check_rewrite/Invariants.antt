@@ -1,6 +1,6 @@
 use Rattle.std.proofs.Common.{◌≡◌, drop}
 use Rattle.std.specs.List.{filter_map}
-use Rattle.namespaces.specs.View.{expressions_of}
+use Rattle.rewrites.specs.View.{expressions_of}
 use Rattle.strata.specs.Edges.{edge_at, all_places, first_broken}
 use Rattle.strata.specs.Sights.{reads}
 use Rattle.strata.proofs.walk.+check_rewrite.Given as goal

@@ -1,5 +1,5 @@
 use Rattle.std.proofs.Common.{◌≡◌, drop}
-use Rattle.namespaces.specs.View.{expressions_of}
+use Rattle.rewrites.specs.View.{expressions_of}
 use Rattle.strata.specs.Sights.{some_reads_tupleset}
 use Rattle.strata.proofs.walk.+reads_tupleset.Given as goal
 

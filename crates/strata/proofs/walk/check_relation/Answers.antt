@@ -1,5 +1,5 @@
 use Rattle.std.proofs.Common.{◌≡◌, length, sym, ◌∙◌, rules, arith}
-use Rattle.namespaces.specs.View.{expression_of}
+use Rattle.rewrites.specs.View.{expression_of}
 use Rattle.strata.specs.Sights.{reads}
 use Rattle.strata.proofs.Walks.{edges_next, edges_end, edges_past}
 use Rattle.strata.proofs.walk.check_relation.Goals as goal

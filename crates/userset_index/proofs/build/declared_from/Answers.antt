@@ -1,7 +1,7 @@
 use Rattle.std.proofs.Common.{◌≡◌, ◌+◌, ◌-◌, ◌/◌, None, arith, rules}
 use Rattle.tuple_text.specs.Refs.{set_value}
 use Rattle.namespaces.specs.Lookup.{rule_at, rule_of}
-use Rattle.namespaces.specs.View.{expression_of}
+use Rattle.rewrites.specs.View.{expression_of}
 use Rattle.userset_index.proofs.BuildLemmas.{undeclared_before, undeclared_below, undeclared_by}
 use Rattle.userset_index.proofs.build.declared_from.Goals as goal
 

@@ -2,9 +2,9 @@ use Rattle.std.proofs.Common.{◌≡◌, ◌<◌, ◌++◌, ◌∷◌, [], Some,
 use Rattle.std.proofs.lemmas.Option.{slice_get_read}
 use Rattle.std.proofs.lemmas.Result.{IfOk-weaker}
 use Rattle.std.specs.Prelude.{Contains, slice_set}
-use Rattle.namespaces.specs.Alike.{AreAlike}
+use Rattle.rewrites.specs.Alike.{AreAlike}
 use Rattle.namespaces.specs.Lookup.{expression_in}
-use Rattle.namespaces.specs.Parts.{rule_shown}
+use Rattle.rewrites.specs.Parts.{rule_shown}
 use Rattle.version_chains.proofs.PlacedLemmas.{slice_get-set}
 use Rattle.judgement.specs.Facts.{marked_fact}
 use Rattle.judgement.proofs.PassLemmas.{element_at, place_of_element}

@@ -1,7 +1,7 @@
 use Rattle.std.proofs.Common.{arith}
 use Rattle.tuple_text.specs.Refs.{set_value}
 use Rattle.tuple_text.specs.Tuples.{fact_of}
-use Rattle.namespaces.specs.Parts.{parts_shown, rule_shown}
+use Rattle.rewrites.specs.Parts.{parts_shown, rule_shown}
 use Rattle.judgement.specs.Asked.{AreRight}
 use Rattle.judgement.proofs.AskedLemmas.{right_then}
 use Rattle.judgement.proofs.asked_rule.AskedRule.does.Goals as goal

@@ -3,9 +3,9 @@ use Rattle.std.proofs.lemmas.Option.{slice_get_read}
 use Rattle.std.specs.Prelude.{slice_get}
 use Rattle.tuple_text.specs.Refs.{set_value}
 use Rattle.tuple_text.specs.Tuples.{fact_of}
-use Rattle.namespaces.specs.Expression.{union, no_child}
-use Rattle.namespaces.specs.Parts.{part_at, part_expression, parts_shown}
-use Rattle.namespaces.specs.declared.parts.Part.{Part}
+use Rattle.rewrites.specs.Expression.{union, no_child}
+use Rattle.rewrites.specs.Parts.{part_at, part_expression, parts_shown}
+use Rattle.rewrites.specs.declared.parts.Part.{Part}
 use Rattle.judgement.proofs.PartLemmas.{part_there, no_part_there, one_kept, none_does}
 use Rattle.judgement.proofs.asking.Parts.does.Goals as goal
 

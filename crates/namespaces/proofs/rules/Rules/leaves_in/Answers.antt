@@ -1,8 +1,8 @@
 use Rattle.std.proofs.Common.{rules, ◌≡◌, [], map}
 use Rattle.std.proofs.lemmas.Result.{IfOk-weaker}
 use Rattle.namespaces.specs.Lookup.{expression_in}
-use Rattle.namespaces.specs.View.{expression_of}
-use Rattle.namespaces.proofs.LeavesLemmas.{plain_leaves, no_leaves}
+use Rattle.rewrites.specs.View.{expression_of}
+use Rattle.rewrites.proofs.LeavesLemmas.{plain_leaves, no_leaves}
 use Rattle.namespaces.proofs.rules.Rules.leaves_in.Goals as goal
 
 pub returns-in-Some : goal.returns-in-Some

@@ -1,8 +1,8 @@
 use Rattle.std.proofs.Common.{rules, ◌≡◌, ◌+◌, true, [], drop, sym, ap, ◌∙◌, subst, List, arith}
 use Rattle.std.proofs.lemmas.List.{drop_all}
-use Rattle.namespaces.specs.declared.rewrite.Rewrite.{Rewrite, the_lemmas}
-use Rattle.namespaces.specs.Expression.{Expressions, minus, child}
-use Rattle.namespaces.specs.View.{expression_of, expressions_of}
+use Rattle.rewrites.specs.declared.rewrite.Rewrite.{Rewrite, the_lemmas}
+use Rattle.rewrites.specs.Expression.{Expressions, minus, child}
+use Rattle.rewrites.specs.View.{expression_of, expressions_of}
 use Rattle.strata.specs.Edges.{places, all_places}
 use Rattle.strata.proofs.Walks.{children_step}
 use Rattle.trace_lines.specs.Reads.{IsWider}

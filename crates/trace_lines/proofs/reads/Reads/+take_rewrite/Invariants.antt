@@ -1,5 +1,5 @@
 use Rattle.std.proofs.Common.{drop}
-use Rattle.namespaces.specs.View.{expressions_of}
+use Rattle.rewrites.specs.View.{expressions_of}
 use Rattle.strata.specs.Edges.{all_places}
 use Rattle.trace_lines.specs.Reads.{IsWider}
 use Rattle.trace_lines.specs.declared.reads.Reads.{Reads}

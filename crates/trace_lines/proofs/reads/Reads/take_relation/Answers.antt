@@ -1,6 +1,6 @@
 use Rattle.std.proofs.Common.{◌≡◌, ℕ, false, List, subst}
-use Rattle.namespaces.specs.Expression.{Expression}
-use Rattle.namespaces.specs.View.{expression_of}
+use Rattle.rewrites.specs.Expression.{Expression}
+use Rattle.rewrites.specs.View.{expression_of}
 use Rattle.strata.specs.Edges.{places}
 use Rattle.trace_lines.specs.Reads.{AreRead}
 use Rattle.trace_lines.proofs.Reading.{fits_then, name_of, rule_of, stratum_at}

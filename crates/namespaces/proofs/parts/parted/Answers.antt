@@ -1,6 +1,0 @@
-use Rattle.std.proofs.Common.{[]}
-use Rattle.std.proofs.lemmas.List.{append-nil}
-use Rattle.namespaces.proofs.parts.parted.Goals as goal
-
-pub returns : goal.returns
-returns c = rw append-nil at (c.in_ok-top.ensures.alike [])
