@@ -1,7 +1,5 @@
 pub mod Answers
-pub mod Chains
 pub mod Declared
-pub mod Fitting
 pub mod FrontLemmas
 pub mod Indexing
 pub mod IssuedVersions
@@ -12,7 +10,6 @@ pub mod LineSplits
 pub mod OfBytes
 pub mod Orderly
 pub mod Placing
-pub mod Reading
 pub mod Recording
 pub mod RisingLines
 pub mod Sampling

@@ -4,7 +4,7 @@ use Rattle.tuple_text.specs.Tuples.{TupleValue}
 use Rattle.namespaces.specs.Declaration.{Declaration}
 use Rattle.namespaces.specs.Lookup.{relation_count}
 use Rattle.namespaces.specs.WellFormed.{IsWellFormed}
-use Rattle.trace_lines.specs.Reads.{AreKinds, AreMarked, HasRead, AllFit}
+use Rattle.rule_reads.specs.Reads.{AreKinds, AreMarked, HasRead, AllFit}
 use Rattle.trace_lines.specs.declared.edge_index.EdgeIndex.{EdgeIndex}
 
 -- each place of each rule is read, and each tuple fits

@@ -8,7 +8,6 @@ pub mod LineFields
 pub mod LineValues
 pub mod LineViews
 pub mod Placed
-pub mod Reads
 pub mod Recorded
 pub mod Results
 pub mod Texts

@@ -8,10 +8,9 @@ ghost use Rattle.trace_lines.specs.Indexed.{IsIndex, IsIndexBefore};
 ghost use Rattle.trace_lines.specs.Traces.{tuples_checked};
 
 use crate::cause::Cause;
-use crate::kinds::Kinds;
-use crate::reads::{Reads, Scope};
 use crate::sample::Sample;
 use namespaces::Rules;
+use rule_reads::{Kinds, Reads, Scope};
 use std::alloc::{AllocError, Global};
 use tuple_text::Tuple;
 

@@ -1,7 +1,7 @@
 use Rattle.std.proofs.Common.{rules, ◌≡◌, true, refl}
-use Rattle.trace_lines.specs.Reads.{Fits}
+use Rattle.rule_reads.specs.Reads.{Fits}
 use Rattle.trace_lines.proofs.Indexing.{kinds_more, pair_fits, admitted}
-use Rattle.trace_lines.proofs.Fitting.{tuple_unbroken}
+use Rattle.rule_reads.proofs.Fitting.{tuple_unbroken}
 use Rattle.trace_lines.proofs.edge_index.EdgeIndex.admit.Goals as goal
 
 pub returns-then-is_known-clause-unbroken : goal.returns-then-is_known-clause-unbroken

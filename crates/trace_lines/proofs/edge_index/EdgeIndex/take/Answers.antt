@@ -2,8 +2,8 @@ use Rattle.std.proofs.Common.{rules, ◌≡◌, sym, true}
 use Rattle.namespaces.specs.Lookup.{namespace_names}
 use Rattle.strata.proofs.LastTuple.{placed}
 use Rattle.trace_lines.proofs.Indexing.{declared_whole}
-use Rattle.trace_lines.proofs.Fitting.{all_unbroken}
-use Rattle.trace_lines.proofs.Reading.{fits_then}
+use Rattle.rule_reads.proofs.Fitting.{all_unbroken}
+use Rattle.rule_reads.proofs.Reading.{fits_then}
 use Rattle.trace_lines.proofs.edge_index.EdgeIndex.take.Goals as goal
 
 pub take_namespace-requires-clause-named : goal.take_namespace-requires-clause-named

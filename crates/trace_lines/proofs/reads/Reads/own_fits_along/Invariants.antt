@@ -1,9 +1,0 @@
-use Rattle.trace_lines.specs.Reads.{FitsOwn}
-use Rattle.trace_lines.proofs.Chains.{IsLeft}
-use Rattle.trace_lines.proofs.reads.Reads.own_fits_along.Given as goal
-
-abbrev pub invariant-loop-place : goal.invariant-loop-place
-invariant-loop-place l = IsLeft l.marks l.mark (FitsOwn l.scope.rules.now l.self) l.scope.tuples.now l.place
-
-abbrev pub decreases-loop-place : goal.decreases-loop-place
-decreases-loop-place l = l.place
