@@ -15,7 +15,7 @@ use Rattle.audit.specs.Devices.{HasRisen}
 use Rattle.audit.specs.Early.{IsEarlyLine, WriterState, WasLast, WentOut, TellsEarly, early_text}
 use Rattle.findings.specs.Findings.{found_on, on_line}
 use Rattle.audit.specs.Shared.{nothing_found, found_judged, has_finding}
-use Rattle.audit.specs.Told.{IsLineOf, line_for}
+use Rattle.audit.specs.EarlyLines.{IsLineOf, line_for}
 use Rattle.findings.specs.declared.finding.Finding.{Finding}
 use Rattle.findings.specs.declared.finding.What.{What}
 use Rattle.audit.specs.declared.shared.Found.{Found}

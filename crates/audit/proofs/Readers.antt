@@ -10,7 +10,7 @@ use Rattle.evidence_check.specs.declared.cause.EvidenceCause.TheVariants as evid
 use Rattle.evidence_check.specs.declared.cause.EvidenceFault.{EvidenceFault}
 use Rattle.trace_lines.specs.declared.cause.Cause.TheVariants as causes
 use Rattle.trace_lines.specs.declared.cause.TraceFault.{TraceFault}
-use Rattle.audit.specs.Audit.{RefusesEvidence, RefusesEvidenceFor, CutsEvidence, BlamesOnly, BlamesNoDevice, IsUnwritten, IsWrite, verdict_of}
+use Rattle.audit.specs.Audit.{RefusesEvidence, RefusesEvidenceFor, CutsEvidence, BlamesOnly, BlamesNoDevice, IsNotWrite, IsWrite, verdict_of}
 use Rattle.audit.specs.Kinds.{IsOneOf}
 use Rattle.audit.specs.Parts.{TraceRead, EvidenceRead}
 use Rattle.audit.specs.Kinds as kind
@@ -97,7 +97,7 @@ devices_of_writing (Err e) input trace evidence out of at =
     of_writing (λ (x : AuditFault). (IsWrite x → out) → BlamesOnly input trace evidence out x)
     (λ write. tt) (λ n write. write tt) e of at
 
-pub unwritten_without_device : (e : AuditFault) → BlamesNoDevice e → IsUnwritten e
+pub unwritten_without_device : (e : AuditFault) → BlamesNoDevice e → IsNotWrite e
 unwritten_without_device (faults.Write n) h = h
 unwritten_without_device _ h = tt
 

@@ -9,9 +9,9 @@ use Rattle.evidence_check.specs.declared.cause.EvidenceFault.{EvidenceFault}
 use Rattle.findings.specs.Headline.{IsTraceRightAndFresh}
 use Rattle.findings.specs.WrongReplies.{HasOnlyWrongRepliesNamed, NamesOnlyWrongReplies}
 use Rattle.audit.specs.Audit.{Audits, Breaks, RefusesTrace, RefusesEvidence, CutsEvidence}
-use Rattle.audit.specs.Audit.{BlamesOnly, BlamesNoDevice, IsUnwritten}
+use Rattle.audit.specs.Audit.{BlamesOnly, BlamesNoDevice, IsNotWrite}
 use Rattle.audit.specs.Devices.{Reading, Writing, OfCame, OfAll, OfAny, OfBoth, GivesFew, GivesNext}
-use Rattle.audit.specs.Devices.{ReaderFailed, ReaderNeverFailed, WriterFailed, WriterNeverFailed, IsUntouched, StandsBehind}
+use Rattle.audit.specs.Devices.{ReaderFailed, ReaderNeverFailed, WriterFailed, WriterNeverFailed, TookNothing, StandsBehind}
 use Rattle.audit.specs.MadeAudit.{AuditsMade, BreaksMade, WhateverIsMade, AreOfMaker, MissesNoWrongReply}
 use Rattle.audit.specs.declared.plain.Verdict.{Verdict}
 use Rattle.audit.specs.declared.plain.Verdict.TheVariants.{Clean}
@@ -42,7 +42,7 @@ pub record Audited (trace evidence : Reading) (out : Writing) (result : Result V
   pub write : (n : ℕ) → result ≡ Err (faults.Write n)
       → OfBoth trace evidence (λ a b. Breaks a b out n)
   -- under any other fault nothing was written
-  pub unwritten : IfErr result (λ e. IsUnwritten e → IsUntouched out)
+  pub unwritten : IfErr result (λ e. IsNotWrite e → TookNothing out)
   -- also of a reader that never ends
   pub most : GivesFew trace × GivesFew evidence
   -- of devices in memory: what came is what a reader had left, and what went out stands behind what the writer held
@@ -70,7 +70,7 @@ pub record TellsOfTrace {V : Type 0} (Tells : List ℕ → List ℕ → List ℕ
   -- the first n bytes went out, and no others; where these are all, a flush was asked for, and else none was
   pub write : (n : ℕ) → result ≡ Err (faults.Write n) → OfAll trace (λ a. Breaks a out n)
   -- under any other fault nothing was written
-  pub unwritten : IfErr result (λ e. IsUnwritten e → IsUntouched out)
+  pub unwritten : IfErr result (λ e. IsNotWrite e → TookNothing out)
   -- also of a reader that never ends
   pub most : GivesFew trace
   -- of devices in memory: what came is what a reader had left, and what went out stands behind what the writer held

@@ -33,9 +33,9 @@ IsWrite (faults.Write n) = ⊤
 IsWrite _ = ⊥
 
 -- a fault that is no fault of writing
-abbrev pub IsUnwritten : AuditFault → Type 0
-IsUnwritten (faults.Write n) = ⊥
-IsUnwritten _ = ⊤
+abbrev pub IsNotWrite : AuditFault → Type 0
+IsNotWrite (faults.Write n) = ⊥
+IsNotWrite _ = ⊤
 
 -- ---- what the readers' bytes say
 

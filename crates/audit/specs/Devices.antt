@@ -92,8 +92,8 @@ WriterNeverFailed w = (w.after.failures ≡ w.before.failures) × (w.after.idle 
 
 -- ---- what a writer took
 
-abbrev pub IsUntouched : Writing → Type 0
-IsUntouched w = w.after.taken ≡ w.before.taken
+abbrev pub TookNothing : Writing → Type 0
+TookNothing w = w.after.taken ≡ w.before.taken
 
 -- the first n bytes of the text went out, and no others; a flush was asked for where these are all, and only there
 abbrev pub FailsWriting : Writing → ℕ → List ℕ → Type 0

@@ -5,9 +5,9 @@ use Rattle.trace_lines.specs.declared.cause.TraceFault.{TraceFault}
 use Rattle.evidence_check.specs.declared.cause.EvidenceFault.{EvidenceFault}
 use Rattle.findings.specs.Headline.{IsTraceRightAndFresh}
 use Rattle.findings.specs.WrongReplies.{NamesOnlyWrongReplies}
-use Rattle.audit.specs.Audit.{Audits, Breaks, RefusesTrace, RefusesEvidence, BlamesOnly, IsUnwritten}
+use Rattle.audit.specs.Audit.{Audits, Breaks, RefusesTrace, RefusesEvidence, BlamesOnly, IsNotWrite}
 use Rattle.audit.specs.Devices.{Reading, Writing, OfAll, OfAny, GivesFew, GivesNext}
-use Rattle.audit.specs.Devices.{ReaderFailed, ReaderNeverFailed, WriterFailed, WriterNeverFailed, IsUntouched, StandsBehind}
+use Rattle.audit.specs.Devices.{ReaderFailed, ReaderNeverFailed, WriterFailed, WriterNeverFailed, TookNothing, StandsBehind}
 use Rattle.audit.specs.Kinds.{IsOneOf}
 use Rattle.audit.specs.Kinds as kind
 use Rattle.audit.specs.declared.plain.Verdict.{Verdict}
@@ -45,7 +45,7 @@ pub record AuditedJoined (input : Reading) (out : Writing) (result : Result Verd
   -- the first n bytes went out, and no others; where these are all, a flush was asked for, and else none was
   pub write : (n : ℕ) → result ≡ Err (faults.Write n) → OfBothParts input (λ a b. Breaks a b out n)
   -- under any other fault nothing was written
-  pub unwritten : IfErr result (λ e. IsUnwritten e → IsUntouched out)
+  pub unwritten : IfErr result (λ e. IsNotWrite e → TookNothing out)
   -- also of a reader that never ends
   pub most : GivesFew input
   -- of devices in memory: what came is what the reader had left, and what went out stands behind what the writer held
@@ -56,6 +56,6 @@ pub record AuditedJoined (input : Reading) (out : Writing) (result : Result Verd
   pub devices : IfErr result (BlamesOnly (ReaderFailed input) ⊥ ⊥ (WriterFailed out))
   pub kept : result ≢ Err faults.Input → ReaderNeverFailed input
   pub out_kept : OnOk result (WriterNeverFailed out)
-  pub out_unfailed : IfErr result (λ e. IsUnwritten e → WriterNeverFailed out)
+  pub out_unfailed : IfErr result (λ e. IsNotWrite e → WriterNeverFailed out)
   pub kinds : IfErr result
       (IsOneOf (kind.trace ∷ kind.evidence ∷ kind.write ∷ kind.memory ∷ kind.joined ∷ kind.input ∷ []))

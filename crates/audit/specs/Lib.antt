@@ -10,4 +10,4 @@ pub mod Made
 pub mod MadeAudit
 pub mod Parts
 pub mod Shared
-pub mod Told
+pub mod EarlyLines

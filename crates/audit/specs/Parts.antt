@@ -13,12 +13,12 @@ use Rattle.evidence_check.specs.declared.cause.EvidenceCause.TheVariants as evid
 use Rattle.evidence_check.specs.declared.cause.EvidenceFault.{EvidenceFault}
 use Rattle.findings.specs.Findings.{findings_of}
 use Rattle.findings.specs.declared.finding.Finding.{Finding}
-use Rattle.audit.specs.Audit.{RefusesTrace, RefusesEvidenceFor, BlamesNoDevice, IsUnwritten, IsWrite, report_on, verdict_of}
+use Rattle.audit.specs.Audit.{RefusesTrace, RefusesEvidenceFor, BlamesNoDevice, IsNotWrite, IsWrite, report_on, verdict_of}
 use Rattle.audit.specs.Kinds.{IsOneOf}
 use Rattle.audit.specs.Kinds as kind
 use Rattle.audit.specs.Devices.{Reading, Writing, OfCame, OfAll, OfAny, GivesFew, GivesNext}
 use Rattle.audit.specs.Devices.{ReaderFailed, ReaderNeverFailed, WriterFailed, WriterNeverFailed}
-use Rattle.audit.specs.Devices.{IsUntouched, FailsWriting, StandsBehind}
+use Rattle.audit.specs.Devices.{TookNothing, FailsWriting, StandsBehind}
 use Rattle.audit.specs.declared.plain.Verdict.{Verdict}
 use Rattle.audit.specs.declared.plain.AuditFault.{AuditFault}
 use Rattle.audit.specs.declared.plain.AuditFault.TheVariants as faults
@@ -66,8 +66,8 @@ pub record Told {V : Type 0} (Says : List ℕ → V → Type 0) (out : Writing) 
   pub kept : OnOk result (WriterNeverFailed out)
   -- of memory alone nothing is written
   pub kinds : IfErr result (IsOneOf (kind.write ∷ kind.memory ∷ []))
-  pub unwritten : IfErr result (λ e. IsUnwritten e → IsUntouched out)
-  pub unfailed : IfErr result (λ e. IsUnwritten e → WriterNeverFailed out)
+  pub unwritten : IfErr result (λ e. IsNotWrite e → TookNothing out)
+  pub unfailed : IfErr result (λ e. IsNotWrite e → WriterNeverFailed out)
   pub held : StandsBehind out
 
 -- the report on a trace by evidence, and its verdict

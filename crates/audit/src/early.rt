@@ -13,14 +13,14 @@ ghost use Rattle.audit.specs.Early.{WriterState, WentOut, TellsEarly, state_of};
 ghost use Rattle.audit.specs.Kinds.{IsOneOf};
 ghost use Rattle.audit.specs.Kinds as kind;
 ghost use Rattle.audit.specs.Shared.{found_judged, has_finding, all_judged, are_within_limits};
-ghost use Rattle.audit.specs.Told.{IsLineOf, line_for};
+ghost use Rattle.audit.specs.EarlyLines.{IsLineOf, line_for};
 ghost use Rattle.audit.specs.declared.plain.AuditFault.TheVariants as faults;
 ghost use Rattle.findings.specs.Findings.{findings_of, on_line};
 
 use crate::finder::Finder;
 use crate::plain::{AuditFault, Verdict, audit_with};
 use crate::reading::{judgements_by, trace_by};
-use crate::shared::{Crew, Found, found_by, gathered};
+use crate::shared::{Crew, Found, found_by, gather};
 use audit_slices::{Alert, Board, Names, SliceReport, Watch};
 use evidence_check::Judged;
 use findings::{Finding, report_line};
@@ -146,7 +146,7 @@ fn findings_early<E: Sink, R: Threads + Wait + Sync>(
         (state_of E.taken E.failures E.idle E.since early.new) }
 {
     let reports = found_early::<Brand, E, R>(rt, alloc, trace, judgements, early, crew)?;
-    gathered(alloc, reports.as_slice())
+    gather(alloc, reports.as_slice())
 }
 
 /// Workers who share the entries, and what they find goes to a writer as it comes.

@@ -19,7 +19,7 @@ ghost use Rattle.audit.specs.declared.plain.AuditFault.TheVariants as faults;
 use crate::made::steps_for;
 use crate::plain::{AuditFault, Verdict};
 use crate::reading::trace_by;
-use crate::shared::{Crew, Found, gathered, is_any, reports_by};
+use crate::shared::{Crew, Found, gather, is_any, reports_by};
 use crate::telling::tell_findings;
 use audit_slices::{Blind, Board, Check, Names, SliceReport};
 use evidence_check::{Judged, judge_steps};
@@ -130,7 +130,7 @@ fn findings_made<R: Threads + Wait + Sync>(
         × AreMade trace.now trace.now.entries given × (v.items ≡ findings_of trace.now given)) }
 {
     let reports = found_made::<Brand, R>(rt, alloc, trace, crew)?;
-    gathered(alloc, reports.as_slice())
+    gather(alloc, reports.as_slice())
 }
 
 /// Audits a trace by evidence that is made for it, and writes the report of what several workers find.

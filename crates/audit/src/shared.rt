@@ -199,7 +199,7 @@ fn push_all(found: &[Found], findings: &mut Vec<Finding>) -> Result<(), AllocErr
 }
 
 /// The findings that reports hold, in the order of their entries.
-pub(crate) fn gathered(
+pub(crate) fn gather(
     alloc: Global,
     reports: &[SliceReport<Found>],
 ) -> Result<Vec<Finding>, AllocError>
@@ -224,7 +224,7 @@ fn findings_by<R: Threads + Wait + Sync>(
         → IfOk result (λ v. v.items ≡ findings_of trace.now given) }
 {
     let reports = found_unseen::<Brand, R>(rt, alloc, trace, judgements, crew)?;
-    gathered(alloc, reports.as_slice())
+    gather(alloc, reports.as_slice())
 }
 
 /// A crew finds them.

@@ -49,7 +49,7 @@ pub enum Answer<'a> {
 }
 
 /// The matches of the words, by the commands without rules between their arguments.
-fn parsed<'a>(alloc: Global, words: &'a [String]) -> Result<ArgMatches<'a>, Error>
+fn parse<'a>(alloc: Global, words: &'a [String]) -> Result<ArgMatches<'a>, Error>
     ensures matches { IfOk result (λ m. subcommand_rows_of m ≡ subcommand_of spec.program (map string_bytes words.entry.now)) }
     ensures passes { IfErr result (λ e. takes spec.program (map string_bytes words.entry.now) ≡ true → kind_of e ≡ ErrorKind.OutOfMemory) }
     ensures kinds { FailsBy (fault_of spec.program (map string_bytes words.entry.now)) result }
@@ -81,7 +81,7 @@ fn has(matches: &ArgMatches, id: &str) -> bool
 }
 
 /// The request of what was found for `audit`, where evidence or `--make` is there, and not both, and not `--make` with `--early`.
-fn audited<'a>(
+fn ask_for_audit<'a>(
     trace: Option<&'a str>,
     evidence: Option<&'a str>,
     make: bool,
@@ -124,7 +124,7 @@ fn audit_of<'a>(matches: &ArgMatches<'a>) -> Option<Request<'a>>
     let workers = number(matches, "workers");
     let slice = number(matches, "slice");
     let early = has(matches, "early");
-    audited(trace, evidence, make, workers, slice, early)
+    ask_for_audit(trace, evidence, make, workers, slice, early)
 }
 
 fn make_of<'a>(matches: &ArgMatches<'a>) -> Option<Request<'a>>
@@ -185,7 +185,7 @@ fn told(alloc: Global, words: &[String], error: &Error) -> Result<String, AllocE
 }
 
 /// What is shown for words that ask for nothing, by the commands with their rules.
-fn refused<'a>(alloc: Global, words: &'a [String]) -> Result<Answer<'a>, AllocError>
+fn refusal_of<'a>(alloc: Global, words: &'a [String]) -> Result<Answer<'a>, AllocError>
     ensures { IfOk result (λ a. asked_in a ≡ None) }
 {
     match strict(alloc)?.try_get_matches_from(words) {
@@ -218,12 +218,12 @@ pub fn read_words<'a>(alloc: Global, words: &'a [String]) -> Result<Answer<'a>, 
     if words.is_empty() {
         return Ok(Answer::Asks(Request::Joined));
     }
-    match parsed(alloc, words) {
+    match parse(alloc, words) {
         Ok(matches) => match request_of(&matches) {
             Some(request) => Ok(Answer::Asks(request)),
-            None => refused(alloc, words),
+            None => refusal_of(alloc, words),
         },
         Err(error) if error.kind() == ErrorKind::OutOfMemory => Err(AllocError),
-        Err(_error) => refused(alloc, words),
+        Err(_error) => refusal_of(alloc, words),
     }
 }

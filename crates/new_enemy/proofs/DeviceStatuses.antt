@@ -5,7 +5,7 @@ use Rattle.json_lines.specs.declared.devices.Counted.{Counted}
 use Rattle.json_lines.specs.declared.lines.TheConstants.{CHUNK}
 use Rattle.json_lines.specs.declared.reading.TheConstants.{MAX_INPUT}
 use Rattle.audit.specs.Answers.{TellsOfTrace, Audited}
-use Rattle.audit.specs.Audit.{IsUnwritten}
+use Rattle.audit.specs.Audit.{IsNotWrite}
 use Rattle.audit.specs.Devices.{Writer, Writing, reads, GivesFew}
 use Rattle.audit.specs.declared.plain.AuditFault.{AuditFault}
 use Rattle.audit.specs.declared.plain.Verdict.{Verdict}
@@ -17,7 +17,7 @@ use Rattle.new_enemy.specs.declared.run.Ran.{Ran}
 use Rattle.new_enemy.specs.declared.run.Ran.TheVariants as ran
 use Rattle.new_enemy.proofs.Statuses.{Ends, failed_by, of_no_device}
 
-pub unwritten_by : (e : AuditFault) (s : ℕ) → IsStatus e s → s ≤ 4 → IsUnwritten e
+pub unwritten_by : (e : AuditFault) (s : ℕ) → IsStatus e s → s ≤ 4 → IsNotWrite e
 unwritten_by e s is few = unwritten_without_device e (of_no_device e s is (λ five. omega (arith, five, few)))
 
 -- a file that has given nothing yet

@@ -5,7 +5,7 @@ use Rattle.json_lines.specs.Devices.{moved_by}
 use Rattle.json_lines.specs.declared.lines.TheConstants.{CHUNK}
 use Rattle.json_lines.specs.declared.reading.TheConstants.{MAX_INPUT}
 use Rattle.tuple_text.specs.Tuples.{TupleValue}
-use Rattle.audit.specs.Devices.{Writing, WriterFailed, WriterNeverFailed, IsUntouched, StandsBehind}
+use Rattle.audit.specs.Devices.{Writing, WriterFailed, WriterNeverFailed, TookNothing, StandsBehind}
 use Rattle.new_enemy.specs.Files.{OfFiles, file_failures, IsCleanAudit, IsDirtyAudit, IsCleanAuditMade, IsDirtyAuditMade, IsMadeEvidence, IsToldHistory, IsNoTrace, IsNoAudit}
 use Rattle.new_enemy.specs.declared.run.Ran.{Ran}
 use Rattle.new_enemy.specs.declared.run.Ran.TheVariants as ran
@@ -49,7 +49,7 @@ pub record SaysOfDevices {F : Type 0} (status : ℕ) (run : Ran F) (out : Writin
   -- none did
   pub device : status ≡ 5 → run ≢ ran.Nothing → (0 < file_failures run) ⊎ WriterFailed out
   pub kept : status ≢ 5 → (file_failures run ≡ 0) × WriterNeverFailed out
-  pub unwritten : 2 ≤ status → status ≤ 4 → IsUntouched out
+  pub unwritten : 2 ≤ status → status ≤ 4 → TookNothing out
   -- also of files that never end
   pub most : OfFiles run (λ file. length (moved_by file) ≤ MAX_INPUT + CHUNK)
   pub held : StandsBehind out

@@ -4,7 +4,7 @@ use Rattle.json_lines.specs.Devices.{moved_by}
 use Rattle.json_lines.specs.declared.lines.TheConstants.{CHUNK}
 use Rattle.json_lines.specs.declared.reading.TheConstants.{MAX_INPUT}
 use Rattle.audit.specs.Audit.{Audits}
-use Rattle.audit.specs.Devices.{Reading, Writing, OfAny, GivesFew, GivesNext, ReaderFailed, ReaderNeverFailed, WriterFailed, WriterNeverFailed, IsUntouched, StandsBehind}
+use Rattle.audit.specs.Devices.{Reading, Writing, OfAny, GivesFew, GivesNext, ReaderFailed, ReaderNeverFailed, WriterFailed, WriterNeverFailed, TookNothing, StandsBehind}
 use Rattle.audit.specs.Joined.{OfBothParts}
 use Rattle.audit.specs.declared.plain.Verdict.TheVariants.{Clean, Dirty}
 use Rattle.findings.specs.Headline.{IsTraceRightAndFresh}
@@ -35,7 +35,7 @@ pub record RunsJoined (input : Reading) (out : Writing) (status : ℕ) : Type 0 
   pub device : status ≡ 5 → ReaderFailed input ⊎ WriterFailed out
   pub kept : status ≢ 5 → ReaderNeverFailed input × WriterNeverFailed out
   -- a report goes out with a verdict, or as far as the writer took it
-  pub unwritten : 2 ≤ status → status ≤ 4 → IsUntouched out
+  pub unwritten : 2 ≤ status → status ≤ 4 → TookNothing out
   -- also of input that never ends
   pub most : GivesFew input
   -- of devices in memory: what came is what the reader had left, and what went out stands behind what the writer held
@@ -66,7 +66,7 @@ pub record SaysOfRun {F : Type 0} (input : Reading) (out : Writing) (status : �
   -- none did
   pub device : status ≡ 5 → run ≢ ran.Nothing → (ReaderFailed input ⊎ (0 < file_failures run)) ⊎ WriterFailed out
   pub kept : status ≢ 5 → ReaderNeverFailed input × (file_failures run ≡ 0) × WriterNeverFailed out
-  pub unwritten : 2 ≤ status → status ≤ 4 → IsUntouched out
+  pub unwritten : 2 ≤ status → status ≤ 4 → TookNothing out
   -- also of input that never ends
   pub most : GivesFew input × OfFiles run (λ file. length (moved_by file) ≤ MAX_INPUT + CHUNK)
   -- of devices in memory: what came is what the reader had left, and what went out stands behind what the writer held

@@ -46,7 +46,7 @@ pub enum Ran<F> {
 }
 
 /// The file of a path, or a line on `err`.
-fn opened<P: Files, E: Sink>(rt: &P, path: &str, err: &mut E) -> Option<P::File> {
+fn open<P: Files, E: Sink>(rt: &P, path: &str, err: &mut E) -> Option<P::File> {
     match fs::open(rt, path) {
         Ok(file) => Some(file),
         Err(_) => {
@@ -72,14 +72,14 @@ fn audit_paths<W: Sink, E: Sink, P: Files + Threads + Wait + Sync>(
     ensures limits { result.0 ≡ 3 → are_within_limits sharing.workers sharing.slice ≡ false }
 {
     let (trace, evidence) = paths;
-    let Some(trace) = opened(rt, trace, err) else {
+    let Some(trace) = open(rt, trace, err) else {
         return (5, Ran::Nothing);
     };
     let Some(evidence) = evidence else {
         let (status, trace) = run_audit_made(rt, alloc, trace, sharing, out, err);
         return (status, Ran::AuditedAlone(trace));
     };
-    let Some(evidence) = opened(rt, evidence, err) else {
+    let Some(evidence) = open(rt, evidence, err) else {
         return (5, Ran::Nothing);
     };
     let (status, trace, evidence) = run_audit(rt, alloc, trace, evidence, sharing, out, err);
@@ -99,7 +99,7 @@ fn make_for_path<W: Sink, E: Sink, P: Files>(
         (writes W.taken W.flushes W.failures W.idle W.contents out.old out.new) result.0 result.1 }
     ensures ran { RanMake result.0 result.1 }
 {
-    let Some(trace) = opened(rt, trace, err) else {
+    let Some(trace) = open(rt, trace, err) else {
         return (5, Ran::Nothing);
     };
     let (status, trace) = run_make(alloc, trace, list, out, err);
@@ -130,7 +130,7 @@ fn history_in_path<W: Sink, E: Sink, P: Files>(
             return (2, Ran::Nothing);
         }
     };
-    let Some(trace) = opened(rt, trace, err) else {
+    let Some(trace) = open(rt, trace, err) else {
         return (5, Ran::Nothing);
     };
     let (status, trace) = run_history(alloc, trace, &tuple, out, err);

@@ -62,7 +62,7 @@ fn is_of_kind(one: &Tuple, other: TupleRef<'_>) -> bool
     is_of_relation(one.set(), other.set()) && is_user_of_kind(one.user(), other.user())
 }
 
-fn packed(number: RelNo) -> u64 {
+fn pack(number: RelNo) -> u64 {
     u64::from(number.namespace) << 16 | u64::from(number.relation)
 }
 
@@ -72,9 +72,9 @@ fn kind_number(rules: &Rules, set: SetRef<'_>, user: SetRef<'_>) -> u64 {
         namespace: 0,
         relation: 0,
     };
-    let set = packed(rules.number(set).unwrap_or(undeclared));
+    let set = pack(rules.number(set).unwrap_or(undeclared));
     match rules.number(user) {
-        Some(user) => set << 32 | packed(user),
+        Some(user) => set << 32 | pack(user),
         None => fact_mark(MarkedSet::of(SetRef { id: "", ..user }), set),
     }
 }

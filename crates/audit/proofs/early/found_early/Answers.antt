@@ -1,5 +1,5 @@
 use Rattle.std.proofs.Common.{false}
-use Rattle.audit.specs.Told.{IsLineOf}
+use Rattle.audit.specs.EarlyLines.{IsLineOf}
 use Rattle.audit.proofs.EarlyLemmas.{begins_at}
 use Rattle.audit.proofs.early.found_early.Goals as goal
 

@@ -13,8 +13,8 @@ use Rattle.audit.proofs.made_audit.findings_made.Goals as goal
 pub returns : goal.returns
 returns g c =
     let t = c.args.trace.now in
-    IfOk-weaker c.gathered.result _
+    IfOk-weaker c.gather.result _
     (λ v. (given : List (Option (List StepValue))) × AreMade t t.entries given × (v.items ≡ findings_of t given))
     (λ v is. made_findings t _ v.items is
     (subst (λ (l : List Found). AllZip (IsFoundMade t) (range_with_len 0 (length t.entries)) l)
-    (ap (flat_map report_items) (sym c.as_slice.ensures.value)) c.in_ok-reports.ensures)) c.gathered.ensures
+    (ap (flat_map report_items) (sym c.as_slice.ensures.value)) c.in_ok-reports.ensures)) c.gather.ensures

@@ -9,6 +9,6 @@ use Rattle.audit.proofs.shared.findings_by.Goals as goal
 pub returns : goal.returns
 returns g c = λ given are.
     let t = c.args.trace.now in
-    IfOk-weaker c.gathered.result _ (λ v. v.items ≡ findings_of t given)
+    IfOk-weaker c.gather.result _ (λ v. v.items ≡ findings_of t given)
     (λ v is. found_are_findings t given _ v.items is
-    (ap (flat_map report_items) c.as_slice.ensures.value ∙ c.in_ok-reports.ensures ∙ all_alike t given c.args.judgements.now are)) c.gathered.ensures
+    (ap (flat_map report_items) c.as_slice.ensures.value ∙ c.in_ok-reports.ensures ∙ all_alike t given c.args.judgements.now are)) c.gather.ensures

@@ -8,5 +8,5 @@ pub returns-clause-asked : goal.returns-clause-asked
 returns-clause-asked c t e f =
     let named = c.text-evidence.ensures ∙ f.evidence in
     let made = made_or_named c.text-evidence.result e _ c.has-make.result named c.has-make.ensures.yes c.has-make.ensures.no f.make in
-    c.audited.ensures.asked t (c.text-trace.ensures ∙ f.trace) made (c.number-workers.ensures.one f.workers) (c.number-slice.ensures.slice f.slice) (c.has-early.ensures.no f.early)
+    c.ask_for_audit.ensures.asked t (c.text-trace.ensures ∙ f.trace) made (c.number-workers.ensures.one f.workers) (c.number-slice.ensures.slice f.slice) (c.has-early.ensures.no f.early)
     ∙ ap (λ (o : Option Text). Some (audits t o 1 64 false)) named

@@ -2,7 +2,7 @@ use Rattle.std.proofs.Common.{◌≡◌, ◌++◌, drop}
 use Rattle.std.specs.List.{flat_map}
 use Rattle.audit_slices.specs.Reports.{report_items}
 use Rattle.audit.specs.Shared.{found_lines}
-use Rattle.audit.proofs.shared.gathered.Given as goal
+use Rattle.audit.proofs.shared.gather.Given as goal
 
 abbrev pub invariant-loop-report : goal.invariant-loop-report
 invariant-loop-report l =

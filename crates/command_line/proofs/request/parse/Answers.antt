@@ -1,7 +1,7 @@
 use Rattle.std.proofs.Common.{ap, ◌∙◌, map, string_bytes, subst}
 use Rattle.std.proofs.lemmas.Result.{IfErr-weaker, IfOk-weaker}
 use Rattle.clap.specs.Words.{App, FailsBy, fault_of, is_simple, is_simple_and_free, subcommand_of, takes}
-use Rattle.command_line.proofs.request.parsed.Goals as goal
+use Rattle.command_line.proofs.request.parse.Goals as goal
 
 pub returns-clause-matches : goal.returns-clause-matches
 returns-clause-matches c =
