@@ -13,3 +13,4 @@ pub mod Revisions
 pub mod Shapes
 pub mod Tables
 pub mod Times
+pub mod Walks

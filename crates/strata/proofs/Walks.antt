@@ -17,7 +17,7 @@ use Rattle.namespaces.proofs.Kept.{named_by_place}
 use Rattle.namespaces.proofs.Times.{from_one}
 use Rattle.namespaces.proofs.Numbers.{item_at-place}
 use Rattle.std.proofs.lemmas.Option.{slice_get_within}
-use Rattle.rewrites.proofs.Walks as below
+pub use Rattle.rewrites.proofs.Walks.{children_step}
 use Rattle.strata.proofs.Unbroken.{item_least, item_there}
 use Rattle.strata.specs.declared.edge.Edge.{Edge}
 use Rattle.strata.specs.Edges.{RelationName, Place, edge_at, edges_in, relations_in, namespace_edges, last_relation_edges, read_by_rule, stratum_numbered, is_broken, refused, first_broken, places, all_places, read_through}
@@ -43,9 +43,6 @@ pub places_joined : (ds : List Declaration) (reader : RelNo) (reads : Place → 
 places_joined ds reader reads xs ys =
     ap (first_broken ds) (filter_map-append (edge_at ds reader reads) xs ys)
     ∙ edges_joined ds (filter_map (edge_at ds reader reads) xs) (filter_map (edge_at ds reader reads) ys)
-
-pub children_step : (rs : List Rewrite) (i : ℕ) (d : Rewrite) → i < length rs → expressions_of (drop i rs) ≡ child (expression_of (get_or rs i d)) (expressions_of (drop (i + 1) rs))
-children_step rs i d h = below.children_step rs i d h
 
 -- ---- lists from a place on
 

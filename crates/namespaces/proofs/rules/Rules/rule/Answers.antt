@@ -10,7 +10,7 @@ pub returns-in_err-revision : goal.returns-in_err-revision
 returns-in_err-revision c =
     rw (
       c.from_residual-in_err-revision.ensures,
-      history-by_number c.args.self.now c.args.number _ c.in_ok-index.field-0 c.args.k c.in_ok-revisions.ensures.well_formed (sym c.in_ok-revisions.ensures.name) c.in_ok-index.ensures.0 (sym c.in_ok-index.ensures.1),
+      history-numbered c.args.self.now c.args.number _ c.in_ok-index.field-0 c.args.k c.in_ok-revisions.ensures.well_formed (sym c.in_ok-revisions.ensures.name) c.in_ok-index.ensures.0 (sym c.in_ok-index.ensures.1),
       ← c.in_ok-revisions.ensures.revisions,
       ← c.as_slice.ensures.value,
       ← c.in_err-revision.ensures,
@@ -20,7 +20,7 @@ pub returns-in_err-relation : goal.returns-in_err-relation
 returns-in_err-relation c =
     rw (
       c.from_residual-in_err-relation.ensures,
-      history-by_number c.args.self.now c.args.number _ c.in_ok-index.field-0 c.args.k c.in_ok-revisions.ensures.well_formed (sym c.in_ok-revisions.ensures.name) c.in_ok-index.ensures.0 (sym c.in_ok-index.ensures.1),
+      history-numbered c.args.self.now c.args.number _ c.in_ok-index.field-0 c.args.k c.in_ok-revisions.ensures.well_formed (sym c.in_ok-revisions.ensures.name) c.in_ok-index.ensures.0 (sym c.in_ok-index.ensures.1),
       ← c.in_ok-revisions.ensures.revisions,
       ← c.as_slice.ensures.value,
       ← c.in_ok-revision.ensures,
@@ -30,7 +30,7 @@ returns-in_err-relation c =
 pub returns : goal.returns
 returns c =
     rw (
-      history-by_number c.args.self.now c.args.number _ c.in_ok-index.field-0 c.args.k c.in_ok-revisions.ensures.well_formed (sym c.in_ok-revisions.ensures.name) c.in_ok-index.ensures.0 (sym c.in_ok-index.ensures.1),
+      history-numbered c.args.self.now c.args.number _ c.in_ok-index.field-0 c.args.k c.in_ok-revisions.ensures.well_formed (sym c.in_ok-revisions.ensures.name) c.in_ok-index.ensures.0 (sym c.in_ok-index.ensures.1),
       ← c.in_ok-revisions.ensures.revisions,
       ← c.as_slice.ensures.value,
       ← c.in_ok-revision.ensures,

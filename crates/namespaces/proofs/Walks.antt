@@ -1,0 +1,2 @@
+-- Walks over a rule, child by child.
+pub use Rattle.rewrites.proofs.Walks.{children_step}
