@@ -8,7 +8,7 @@ use Rattle.namespaces.specs.Expression.{Expression, union, no_child}
 use Rattle.namespaces.specs.Parts.{part_at, part_expression, parts_shown}
 use Rattle.namespaces.specs.declared.parts.Part.{Part}
 use Rattle.namespaces.specs.declared.parts.Through.{Through}
-use Rattle.version_chains.proofs.PlacedLemmas.{length-set, slice_get-set}
+use Rattle.marks.proofs.PlacedLemmas.{length-set, slice_get-set}
 use Rattle.tuple_text.specs.Tuples.{FactValue}
 use Rattle.trace_lines.specs.Values.{TraceValue}
 use Rattle.judgement.specs.Asked.{Does}

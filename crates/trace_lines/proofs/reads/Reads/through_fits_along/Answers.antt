@@ -1,5 +1,5 @@
 use Rattle.std.proofs.Common.{rules, ◌≡◌, ◌-◌, true, arith}
-use Rattle.version_chains.proofs.PlacedLemmas.{read_item}
+use Rattle.marks.proofs.PlacedLemmas.{read_item}
 use Rattle.trace_lines.specs.Reads.{IsLowWhereStored}
 use Rattle.trace_lines.proofs.Chains.{left_start, left_smaller, left_step, left_end}
 use Rattle.trace_lines.proofs.reads.Reads.through_fits_along.Goals as goal

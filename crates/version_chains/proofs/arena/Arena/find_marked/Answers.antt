@@ -4,9 +4,9 @@ use Rattle.tuple_text.specs.Refs.{set_value, user_value}
 use Rattle.tuple_text.specs.Tuples.{tuple_of}
 use Rattle.tuple_text.proofs.ValueLemmas.{tuple_eq-same}
 use Rattle.version_chains.specs.Arena.{Held, latest_of, tuples_of}
-use Rattle.version_chains.specs.Placed.{last_place}
+use Rattle.marks.specs.Placed.{last_place}
 use Rattle.version_chains.proofs.ArenaLemmas.{item_within, touches_known}
-use Rattle.version_chains.proofs.FindLemmas.{find_start, find_within, find_on, find_smaller, found_nowhere}
+use Rattle.marks.proofs.FindLemmas.{find_start, find_within, find_on, find_smaller, found_nowhere}
 use Rattle.version_chains.proofs.arena.Arena.find_marked.Goals as goal
 
 pub loop-place-init : goal.loop-place-init

@@ -3,8 +3,8 @@ use Rattle.tuple_text.specs.Order.{tuple_eq}
 use Rattle.tuple_text.specs.Refs.{set_value, user_value}
 use Rattle.tuple_text.specs.Tuples.{tuple_of}
 use Rattle.version_chains.specs.Arena.{tuples_of}
-use Rattle.version_chains.specs.Marks.{tuple_mark}
-use Rattle.version_chains.specs.Placed.{IsWalk}
+use Rattle.marks.specs.Marks.{tuple_mark}
+use Rattle.marks.specs.Placed.{IsWalk}
 use Rattle.version_chains.proofs.arena.Arena.find_marked.Given as goal
 
 abbrev pub invariant-loop-place : goal.invariant-loop-place

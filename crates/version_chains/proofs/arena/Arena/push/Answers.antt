@@ -5,7 +5,7 @@ use Rattle.version_chains.specs.Jumps.{AreJumps, IsBack}
 use Rattle.version_chains.specs.Rows.{Kept}
 use Rattle.version_chains.specs.declared.node.Node.{Node}
 use Rattle.version_chains.proofs.ArenaLemmas.{item_of, item_within, more_touches, touches-more, up_to_nodes}
-use Rattle.version_chains.proofs.PlacedLemmas.{length-more}
+use Rattle.marks.proofs.PlacedLemmas.{length-more}
 use Rattle.version_chains.proofs.RowLemmas.{latest-touched, length-touched, row-kept, tuples-touched}
 use Rattle.version_chains.proofs.arena.Arena.push.Goals as goal
 
