@@ -93,9 +93,7 @@ impl Places {
         self.newest.spread(*self.links.allocator(), &self.links)?;
         let place = self.links.len() as u32 + 1;
         let older = self.newest.set(&self.links, mark, place)?;
-        if self.links.push(Link { mark, older }).is_err() {
-            unreachable!();
-        }
+        self.links.push_reserved(Link { mark, older });
         Ok(())
     }
 

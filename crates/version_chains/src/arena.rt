@@ -389,9 +389,7 @@ impl Arena {
             depth,
             jump,
         };
-        if self.nodes.push(node).is_err() {
-            unreachable!();
-        }
+        self.nodes.push_reserved(node);
         let place = self.nodes.len() as u32;
         self.rows.set_latest(number, place);
     }

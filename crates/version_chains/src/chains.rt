@@ -195,9 +195,7 @@ impl Chains {
         self.times.reserve(1)?;
         self.arena.reserve(numbers.len())?;
         push_commit(&mut self.arena, at, adds.len(), numbers.as_slice());
-        if self.times.push(at).is_err() {
-            unreachable!();
-        }
+        self.times.push_reserved(at);
         Ok(())
     }
 

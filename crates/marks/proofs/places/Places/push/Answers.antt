@@ -10,7 +10,7 @@ pub invariant_of-self-2 : goal.invariant_of-self-2
 invariant_of-self-2 c =
     let links = c.self.inside.links.items in
     let link : Link = record { mark = c.args.mark; older = c.in_ok-older.older } in
-    let items : c.push.new.self.items ≡ links ++ link ∷ [] = search rules in
+    let items : c.push_reserved.new.self.items ≡ links ++ link ∷ [] = search rules in
     let len : c.len-2.result ≡ length links = search rules in
     let less : length links < most = search rules in
     let more = length-more links link in
@@ -29,7 +29,7 @@ invariant_of-self-2 c =
 
 pub returns-clause-ok : goal.returns-clause-ok
 returns-clause-ok c =
-    marks_shown c.self.inside.links.items c.push.new.self.items
+    marks_shown c.self.inside.links.items c.push_reserved.new.self.items
     (record { mark = c.args.mark; older = c.in_ok-older.older }) c.args.self.now c.self.view_is (search rules)
 
 pub spread-requires-clause-newest : goal.spread-requires-clause-newest
