@@ -1,4 +1,6 @@
 pub mod FindLemmas
+pub mod IndexLemmas
+pub mod LeftLemmas
 pub mod LinkLemmas
 pub mod PlacedLemmas
 pub mod SlotLemmas

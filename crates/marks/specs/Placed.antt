@@ -1,5 +1,5 @@
 -- Places in a list that grows, counted from 1, and walks from the newest back.
-use Rattle.std.specs.Prelude.{◌≡◌, ◌≤◌, ◌-◌, ◌^◌, ℕ, zero, suc, Bool, false, List, [], ◌∷◌, length, slice_get, Option, None, Some, cond}
+use Rattle.std.specs.Prelude.{◌≡◌, ◌≤◌, ◌-◌, ◌^◌, ℕ, zero, suc, Bool, false, List, [], ◌∷◌, length, nat_eq, slice_get, Option, None, Some, cond}
 
 -- how many places there may be, so that each is a number of 32 bits
 abbrev pub most : ℕ
@@ -22,6 +22,11 @@ in_front p (Some x) rest = cond (p x) (x ∷ rest) rest
 abbrev pub newest_first : {X : Type 0} → (X → Bool) → List X → ℕ → List X
 newest_first p xs zero = []
 newest_first p xs (suc n) = in_front p (slice_get xs n) (newest_first p xs n)
+
+-- the indices at which a mark stands among the first n, the last first
+abbrev pub indices_of : ℕ → List ℕ → ℕ → List ℕ
+indices_of mark marks zero = []
+indices_of mark marks (suc n) = cond (passes (nat_eq mark) (slice_get marks n)) (n ∷ indices_of mark marks n) (indices_of mark marks n)
 
 -- a place to which links lead, from the newest item that passes the test `linked` to the one before it, and so on
 abbrev pub IsLinkedPlace : {X : Type 0} → (X → Bool) → List X → ℕ → Type 0

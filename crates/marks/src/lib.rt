@@ -5,17 +5,16 @@
 //! [`fact_mark`] and [`tuple_mark`] are of a fact and a tuple, [`kind_mark`] of the users of one kind in a userset, and [`pair_mark`] is of
 //! two marks.
 //!
-//! Contracts see [`Places`] as the list of the marks that were pushed. Callers may rely on this: places count from 1, and 0 is none;
-//! [`Places::newest`] is the last place with a mark and [`Places::older`] the last one before a place with the mark of that place; a push
-//! adds at the end or changes nothing. A question takes no memory, and its time does not hang on how marks were chosen: those for which
-//! the table has no room stand in a tree. `proofs.FindLemmas` says what such a walk shows.
+//! Contracts see [`Places`] as the list of the marks that were pushed. Callers may rely on this: [`Places::with`] gives the indices at which
+//! a mark stands, the newest first; places count from 1, [`Places::newest`] is the last place with a mark, [`Places::older`] the last one
+//! before an index with the mark that stands there, and 0 is none; a push adds at the end or changes nothing. A question takes no memory.
+//! However a stranger chose the marks, the newest place is found in the logarithm of their number: those for which the table has no room
+//! stand in a tree. `proofs.LeftLemmas` says what going over the indices shows.
 //!
 //! ```text
 //! places.push(set.mark)?;
-//! let mut place = places.newest(set.mark);
-//! while place > 0 {
-//!     // what stands at index place - 1
-//!     place = places.older(place - 1);
+//! for index in places.with(set.mark) {
+//!     // whether what stands there is the userset
 //! }
 //! ```
 #![tactic(auto)]
@@ -26,5 +25,5 @@ mod table;
 mod tuples;
 mod words;
 
-pub use places::{MOST_PLACES, Places};
+pub use places::{MOST_PLACES, Places, Walk};
 pub use tuples::{MarkedSet, MarkedUser, fact_mark, is_userset, kind_mark, pair_mark, tuple_mark};

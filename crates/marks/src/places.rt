@@ -1,7 +1,8 @@
 //! Places of a list that grows, found by their marks.
 
 ghost use Rattle.std.specs.Prelude.{◌≡◌, ℕ, ◌∷◌, ◌++◌, [], Some, length, slice_get, nat_eq, IfOk, OnOk, OnErr, List};
-ghost use Rattle.marks.specs.Placed.{last_place};
+ghost use Rattle.std.specs.Iterator.{YieldsFirst, item_count};
+ghost use Rattle.marks.specs.Placed.{indices_of, last_place};
 
 use crate::table::Table;
 use std::alloc::{AllocError, Global};
@@ -81,6 +82,17 @@ impl Places {
         }
     }
 
+    /// The indices of the places with the mark, the newest first.
+    pub fn with(&self, mark: u64) -> Walk<'_>
+        ensures { result ≡ indices_of mark self.now (length self.now) }
+    {
+        Walk {
+            places: self,
+            mark,
+            place: self.newest(mark),
+        }
+    }
+
     /// Adds a place with the mark. Where memory runs out, nothing changes.
     pub fn push(&mut self, mark: u64) -> Result<(), AllocError>
         ensures ok { OnOk result (self.new ≡ self.old ++ mark ∷ []) }
@@ -107,5 +119,42 @@ impl Places {
             }
             self.links.pop();
         }
+    }
+}
+
+/// The indices at which one mark stands, the newest first. A contract sees the list of those that are left to give.
+#[derive(Drop)]
+pub struct Walk<'a> {
+    places: &'a Places,
+    mark: u64,
+    place: usize,
+}
+
+impl<'a> Model for Walk<'a> {
+    ghost use Rattle.std.specs.Prelude.{ℕ, List, nat_eq};
+
+    ghost Value = { List ℕ };
+
+    ghost use Rattle.marks.specs.Placed.{IsLinkedPlace, indices_of};
+
+    ghost view = { λ it. indices_of it.mark it.places.now it.place };
+
+    ghost invariant = { λ it. IsLinkedPlace (nat_eq it.mark) it.places.now it.place };
+}
+
+impl<'a> Iterator for Walk<'a> {
+    type Item = usize;
+
+    ghost next_gives = { YieldsFirst (λ indices. indices) };
+
+    ghost remaining = { item_count (λ indices. indices) };
+
+    fn next(&mut self) -> Option<usize> {
+        if self.place == 0 {
+            return None;
+        }
+        let index = self.place - 1;
+        self.place = self.places.older(index);
+        Some(index)
     }
 }

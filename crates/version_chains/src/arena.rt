@@ -162,13 +162,10 @@ impl Arena {
             (IsNumber self.now.tuples (tuple_of (set_value set.entry.set) (user_value user.entry.user))) }
         ensures untouched { result ≡ None → IsUntouched self.now (tuple_of (set_value set.entry.set) (user_value user.entry.user)) }
     {
-        let mut place = self.named.newest(mark);
-        while place > 0 {
-            let number = place - 1;
+        for number in self.named.with(mark) {
             if self.is_named(number, set.set, user.user) {
                 return Some(number);
             }
-            place = self.named.older(number);
         }
         None
     }
