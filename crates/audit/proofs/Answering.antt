@@ -4,7 +4,7 @@ use Rattle.std.specs.declared.vec.Vec.{Vec}
 use Rattle.std.specs.declared.alloc.Global.{Global}
 use Rattle.trace_lines.specs.Values.{TraceValue}
 use Rattle.trace_lines.specs.Traces.{trace_of}
-use Rattle.json_lines.proofs.Given.{of_ended}
+use Rattle.devices.proofs.Given.{of_ended}
 use Rattle.evidence_check.specs.Judging.{AreJudged, GivesJudged}
 use Rattle.evidence_check.specs.Reading as reading
 use Rattle.evidence_check.specs.Reading.{evidence_of}

@@ -9,7 +9,7 @@ use Rattle.json_lines.specs.Lines.{ComeAtMost}
 use Rattle.json_lines.specs.declared.lines.InputFault.{InputFault}
 use Rattle.json_lines.specs.declared.lines.InputFault.TheVariants as input
 use Rattle.json_lines.specs.declared.lines.TheConstants.{CHUNK}
-use Rattle.json_lines.proofs.Given.{of_input-whole, of_whole-map, next-trans}
+use Rattle.devices.proofs.Given.{of_input-whole, of_whole-map, next-trans}
 use Rattle.trace_lines.specs.Results.{GivesTrace}
 use Rattle.trace_lines.specs.Traces.{trace_of}
 use Rattle.trace_lines.specs.Values.{TraceValue}

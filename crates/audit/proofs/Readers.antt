@@ -1,7 +1,7 @@
 -- What readers say and what a writer took, put together.
 use Rattle.std.proofs.Common.{◌≡◌, ℕ, true, false, List, [], ◌∷◌, Option, Result, Ok, Err, arith, refl, subst, sym, ◌∙◌, append-nil}
 use Rattle.std.specs.Prelude.{IfErr}
-use Rattle.json_lines.proofs.Given.{of_bytes-map, of_whole-map, of_input-map, next-refl}
+use Rattle.devices.proofs.Given.{of_bytes-map, of_whole-map, of_input-map, next-refl}
 use Rattle.trace_lines.specs.Values.{TraceValue}
 use Rattle.trace_lines.specs.Traces.{trace_of}
 use Rattle.evidence_check.specs.Reading.{evidence_of}

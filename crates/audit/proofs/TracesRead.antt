@@ -1,6 +1,6 @@
 -- What reading a trace tells, as a call of an audit tells it.
 use Rattle.std.proofs.Common.{◌≡◌, ◌≢◌, ℕ, ◌∷◌, [], true, false, List, Option, Ok, Err, subst, sym}
-use Rattle.json_lines.proofs.Given.{of_ended}
+use Rattle.devices.proofs.Given.{of_ended}
 use Rattle.trace_lines.specs.TraceReads as lines
 use Rattle.trace_lines.specs.Traces.{trace_of}
 use Rattle.trace_lines.specs.Values.{TraceValue}

@@ -1,7 +1,7 @@
 -- What a call's contract says of its readers and of its writer: each before the call, and after it.
 use Rattle.std.specs.Prelude.{◌≡◌, ◌⊎◌, ℕ, ◌+◌, ◌≤◌, List, ◌++◌, Option, length, take}
-use Rattle.json_lines.specs.Given.{OfBytes, OfWhole, OfInput, AreNext, StandBehind}
-use Rattle.json_lines.specs.Moves.{IsBrokenOff}
+use Rattle.devices.specs.Given.{OfBytes, OfWhole, OfInput, AreNext, StandBehind}
+use Rattle.devices.specs.Moves.{IsBrokenOff}
 use Rattle.json_lines.specs.declared.lines.TheConstants.{CHUNK}
 use Rattle.json_lines.specs.declared.reading.TheConstants.{MAX_INPUT}
 

@@ -9,8 +9,8 @@ ghost use Rattle.audit.specs.Devices.{reads, OfAll};
 
 use crate::plain::AuditFault;
 use crate::reading::{judgements_from, trace_from};
+use devices::Source;
 use findings::{Finding, findings_judged};
-use json_lines::Source;
 use std::alloc::Global;
 use trace_lines::Trace;
 

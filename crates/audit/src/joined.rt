@@ -8,10 +8,11 @@ ghost use Rattle.audit.specs.JoinedParts.{PartsRead, FrontRead, BehindRead, of_i
 use crate::plain::{AuditFault, Verdict};
 use crate::reading::{of_evidence, of_trace};
 use crate::telling::tell_findings;
+use devices::{Sink, Source};
 use evidence_check::{Judged, judge_evidence_behind};
 use findings::findings_judged;
 use findings::laws::right_and_fresh_without_findings;
-use json_lines::{InputFault, Rest, Sink, Source};
+use json_lines::{InputFault, Rest};
 use std::alloc::Global;
 use trace_lines::{Trace, TraceFront, read_trace_front};
 

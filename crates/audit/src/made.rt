@@ -14,9 +14,9 @@ ghost use Rattle.audit.specs.Made.{IsMade, record_line, line_without, AreRecords
 use crate::plain::AuditFault;
 use crate::reading::trace_from;
 use crate::telling::tell;
+use devices::{Sink, Source};
 use evidence_check::Steps;
 use evidence_maker::{Found, MakeFault, make_after};
-use json_lines::{Sink, Source};
 use record_text::write_record;
 use std::alloc::{AllocError, Global};
 use trace_lines::Trace;

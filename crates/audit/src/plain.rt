@@ -16,10 +16,10 @@ ghost use Rattle.findings.specs.WrongReplies.{HasOnlyWrongRepliesNamed};
 
 use crate::finder::{Finder, OneThread};
 use crate::telling::tell_findings;
+use devices::{Sink, Source};
 use evidence_check::{Evidence, EvidenceFault};
 use findings::findings_of;
 use findings::laws::{right_and_fresh_without_findings, wrong_replies_are_wrong};
-use json_lines::{Sink, Source};
 use std::alloc::{AllocError, Global};
 use thiserror::Error;
 use trace_lines::{Trace, TraceFault};

@@ -14,9 +14,9 @@ ghost use Rattle.audit.specs.Kinds as kind;
 ghost use Rattle.audit.specs.declared.plain.AuditFault.TheVariants as faults;
 
 use crate::plain::AuditFault;
+use devices::Source;
 use evidence_blocks::judge_evidence_by;
 use evidence_check::{EvidenceCause, EvidenceFault, Judged, judge_evidence};
-use json_lines::Source;
 use std::alloc::Global;
 use std::thread::Threads;
 use trace_blocks::read_trace_by;

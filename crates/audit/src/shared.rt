@@ -20,9 +20,9 @@ use crate::reading::{judgements_by, trace_by};
 use audit_slices::{
     Blind, Board, Check, Free, MOST_WORKERS, Names, SliceReport, Watch, cut, run_pool,
 };
+use devices::{Sink, Source};
 use evidence_check::Judged;
 use findings::{Finding, What, found_judged, push_found};
-use json_lines::{Sink, Source};
 use std::alloc::{AllocError, Global};
 use std::marker::Brand;
 use std::sync::Wait;

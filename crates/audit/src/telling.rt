@@ -7,8 +7,8 @@ ghost use Rattle.audit.specs.Devices.{writes};
 ghost use Rattle.findings.specs.Report.{report_text};
 
 use crate::plain::{AuditFault, Verdict};
+use devices::{Sink, send};
 use findings::{Finding, report_of};
-use json_lines::{Sink, send};
 use std::alloc::Global;
 
 /// Writes a text, and then has this answer.

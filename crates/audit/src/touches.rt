@@ -13,7 +13,7 @@ ghost use Rattle.audit.specs.Kinds as kind;
 use crate::plain::AuditFault;
 use crate::reading::trace_from;
 use crate::telling::tell;
-use json_lines::{Sink, Source};
+use devices::{Sink, Source};
 use std::alloc::{AllocError, Global};
 use trace_lines::Trace;
 use tuple_text::Tuple;

@@ -3,7 +3,7 @@ use denote.Param.Send.{IsSync, sendable}
 use Rattle.std.proofs.Crossing.{crosses}
 use Rattle.std.proofs.MapsCrossing as maps
 use Rattle.tuple_text.specs.contracts.tuples.Tuple as tuple
-use Rattle.version_chains.specs.contracts.places.Places as places
+use Rattle.marks.specs.contracts.places.Places as places
 use Rattle.version_chains.specs.contracts.arena.Arena as arena
 use Rattle.version_chains.specs.contracts.chains.Chains as chains
 use Rattle.rewrites.proofs.rewrite.Rewrite.TheLaws.TheKnot.{sync-Rewrite}

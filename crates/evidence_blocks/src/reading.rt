@@ -6,8 +6,8 @@ ghost use Rattle.evidence_check.specs.Reading.{EvidenceRead};
 ghost use Rattle.trace_lines.specs.Values.{entry_lines};
 
 use crate::telling::{Judgings, Records};
+use devices::Source;
 use evidence_check::{EntryLines, EvidenceCause, EvidenceFault, Judged};
-use json_lines::Source;
 use line_blocks::read_blocks;
 use std::alloc::{AllocError, Global};
 use std::thread::Threads;

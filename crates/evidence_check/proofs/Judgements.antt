@@ -17,7 +17,7 @@ use Rattle.json_lines.specs.InputRead.{LinesRead}
 use Rattle.json_lines.proofs.InputReads.{answered}
 use Rattle.json_lines.proofs.ReadFaults.{retold}
 use Rattle.json_lines.proofs.Simulated.{Match, match_bind, match_if, both_read}
-use Rattle.version_chains.proofs.PlacedLemmas.{length-set}
+use Rattle.marks.proofs.PlacedLemmas.{length-set}
 use Rattle.trace_lines.specs.Values.{TraceValue, EntryValue}
 use Rattle.namespaces.specs.Lookup.{rule_at}
 use Rattle.version_chains.specs.Commits.{store_at}

@@ -1,7 +1,7 @@
 //! Judging by the evidence behind the marker of joined input.
 
 ghost use Rattle.std.specs.Prelude.{◌≡◌, ◌≢◌, ◌+◌, ◌≤◌, length, true, Err, IfOk, IfErr, OnOk};
-ghost use Rattle.json_lines.specs.Given.{AreNext};
+ghost use Rattle.devices.specs.Given.{AreNext};
 ghost use Rattle.json_lines.specs.Joined.{IsTaken, ComesPast, ends_left};
 ghost use Rattle.json_lines.specs.Lines.{ComeAtMost};
 ghost use Rattle.json_lines.specs.declared.lines.TheConstants.{CHUNK};
@@ -13,7 +13,8 @@ ghost use Rattle.evidence_check.specs.declared.cause.EvidenceCause.TheVariants.{
 use crate::cause::EvidenceFault;
 use crate::judged::Judged;
 use crate::judging::Judging;
-use json_lines::{InputFault, Rest, Source};
+use devices::Source;
+use json_lines::{InputFault, Rest};
 use std::alloc::Global;
 use trace_lines::Trace;
 

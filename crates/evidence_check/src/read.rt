@@ -9,7 +9,8 @@ use crate::evidence::Evidence;
 use crate::judged::Judged;
 use crate::judging::Judging;
 use crate::recorder::Recorder;
-use json_lines::{Source, read_lines};
+use devices::Source;
+use json_lines::read_lines;
 use std::alloc::Global;
 use trace_lines::Trace;
 

@@ -9,7 +9,7 @@ use Rattle.std.proofs.lemmas.Iterator.Adapters.{position_from-zero}
 use Rattle.std.proofs.lemmas.Option.{same_Some, slice_get_within, get_or_from_slice_get}
 use Rattle.serde_json.specs.Data.{Data}
 use Rattle.serde_json.specs.Read.{read}
-use Rattle.version_chains.proofs.PlacedLemmas.{length-set}
+use Rattle.marks.proofs.PlacedLemmas.{length-set}
 use Rattle.refusals.specs.Refusals.{◌>>=◌, needed}
 use Rattle.refusals.proofs.Steps.{OkHas, either_passes}
 use Rattle.json_lines.specs.Fields.{number_at}

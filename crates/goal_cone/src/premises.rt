@@ -18,11 +18,12 @@ ghost use Rattle.goal_cone.specs.Seen.{Sees, IsStuck};
 use crate::fault::ConeFault;
 use crate::leaves::KnownLeaves;
 use crate::seen::Seen;
+use marks::MarkedSet;
 use rewrites::Rewrite;
 use std::alloc::Global;
 use trace_lines::Trace;
 use tuple_text::{Fact, SetRef, TupleFault};
-use version_chains::{MarkedSet, Usersets};
+use version_chains::Usersets;
 
 /// How many facts a cone may have.
 pub const MAX_USERSETS: usize = 131072;

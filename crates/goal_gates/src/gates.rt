@@ -8,12 +8,13 @@
 use crate::leaning::Leaning;
 use crate::links::{Ends, Links, Way, small};
 use crate::wide::{Reached, WideRules};
+use marks::{MarkedSet, Places};
 use rewrites::{Part, PartedRule, Rewrite, Through};
 use std::alloc::{AllocError, Global};
 use std::collections::VecDeque;
 use trace_lines::Trace;
 use tuple_text::{Fact, SetRef};
-use version_chains::{MarkedSet, Places, Usersets};
+use version_chains::Usersets;
 
 /// What a gate waits for, of those that feed it.
 #[derive(Clone, Copy, Drop)]

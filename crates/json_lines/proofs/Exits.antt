@@ -2,7 +2,7 @@
 use Rattle.std.proofs.Common.{◌≡◌, ℕ, ◌+◌, ◌⊎◌, inl, inr, Bool, true, false, not, Result, Ok, Err, arith}
 use Rattle.std.specs.Prelude.{IfOk, OnOk}
 use Rattle.json_lines.specs.Joined.{ends_left}
-use Rattle.json_lines.specs.Moves.{end_count}
+use Rattle.devices.specs.Moves.{end_count}
 use Rattle.json_lines.specs.declared.lines.InputFault.{InputFault}
 use Rattle.json_lines.specs.declared.lines.InputFault.TheVariants.{Read, TooLong, OutOfMemory}
 use Rattle.json_lines.specs.declared.reading.Stop.{Stop}

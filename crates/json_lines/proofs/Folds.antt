@@ -6,7 +6,7 @@ use Rattle.std.proofs.lemmas.List.Elements.{All-from_recursion}
 use Rattle.std.proofs.lemmas.Bool.{lt-ltb, le-ltb, eqb-false, ne_eqb, or_left, or_right, or_from, and_parts}
 use Rattle.std.proofs.lemmas.List.Splits.{slice_split_at, slice_split_none, length-slice_split}
 use Rattle.refusals.specs.Refusals.{◌>>=◌}
-use Rattle.json_lines.specs.Given.{OfBytes, OfInput}
+use Rattle.devices.specs.Given.{OfBytes, OfInput}
 use Rattle.json_lines.specs.Lines.{lacks, first_line, after_line, has_newline, line_ending}
 use Rattle.json_lines.specs.Reading.{at_line, passes_limit, parts, read_from, read_all, Fails, Refuses}
 use Rattle.json_lines.specs.declared.lines.InputFault.{InputFault}

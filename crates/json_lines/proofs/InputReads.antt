@@ -2,7 +2,7 @@
 use Rattle.std.proofs.Common.{◌≡◌, ℕ, List, [], ◌++◌, Option, Result, Ok, Err, refl, sym, append-nil, arith, eqb}
 use Rattle.std.proofs.lemmas.List.Splits.{length-slice_split}
 use Rattle.json_lines.specs.InputRead.{InputRead}
-use Rattle.json_lines.proofs.Given.{next-refl, of_bytes-map, of_input-map}
+use Rattle.devices.proofs.Given.{next-refl, of_bytes-map, of_input-map}
 
 module _ {R T U E F : Type 0} (IsRead : E → Type 0) (line_of : E → ℕ) (Gives : Result T E → List ℕ → Type 0)
     (Cuts : E → List ℕ → Type 0) (IsReadToo : F → Type 0) (line_of_too : F → ℕ)

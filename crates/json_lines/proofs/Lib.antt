@@ -2,7 +2,6 @@ pub mod Cuts
 pub mod Elements
 pub mod Exits
 pub mod Folds
-pub mod Given
 pub mod JsonLines
 pub mod Lookups
 pub mod Members
@@ -14,6 +13,5 @@ pub mod InRange
 pub mod InputReads
 pub mod ReadFaults
 pub mod RestLines
-pub mod Sent
 pub mod Simulated
 pub mod Steps

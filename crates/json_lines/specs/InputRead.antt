@@ -1,6 +1,6 @@
 -- What reading an input comes to, whole or up to its first fault.
 use Rattle.std.specs.Prelude.{◌≡◌, ℕ, ◌+◌, ◌≤◌, true, false, List, length, Option, Result, Err, IfErr, OnOk}
-use Rattle.json_lines.specs.Given.{OfBytes, OfInput, AreNext}
+use Rattle.devices.specs.Given.{OfBytes, OfInput, AreNext}
 use Rattle.json_lines.specs.Reading.{parts, read_all, IsReadFault, Reads}
 use Rattle.json_lines.specs.declared.lines.TheConstants.{CHUNK}
 use Rattle.json_lines.specs.declared.reading.LineFault.{LineFault}

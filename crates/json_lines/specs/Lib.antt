@@ -1,12 +1,8 @@
 pub mod Data
-pub mod Devices
 pub mod Fields
-pub mod Given
-pub mod History
 pub mod InputRead
 pub mod Joined
 pub mod Json
 pub mod Lines
-pub mod Moves
 pub mod Places
 pub mod Reading

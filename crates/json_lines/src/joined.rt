@@ -1,7 +1,7 @@
 //! Joined input: a front of lines, a line that is exactly `---`, and what stands behind it.
 
 ghost use Rattle.std.specs.Prelude.{◌≡◌, ◌≢◌, ◌+◌, ◌≤◌, ◌<◌, ℕ, length, Option, None, Some, Ok, Err, IfOk, IfErr, OnOk, IfSome, true, false, ◌&&◌};
-ghost use Rattle.json_lines.specs.Given.{OfBytes, OfWhole, AreNext};
+ghost use Rattle.devices.specs.Given.{OfBytes, OfWhole, AreNext};
 ghost use Rattle.json_lines.specs.Joined.{is_marker, joined_of, line_taken, IsTaken, IsFront, IsNextLine, IsPart, ComesPast, ends_left};
 ghost use Rattle.json_lines.specs.Json.{taken_line};
 ghost use Rattle.json_lines.specs.Lines.{ComeAtMost};
@@ -10,8 +10,8 @@ ghost use Rattle.json_lines.specs.declared.lines.InputFault.TheVariants.{Read, T
 
 use crate::lines::{CHUNK, InputFault, Lines};
 use crate::reading::{LineFault, MAX_INPUT, MAX_LINE, Stop, is_over};
-use crate::source::Source;
 use crate::taking::{TakeJson, take_line};
+use devices::Source;
 use json::Scratch;
 use std::alloc::Global;
 use std::marker::Model;

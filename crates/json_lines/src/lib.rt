@@ -1,9 +1,8 @@
-//! Lines of JSON out of any reader, and texts into any writer.
+//! Lines of JSON out of any reader.
 //!
-//! [`Source`] and [`Sink`] are a reader and a writer whose contracts name all bytes that they gave or took, and count the failures.
-//! [`Counted`] makes one of any reader or writer, at no cost when the program runs, and [`Held`] a source of bytes in memory.
-//! [`read_lines`] hands each line of a source, as a [`JsonLine`], to a [`TakeJson`], up to the first line that is refused, and [`send`]
-//! writes a whole text. A [`JsonRef`] is a value inside a line, and [`fields`] has the fields of an object by their types.
+//! [`read_lines`] hands each line of a [`Source`], as a [`JsonLine`], to a [`TakeJson`], up to the first line that is refused. A [`JsonRef`]
+//! is a value inside a line, and [`fields`] has the fields of an object by their types. The readers and writers are those of `devices`,
+//! whose names stand here too.
 //!
 //! What a line is, is what `serde_json` reads: contracts see a line and a value in it as its `Data`, by `line_data` and `value_data`. The
 //! line itself is a flat list of nodes, which borrow its texts, and is made a tree only where [`JsonLine::value`] is asked for one.
@@ -31,10 +30,7 @@
 //! ```
 #![tactic(auto)]
 
-mod devices;
 pub mod fields;
-mod held;
-mod history;
 mod joined;
 mod line;
 mod lines;
@@ -42,17 +38,12 @@ mod numbers;
 mod ranges;
 mod reading;
 mod refs;
-mod sending;
-mod source;
 mod taking;
 
-pub use devices::{Counted, Failing};
-pub use held::Held;
+pub use devices::{Counted, Failing, Held, Sink, Source, Unsent, send};
 pub use joined::{Front, Rest, read_front};
 pub use line::JsonLine;
 pub use lines::{CHUNK, InputFault, line_end};
 pub use reading::{LineFault, MAX_INPUT, MAX_LINE, Stop, read_lines};
 pub use refs::{JsonItems, JsonRef};
-pub use sending::{Unsent, send};
-pub use source::{Sink, Source};
 pub use taking::{LineCause, TakeJson, is_blank};

@@ -1,13 +1,13 @@
 //! The lines of a reader, out of a buffer before it.
 
 ghost use Rattle.std.specs.Prelude.{◌≡◌, ◌≢◌, ◌+◌, ◌-◌, ◌<◌, ◌≤◌, ◌++◌, ℕ, List, [], length, take, drop, vec_len, Ok, Err, true, false, IfOk, OnOk, IfErr, ◌⊎◌};
-ghost use Rattle.json_lines.specs.Given.{AreNext};
+ghost use Rattle.devices.specs.Given.{AreNext};
 ghost use Rattle.json_lines.specs.Lines.{line_len, first_line, after_line, has_newline, lacks, line_ending, Takes, BeginsTooLong, ComeAtMost};
-ghost use Rattle.json_lines.specs.Moves.{failure_count, end_count};
+ghost use Rattle.devices.specs.Moves.{failure_count, end_count};
 ghost use Rattle.json_lines.specs.declared.lines.TheConstants.{CHUNK};
 ghost use Rattle.json_lines.specs.declared.lines.InputFault.TheVariants.{Read, TooLong, OutOfMemory};
 
-use crate::source::Source;
+use devices::Source;
 use memchr::memchr;
 use std::alloc::{AllocError, Global};
 use std::io;

@@ -6,8 +6,8 @@ ghost use Rattle.json_lines.specs.Json.{taken_line};
 ghost use Rattle.json_lines.specs.Reading.{cause_of, IsOfSomeLine};
 
 use crate::lines::{CHUNK, InputFault, Lines};
-use crate::source::Source;
 use crate::taking::{LineCause, TakeJson, take_line};
+use devices::Source;
 use json::Scratch;
 use std::alloc::Global;
 

@@ -15,7 +15,7 @@ use Rattle.rewrites.proofs.Names.{one_name}
 use Rattle.strata.proofs.Newest.{position_item, position_none}
 use Rattle.strata.specs.Meaning.{with_relation, IsStored}
 use Rattle.version_chains.specs.Commits.{Commit, Touch, changelog, is_stored, store_at}
-use Rattle.version_chains.specs.Marks.{pair_mark, set_mark}
+use Rattle.marks.specs.Marks.{pair_mark, set_mark}
 use Rattle.version_chains.proofs.StoreLemmas.{store_at-iff}
 use Rattle.userset_index.specs.Index.{IndexValue, IsFound, IsLastTouch, IsWhole, is_crowded, object_mark}
 use Rattle.userset_index.specs.Lives.{touches_alive}

@@ -9,8 +9,8 @@ use Rattle.tuple_text.specs.Tuples.{FactValue, TupleValue, fact_of, tuple_of}
 use Rattle.tuple_text.specs.declared.users.User.TheVariants.{Set}
 use Rattle.tuple_text.proofs.ValueLemmas.{set_eq-same, set_eq-itself}
 use Rattle.version_chains.specs.Commits.{Commit, is_stored, store_at}
-use Rattle.version_chains.specs.Placed.{IsLinkedPlace, last_place, newest_first, passes}
-use Rattle.version_chains.proofs.PlacedLemmas.{at_last_place, given_at, given_from, last_place-map, newest_first-here, newest_first-through}
+use Rattle.marks.specs.Placed.{IsLinkedPlace, last_place, newest_first, passes}
+use Rattle.marks.proofs.PlacedLemmas.{at_last_place, given_at, given_from, last_place-map, newest_first-here, newest_first-through}
 use Rattle.version_chains.proofs.StoreLemmas.{store_at-iff}
 use Rattle.judgement.specs.Facts.{is_of_user, sets_before, sets_of_user, user_of}
 use Rattle.judgement.specs.Judgement.{KnownValue}

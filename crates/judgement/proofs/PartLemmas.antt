@@ -8,7 +8,7 @@ use Rattle.rewrites.specs.Expression.{Expression, union, no_child}
 use Rattle.rewrites.specs.Parts.{part_at, part_expression, parts_shown}
 use Rattle.rewrites.specs.declared.parts.Part.{Part}
 use Rattle.rewrites.specs.declared.parts.Through.{Through}
-use Rattle.version_chains.proofs.PlacedLemmas.{length-set, slice_get-set}
+use Rattle.marks.proofs.PlacedLemmas.{length-set, slice_get-set}
 use Rattle.tuple_text.specs.Tuples.{FactValue}
 use Rattle.trace_lines.specs.Values.{TraceValue}
 use Rattle.judgement.specs.Asked.{Does}

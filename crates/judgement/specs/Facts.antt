@@ -3,7 +3,7 @@ use Rattle.std.specs.Prelude.{ℕ, Bool, List, length, map, nat_eq}
 use Rattle.tuple_text.specs.Refs.{set_value}
 use Rattle.tuple_text.specs.Sets.{SetValue}
 use Rattle.tuple_text.specs.Tuples.{FactValue, fact_of}
-use Rattle.version_chains.specs.Placed.{newest_first}
+use Rattle.marks.specs.Placed.{newest_first}
 use Rattle.judgement.specs.declared.fact.MarkedFact.{MarkedFact}
 
 abbrev pub marked_fact : MarkedFact → FactValue

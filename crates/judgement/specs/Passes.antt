@@ -7,7 +7,7 @@ use Rattle.namespaces.specs.Declaration.{Declaration}
 use Rattle.namespaces.specs.Lookup.{Lookup, namespace_numbered, rule_at}
 use Rattle.strata.specs.Meaning.{with_relation, IsStored}
 use Rattle.version_chains.specs.Commits.{Commit, Touch, changelog, store_at}
-use Rattle.version_chains.specs.Marks.{pair_mark, set_mark}
+use Rattle.marks.specs.Marks.{pair_mark, set_mark}
 use Rattle.userset_index.specs.Lives.{touches_alive}
 use Rattle.userset_index.specs.declared.life.Life.{Life}
 use Rattle.judgement.specs.Judgement.{KnownValue, IsOut}

@@ -11,11 +11,11 @@ use crate::asking::{Parts, node_does};
 use crate::fact::KnownFact;
 use crate::known::Known;
 use crate::paths::{Paths, Reached};
+use marks::MarkedSet;
 use rewrites::{Node, PartedRule};
 use std::alloc::{AllocError, Global};
 use std::marker::Model;
 use trace_lines::Trace;
-use version_chains::MarkedSet;
 
 /// A rule that many facts are asked for, one after the other. Contracts see its expression.
 ///

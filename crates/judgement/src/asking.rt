@@ -16,11 +16,11 @@ use crate::kept::{Kept, through_bars};
 use crate::known::Known;
 use crate::table::{established, refuted};
 use crate::through::through_gives;
+use marks::MarkedSet;
 use rewrites::{Node, Part, Rewrite};
 use std::alloc::{AllocError, Global};
 use std::marker::Model;
 use trace_lines::Trace;
-use version_chains::MarkedSet;
 
 /// The parts of a rule, asked for facts over a trace, as contracts see them.
 #[derive(Drop)]

@@ -6,7 +6,7 @@ ghost use Rattle.namespaces.specs.InForce.{names_in_force};
 ghost use Rattle.namespaces.specs.Lookup.{namespace_names, namespace_numbered, rule_at};
 ghost use Rattle.rewrites.specs.Parts.{computed_names};
 ghost use Rattle.version_chains.specs.Commits.{store_at};
-ghost use Rattle.version_chains.specs.Marks.{pair_mark, set_mark};
+ghost use Rattle.marks.specs.Marks.{pair_mark, set_mark};
 ghost use Rattle.userset_index.specs.Index.{IsUsersetIndex, is_crowded};
 ghost use Rattle.userset_index.specs.Lives.{touches_alive};
 ghost use Rattle.judgement.specs.Declaring.{AreLive};
@@ -15,10 +15,10 @@ ghost use Rattle.judgement.specs.Passes.{AreBarred, AreThroughOut, IsTouchOut};
 use crate::fact::KnownFact;
 use crate::indexed::are_out;
 use crate::known::Known;
+use marks::MarkedSet;
 use rewrites::Through;
 use trace_lines::Trace;
 use userset_index::UsersetIndex;
-use version_chains::MarkedSet;
 
 /// Whether relation number `k` of a namespace is not read, or no stored userset of the namespace may have the user under it.
 fn is_name_out<F: KnownFact>(

@@ -6,11 +6,11 @@ ghost use Rattle.tuple_text.specs.Order.{fact_eq};
 ghost use Rattle.tuple_text.specs.Refs.{set_value};
 ghost use Rattle.tuple_text.specs.Sets.{set_eq};
 ghost use Rattle.tuple_text.specs.Tuples.{fact_of, fact_tuple};
-ghost use Rattle.version_chains.specs.Marks.{tuple_mark};
+ghost use Rattle.marks.specs.Marks.{tuple_mark};
 ghost use Rattle.judgement.specs.Facts.{marked_fact};
 
+use marks::{MarkedSet, fact_mark};
 use tuple_text::{Fact, FactRef, SetRef};
-use version_chains::{MarkedSet, fact_mark};
 
 /// A fact whose userset has its mark. Contracts see the fact by `marked_fact`.
 #[derive(Clone, Copy, Drop)]

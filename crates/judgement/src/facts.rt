@@ -6,15 +6,15 @@ ghost use Rattle.std.specs.List.{list_any};
 ghost use Rattle.tuple_text.specs.Order.{fact_eq};
 ghost use Rattle.tuple_text.specs.Refs.{set_value};
 ghost use Rattle.tuple_text.specs.Tuples.{fact_of, fact_tuple};
-ghost use Rattle.version_chains.specs.Marks.{tuple_mark};
-ghost use Rattle.version_chains.specs.Placed.{last_place, passes};
+ghost use Rattle.marks.specs.Marks.{tuple_mark};
+ghost use Rattle.marks.specs.Placed.{last_place, passes};
 ghost use Rattle.judgement.specs.Facts.{is_of_user, sets_of_user, user_of};
 
 use crate::fact::KnownFact;
+use marks::{MarkedSet, Places, fact_mark};
 use std::alloc::{AllocError, Global};
 use std::marker::Model;
 use tuple_text::SetRef;
-use version_chains::{MarkedSet, Places, fact_mark};
 
 /// How many facts are looked at one after the other, which needs neither marks nor memory for them.
 const FEW: usize = 16;
@@ -47,7 +47,7 @@ impl<F: KnownFact> Model for Facts<F> {
     ghost use Rattle.std.specs.Prelude.{List, ◌≡◌, map, true};
     ghost use Rattle.std.specs.Option.{ForSome};
     ghost use Rattle.tuple_text.specs.Tuples.{FactValue, fact_tuple};
-    ghost use Rattle.version_chains.specs.Marks.{tuple_mark};
+    ghost use Rattle.marks.specs.Marks.{tuple_mark};
     ghost use Rattle.judgement.specs.Facts.{user_of};
     ghost use Rattle.judgement.specs.KnownCode.{facts_code};
 
@@ -320,7 +320,7 @@ pub(crate) struct SetsOfUser<'a, F: KnownFact> {
 impl<'a, F: KnownFact> Model for SetsOfUser<'a, F> {
     ghost use Rattle.std.specs.Prelude.{List};
     ghost use Rattle.tuple_text.specs.Sets.{SetValue};
-    ghost use Rattle.version_chains.specs.Placed.{IsLinkedPlace};
+    ghost use Rattle.marks.specs.Placed.{IsLinkedPlace};
     ghost use Rattle.judgement.specs.Facts.{is_of_user, sets_before};
 
     ghost Value = { List SetValue };

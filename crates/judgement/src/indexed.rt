@@ -4,7 +4,7 @@ ghost use Rattle.std.specs.Prelude.{◌≡◌, ◌↔◌, ◌&&◌, IsTrue, true
 ghost use Rattle.tuple_text.specs.Refs.{set_value};
 ghost use Rattle.namespaces.specs.Lookup.{namespace_names, rule_at};
 ghost use Rattle.version_chains.specs.Commits.{store_at};
-ghost use Rattle.version_chains.specs.Marks.{set_mark};
+ghost use Rattle.marks.specs.Marks.{set_mark};
 ghost use Rattle.userset_index.specs.Index.{IsUsersetIndex, is_crowded};
 ghost use Rattle.judgement.specs.Passes.{AreThroughOut, IsTouchOut, IsBarred};
 
@@ -12,10 +12,10 @@ use crate::declaring::MOST_NAMESPACES;
 use crate::fact::KnownFact;
 use crate::known::Known;
 use crate::stored::is_out;
+use marks::MarkedSet;
 use trace_lines::Trace;
 use tuple_text::{SetRef, UserRef};
 use userset_index::{Alive, UsersetIndex};
-use version_chains::MarkedSet;
 
 /// Whether a touch of the changelog is not of a userset that is stored in a set and has a target that may hold a user.
 fn is_touch_out<F: KnownFact>(

@@ -17,12 +17,12 @@ use crate::known::Known;
 use crate::live::{live_in, stored_in};
 use crate::stored::under;
 use crate::through::are_barred;
+use marks::MarkedSet;
 use rewrites::Through;
 use std::alloc::{AllocError, Global};
 use trace_lines::Trace;
 use tuple_text::SetRef;
 use userset_index::Numbers;
-use version_chains::MarkedSet;
 
 /// The namespaces that declare what is read, and those of them of which something matters that is stored in the tupleset of one object at
 /// one timestamp. Facts of one object mostly follow one another.

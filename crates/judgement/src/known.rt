@@ -7,10 +7,10 @@ ghost use Rattle.judgement.specs.Facts.{sets_of_user};
 
 use crate::fact::KnownFact;
 use crate::facts::{Facts, SetsOfUser};
+use marks::MarkedSet;
 use std::alloc::{AllocError, Global};
 use std::marker::Model;
 use tuple_text::SetRef;
-use version_chains::MarkedSet;
 
 /// The facts that are known to hold, and those that are known not to. Contracts see the two lists, in the order in which facts
 /// were added.

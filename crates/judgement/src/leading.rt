@@ -3,7 +3,7 @@
 ghost use Rattle.std.specs.Prelude.{◌≡◌, ◌↔◌, ◌&&◌, ◌⊎◌, IsTrue, true, false, All, option_map};
 ghost use Rattle.tuple_text.specs.Refs.{set_value};
 ghost use Rattle.version_chains.specs.Commits.{store_at};
-ghost use Rattle.version_chains.specs.Marks.{set_mark};
+ghost use Rattle.marks.specs.Marks.{set_mark};
 ghost use Rattle.userset_index.specs.Index.{IsUsersetIndex, is_crowded};
 ghost use Rattle.judgement.specs.Passes.{GivesId, IsLed, IsObjectStored, IsTargetStored, IsTouchApart, SomeSet};
 
@@ -11,10 +11,11 @@ use crate::fact::KnownFact;
 use crate::facts::SetsOfUser;
 use crate::known::Known;
 use crate::stored::is_in;
+use marks::MarkedSet;
 use trace_lines::Trace;
 use tuple_text::{SetRef, UserRef};
 use userset_index::{Alive, UsersetIndex};
-use version_chains::{MarkedSet, Usersets};
+use version_chains::Usersets;
 
 /// Whether a touch is of a userset that is stored in a set and is of the object of another.
 fn is_of_object(trace: &Trace, at: u64, set: MarkedSet<'_>, other: SetRef<'_>, touch: usize) -> bool

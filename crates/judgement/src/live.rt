@@ -8,19 +8,20 @@ ghost use Rattle.namespaces.specs.Lookup.{namespace_names, place_of};
 ghost use Rattle.rewrites.specs.Parts.{computed_names};
 ghost use Rattle.strata.specs.Meaning.{IsStored};
 ghost use Rattle.version_chains.specs.Commits.{store_at};
-ghost use Rattle.version_chains.specs.Marks.{set_mark};
+ghost use Rattle.marks.specs.Marks.{set_mark};
 ghost use Rattle.userset_index.specs.Index.{IsUsersetIndex, is_crowded};
 ghost use Rattle.userset_index.specs.Numbers.{Has};
 ghost use Rattle.judgement.specs.Declaring.{AreDeclaring, AreLive, DeclaresNone, HaveStored};
 ghost use Rattle.judgement.specs.Passes.{EachSet};
 
 use crate::declaring::{declares_some, is_among};
+use marks::MarkedSet;
 use namespaces::Rules;
 use rewrites::Through;
 use std::alloc::{AllocError, Global};
 use trace_lines::Trace;
 use userset_index::{Numbers, UsersetIndex};
-use version_chains::{MarkedSet, Usersets};
+use version_chains::Usersets;
 
 /// The namespaces of the usersets that are stored in a set, and maybe others. `None` where that was not noted.
 pub(crate) fn stored_in(trace: &Trace, at: u64, set: MarkedSet<'_>) -> Option<Numbers>

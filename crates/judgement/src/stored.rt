@@ -12,10 +12,11 @@ use crate::fact::KnownFact;
 use crate::indexed::is_barred_by_index;
 use crate::known::Known;
 use crate::leading::is_led_by_index;
+use marks::MarkedSet;
 use namespaces::Rules;
 use trace_lines::Trace;
 use tuple_text::SetRef;
-use version_chains::{MarkedSet, Usersets};
+use version_chains::Usersets;
 
 /// The same object under another relation.
 pub(crate) fn under<'a>(set: SetRef<'a>, relation: &'a str) -> SetRef<'a>

@@ -11,9 +11,9 @@ ghost use Rattle.judgement.specs.Judgement.{Established, Refuted};
 use crate::fact::KnownFact;
 use crate::known::Known;
 use crate::stored::{is_barred, is_led, is_stored, under};
+use marks::MarkedSet;
 use rewrites::Rewrite;
 use trace_lines::Trace;
-use version_chains::MarkedSet;
 
 /// Whether what is known gives that a user is in a userset by a rule of it, over the tuples that are stored at a timestamp.
 #[cycle(judge)]

@@ -17,11 +17,12 @@ use crate::fact::KnownFact;
 use crate::facts::SetsOfUser;
 use crate::known::Known;
 use crate::stored::{is_barred, is_led, is_out, under};
+use marks::MarkedSet;
 use namespaces::Rules;
 use rewrites::Through;
 use trace_lines::Trace;
 use tuple_text::SetRef;
-use version_chains::{MarkedSet, Usersets};
+use version_chains::Usersets;
 
 /// Up to how many relations are asked for one by one.
 const FEW_RELATIONS: usize = 4;

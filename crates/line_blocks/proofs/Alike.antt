@@ -1,7 +1,7 @@
 -- What was read by one way of taking lines, where another makes the same of them.
 use Rattle.std.proofs.Common.{◌≡◌, ℕ, ◌+◌, ◌-◌, ◌^◌, Bool, true, false, not, ◌&&◌, eqb, cond, List, [], ◌∷◌, ◌++◌, length, Option, Result, Ok, Err, IfErr, refl, sym, ap, subst, ◌∙◌}
 use Rattle.refusals.specs.Refusals.{◌>>=◌}
-use Rattle.json_lines.specs.Given.{OfBytes}
+use Rattle.devices.specs.Given.{OfBytes}
 use Rattle.json_lines.specs.InputRead.{LinesRead}
 use Rattle.json_lines.specs.Reading.{at_line, parts, passes_limit, read_all, read_from, Fails, IsOfSomeLine, IsReadFault, Reads}
 use Rattle.json_lines.specs.declared.lines.InputFault.TheVariants.{Read, TooLong}

@@ -1,7 +1,7 @@
 -- What reading by blocks answers, from where it has come to.
 use Rattle.std.proofs.Common.{◌≡◌, ◌≢◌, ℕ, ◌+◌, ◌^◌, ◌<◌, ◌≤◌, min, true, false, ◌==◌, List, [], ◌++◌, length, Option, Result, Ok, Err, IfErr, OnOk, arith, refl, sym, ap, subst, ◌∙◌, append_assoc, append-nil, length-append}
 use Rattle.std.proofs.lemmas.List.Splits.{length-slice_split}
-use Rattle.json_lines.specs.Given.{OfBytes, AreNext}
+use Rattle.devices.specs.Given.{OfBytes, AreNext}
 use Rattle.json_lines.specs.InputRead.{LinesRead}
 use Rattle.json_lines.specs.Lines.{ComeAtMost, Takes, lacks}
 use Rattle.json_lines.specs.Reading.{parts, passes_limit, read_all, read_from, Fails, IsReadFault, Refuses}
@@ -11,7 +11,7 @@ use Rattle.json_lines.specs.declared.reading.LineFault.{LineFault}
 use Rattle.json_lines.specs.declared.reading.Stop.{Stop}
 use Rattle.json_lines.specs.declared.reading.Stop.TheVariants.{Input, Line}
 use Rattle.json_lines.proofs.Folds.{GoesFrom, came_in_all, cut_ends, goes_first, last_ends, line_came, read_fails, step_cut, within_from}
-use Rattle.json_lines.proofs.Given.{next-refl, next-trans}
+use Rattle.devices.proofs.Given.{next-refl, next-trans}
 use Rattle.json_lines.proofs.InputReads.{unread}
 use Rattle.line_blocks.specs.Reads.{LeadsTo, StopsAt}
 use Rattle.line_blocks.specs.Values.{long_line, no_memory}

@@ -1,10 +1,10 @@
 //! Reading a source by blocks.
 
 ghost use Rattle.std.specs.Prelude.{◌≡◌, ◌≢◌, ◌+◌, ◌-◌, ◌^◌, ◌<◌, ◌≤◌, [], min, length, vec_len, take, drop, true, false, Ok, Err, IfOk, IfErr, OnOk};
-ghost use Rattle.json_lines.specs.Given.{AreNext};
+ghost use Rattle.devices.specs.Given.{AreNext};
 ghost use Rattle.json_lines.specs.InputRead.{LinesRead};
 ghost use Rattle.json_lines.specs.Lines.{ComeAtMost, Takes, lacks};
-ghost use Rattle.json_lines.specs.Moves.{end_count};
+ghost use Rattle.devices.specs.Moves.{end_count};
 ghost use Rattle.json_lines.specs.Reading.{Refuses};
 ghost use Rattle.json_lines.specs.declared.lines.InputFault.TheVariants.{Read, TooLong};
 ghost use Rattle.json_lines.specs.declared.lines.TheConstants.{CHUNK};
@@ -17,7 +17,8 @@ ghost use Rattle.line_blocks.specs.Values.{long_line};
 use crate::blocks::{cut_blocks, whole_len};
 use crate::putting::{PutTold, out_of_memory, put_blocks};
 use crate::telling::TellLine;
-use json_lines::{CHUNK, InputFault, LineFault, MAX_INPUT, MAX_LINE, Source, Stop};
+use devices::Source;
+use json_lines::{CHUNK, InputFault, LineFault, MAX_INPUT, MAX_LINE, Stop};
 use std::alloc::{AllocError, Global};
 use std::thread::Threads;
 

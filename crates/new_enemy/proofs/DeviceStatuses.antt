@@ -1,7 +1,7 @@
 -- What the status of a call tells of the devices, from what the call answered.
 use Rattle.std.proofs.Common.{◌≡◌, ◌≢◌, inl, inr, ℕ, ◌+◌, ◌≤◌, List, [], ◌++◌, Option, Result, Ok, Err, refl, sym, ap, subst, ◌∙◌, arith, length}
-use Rattle.json_lines.specs.Devices.{moved_by, failures_of, stops_of}
-use Rattle.json_lines.specs.declared.devices.Counted.{Counted}
+use Rattle.devices.specs.Devices.{moved_by, failures_of, stops_of}
+use Rattle.devices.specs.declared.counted.Counted.{Counted}
 use Rattle.json_lines.specs.declared.lines.TheConstants.{CHUNK}
 use Rattle.json_lines.specs.declared.reading.TheConstants.{MAX_INPUT}
 use Rattle.audit.specs.Answers.{TellsOfTrace, Audited}

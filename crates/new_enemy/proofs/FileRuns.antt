@@ -1,9 +1,9 @@
 -- What a run of a command says, from what its call answered.
 use Rattle.std.proofs.Common.{◌≡◌, ◌≢◌, ℕ, ◌+◌, ◌≤◌, List, [], ◌∷◌, ◌++◌, Option, Some, Result, Ok, Err, codes, refl, sym, ap, subst, ◌∙◌, arith}
 use Rattle.std.specs.Prelude.{IfErr}
-use Rattle.json_lines.specs.Devices.{moved_by, failures_of, stops_of}
-use Rattle.json_lines.specs.Given.{OfWhole}
-use Rattle.json_lines.specs.declared.devices.Counted.{Counted}
+use Rattle.devices.specs.Devices.{moved_by, failures_of, stops_of}
+use Rattle.devices.specs.Given.{OfWhole}
+use Rattle.devices.specs.declared.counted.Counted.{Counted}
 use Rattle.audit.specs.Answers.{TellsOfTrace, Audited, AuditedMade}
 use Rattle.audit.specs.Audit.{Audits}
 use Rattle.audit.specs.Devices.{Writer, Writing, OfAll, reads}

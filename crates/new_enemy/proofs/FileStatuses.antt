@@ -1,10 +1,10 @@
 -- What the status of a command with files tells of them.
 use Rattle.std.proofs.Common.{◌≡◌, ◌≢◌, inl, inr, ℕ, true, List, [], ◌∷◌, ◌++◌, Result, Ok, Err, refl, sym, ap, subst, ◌∙◌, arith}
 use Rattle.std.specs.Prelude.{IfErr}
-use Rattle.json_lines.specs.Devices.{moved_by, stops_of}
-use Rattle.json_lines.specs.Given.{OfWhole, OfInput}
-use Rattle.json_lines.specs.declared.devices.Counted.{Counted}
-use Rattle.json_lines.proofs.Given.{of_input-map, of_input-whole, of_whole-map}
+use Rattle.devices.specs.Devices.{moved_by, stops_of}
+use Rattle.devices.specs.Given.{OfWhole, OfInput}
+use Rattle.devices.specs.declared.counted.Counted.{Counted}
+use Rattle.devices.proofs.Given.{of_input-map, of_input-whole, of_whole-map}
 use Rattle.trace_lines.specs.Traces.{trace_of}
 use Rattle.trace_lines.specs.declared.cause.Cause.TheVariants as causes
 use Rattle.trace_lines.specs.declared.cause.TraceFault.{TraceFault}

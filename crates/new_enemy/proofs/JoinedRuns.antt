@@ -1,6 +1,6 @@
 -- What a run on joined input says, from what the audit of it answered.
 use Rattle.std.proofs.Common.{◌≡◌, ◌≢◌, inl, inr, ℕ, true, List, [], ◌∷◌, Result, Ok, Err, refl, arith}
-use Rattle.json_lines.proofs.Given.{of_input-map, of_input-whole, of_whole-map}
+use Rattle.devices.proofs.Given.{of_input-map, of_input-whole, of_whole-map}
 use Rattle.trace_lines.specs.Traces.{trace_of}
 use Rattle.evidence_check.specs.Reading.{evidence_of}
 use Rattle.audit.specs.Audit.{Audits, RefusesTrace, RefusesEvidence}

@@ -1,7 +1,7 @@
 -- What the program answers of files, by all that they gave.
 use Rattle.std.specs.Prelude.{◌≡◌, ℕ, ◌+◌, List, ⊤}
-use Rattle.json_lines.specs.Devices.{moved_by, failures_of, stops_of}
-use Rattle.json_lines.specs.declared.devices.Counted.{Counted}
+use Rattle.devices.specs.Devices.{moved_by, failures_of, stops_of}
+use Rattle.devices.specs.declared.counted.Counted.{Counted}
 use Rattle.tuple_text.specs.Tuples.{TupleValue}
 use Rattle.audit.specs.Audit.{Audits}
 use Rattle.findings.specs.Headline.{IsTraceRightAndFresh}

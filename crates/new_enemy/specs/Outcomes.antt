@@ -1,7 +1,7 @@
 -- What an exit status says of a run, by what it read. A writer took `new` in all, of which it had `old` before; what
 -- the status says of joined input is handed in.
 use Rattle.std.specs.Prelude.{◌≡◌, ◌≢◌, ◌⊎◌, List, [], length, ℕ, ◌+◌, ◌<◌, ◌≤◌, ⊤}
-use Rattle.json_lines.specs.Devices.{moved_by}
+use Rattle.devices.specs.Devices.{moved_by}
 use Rattle.json_lines.specs.declared.lines.TheConstants.{CHUNK}
 use Rattle.json_lines.specs.declared.reading.TheConstants.{MAX_INPUT}
 use Rattle.tuple_text.specs.Tuples.{TupleValue}

@@ -1,7 +1,7 @@
 -- What the program answers.
 use Rattle.std.specs.Prelude.{◌≡◌, ◌≢◌, ◌⊎◌, ℕ, ◌<◌, ◌≤◌, true, List, [], ◌++◌, Result, Ok, Err, ⊤}
-use Rattle.json_lines.specs.Devices.{moved_by, stops_of, flushes_of}
-use Rattle.json_lines.specs.declared.devices.Counted.{Counted}
+use Rattle.devices.specs.Devices.{moved_by, stops_of, flushes_of}
+use Rattle.devices.specs.declared.counted.Counted.{Counted}
 use Rattle.trace_lines.specs.Values.{TraceValue}
 use Rattle.trace_lines.specs.Traces.{trace_of}
 use Rattle.trace_lines.specs.declared.cause.Cause.TheVariants as causes

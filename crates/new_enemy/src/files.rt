@@ -14,7 +14,7 @@ ghost use Rattle.new_enemy.specs.declared.run.Ran.TheVariants as ran;
 
 use crate::status::{fail, status_with, tell_given_up};
 use audit::{AuditFault, Verdict, audit, audit_early, audit_made, history, make_records_listing};
-use json_lines::{Counted, Sink, Source};
+use devices::{Counted, Sink, Source};
 use std::alloc::Global;
 use std::io::Read;
 use std::sync::Wait;

@@ -5,7 +5,7 @@ ghost use Rattle.new_enemy.specs.Runs.{RunsJoined};
 
 use crate::status::status_with;
 use audit::audit_joined;
-use json_lines::{Sink, Source};
+use devices::{Sink, Source};
 use std::alloc::Global;
 
 /// Audits joined input, writes the report to `out`, and answers the exit status. A fault is told to `err` in one line.

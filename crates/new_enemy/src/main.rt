@@ -14,7 +14,7 @@ mod joined;
 mod run;
 mod status;
 
-use json_lines::Counted;
+use devices::Counted;
 use run::run_on;
 use status::refuse_words;
 use std::process::ExitCode;

@@ -1,7 +1,7 @@
 //! The program, over any runtime, reader and writers.
 
 ghost use Rattle.std.specs.Prelude.{◌≡◌, ◌≢◌, ◌↔◌, ◌+◌, ◌<◌, ◌≤◌, [], length, map, None, Some, false, codes, IfSome, string_bytes, option_map};
-ghost use Rattle.json_lines.specs.Devices.{moved_by, failures_of, stops_of};
+ghost use Rattle.devices.specs.Devices.{moved_by, failures_of, stops_of};
 ghost use Rattle.json_lines.specs.declared.lines.TheConstants.{CHUNK};
 ghost use Rattle.json_lines.specs.declared.reading.TheConstants.{MAX_INPUT};
 ghost use Rattle.command_line.specs.Asked.{asked_by, asked_in, command_of};
@@ -19,7 +19,7 @@ use crate::joined::run_joined;
 use crate::status::{tell, tell_path, tell_tuple};
 use audit::AuditFault;
 use command_line::{Answer, Request, read_words};
-use json_lines::{Counted, Sink, Source, send};
+use devices::{Counted, Sink, Source, send};
 use std::alloc::Global;
 use std::fs::Files;
 use std::io::{Read, Write};

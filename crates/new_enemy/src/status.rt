@@ -5,8 +5,8 @@ ghost use Rattle.new_enemy.specs.Run.{IsStatus, IsStatusOf};
 
 use arrayvec::ArrayString;
 use audit::{AuditFault, Verdict};
+use devices::{Sink, send};
 use evidence_check::{EvidenceCause, EvidenceFault};
-use json_lines::{Sink, send};
 use std::fmt::Write as _;
 use std::io::ErrorKind;
 use trace_lines::{Cause, TraceFault};

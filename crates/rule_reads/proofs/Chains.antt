@@ -6,8 +6,8 @@ use Rattle.std.proofs.lemmas.Bool.Decides.{nat_tests}
 use Rattle.std.proofs.lemmas.Option.{slice_get_within}
 use Rattle.rewrites.proofs.Names.{by_bool, clash}
 use Rattle.strata.proofs.Lists.{Contains-cons_cases, Contains-here, Contains-there, not_in_nil}
-use Rattle.version_chains.specs.Placed.{last_place, passes}
-use Rattle.version_chains.proofs.PlacedLemmas.{last_place-within, at_last_place}
+use Rattle.marks.specs.Placed.{last_place, passes}
+use Rattle.marks.proofs.PlacedLemmas.{last_place-within, at_last_place}
 
 pub member : {X : Type 0} (xs : List X) (i : ℕ) (x : X) → slice_get xs i ≡ Some x → Contains xs x
 member [] i x h = cc

@@ -11,7 +11,7 @@ use Rattle.namespaces.specs.Lookup.{relation_of, relation_numbered}
 use Rattle.namespaces.specs.declared.number.RelNo.{RelNo}
 use Rattle.namespaces.specs.WellFormed.{IsWellFormed}
 use Rattle.strata.specs.Edges.{Place, at_this, at_computed, at_tuple_to, places, is_broken_between}
-use Rattle.version_chains.specs.Marks.{set_mark}
+use Rattle.marks.specs.Marks.{set_mark}
 use Rattle.rule_reads.specs.declared.kinds.Kinds.{Kinds}
 use Rattle.rule_reads.specs.declared.reads.Scope.{Scope}
 use Rattle.rule_reads.specs.declared.reads.Reader.{Reader}

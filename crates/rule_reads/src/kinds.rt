@@ -5,9 +5,9 @@ ghost use Rattle.tuple_text.specs.Refs.{set_value, user_value};
 ghost use Rattle.rule_reads.specs.Reads as marks;
 ghost use Rattle.rule_reads.specs.Reads.{HasMark, IsSomeOfPair, is_pair_of, mark_of_pair, mark_of_set, mark_of_user, pair_mark, relation_of_user};
 
+use marks::{MarkedSet, Places};
 use std::alloc::{AllocError, Global};
 use tuple_text::{SetRef, Tuple, UserRef};
-use version_chains::{MarkedSet, Places};
 
 /// Of a list of tuples the marks by which those of one kind are found: equal names have equal marks. Two tuples of other
 /// names with one mark cost time, and no answer changes.

@@ -13,12 +13,12 @@ ghost use Rattle.rule_reads.specs.Reads.{AreKinds, AreMarked, EachMarked, FitsOw
 ghost use Rattle.rule_reads.specs.Reads.{IsSound, TakesAllAt, TakesAt, Widens, mark_of_pair, own, relation_number, tupleset_mark};
 
 use crate::kinds::{Kinds, has_mark, relation_mark, take_mark};
+use marks::{MarkedSet, Places};
 use namespaces::{RelNo, Rules};
 use rewrites::Rewrite;
 use std::alloc::{AllocError, Global};
 use std::collections::BTreeMap;
 use tuple_text::{SetRef, Tuple, TupleFault, UserRef, Userset};
-use version_chains::{MarkedSet, Places};
 
 /// Namespaces have numbers from 1 on and below this, and so have the relations of one.
 const PAST_NUMBERS: u16 = 257;

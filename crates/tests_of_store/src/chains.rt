@@ -1,10 +1,11 @@
 //! Worked commits.
 
+use marks::MarkedSet;
 use std::alloc::Global;
 use std::test::Fail;
 use tuple_text::{SetRef, Tuple, UserRef, Userset, parse_tuple, parse_userset};
 use version_chains::among::{is_every_set_among, is_some_set_among};
-use version_chains::{AppendFault, Chains, MarkedSet};
+use version_chains::{AppendFault, Chains};
 
 const NONE: &[&str] = &[];
 

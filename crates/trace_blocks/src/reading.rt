@@ -4,7 +4,7 @@ ghost use Rattle.std.specs.Prelude.{◌<◌, ◌≤◌};
 ghost use Rattle.trace_lines.specs.TraceReads.{TraceRead};
 
 use crate::telling::TraceLines;
-use json_lines::Source;
+use devices::Source;
 use line_blocks::read_blocks;
 use std::alloc::Global;
 use std::thread::Threads;

@@ -25,7 +25,7 @@ use Rattle.strata.proofs.LastTuple.{absent, placed, numbers_kept, stratum_of_num
 use Rattle.strata.proofs.Lists.{Contains-cons_cases, not_in_nil}
 use Rattle.strata.proofs.Newest.{position_none}
 use Rattle.strata.proofs.Unbroken.{item_least, item_there}
-use Rattle.version_chains.proofs.PlacedLemmas.{slice_get-front}
+use Rattle.marks.proofs.PlacedLemmas.{slice_get-front}
 use Rattle.rule_reads.specs.Reads.{stratum_of, relation_named, relation_of_user, pair_mark, mark_of_set, mark_of_user, mark_of_pair, is_from, IsSomeOfPair, AreKinds, tupleset_mark, computed_mark, AreMarked, own, HasRead, AreRead, is_below, FitsOwn, IsLow, FitsThrough, Fits, AllFit, IsLowWhereStored, IsFitting, HasTakenAll, relation_number}
 use Rattle.trace_lines.specs.Indexed.{IsWhole, IsIndex, IsIndexBefore}
 use Rattle.rule_reads.specs.declared.kinds.Kinds.{Kinds}

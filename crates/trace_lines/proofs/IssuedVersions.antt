@@ -9,7 +9,7 @@ use Rattle.std.proofs.lemmas.Option.{same_Some, none-some, option_and_then_some,
 use Rattle.std.proofs.Math.ListN.{get_or-append}
 use Rattle.tuple_text.specs.Sets.{SetValue}
 use Rattle.tuple_text.proofs.ValueLemmas.{set_eq-same, set_eq-itself}
-use Rattle.version_chains.proofs.PlacedLemmas.{slice_get-cases}
+use Rattle.marks.proofs.PlacedLemmas.{slice_get-cases}
 use Rattle.trace_lines.specs.Issued.{Issue, issue_in_front, issued_from, issued_by, AreIssued}
 use Rattle.trace_lines.specs.VersionMarks.{version_mark}
 use Rattle.trace_lines.specs.Values.{EntryValue}

@@ -1,9 +1,9 @@
 -- The walk over the versions with one mark, in search of the entry that issued one of them.
 use Rattle.std.proofs.Common.{◌≡◌, ℕ, ◌<◌, Bool, true, false, suc, List, length, get_or, nat_eq, Option, Some, None, ◌∙◌, ap, subst, refl}
 use Rattle.std.specs.Prelude.{slice_get}
-use Rattle.version_chains.specs.Placed.{last_place, IsWalk}
-use Rattle.version_chains.proofs.FindLemmas.{marked_start, marked_nowhere, marked_within, marked_smaller, marked_on}
-use Rattle.version_chains.proofs.PlacedLemmas.{read_item}
+use Rattle.marks.specs.Placed.{last_place, IsWalk}
+use Rattle.marks.proofs.FindLemmas.{marked_start, marked_nowhere, marked_within, marked_smaller, marked_on}
+use Rattle.marks.proofs.PlacedLemmas.{read_item}
 use Rattle.trace_lines.specs.Issued.{Issue, issued_by, AreIssued}
 use Rattle.trace_lines.specs.Recorded.{shown}
 use Rattle.trace_lines.specs.Values.{entry_value}

@@ -1,6 +1,6 @@
 -- Marks of versions, by which they are found.
 use Rattle.std.specs.Prelude.{ℕ}
-use Rattle.version_chains.specs.Marks.{set_mark}
+use Rattle.marks.specs.Marks.{set_mark}
 use Rattle.trace_lines.specs.Versions.{Version}
 
 -- The mark of the userset that has the label for its relation. Equal versions have equal marks, and no more is used.

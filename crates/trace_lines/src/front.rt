@@ -1,7 +1,7 @@
 //! Reading the trace in front of the marker of joined input.
 
 ghost use Rattle.std.specs.Prelude.{◌≡◌, ◌≢◌, ◌+◌, ◌≤◌, ◌<◌, length, Option, None, true, Err, IfOk, IfErr, IfSome};
-ghost use Rattle.json_lines.specs.Given.{OfBytes, OfWhole, AreNext};
+ghost use Rattle.devices.specs.Given.{OfBytes, OfWhole, AreNext};
 ghost use Rattle.json_lines.specs.Joined.{joined_of, IsFront, ends_left};
 ghost use Rattle.json_lines.specs.declared.lines.TheConstants.{CHUNK};
 ghost use Rattle.json_lines.specs.declared.lines.InputFault.TheVariants as input;
@@ -12,7 +12,8 @@ ghost use Rattle.trace_lines.specs.declared.cause.Cause.TheVariants.{Read};
 
 use crate::cause::{Cause, TraceFault};
 use crate::trace::Trace;
-use json_lines::{InputFault, LineFault, Rest, Source, read_front};
+use devices::Source;
+use json_lines::{InputFault, LineFault, Rest, read_front};
 use std::alloc::Global;
 
 /// What stands in front of the marker of joined input, and behind it.

@@ -36,9 +36,9 @@ mod version_ref;
 mod versions;
 
 pub use cause::{Cause, TraceFault};
+pub use devices::{Counted, Failing, Sink, Source, Unsent, send};
 pub use entry::{Entry, EntryKind};
 pub use front::{TraceFront, read_trace_front};
-pub use json_lines::{Counted, Failing, Sink, Source, Unsent, send};
 pub use read::read_trace;
 pub use told::TraceLine;
 pub use trace::Trace;

@@ -4,7 +4,8 @@ ghost use Rattle.trace_lines.specs.TraceReads.{TraceRead};
 
 use crate::cause::TraceFault;
 use crate::trace::Trace;
-use json_lines::{Source, read_lines};
+use devices::Source;
+use json_lines::read_lines;
 use std::alloc::Global;
 
 /// Reads a trace, or says which line is the first that is refused, and why.

@@ -12,13 +12,13 @@ ghost use Rattle.trace_lines.specs.Tuples.{is_of_kind, is_of_relation, is_user_o
 
 use crate::cause::Cause;
 use crate::edge_index::EdgeIndex;
+use marks::{MarkedSet, fact_mark};
 use namespaces::{RelNo, Rules};
 use std::alloc::{AllocError, Global};
 use std::collections::BTreeMap;
 use std::marker::Model;
 use strata::{Edge, check_tuple, check_tuple_by, reads_tuplesets};
 use tuple_text::{SetRef, Tuple, TupleRef, UserRef};
-use version_chains::{MarkedSet, fact_mark};
 
 /// Of all tuples that were ever added the first of each kind, in order, where a kind is the relations of a tuple's userset and of its user.
 /// Their edges are those of all. Now and then a kind has more than one.

@@ -3,8 +3,8 @@
 ghost use Rattle.std.specs.Prelude.{◌≡◌};
 ghost use Rattle.trace_lines.specs.VersionMarks.{version_mark};
 
+use marks::MarkedSet;
 use tuple_text::SetRef;
-use version_chains::MarkedSet;
 
 /// A version by its object, which is that of a userset, and its label, with its mark: equal versions have equal marks.
 #[derive(Clone, Copy, Drop)]

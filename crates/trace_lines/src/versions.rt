@@ -10,8 +10,8 @@ ghost use Rattle.trace_lines.specs.Versions.{entry_version, is_version, issuer};
 use crate::entry::Entry;
 use crate::recorded::Recorded;
 use crate::version_ref::VersionRef;
+use marks::Places;
 use std::alloc::{AllocError, Global};
-use version_chains::Places;
 
 /// The version that stands in an entry.
 pub(crate) fn version_of(entry: &Entry) -> Option<VersionRef<'_>>

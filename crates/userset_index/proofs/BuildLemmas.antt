@@ -16,9 +16,9 @@ use Rattle.rewrites.proofs.Names.{or_false}
 use Rattle.namespaces.specs.Declaration.{Declaration}
 use Rattle.namespaces.specs.Lookup.{Rule, as_rule, declared_in, in_force, relation_at, rule_at, rule_of}
 use Rattle.version_chains.specs.Commits.{Touch}
-use Rattle.version_chains.specs.Marks.{set_mark}
-use Rattle.version_chains.specs.Placed.{last_place, passes}
-use Rattle.version_chains.proofs.PlacedLemmas.{at_last_place, slice_get-cases, slice_get-set}
+use Rattle.marks.specs.Marks.{set_mark}
+use Rattle.marks.specs.Placed.{last_place, passes}
+use Rattle.marks.proofs.PlacedLemmas.{at_last_place, slice_get-cases, slice_get-set}
 use Rattle.userset_index.specs.Building.{HaveEnds, HoldsFirst, IsEnd, IsLifeOf, IsUndeclaredBelow, kept}
 use Rattle.userset_index.specs.Index.{Holds, IsFound, IsLastTouch, IsMark, count_of, few, is_crowded}
 use Rattle.userset_index.specs.Lives.{is_alive}

@@ -10,8 +10,8 @@ use Rattle.tuple_text.specs.Tuples.{TupleValue}
 use Rattle.tuple_text.proofs.ValueLemmas.{tuple_eq-same, tuple_eq-itself}
 use Rattle.namespaces.specs.Declaration.{Declaration}
 use Rattle.version_chains.specs.Commits.{Commit, Touch, changelog, is_stored, last_live, touches_to, until}
-use Rattle.version_chains.specs.Placed.{in_front, newest_first}
-use Rattle.version_chains.proofs.PlacedLemmas.{newest_first-here}
+use Rattle.marks.specs.Placed.{in_front, newest_first}
+use Rattle.marks.proofs.PlacedLemmas.{newest_first-here}
 use Rattle.userset_index.specs.Index.{IndexValue, IsFound, IsUsersetIndex, IsLastTouch}
 use Rattle.userset_index.specs.Lives.{is_sought, touches_alive}
 use Rattle.userset_index.specs.declared.life.Life.{Life}

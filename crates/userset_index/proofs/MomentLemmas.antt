@@ -8,7 +8,7 @@ use Rattle.std.proofs.lemmas.Option.{slice_get_within}
 use Rattle.tuple_text.specs.declared.users.User.TheVariants.{Set}
 use Rattle.namespaces.specs.Declaration.{Declaration}
 use Rattle.version_chains.specs.Commits.{Touch}
-use Rattle.version_chains.specs.Marks.{set_mark}
+use Rattle.marks.specs.Marks.{set_mark}
 use Rattle.userset_index.specs.Building.{IsEnd}
 use Rattle.userset_index.specs.Index.{HaveMoments, IsCovered, IsLastTouch}
 use Rattle.userset_index.specs.Moments.{HoldsStays, HoldsStaysFirst, IsGiven, IsStayOf, IsStaying}

@@ -6,10 +6,10 @@ use Rattle.std.proofs.Math.Nat.{eq-or-lt_of_le}
 use Rattle.std.proofs.lemmas.Bool.{cases_lt, eqb-true, eq-eqb, lt-leb}
 use Rattle.std.proofs.lemmas.List.{length-map, map-append}
 use Rattle.std.proofs.lemmas.Option.{slice_get_within}
-use Rattle.version_chains.specs.Placed.{passes, last_place, newest_first}
+use Rattle.marks.specs.Placed.{passes, last_place, newest_first}
 use Rattle.version_chains.proofs.ArenaLemmas.{item_of}
-use Rattle.version_chains.proofs.PlacedLemmas.{and-left, at_last_place, last_place-here, last_place-map, last_place-within, slice_get-cases, slice_get-kept, newest_first-here, newest_first-not_here, newest_first-past}
-use Rattle.version_chains.proofs.WalkLemmas.{left_older}
+use Rattle.marks.proofs.PlacedLemmas.{and-left, at_last_place, last_place-here, last_place-map, last_place-within, slice_get-cases, slice_get-kept, newest_first-here, newest_first-not_here, newest_first-past}
+use Rattle.marks.proofs.WalkLemmas.{left_older}
 use Rattle.userset_index.specs.Lives.{is_alive, is_sought, touches_alive}
 use Rattle.userset_index.specs.Spans.{AreBounded, IsBounded, IsPlaceOf, IsSpanAt, Steps, found_first, lives_of, marks_of}
 use Rattle.userset_index.specs.declared.life.Life.{Life}

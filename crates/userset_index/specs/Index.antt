@@ -5,8 +5,8 @@ use Rattle.tuple_text.specs.declared.users.User.TheVariants.{Set}
 use Rattle.namespaces.specs.Declaration.{Declaration}
 use Rattle.namespaces.specs.Lookup.{rule_at, rule_of, place_of, namespace_names}
 use Rattle.version_chains.specs.Commits.{Commit, Touch, changelog}
-use Rattle.version_chains.specs.Marks.{pair_mark, set_mark}
-use Rattle.version_chains.specs.Placed.{passes}
+use Rattle.marks.specs.Marks.{pair_mark, set_mark}
+use Rattle.marks.specs.Placed.{passes}
 use Rattle.userset_index.specs.Lives.{is_alive}
 use Rattle.userset_index.specs.Numbers.{Has}
 use Rattle.userset_index.specs.declared.life.Life.{Life}

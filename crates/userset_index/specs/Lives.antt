@@ -1,6 +1,6 @@
 -- Lives: touches that add tuples, with the timestamps at which they can matter.
 use Rattle.std.specs.Prelude.{ℕ, Bool, ◌&&◌, List, map, nat_eq, nat_le}
-use Rattle.version_chains.specs.Placed.{newest_first}
+use Rattle.marks.specs.Placed.{newest_first}
 use Rattle.userset_index.specs.declared.life.Life.{Life}
 
 -- whether a timestamp is one of a life's

@@ -5,7 +5,7 @@ use Rattle.tuple_text.specs.declared.users.User.TheVariants.{Set}
 use Rattle.namespaces.specs.Declaration.{Declaration}
 use Rattle.namespaces.specs.Lookup.{namespace_names, place_of}
 use Rattle.version_chains.specs.Commits.{Touch}
-use Rattle.version_chains.specs.Marks.{set_mark}
+use Rattle.marks.specs.Marks.{set_mark}
 use Rattle.userset_index.specs.Index.{IsCovered, IsLastTouch}
 use Rattle.userset_index.specs.Numbers.{Has}
 use Rattle.userset_index.specs.declared.moments.Stay.{Stay}

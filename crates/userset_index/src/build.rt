@@ -6,7 +6,7 @@ ghost use Rattle.tuple_text.specs.Refs.{set_value};
 ghost use Rattle.tuple_text.specs.Sets.{SetValue};
 ghost use Rattle.namespaces.specs.Lookup.{rule_at, rule_of};
 ghost use Rattle.version_chains.specs.Commits.{changelog};
-ghost use Rattle.version_chains.specs.Marks.{set_mark};
+ghost use Rattle.marks.specs.Marks.{set_mark};
 ghost use Rattle.version_chains.specs.Touches.{touch_value};
 ghost use Rattle.userset_index.specs.Building.{AreEnds, IsUndeclaredBelow, IsKeyOf, IsLifeOf, IsNeverDeclared, kept};
 ghost use Rattle.userset_index.specs.Index as spec;
@@ -14,10 +14,11 @@ ghost use Rattle.userset_index.specs.Index.{Holds};
 
 use crate::life::{Life, Way};
 use crate::spans::Spans;
+use marks::{MarkedSet, pair_mark};
 use namespaces::Rules;
 use std::alloc::{AllocError, Global};
 use tuple_text::{SetRef, UserRef};
-use version_chains::{Chains, MarkedSet, TouchRef, pair_mark};
+use version_chains::{Chains, TouchRef};
 
 /// At more touches of usersets than so many a userset is crowded, or those that share its count.
 const FEW: u8 = 16;

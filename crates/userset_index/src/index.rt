@@ -2,7 +2,7 @@
 
 ghost use Rattle.std.specs.Prelude.{◌≡◌, ◌&&◌, length, false, IfOk, IfSome};
 ghost use Rattle.tuple_text.specs.Refs.{set_value};
-ghost use Rattle.version_chains.specs.Marks as marks;
+ghost use Rattle.marks.specs.Marks as marks;
 ghost use Rattle.userset_index.specs.Index as spec;
 ghost use Rattle.userset_index.specs.Index.{AreNamespaces, IsUsersetIndex};
 ghost use Rattle.userset_index.specs.Lives.{touches_alive};
@@ -12,11 +12,12 @@ use crate::life::Way;
 use crate::moments::Times;
 use crate::numbers::Numbers;
 use crate::spans::{Alive, Spans};
+use marks::{MarkedSet, pair_mark};
 use namespaces::Rules;
 use std::alloc::{AllocError, Global};
 use std::marker::Model;
 use tuple_text::SetRef;
-use version_chains::{Chains, MarkedSet, pair_mark};
+use version_chains::Chains;
 
 /// The lives of usersets that are stored in crowded ones. A userset with at most 16 touches that add or remove a
 /// userset is not crowded, and to pass over what is stored in it takes no index.

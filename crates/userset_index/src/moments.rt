@@ -11,11 +11,12 @@ ghost use Rattle.userset_index.specs.Numbers.{Has};
 use crate::life::Life;
 use crate::numbers::Numbers;
 use crate::spans::Spans;
+use marks::MarkedSet;
 use namespaces::{RulePlace, Rules};
 use rewrites::{Part, PartedRule};
 use std::alloc::{AllocError, Global};
 use tuple_text::UserRef;
-use version_chains::{Chains, MarkedSet, TouchRef};
+use version_chains::{Chains, TouchRef};
 
 /// How many relations a declaration has at most.
 const MOST_RELATIONS: usize = 256;

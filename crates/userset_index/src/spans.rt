@@ -2,14 +2,14 @@
 
 ghost use Rattle.std.specs.Prelude.{◌≡◌, ◌∷◌, ◌++◌, [], Some, length, slice_get, nat_eq, IfOk, IfSome};
 ghost use Rattle.std.specs.Iterator.{YieldsFirstBy, item_count};
-ghost use Rattle.version_chains.specs.Placed.{last_place};
+ghost use Rattle.marks.specs.Placed.{last_place};
 ghost use Rattle.userset_index.specs.Lives.{touches_alive, is_alive};
 ghost use Rattle.userset_index.specs.Spans.{AreBounded, IsBounded, IsPlaceOf, IsSpanAt, Steps, lives_of, marks_of};
 
 use crate::life::Life;
+use marks::Places;
 use std::alloc::{AllocError, Global};
 use std::marker::Model;
-use version_chains::Places;
 
 /// A life, and of the lives with its mark that stand behind the place `jump`, up to this one, the least first
 /// timestamp and the greatest last one. `depth` counts the lives with its mark up to this one.

@@ -16,7 +16,7 @@ use Rattle.version_chains.specs.declared.fault.AppendFault.TheVariants.{NotLater
 use Rattle.version_chains.proofs.ApartLemmas.{apart_more}
 use Rattle.version_chains.proofs.ArenaLemmas.{item_within}
 use Rattle.version_chains.proofs.CommitLemmas.{side, early, up_to_before, times_of, times_below, commits_more, logged_more}
-use Rattle.version_chains.proofs.PlacedLemmas.{length-more}
+use Rattle.marks.proofs.PlacedLemmas.{length-more}
 use Rattle.version_chains.proofs.RepeatLemmas.{first_repeat_by_number}
 
 rising_more : (times : List ℕ) (at : ℕ) → IsStrictlyIncreasing times → ((i t : ℕ) → slice_get times i ≡ Some t → t < at) → IsStrictlyIncreasing (times ++ at ∷ [])

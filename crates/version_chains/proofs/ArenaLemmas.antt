@@ -9,12 +9,12 @@ use Rattle.tuple_text.specs.Order.{tuple_eq}
 use Rattle.tuple_text.specs.OrderLaws.{tuple_equiv}
 use Rattle.tuple_text.proofs.ValueLemmas.{tuple_eq-same, tuple_eq-itself}
 use Rattle.version_chains.specs.Commits.{Touch}
-use Rattle.version_chains.specs.Placed.{last_place}
-use Rattle.version_chains.specs.Marks.{held_mark, tuple_mark}
+use Rattle.marks.specs.Placed.{last_place}
+use Rattle.marks.specs.Marks.{held_mark, tuple_mark}
 use Rattle.version_chains.specs.Arena.{IsLinked, touch_of, nobody, AreApartAt, AreUpTo}
 use Rattle.version_chains.specs.Jumps.{AreJumps, IsBack}
 use Rattle.version_chains.specs.declared.node.Node.{Node}
-use Rattle.version_chains.proofs.PlacedLemmas.{last_place-here, last_place-same, last_place-front, last_place-more, last_place-none, last_place-map, at_last_place, slice_get-cases, slice_get-kept, slice_get-next, slice_get-set, slice_get-front, length-more, length-set, map-same_items}
+use Rattle.marks.proofs.PlacedLemmas.{last_place-here, last_place-same, last_place-front, last_place-more, last_place-none, last_place-map, at_last_place, slice_get-cases, slice_get-kept, slice_get-next, slice_get-set, slice_get-front, length-more, length-set, map-same_items}
 
 -- an item within a list
 pub item_within : {X : Type 0} (xs : List X) (i : ℕ) → i < length xs → (x : X) × (slice_get xs i ≡ Some x)

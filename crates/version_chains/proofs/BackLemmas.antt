@@ -11,11 +11,11 @@ use Rattle.tuple_text.proofs.ValueLemmas.{tuple_eq-itself}
 use Rattle.version_chains.specs.Arena.{IsLinked, touch_of}
 use Rattle.version_chains.specs.Commits.{Touch}
 use Rattle.version_chains.specs.Given.{AreLaterFrom, LeadsBack}
-use Rattle.version_chains.specs.Placed.{last_place, newest_first}
+use Rattle.marks.specs.Placed.{last_place, newest_first}
 use Rattle.version_chains.specs.declared.node.Node.{Node}
 use Rattle.version_chains.proofs.ArenaLemmas.{touch_at}
-use Rattle.version_chains.proofs.PlacedLemmas.{after-not, and-left, last_place-within, last_place-here, newest_first-not_here, newest_first-past}
-use Rattle.version_chains.proofs.WalkLemmas.{left_older}
+use Rattle.marks.proofs.PlacedLemmas.{after-not, and-left, last_place-within, last_place-here, newest_first-not_here, newest_first-past}
+use Rattle.marks.proofs.WalkLemmas.{left_older}
 
 module _ (tuples : List TupleValue) (latest named held : List ℕ) (nodes : List Node) (is : IsLinked tuples latest named held nodes) where
   abbrev touches : List Touch

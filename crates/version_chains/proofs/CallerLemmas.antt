@@ -5,7 +5,7 @@ use Rattle.tuple_text.specs.Order.{user_eq}
 use Rattle.tuple_text.specs.Sets.{SetValue, set_eq}
 use Rattle.tuple_text.specs.declared.users.User.{User}
 use Rattle.tuple_text.proofs.ValueLemmas.{user_eq-same, user_eq-itself, set_eq-same, set_eq-itself}
-use Rattle.version_chains.proofs.PlacedLemmas.{or-second}
+use Rattle.marks.proofs.PlacedLemmas.{or-second}
 
 or-first : (a b : Bool) → a ≡ true → (a || b) ≡ true
 or-first a b h = cc

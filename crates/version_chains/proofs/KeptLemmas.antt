@@ -4,13 +4,13 @@ use Rattle.std.specs.Prelude.{IfSome, OnErr, slice_get, slice_set}
 use Rattle.std.proofs.lemmas.List.{length-map, map-append, map-set}
 use Rattle.std.proofs.lemmas.Option.{slice_get_past}
 use Rattle.tuple_text.specs.declared.users.User.TheVariants.{Set}
-use Rattle.version_chains.specs.Marks.{user_mark}
+use Rattle.marks.specs.Marks.{user_mark}
 use Rattle.version_chains.specs.Rows.{AreRows, IsRow, Kept, kept_in, user_in}
 use Rattle.version_chains.specs.Texts.{GoesOn, IsSpan}
 use Rattle.version_chains.specs.declared.row.Row.{Row}
 use Rattle.version_chains.specs.declared.texts.Span.{Span}
 use Rattle.version_chains.proofs.ArenaLemmas.{item_of}
-use Rattle.version_chains.proofs.PlacedLemmas.{map-same_items, read_item, slice_get-cases, slice_get-set}
+use Rattle.marks.proofs.PlacedLemmas.{map-same_items, read_item, slice_get-cases, slice_get-set}
 use Rattle.version_chains.proofs.TextLemmas.{set-kept, span-kept}
 
 pub on_err : {T E P : Type 0} (r : Result T E) → P → OnErr r P

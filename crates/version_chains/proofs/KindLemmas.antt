@@ -9,8 +9,8 @@ use Rattle.tuple_text.specs.declared.users.User.{User}
 use Rattle.tuple_text.specs.declared.users.User.TheVariants.{Id, Set}
 use Rattle.tuple_text.proofs.ValueLemmas.{user_eq-itself}
 use Rattle.version_chains.specs.Given.{is_of_kind, usersets_of, AreUsersets}
-use Rattle.version_chains.specs.Marks.{is_userset}
-use Rattle.version_chains.proofs.PlacedLemmas.{and-left, or-second}
+use Rattle.marks.specs.Marks.{is_userset}
+use Rattle.marks.proofs.PlacedLemmas.{and-left, or-second}
 use Rattle.version_chains.proofs.UserLemmas.{none_same}
 
 first_there : (u : User) (us : List User) → list_any (user_eq u) (u ∷ us) ≡ true

@@ -10,10 +10,10 @@ use Rattle.tuple_text.specs.Order.{tuple_eq}
 use Rattle.tuple_text.proofs.ValueLemmas.{tuple_eq-same}
 use Rattle.version_chains.specs.Commits.{Touch, touches_to, until, last_live}
 use Rattle.version_chains.specs.Given.{AreLaterFrom, LeadsBack}
-use Rattle.version_chains.specs.Placed.{in_front, last_place, newest_first, IsLinkedPlace, IsWalk}
+use Rattle.marks.specs.Placed.{in_front, last_place, newest_first, IsLinkedPlace, IsWalk}
 use Rattle.version_chains.proofs.ArenaLemmas.{item_within}
-use Rattle.version_chains.proofs.PlacedLemmas.{after-not, and-left, newest_first-here, newest_first-past, given_at}
-use Rattle.version_chains.proofs.WalkLemmas.{linked_item, linked_older, left_older, walk_start, walk_found, walk_end}
+use Rattle.marks.proofs.PlacedLemmas.{after-not, and-left, newest_first-here, newest_first-past, given_at}
+use Rattle.marks.proofs.WalkLemmas.{linked_item, linked_older, left_older, walk_start, walk_found, walk_end}
 
 -- the first n items and the next
 pub take-next : {X : Type 0} (xs : List X) (n : ℕ) (x : X) → slice_get xs n ≡ Some x → take (suc n) xs ≡ take n xs ++ x ∷ []

@@ -6,7 +6,7 @@ use Rattle.std.proofs.lemmas.Option.{slice_get-map}
 use Rattle.tuple_text.specs.Tuples.{TupleValue}
 use Rattle.version_chains.specs.Arena.{latest_of, tuples_of}
 use Rattle.version_chains.specs.Rows.{Kept}
-use Rattle.version_chains.proofs.PlacedLemmas.{length-set}
+use Rattle.marks.proofs.PlacedLemmas.{length-set}
 
 module _ (rows : List Kept) (row : Kept) where
   pub tuples-more : tuples_of (rows ++ row ∷ []) ≡ tuples_of rows ++ row.tuple ∷ []

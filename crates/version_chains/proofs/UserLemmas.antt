@@ -13,11 +13,11 @@ use Rattle.tuple_text.proofs.ValueLemmas.{set_eq-same, set_eq-itself, user_eq-sa
 use Rattle.version_chains.specs.Arena.{Held, AreApartAt}
 use Rattle.version_chains.specs.Commits.{touches_to, until, last_live}
 use Rattle.version_chains.specs.Given.{AreTouchesKnown, is_of_kind, is_given, users_before, has_mark_of}
-use Rattle.version_chains.specs.Marks.{set_mark, kind_mark, held_mark, is_userset}
-use Rattle.version_chains.specs.Placed.{in_front, last_place, newest_first, IsLinkedPlace}
+use Rattle.marks.specs.Marks.{set_mark, kind_mark, held_mark, is_userset}
+use Rattle.marks.specs.Placed.{in_front, last_place, newest_first, IsLinkedPlace}
 use Rattle.version_chains.proofs.NewestLemmas.{live_touched}
-use Rattle.version_chains.proofs.PlacedLemmas.{and-left, and-right, given_at, given_from, last_place-within, newest_first-here, newest_first-not_here}
-use Rattle.version_chains.proofs.WalkLemmas.{linked_item, linked_older, left_older}
+use Rattle.marks.proofs.PlacedLemmas.{and-left, and-right, given_at, given_from, last_place-within, newest_first-here, newest_first-not_here}
+use Rattle.marks.proofs.WalkLemmas.{linked_item, linked_older, left_older}
 
 list_any-map : {X Y : Type 0} (f : X → Y) (p : Y → Bool) (xs : List X) → list_any p (map f xs) ≡ list_any (λ x. p (f x)) xs
 list_any-map f p [] = refl

@@ -4,8 +4,8 @@ use Rattle.tuple_text.specs.Tuples.{TupleValue}
 use Rattle.tuple_text.specs.declared.users.User.TheVariants.{Id}
 use Rattle.version_chains.specs.Commits.{Touch}
 use Rattle.version_chains.specs.Jumps.{AreJumps}
-use Rattle.version_chains.specs.Marks.{held_mark, tuple_mark}
-use Rattle.version_chains.specs.Placed.{last_place, most}
+use Rattle.marks.specs.Marks.{held_mark, tuple_mark}
+use Rattle.marks.specs.Placed.{last_place, most}
 use Rattle.version_chains.specs.declared.node.Node.{Node}
 use Rattle.version_chains.specs.Rows.{Kept}
 

@@ -12,9 +12,9 @@ use Rattle.tuple_text.specs.declared.users.User.TheVariants.{Id, Set}
 use Rattle.version_chains.specs.Appends.{first_repeat}
 use Rattle.version_chains.specs.Arena.{Held}
 use Rattle.version_chains.specs.Commits.{Commit, Touch, changelog, touches_to, until, last_live}
-use Rattle.version_chains.specs.Placed.{last_place, newest_first, IsLinkedPlace, IsWalk}
-use Rattle.version_chains.specs.Marks.{set_mark, kind_mark, held_mark, is_userset}
-use Rattle.version_chains.specs.declared.marks.MarkedUser.{MarkedUser}
+use Rattle.marks.specs.Placed.{last_place, newest_first, IsLinkedPlace, IsWalk}
+use Rattle.marks.specs.Marks.{set_mark, kind_mark, held_mark, is_userset}
+use Rattle.marks.specs.declared.tuples.MarkedUser.{MarkedUser}
 use Rattle.version_chains.specs.declared.node.Node.{Node}
 
 -- the place of the newest touch of a tuple among the first n

@@ -4,12 +4,7 @@ pub mod Arena
 pub mod Commits
 pub mod Given
 pub mod Jumps
-pub mod Links
-pub mod Marks
-pub mod Placed
 pub mod Rows
-pub mod Slots
 pub mod Texts
 pub mod Touches
 pub mod Walks
-pub mod Words

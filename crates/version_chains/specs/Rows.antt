@@ -4,7 +4,7 @@ use Rattle.tuple_text.specs.Refs.{set_value, user_value}
 use Rattle.tuple_text.specs.Tuples.{TupleValue, tuple_of}
 use Rattle.tuple_text.specs.declared.users.User.{User}
 use Rattle.tuple_text.specs.declared.users.User.TheVariants.{Id, Set}
-use Rattle.version_chains.specs.Marks.{user_mark}
+use Rattle.marks.specs.Marks.{user_mark}
 use Rattle.version_chains.specs.Texts.{IsSpan, set_in}
 use Rattle.version_chains.specs.declared.row.Row.{Row}
 use Rattle.version_chains.specs.declared.row.RowRef.{RowRef}

@@ -6,8 +6,8 @@ ghost use Rattle.tuple_text.specs.Refs.{set_value};
 ghost use Rattle.version_chains.specs.Among.{EveryStoredSetIsAmong, SomeStoredSetIsAmong, is_among};
 
 use crate::chains::Chains;
-use crate::marks::MarkedSet;
 use crate::users::Usersets;
+use marks::MarkedSet;
 use tuple_text::{SetRef, Userset};
 
 fn is_among(these: &[Userset], set: SetRef<'_>) -> bool

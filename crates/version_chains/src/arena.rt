@@ -8,18 +8,17 @@ ghost use Rattle.tuple_text.specs.Tuples.{tuple_of, TupleValue};
 ghost use Rattle.version_chains.specs.Arena.{AreApartAt, AreUpTo, Extends, IsNumber};
 ghost use Rattle.version_chains.specs.Commits.{Touch, touches_to, until, last_live};
 ghost use Rattle.version_chains.specs.Given.{AreLaterFrom, AreTouchesKnown, Gives, IsTouchAt, IsUnnumbered, IsUntouched, IsWalkUntil, LeadsBack, has_mark_of, is_given, is_stored_by, newest_of};
-ghost use Rattle.version_chains.specs.Marks as marks;
-ghost use Rattle.version_chains.specs.Marks.{is_userset};
-ghost use Rattle.version_chains.specs.Placed.{last_place, most};
+ghost use Rattle.marks.specs.Marks as marks;
+ghost use Rattle.marks.specs.Marks.{is_userset};
+ghost use Rattle.marks.specs.Placed.{last_place, most};
 ghost use Rattle.version_chains.specs.Rows.{row_value};
 ghost use Rattle.version_chains.specs.Touches.{touch_value};
 
-use crate::marks::{MarkedSet, MarkedUser, is_userset, kind_mark, tuple_mark};
 use crate::node::{Node, at_place, next_links};
-use crate::places::{MOST_PLACES, Places};
 use crate::row::RowRef;
 use crate::rows::Rows;
 use crate::touch::TouchRef;
+use marks::{MOST_PLACES, MarkedSet, MarkedUser, Places, is_userset, kind_mark, tuple_mark};
 use std::alloc::{AllocError, Global};
 use std::marker::Model;
 use tuple_text::{SetRef, TupleRef, UserRef};
@@ -45,7 +44,7 @@ impl Model for Arena {
 
     ghost use Rattle.std.specs.Prelude.{◌≤◌, length};
     ghost use Rattle.version_chains.specs.Arena.{IsLinked, latest_of, touch_of};
-    ghost use Rattle.version_chains.specs.Placed.{most};
+    ghost use Rattle.marks.specs.Placed.{most};
 
     ghost view = { λ a. record { tuples = tuples_of a.rows; touches = map (touch_of (tuples_of a.rows)) a.nodes.items; room = room_of (vec_capacity a.nodes) (vec_len a.nodes) } };
 
@@ -163,13 +162,10 @@ impl Arena {
             (IsNumber self.now.tuples (tuple_of (set_value set.entry.set) (user_value user.entry.user))) }
         ensures untouched { result ≡ None → IsUntouched self.now (tuple_of (set_value set.entry.set) (user_value user.entry.user)) }
     {
-        let mut place = self.named.newest(mark);
-        while place > 0 {
-            let number = place - 1;
+        for number in self.named.with(mark) {
             if self.is_named(number, set.set, user.user) {
                 return Some(number);
             }
-            place = self.named.older(number);
         }
         None
     }
@@ -390,9 +386,7 @@ impl Arena {
             depth,
             jump,
         };
-        if self.nodes.push(node).is_err() {
-            unreachable!();
-        }
+        self.nodes.push_reserved(node);
         let place = self.nodes.len() as u32;
         self.rows.set_latest(number, place);
     }

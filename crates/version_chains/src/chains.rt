@@ -13,16 +13,16 @@ ghost use Rattle.tuple_text.specs.declared.users.User.TheVariants.{Id, Set};
 ghost use Rattle.version_chains.specs.Appends.{append_fault, appended, last_at, late_fault, IsRefusal};
 ghost use Rattle.version_chains.specs.Arena.{AreNumbersOf, AreNumbersOfParts, AreUpTo};
 ghost use Rattle.version_chains.specs.Commits.{TouchesOnce, changelog, touches, is_stored, history_of};
-ghost use Rattle.version_chains.specs.Placed.{last_place};
+ghost use Rattle.marks.specs.Placed.{last_place};
 ghost use Rattle.version_chains.specs.Touches.{touch_value};
 
 use crate::arena::Arena;
 use crate::fault::AppendFault;
 use crate::history::History;
-use crate::marks::{MarkedSet, MarkedUser};
 use crate::repeats::first_repeat;
 use crate::touch::TouchRef;
 use crate::users::{Users, Usersets};
+use marks::{MarkedSet, MarkedUser};
 use std::alloc::{AllocError, Global};
 use std::marker::Model;
 use tuple_text::{SetRef, Tuple, TupleRef, UserRef};
@@ -195,9 +195,7 @@ impl Chains {
         self.times.reserve(1)?;
         self.arena.reserve(numbers.len())?;
         push_commit(&mut self.arena, at, adds.len(), numbers.as_slice());
-        if self.times.push(at).is_err() {
-            unreachable!();
-        }
+        self.times.push_reserved(at);
         Ok(())
     }
 

@@ -5,7 +5,7 @@ ghost use Rattle.std.specs.Iterator.{YieldsFirst, item_count};
 ghost use Rattle.version_chains.specs.Commits.{touches_to};
 
 use crate::arena::Arena;
-use crate::marks::{MarkedSet, MarkedUser};
+use marks::{MarkedSet, MarkedUser};
 use std::marker::Model;
 use tuple_text::Tuple;
 
@@ -24,7 +24,7 @@ impl<'a> Model for History<'a> {
 
     ghost use Rattle.tuple_text.specs.Order.{tuple_eq};
     ghost use Rattle.version_chains.specs.Given.{history_before};
-    ghost use Rattle.version_chains.specs.Placed.{IsLinkedPlace};
+    ghost use Rattle.marks.specs.Placed.{IsLinkedPlace};
 
     ghost view = { λ it. history_before it.tuple.now it.arena.now it.place };
 

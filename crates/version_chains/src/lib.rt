@@ -12,8 +12,7 @@
 //!
 //! [`Chains::touch`] gives the changelog touch by touch, to who keeps an index of it.
 //!
-//! A [`MarkedSet`] is a userset with the hash of its texts, so that who asks for it again hashes nothing. [`Places`] finds what a crate
-//! above keeps by the marks of facts ([`fact_mark`]), as the store finds its own.
+//! A question about a userset asks for a `MarkedSet` of the crate `marks`, so that who asks again hashes nothing.
 //!
 //! Each tuple is kept once, and touches are linked, so that a question walks back over the touches, the users or the
 //! usersets that it is about and no others; nothing of that shows in a contract. Why such a walk may jump is the law
@@ -31,23 +30,16 @@ mod chains;
 mod fault;
 mod history;
 pub mod laws;
-mod marks;
 mod node;
-mod places;
 mod repeats;
 mod row;
 mod rows;
-mod slots;
-mod table;
 mod texts;
 mod touch;
 mod users;
-mod words;
 
 pub use chains::Chains;
 pub use fault::AppendFault;
 pub use history::History;
-pub use marks::{MarkedSet, MarkedUser, fact_mark, pair_mark};
-pub use places::Places;
 pub use touch::TouchRef;
 pub use users::{Users, Usersets};

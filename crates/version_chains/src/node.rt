@@ -3,7 +3,7 @@
 ghost use Rattle.std.specs.Prelude.{◌≡◌, ℕ, suc, ◌≤◌, ◌<◌, length, slice_get, Some, None, MatchOption, IfSome, option_map};
 ghost use Rattle.version_chains.specs.Jumps as jumps;
 ghost use Rattle.version_chains.specs.Jumps.{AreJumps, IsBack, StandsAt, links_behind, node_at};
-ghost use Rattle.version_chains.specs.Placed.{most};
+ghost use Rattle.marks.specs.Placed.{most};
 ghost use Rattle.version_chains.specs.declared.node.Node.{Node};
 
 /// A touch: its timestamp, whether it adds, the number of its tuple, and the place of the touch of the same tuple

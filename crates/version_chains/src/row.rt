@@ -1,7 +1,7 @@
 //! One tuple as it is kept, and as it is read.
 
-use crate::marks::MarkedUser;
 use crate::texts::Span;
+use marks::MarkedUser;
 use tuple_text::SetRef;
 
 /// A tuple: where its userset stands in the text of all rows, and its user where that is a userset too; the mark of its

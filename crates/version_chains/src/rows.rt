@@ -4,13 +4,13 @@ ghost use Rattle.std.specs.Prelude.{◌≡◌, ◌<◌, ◌∷◌, ◌++◌, [],
 ghost use Rattle.tuple_text.specs.Grammar.{IsUser};
 ghost use Rattle.tuple_text.specs.Refs.{user_value};
 ghost use Rattle.tuple_text.specs.TupleRefs.{tuple_value};
-ghost use Rattle.version_chains.specs.Marks as marks;
+ghost use Rattle.marks.specs.Marks as marks;
 ghost use Rattle.version_chains.specs.Rows.{Kept, IsRow, kept_in, row_value, user_in};
 ghost use Rattle.version_chains.specs.Texts.{GoesOn, IsSpan};
 
-use crate::marks::MarkedUser;
 use crate::row::{Row, RowRef};
 use crate::texts::{Span, push_set, set_at};
+use marks::MarkedUser;
 use std::alloc::{AllocError, Global};
 use std::marker::Model;
 use tuple_text::{TupleRef, UserRef};

@@ -1,6 +1,6 @@
 //! One touch as it is read.
 
-use crate::marks::MarkedUser;
+use marks::MarkedUser;
 use tuple_text::SetRef;
 
 /// A touch: its timestamp, whether it adds, the userset and the user of its tuple, and the place of the touch of the same tuple before

@@ -12,7 +12,7 @@ ghost use Rattle.tuple_text.specs.declared.users.User.TheVariants.{Set};
 ghost use Rattle.version_chains.specs.Given.{is_of_kind, is_stored_by};
 
 use crate::arena::Arena;
-use crate::marks::{MarkedSet, MarkedUser};
+use marks::{MarkedSet, MarkedUser};
 use std::marker::Model;
 use tuple_text::{SetRef, UserRef};
 
@@ -35,7 +35,7 @@ impl<'a> Model for OfKind<'a> {
     ghost Value = { List User };
 
     ghost use Rattle.version_chains.specs.Given.{users_before, has_mark_of};
-    ghost use Rattle.version_chains.specs.Placed.{IsLinkedPlace};
+    ghost use Rattle.marks.specs.Placed.{IsLinkedPlace};
 
     ghost view = { λ it. users_before (set_value it.set) it.usersets it.at it.arena.now it.place };
 

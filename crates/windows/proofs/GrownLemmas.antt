@@ -14,7 +14,7 @@ use Rattle.tuple_text.specs.Tuples.{TupleValue}
 use Rattle.namespaces.specs.Declaration.{Relation, Declaration}
 use Rattle.namespaces.specs.Lookup.{in_force, relation_at, as_rule}
 use Rattle.version_chains.specs.Commits.{Commit, Touch, touches, changelog, touches_to, until, last_live, store_at}
-use Rattle.version_chains.proofs.PlacedLemmas.{slice_get-front}
+use Rattle.marks.proofs.PlacedLemmas.{slice_get-front}
 use Rattle.trace_lines.specs.Placed.{HasPlacedCommits}
 use Rattle.trace_lines.specs.Values.{EntryValue, TraceValue, entry_lines, after_last, next_line}
 use Rattle.trace_lines.specs.Versions.{entry_version, version_named, content_among, content_of}

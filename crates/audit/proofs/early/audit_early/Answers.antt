@@ -1,5 +1,5 @@
 use Rattle.std.proofs.Common.{inl, inr, ap, rules}
-use Rattle.json_lines.specs.Given.{OfWhole}
+use Rattle.devices.specs.Given.{OfWhole}
 use Rattle.audit.specs.Audit.{IsOfBytes}
 use Rattle.audit.specs.Early.{TellsEarly, state_of}
 use Rattle.audit.specs.declared.early.Tellers.{Tellers}

@@ -2,7 +2,7 @@ use Rattle.std.proofs.Common.{[], append-nil, arith, refl, sym}
 use Rattle.std.proofs.lemmas.Result.{err_from_is_err_and}
 use Rattle.json_lines.specs.declared.lines.InputFault.TheVariants.{Read, TooLong}
 use Rattle.json_lines.proofs.Exits.{exit_is, no_error, exit_ok, exit_gives, memory_is_not_long, memory_is_not_read}
-use Rattle.json_lines.proofs.Given.{next-refl}
+use Rattle.devices.proofs.Given.{next-refl}
 use Rattle.json_lines.proofs.joined.read_front.Goals as goal
 
 pub returns-clause-most : goal.returns-clause-most

@@ -6,7 +6,7 @@ use Rattle.json_lines.specs.declared.lines.InputFault.TheVariants.{TooLong, OutO
 use Rattle.json_lines.specs.declared.reading.Stop.TheVariants.{Input}
 use Rattle.json_lines.proofs.Exits.{no_error, same_error, same_fault, input_is_no_line, no_memory_fault, no_long_fault}
 use Rattle.json_lines.proofs.Folds.{Within, within_from, room_left, came_in_all, goes_on, line_came, cut_ends, over_ends, step_cut, last_ends, read_fails}
-use Rattle.json_lines.proofs.Given.{next-trans}
+use Rattle.devices.proofs.Given.{next-trans}
 use Rattle.json_lines.proofs.InputReads.{unread}
 use Rattle.json_lines.proofs.reading.read_lines.Goals as goal
 

@@ -1,5 +1,5 @@
 use Rattle.std.proofs.Common.{◌≡◌, ◌+◌, ◌^◌, ◌≤◌, ◌++◌, List, ℕ, length}
-use Rattle.json_lines.specs.Given.{AreNext}
+use Rattle.devices.specs.Given.{AreNext}
 use Rattle.json_lines.specs.Json.{taken_line}
 use Rattle.json_lines.proofs.Folds.{GoesFrom}
 use Rattle.json_lines.proofs.reading.read_lines.Given as goal

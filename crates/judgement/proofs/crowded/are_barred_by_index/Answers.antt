@@ -2,8 +2,8 @@ use Rattle.std.proofs.Common.{ℕ, List, suc, refl, subst, arith}
 use Rattle.std.proofs.lemmas.Option.{get_or_from_slice_get}
 use Rattle.std.specs.Prelude.{Contains}
 use Rattle.tuple_text.specs.Refs.{set_value}
-use Rattle.version_chains.specs.Marks.{set_mark}
-use Rattle.version_chains.proofs.PlacedLemmas.{and-left, and-right}
+use Rattle.marks.specs.Marks.{set_mark}
+use Rattle.marks.proofs.PlacedLemmas.{and-left, and-right}
 use Rattle.rewrites.specs.Parts.{computed_names}
 use Rattle.userset_index.specs.Index.{is_crowded}
 use Rattle.judgement.specs.Passes.{AreThroughOut}

@@ -4,7 +4,7 @@ use Rattle.tuple_text.specs.Refs.{set_value}
 use Rattle.namespaces.specs.InForce.{names_in_force}
 use Rattle.namespaces.specs.Lookup.{rule_at}
 use Rattle.rewrites.specs.Parts.{computed_names}
-use Rattle.version_chains.specs.Marks.{pair_mark, set_mark}
+use Rattle.marks.specs.Marks.{pair_mark, set_mark}
 use Rattle.userset_index.specs.Lives.{touches_alive}
 use Rattle.judgement.specs.Passes.{IsTouchOut}
 use Rattle.judgement.proofs.crowded.are_names_out.Given as goal

@@ -3,9 +3,9 @@ use Rattle.std.specs.Prelude.{slice_get}
 use Rattle.tuple_text.specs.Refs.{set_value}
 use Rattle.tuple_text.specs.Tuples.{fact_of, fact_tuple}
 use Rattle.tuple_text.proofs.ValueLemmas.{fact_eq-same}
-use Rattle.version_chains.specs.Placed.{last_place}
-use Rattle.version_chains.proofs.FindLemmas.{find_start, find_within, find_on, find_smaller, found_nowhere}
-use Rattle.version_chains.proofs.PlacedLemmas.{read_item}
+use Rattle.marks.specs.Placed.{last_place}
+use Rattle.marks.proofs.FindLemmas.{find_start, find_within, find_on, find_smaller, found_nowhere}
+use Rattle.marks.proofs.PlacedLemmas.{read_item}
 use Rattle.judgement.proofs.MarkedLemmas.{other_tuple, absent_fact, within_kept, tuple_at, fact_there}
 use Rattle.judgement.proofs.facts.is_found.Goals as goal
 

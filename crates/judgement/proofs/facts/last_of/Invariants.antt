@@ -1,5 +1,5 @@
 use Rattle.std.proofs.Common.{◌≡◌, ◌≤◌, map}
-use Rattle.version_chains.specs.Placed.{last_place}
+use Rattle.marks.specs.Placed.{last_place}
 use Rattle.judgement.specs.Facts.{is_of_user}
 use Rattle.judgement.proofs.facts.last_of.Given as goal
 

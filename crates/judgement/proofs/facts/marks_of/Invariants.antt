@@ -1,6 +1,6 @@
 use Rattle.std.proofs.Common.{◌≡◌, map, take}
 use Rattle.tuple_text.specs.Tuples.{fact_tuple}
-use Rattle.version_chains.specs.Marks.{tuple_mark}
+use Rattle.marks.specs.Marks.{tuple_mark}
 use Rattle.judgement.proofs.facts.marks_of.Given as goal
 
 abbrev pub invariant-loop-fact : goal.invariant-loop-fact

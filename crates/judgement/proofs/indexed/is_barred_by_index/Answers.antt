@@ -3,8 +3,8 @@ use Rattle.std.specs.Prelude.{All, option_map}
 use Rattle.tuple_text.specs.Refs.{set_value}
 use Rattle.namespaces.specs.Lookup.{rule_at}
 use Rattle.version_chains.specs.Commits.{store_at}
-use Rattle.version_chains.specs.Marks.{set_mark}
-use Rattle.version_chains.proofs.PlacedLemmas.{and-left, and-right}
+use Rattle.marks.specs.Marks.{set_mark}
+use Rattle.marks.proofs.PlacedLemmas.{and-left, and-right}
 use Rattle.userset_index.specs.Index.{is_crowded}
 use Rattle.judgement.specs.Passes.{IsBarred, IsTouchOut}
 use Rattle.judgement.proofs.IndexLemmas.{barred_by_own, barred_by_through}

@@ -4,8 +4,8 @@ use Rattle.tuple_text.specs.Refs.{set_value}
 use Rattle.tuple_text.specs.Tuples.{tuple_of}
 use Rattle.tuple_text.specs.declared.users.User.TheVariants.{Set}
 use Rattle.version_chains.specs.Commits.{Commit, is_stored, store_at}
-use Rattle.version_chains.specs.Marks.{set_mark}
-use Rattle.version_chains.proofs.PlacedLemmas.{and-left, and-right}
+use Rattle.marks.specs.Marks.{set_mark}
+use Rattle.marks.proofs.PlacedLemmas.{and-left, and-right}
 use Rattle.userset_index.specs.Index.{is_crowded}
 use Rattle.judgement.specs.Passes.{IsTargetStored, IsTouchApart}
 use Rattle.judgement.proofs.IndexLemmas.{apart_by_objects}

@@ -2,8 +2,8 @@ use Rattle.std.proofs.Common.{rules, ◌≡◌, ◌∙◌, [], Some, sym}
 use Rattle.tuple_text.specs.Refs.{set_value}
 use Rattle.namespaces.specs.Lookup.{namespace_numbered}
 use Rattle.rewrites.specs.Parts.{computed_names}
-use Rattle.version_chains.specs.Marks.{set_mark}
-use Rattle.version_chains.proofs.PlacedLemmas.{and-left, and-right}
+use Rattle.marks.specs.Marks.{set_mark}
+use Rattle.marks.proofs.PlacedLemmas.{and-left, and-right}
 use Rattle.userset_index.specs.Index.{is_crowded}
 use Rattle.judgement.proofs.IndexLemmas.{none_through}
 use Rattle.judgement.proofs.LiveLemmas.{none_absent, none_of_number}

@@ -1,4 +1,4 @@
-use Rattle.json_lines.specs.Devices.{counted_inner}
+use Rattle.devices.specs.Devices.{counted_inner}
 use Rattle.audit.specs.Devices.{writes}
 use Rattle.new_enemy.proofs.FileRuns.{runs_audit}
 use Rattle.new_enemy.proofs.Statuses.{ends_at_limits, limits_end, verdict_ends}

@@ -1,5 +1,5 @@
 use Rattle.std.proofs.Common.{codes, refl}
-use Rattle.json_lines.specs.Devices.{counted_inner}
+use Rattle.devices.specs.Devices.{counted_inner}
 use Rattle.audit.specs.Devices.{writes}
 use Rattle.audit.specs.Made.{MakesRecords, BreaksMaking}
 use Rattle.new_enemy.specs.declared.run.Ran.TheVariants as ran

@@ -1,5 +1,5 @@
 use Rattle.std.proofs.Common.{rules, ℕ, List, subst}
-use Rattle.json_lines.specs.Devices.{moved_by}
+use Rattle.devices.specs.Devices.{moved_by}
 use Rattle.new_enemy.specs.Outcomes.{HasSucceeded}
 use Rattle.new_enemy.specs.Run.{IsCleanRun}
 use Rattle.new_enemy.proofs.RunLemmas.{of_joined}

@@ -3,9 +3,9 @@ use Rattle.std.specs.Prelude.{slice_get, slice_set, option_map}
 use Rattle.std.proofs.lemmas.Option.{none-some, slice_get_cases, slice_get_within}
 use Rattle.tuple_text.specs.Order.{tuple_eq}
 use Rattle.version_chains.specs.Commits.{Touch, changelog}
-use Rattle.version_chains.specs.Placed.{last_place}
+use Rattle.marks.specs.Placed.{last_place}
 use Rattle.version_chains.specs.Touches.{touch_value}
-use Rattle.version_chains.proofs.PlacedLemmas.{last_place-within, length-more, length-set}
+use Rattle.marks.proofs.PlacedLemmas.{last_place-within, length-more, length-set}
 use Rattle.userset_index.specs.Building.{HaveEnds}
 use Rattle.userset_index.proofs.BuildLemmas.{ends_more, ends_set}
 use Rattle.userset_index.proofs.build.ends_of.Goals.{then-touch-gt0, else-touch-gt0}

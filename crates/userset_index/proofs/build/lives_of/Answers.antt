@@ -2,7 +2,7 @@ use Rattle.std.proofs.Common.{◌≡◌, ◌+◌, ◌∙◌, List, None, Some, a
 use Rattle.std.specs.Prelude.{slice_get, option_map}
 use Rattle.version_chains.specs.Commits.{changelog}
 use Rattle.version_chains.specs.Touches.{touch_value}
-use Rattle.version_chains.proofs.PlacedLemmas.{read_item}
+use Rattle.marks.proofs.PlacedLemmas.{read_item}
 use Rattle.userset_index.specs.Building.{HoldsFirst, kept}
 use Rattle.userset_index.specs.declared.life.Life.{Life}
 use Rattle.userset_index.proofs.BuildLemmas.{holds_all, holds_next, holds_past}

@@ -2,7 +2,7 @@ use Rattle.std.proofs.Common.{◌≡◌, ◌+◌, ◌∙◌, List, None, Some, a
 use Rattle.std.specs.Prelude.{slice_get, option_map, Contains}
 use Rattle.version_chains.specs.Commits.{changelog}
 use Rattle.version_chains.specs.Touches.{touch_value}
-use Rattle.version_chains.proofs.PlacedLemmas.{read_item}
+use Rattle.marks.proofs.PlacedLemmas.{read_item}
 use Rattle.userset_index.specs.Moments.{HoldsStaysFirst}
 use Rattle.userset_index.specs.declared.moments.Stay.{Stay}
 use Rattle.userset_index.proofs.MomentLemmas.{stays_all, stays_next, stays_past}

@@ -3,7 +3,7 @@ use Rattle.std.specs.Prelude.{slice_get, MatchOption}
 use Rattle.std.proofs.lemmas.Bool.Decides.{nat_tests}
 use Rattle.version_chains.specs.Jumps.{StandsAt, node_at}
 use Rattle.version_chains.specs.declared.node.Node.{Node}
-use Rattle.version_chains.proofs.PlacedLemmas.{read_option}
+use Rattle.marks.proofs.PlacedLemmas.{read_option}
 use Rattle.version_chains.proofs.node.at_place.Goals as goal
 
 behind : (nodes : List Node) (place : ℕ) (o : Option Node) → (place ≡ 0 → ⊥) → o ≡ slice_get nodes (place - 1)

@@ -1,7 +1,7 @@
 use Rattle.std.proofs.Common.{◌≡◌, ◌∙◌, ap, sym}
 use Rattle.std.specs.Prelude.{string_bytes}
 use Rattle.tuple_text.specs.Refs.{user_value}
-use Rattle.version_chains.specs.Marks.{user_mark}
+use Rattle.marks.specs.Marks.{user_mark}
 use Rattle.version_chains.specs.Rows.{user_in}
 use Rattle.version_chains.proofs.TextLemmas.{goes_on-further, set-kept, span-kept}
 use Rattle.version_chains.proofs.rows.push_texts.Goals as goal

@@ -5,7 +5,7 @@ use Rattle.std.specs.Prelude.{Contains, slice_set}
 use Rattle.rewrites.specs.Alike.{AreAlike}
 use Rattle.namespaces.specs.Lookup.{expression_in}
 use Rattle.rewrites.specs.Parts.{rule_shown}
-use Rattle.version_chains.proofs.PlacedLemmas.{slice_get-set}
+use Rattle.marks.proofs.PlacedLemmas.{slice_get-set}
 use Rattle.judgement.specs.Facts.{marked_fact}
 use Rattle.judgement.proofs.PassLemmas.{element_at, place_of_element}
 use Rattle.evidence_check.specs.Rules.{IsPlaced}

@@ -1,6 +1,6 @@
 use Rattle.std.proofs.Common.{rules, ◌≡◌, ◌<◌, ◌++◌, ◌∷◌, [], length, refl, sym, ◌∙◌, arith}
 use Rattle.std.proofs.lemmas.Option.{slice_get_read}
-use Rattle.version_chains.proofs.PlacedLemmas.{slice_get-next}
+use Rattle.marks.proofs.PlacedLemmas.{slice_get-next}
 use Rattle.goal_cone.specs.declared.leaves.PlacedLeaves.{PlacedLeaves}
 use Rattle.goal_cone.proofs.OnceLemmas.{same_place}
 use Rattle.goal_cone.proofs.leaves.KnownLeaves.number.Goals as goal

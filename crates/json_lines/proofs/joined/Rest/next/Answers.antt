@@ -4,7 +4,7 @@ use Rattle.json_lines.specs.contracts.lines.InputFault.{the_type}
 use Rattle.json_lines.specs.declared.lines.InputFault.{InputFault}
 use Rattle.json_lines.specs.declared.lines.InputFault.TheVariants.{Read, TooLong, OutOfMemory}
 use Rattle.json_lines.proofs.Exits.{no_error, same_error, long_is_not_read, ended_by}
-use Rattle.json_lines.proofs.Given.{next-trans}
+use Rattle.devices.proofs.Given.{next-trans}
 use Rattle.json_lines.proofs.NextLines.{most_behind, passed_line, passed_long, passed_on, passed_over, room_after}
 use Rattle.json_lines.proofs.joined.Rest.next.Goals as goal
 use Rattle.json_lines.proofs.joined.Rest.next.Goals.{then-ne-via-then-ne, then-ne-via-else-ne+then-self-lt-MAX_LINE}

@@ -1,5 +1,5 @@
 use Rattle.std.proofs.Common.{◌≡◌, ◌^◌, ◌≤◌, false}
-use Rattle.json_lines.specs.Given.{AreNext}
+use Rattle.devices.specs.Given.{AreNext}
 use Rattle.json_lines.proofs.NextLines.{Passed}
 use Rattle.json_lines.proofs.joined.Rest.next.Given as goal
 

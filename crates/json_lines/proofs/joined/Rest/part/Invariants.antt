@@ -1,6 +1,6 @@
 use Rattle.std.proofs.Common.{◌≡◌, ◌+◌, ◌^◌, ◌≤◌, refl}
 use Rattle.std.specs.Prelude.{IfErr, OnOk}
-use Rattle.json_lines.specs.Given.{AreNext}
+use Rattle.devices.specs.Given.{AreNext}
 use Rattle.json_lines.specs.Joined.{ends_left}
 use Rattle.json_lines.specs.Json.{taken_line}
 use Rattle.json_lines.specs.Reading.{IsOfLine, IsOfSomeLine}

@@ -4,7 +4,7 @@ use Rattle.std.proofs.lemmas.Result.{err_from_is_err_and}
 use Rattle.json_lines.specs.Joined.{RestValue}
 use Rattle.json_lines.specs.declared.lines.InputFault.TheVariants.{Read, TooLong}
 use Rattle.json_lines.proofs.Exits.{exit_is, no_error, exit_done, exit_gives, ended_on, ended_all}
-use Rattle.json_lines.proofs.Given.{next-trans}
+use Rattle.devices.proofs.Given.{next-trans}
 use Rattle.json_lines.proofs.RestLines.{used_all, used_all_most, used_on, used_most, used_past}
 use Rattle.json_lines.proofs.joined.Rest.pass.Goals as goal
 

@@ -1,5 +1,5 @@
 use Rattle.std.proofs.Common.{◌≡◌, ◌+◌, true}
-use Rattle.json_lines.specs.Given.{AreNext}
+use Rattle.devices.specs.Given.{AreNext}
 use Rattle.json_lines.specs.Joined.{ends_left}
 use Rattle.json_lines.proofs.RestLines.{Used}
 use Rattle.json_lines.proofs.joined.Rest.pass.Given as goal

@@ -4,7 +4,7 @@ use Rattle.json_lines.specs.Json.{taken_line}
 use Rattle.std.proofs.lemmas.Result.{err_from_is_err_and}
 use Rattle.json_lines.specs.declared.lines.InputFault.TheVariants.{Read, TooLong}
 use Rattle.json_lines.proofs.Exits.{exit_is, no_error, exit_ok, exit_done, exit_gives}
-use Rattle.json_lines.proofs.Given.{next-refl}
+use Rattle.devices.proofs.Given.{next-refl}
 use Rattle.json_lines.proofs.RestLines.{part_is_all, reads_nothing}
 use Rattle.json_lines.proofs.joined.Rest.read.Goals as goal
 

@@ -4,7 +4,7 @@ use Rattle.json_lines.specs.Lines.{Takes}
 use Rattle.json_lines.specs.declared.lines.InputFault.TheVariants.{TooLong}
 use Rattle.json_lines.proofs.Cuts.{line_len_le}
 use Rattle.json_lines.proofs.Exits.{exit_is, no_error, no_value, more_is_not_last, exit_ok, exit_done, read_is_not_long, long_is_not_read, piece_is_not_read, same_count}
-use Rattle.json_lines.proofs.Given.{next-trans}
+use Rattle.devices.proofs.Given.{next-trans}
 use Rattle.json_lines.proofs.Steps.{takes_then, takes_on, takes_line, goes_on, lacks_line, too_long, come_at_most}
 use Rattle.json_lines.proofs.lines.Lines.next.Goals as goal
 

@@ -1,5 +1,5 @@
 use Rattle.std.proofs.Common.{◌≡◌, ◌+◌, ◌≤◌, true, vec_len}
-use Rattle.json_lines.specs.Given.{AreNext}
+use Rattle.devices.specs.Given.{AreNext}
 use Rattle.json_lines.specs.Lines.{lacks, line_len, Takes}
 use Rattle.json_lines.proofs.lines.Lines.next.Given as goal
 

@@ -1,4 +1,4 @@
-use Rattle.json_lines.proofs.Given.{next-refl}
+use Rattle.devices.proofs.Given.{next-refl}
 use Rattle.json_lines.proofs.lines.Lines.ready.Goals as goal
 
 pub returns-then-is_empty-clause-few : goal.returns-then-is_empty-clause-few

@@ -1,4 +1,4 @@
-use Rattle.json_lines.proofs.Given.{by_give}
+use Rattle.devices.proofs.Given.{by_give}
 use Rattle.json_lines.proofs.lines.Lines.refill.Goals as goal
 
 pub returns-in_err-n-clause-known : goal.returns-in_err-n-clause-known

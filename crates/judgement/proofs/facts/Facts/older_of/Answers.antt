@@ -1,6 +1,6 @@
 use Rattle.std.proofs.Common.{◌≡◌, ◌∙◌, length, map, ap, sym, arith}
 use Rattle.std.proofs.lemmas.List.{length-map}
-use Rattle.version_chains.specs.Placed.{last_place}
+use Rattle.marks.specs.Placed.{last_place}
 use Rattle.judgement.specs.Facts.{is_of_user, user_of}
 use Rattle.judgement.specs.declared.facts.Index.{Index}
 use Rattle.judgement.proofs.LedLemmas.{older_by_users, within_facts}

@@ -1,6 +1,6 @@
 use Rattle.std.proofs.Common.{◌∙◌, length, map, ap, sym, rules}
 use Rattle.tuple_text.specs.Tuples.{FactValue}
-use Rattle.version_chains.proofs.PlacedLemmas.{newest_first-through}
+use Rattle.marks.proofs.PlacedLemmas.{newest_first-through}
 use Rattle.judgement.specs.Facts.{is_of_user, sets_before}
 use Rattle.judgement.proofs.facts.Facts.sets_of.Goals as goal
 

@@ -3,8 +3,8 @@ use Rattle.std.specs.Prelude.{option_map}
 use Rattle.tuple_text.specs.Refs.{set_value}
 use Rattle.tuple_text.specs.Sets.{SetValue}
 use Rattle.tuple_text.specs.Tuples.{FactValue}
-use Rattle.version_chains.specs.Placed.{passes}
-use Rattle.version_chains.specs.declared.marks.MarkedSet.{MarkedSet}
+use Rattle.marks.specs.Placed.{passes}
+use Rattle.marks.specs.declared.tuples.MarkedSet.{MarkedSet}
 use Rattle.judgement.specs.Facts.{is_of_user, sets_before}
 use Rattle.judgement.proofs.LedLemmas.{fact_at, linked_on, sets_on}
 use Rattle.judgement.proofs.facts.SetsOfUserIterator.next.Goals as goal

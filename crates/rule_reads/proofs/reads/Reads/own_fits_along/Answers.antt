@@ -1,5 +1,5 @@
 use Rattle.std.proofs.Common.{rules, ◌≡◌, ◌-◌, true, refl, arith}
-use Rattle.version_chains.proofs.PlacedLemmas.{read_item}
+use Rattle.marks.proofs.PlacedLemmas.{read_item}
 use Rattle.rule_reads.specs.Reads.{FitsOwn}
 use Rattle.rule_reads.proofs.Chains.{left_start, left_smaller, left_step, left_end}
 use Rattle.rule_reads.proofs.reads.Reads.own_fits_along.Goals as goal

@@ -1,5 +1,5 @@
 use Rattle.std.proofs.Common.{◌∙◌, [], ap, sym}
-use Rattle.version_chains.specs.Marks.{set_mark}
+use Rattle.marks.specs.Marks.{set_mark}
 use Rattle.rule_reads.specs.Reads.{FitsOwn, IsLowWhereStored, mark_of_user, computed_mark, relation_mark}
 use Rattle.rule_reads.proofs.Reading.{each_marked}
 use Rattle.rule_reads.proofs.reads.Reads.relation_fits.Goals as goal

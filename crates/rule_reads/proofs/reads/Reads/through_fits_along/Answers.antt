@@ -1,5 +1,5 @@
 use Rattle.std.proofs.Common.{rules, ◌≡◌, ◌-◌, true, arith}
-use Rattle.version_chains.proofs.PlacedLemmas.{read_item}
+use Rattle.marks.proofs.PlacedLemmas.{read_item}
 use Rattle.rule_reads.specs.Reads.{IsLowWhereStored}
 use Rattle.rule_reads.proofs.Chains.{left_start, left_smaller, left_step, left_end}
 use Rattle.rule_reads.proofs.reads.Reads.through_fits_along.Goals as goal

@@ -1,5 +1,5 @@
 use Rattle.std.proofs.Common.{ℕ, ◌-◌, length, nat_eq, arith, ap, ◌∙◌, sym, rules}
-use Rattle.version_chains.specs.Placed.{last_place}
+use Rattle.marks.specs.Placed.{last_place}
 use Rattle.trace_lines.specs.Issued.{version_value}
 use Rattle.trace_lines.proofs.IssuerWalk.{issuer_start, issuer_nowhere, issuer_within, issuer_smaller, issuer_entry, issuer_on, issuer_found}
 use Rattle.trace_lines.proofs.versions.Versions.issuer.Goals as goal

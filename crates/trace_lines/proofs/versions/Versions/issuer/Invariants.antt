@@ -3,7 +3,7 @@ use Rattle.trace_lines.specs.Issued.{Issue, issued_by, version_value}
 use Rattle.trace_lines.specs.VersionMarks.{version_mark}
 use Rattle.trace_lines.specs.Recorded.{shown}
 use Rattle.trace_lines.specs.Versions.{version_eq}
-use Rattle.version_chains.specs.Placed.{IsWalk}
+use Rattle.marks.specs.Placed.{IsWalk}
 use Rattle.trace_lines.proofs.versions.Versions.issuer.Given as goal
 
 abbrev pub invariant-loop-place : goal.invariant-loop-place

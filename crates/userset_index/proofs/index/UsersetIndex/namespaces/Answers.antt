@@ -1,5 +1,5 @@
 use Rattle.std.proofs.Common.{◌≡◌, ◌∙◌, ℕ, true, sym, ap, subst, rules}
-use Rattle.version_chains.specs.Marks.{set_mark}
+use Rattle.marks.specs.Marks.{set_mark}
 use Rattle.userset_index.specs.Index.{IndexValue, IsCovered}
 use Rattle.userset_index.proofs.index.UsersetIndex.namespaces.Goals as goal
 

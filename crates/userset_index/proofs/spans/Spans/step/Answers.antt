@@ -1,9 +1,9 @@
 use Rattle.std.proofs.Common.{◌≡◌, ◌∙◌, ◌<◌, ◌⊎◌, inl, inr, ℕ, List, Option, None, Some, ap, subst, sym, nat_eq}
 use Rattle.std.specs.Prelude.{slice_get}
 use Rattle.std.specs.Bool.{then_some}
-use Rattle.version_chains.specs.Placed.{last_place}
+use Rattle.marks.specs.Placed.{last_place}
 use Rattle.version_chains.proofs.ArenaLemmas.{item_of}
-use Rattle.version_chains.proofs.PlacedLemmas.{read_item}
+use Rattle.marks.proofs.PlacedLemmas.{read_item}
 use Rattle.userset_index.specs.Lives.{is_alive}
 use Rattle.userset_index.specs.Spans.{Steps, lives_of, marks_of}
 use Rattle.userset_index.specs.declared.life.Life.{Life}

@@ -5,7 +5,7 @@ use Rattle.version_chains.specs.Commits.{Touch}
 use Rattle.version_chains.specs.Given.{LeadsBack}
 use Rattle.version_chains.specs.declared.node.Node.{Node}
 use Rattle.version_chains.proofs.BackLemmas.{link_back, jump_back}
-use Rattle.version_chains.proofs.PlacedLemmas.{read_item}
+use Rattle.marks.proofs.PlacedLemmas.{read_item}
 use Rattle.version_chains.proofs.arena.Arena.further.Goals as goal
 
 abbrev GoesBack : ℕ → ℕ → ℕ → Held → Type 0

@@ -7,7 +7,7 @@ use Rattle.tuple_text.specs.Tuples.{TupleValue}
 use Rattle.tuple_text.specs.declared.users.User.{User}
 use Rattle.version_chains.specs.Arena.{Held, tuples_of}
 use Rattle.version_chains.specs.Given.{is_stored_by}
-use Rattle.version_chains.specs.Marks.{is_userset}
+use Rattle.marks.specs.Marks.{is_userset}
 use Rattle.version_chains.specs.Rows.{Kept, row_value}
 use Rattle.version_chains.proofs.RowLemmas.{row-kept}
 use Rattle.version_chains.proofs.arena.Arena.given.Goals as goal

@@ -3,7 +3,7 @@ use Rattle.std.proofs.lemmas.Bool.{le-leb}
 use Rattle.tuple_text.specs.Order.{tuple_eq}
 use Rattle.version_chains.specs.Commits.{Touch}
 use Rattle.version_chains.proofs.NewestLemmas.{live_end, live_found, live_on}
-use Rattle.version_chains.proofs.WalkLemmas.{linked_within}
+use Rattle.marks.proofs.WalkLemmas.{linked_within}
 use Rattle.version_chains.proofs.arena.Arena.is_live.Goals as goal
 
 pub loop-place-init : goal.loop-place-init

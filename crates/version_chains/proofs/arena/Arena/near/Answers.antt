@@ -5,7 +5,7 @@ use Rattle.tuple_text.specs.Tuples.{TupleValue}
 use Rattle.version_chains.specs.Arena.{Held, latest_of, tuples_of, touch_of}
 use Rattle.version_chains.specs.Given.{newest_of}
 use Rattle.version_chains.proofs.ArenaLemmas.{last_touch_here, last_touch_before}
-use Rattle.version_chains.proofs.PlacedLemmas.{read_item}
+use Rattle.marks.proofs.PlacedLemmas.{read_item}
 use Rattle.version_chains.proofs.arena.Arena.near.Goals as goal
 
 -- the last touch among the first, and one more, is the one at this place

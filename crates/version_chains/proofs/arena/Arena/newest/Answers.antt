@@ -3,7 +3,7 @@ use Rattle.std.specs.Prelude.{slice_get}
 use Rattle.tuple_text.specs.Order.{tuple_eq}
 use Rattle.tuple_text.specs.Tuples.{TupleValue}
 use Rattle.version_chains.specs.Arena.{Held, latest_of, tuples_of}
-use Rattle.version_chains.specs.Placed.{last_place}
+use Rattle.marks.specs.Placed.{last_place}
 use Rattle.version_chains.specs.Rows.{Kept}
 use Rattle.version_chains.proofs.ArenaLemmas.{item_of, newest_touch}
 use Rattle.version_chains.proofs.RowLemmas.{row-kept}

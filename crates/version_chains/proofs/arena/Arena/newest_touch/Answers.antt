@@ -2,7 +2,7 @@ use Rattle.std.proofs.Common.{sym, length}
 use Rattle.tuple_text.specs.Order.{tuple_eq}
 use Rattle.tuple_text.specs.Refs.{set_value, user_value}
 use Rattle.tuple_text.specs.Tuples.{tuple_of}
-use Rattle.version_chains.proofs.PlacedLemmas.{last_place-none}
+use Rattle.marks.proofs.PlacedLemmas.{last_place-none}
 use Rattle.version_chains.proofs.arena.Arena.newest_touch.Goals as goal
 
 pub returns-in-Some : goal.returns-in-Some

@@ -6,13 +6,13 @@ use Rattle.tuple_text.specs.Refs.{set_value, user_value}
 use Rattle.tuple_text.specs.TupleRefs.{tuple_value}
 use Rattle.tuple_text.specs.Tuples.{TupleValue, tuple_of}
 use Rattle.version_chains.specs.Arena.{Held, IsLinked, latest_of, tuples_of}
-use Rattle.version_chains.specs.Placed.{most}
-use Rattle.version_chains.specs.Marks.{held_mark, kind_mark, set_mark, tuple_mark}
+use Rattle.marks.specs.Placed.{most}
+use Rattle.marks.specs.Marks.{held_mark, kind_mark, set_mark, tuple_mark}
 use Rattle.version_chains.specs.Rows.{Kept}
 use Rattle.version_chains.proofs.ArenaLemmas.{more_tuples, same_touches}
 use Rattle.version_chains.specs.declared.node.Node.{Node}
 use Rattle.version_chains.proofs.RowLemmas.{latest-more, tuples-more}
-use Rattle.version_chains.proofs.PlacedLemmas.{length-more, slice_get-kept, slice_get-next}
+use Rattle.marks.proofs.PlacedLemmas.{length-more, slice_get-kept, slice_get-next}
 use Rattle.version_chains.proofs.arena.Arena.number.Goals as goal
 
 abbrev new_row : TupleValue → Kept

@@ -5,7 +5,7 @@ use Rattle.version_chains.specs.Jumps.{AreJumps, IsBack}
 use Rattle.version_chains.specs.Rows.{Kept}
 use Rattle.version_chains.specs.declared.node.Node.{Node}
 use Rattle.version_chains.proofs.ArenaLemmas.{item_of, item_within, more_touches, touches-more, up_to_nodes}
-use Rattle.version_chains.proofs.PlacedLemmas.{length-more}
+use Rattle.marks.proofs.PlacedLemmas.{length-more}
 use Rattle.version_chains.proofs.RowLemmas.{latest-touched, length-touched, row-kept, tuples-touched}
 use Rattle.version_chains.proofs.arena.Arena.push.Goals as goal
 
@@ -22,8 +22,8 @@ found rows i known =
 pub invariant_of-self : goal.invariant_of-self
 invariant_of-self c =
     let node : Node = record { at = c.args.at; live = c.args.live; tuple = c.args.number; older = c.latest-older.result; depth = c.next_links-depth.result.0; jump = c.next_links-depth.result.1 } in
-    let items : c.push.new.self.items ≡ c.self.inside.nodes.items ++ node ∷ [] = search rules in
-    let len : c.len-place.result ≡ length c.push.new.self.items = search rules in
+    let items : c.push_reserved.new.self.items ≡ c.self.inside.nodes.items ++ node ∷ [] = search rules in
+    let len : c.len-place.result ≡ length c.push_reserved.new.self.items = search rules in
     let more = length-more c.self.inside.nodes.items node in
     let count : c.len-place.result ≡ suc (length c.self.inside.nodes.items) = rw (len, items) more in
     let known : c.args.number < length (tuples_of c.self.inside.rows) = subst (λ (h : Held). c.args.number < length h.tuples) (sym c.self.view_is) c.requires.known in
@@ -48,7 +48,7 @@ returns-clause-tuples c =
 pub returns-clause-pushes : goal.returns-clause-pushes
 returns-clause-pushes c t is =
     let node : Node = record { at = c.args.at; live = c.args.live; tuple = c.args.number; older = c.latest-older.result; depth = c.next_links-depth.result.0; jump = c.next_links-depth.result.1 } in
-    let items : c.push.new.self.items ≡ c.self.inside.nodes.items ++ node ∷ [] = search rules in
+    let items : c.push_reserved.new.self.items ≡ c.self.inside.nodes.items ++ node ∷ [] = search rules in
     let known : c.args.number < length (tuples_of c.self.inside.rows) = subst (λ (h : Held). c.args.number < length h.tuples) (sym c.self.view_is) c.requires.known in
     let row = found c.self.inside.rows c.args.number known in
     let tuples = tuples-touched c.self.inside.rows c.args.number row.0 row.1 c.len-place.result in

@@ -2,8 +2,8 @@ use Rattle.std.proofs.Common.{◌≡◌, Some, nat_eq, subst}
 use Rattle.std.specs.Prelude.{slice_get}
 use Rattle.tuple_text.specs.Tuples.{TupleValue}
 use Rattle.version_chains.specs.Arena.{Held, latest_of, tuples_of}
-use Rattle.version_chains.specs.Marks.{held_mark}
-use Rattle.version_chains.specs.Placed.{last_place}
+use Rattle.marks.specs.Marks.{held_mark}
+use Rattle.marks.specs.Placed.{last_place}
 use Rattle.version_chains.proofs.ArenaLemmas.{sibling_by_mark}
 use Rattle.version_chains.proofs.arena.Arena.sibling.Goals as goal
 

@@ -5,10 +5,10 @@ use Rattle.std.proofs.lemmas.List.{length-map}
 use Rattle.tuple_text.specs.Order.{tuple_eq}
 use Rattle.version_chains.specs.Arena.{Held, touch_of, latest_of, tuples_of}
 use Rattle.version_chains.specs.Commits.{Touch}
-use Rattle.version_chains.specs.Placed.{last_place}
+use Rattle.marks.specs.Placed.{last_place}
 use Rattle.version_chains.specs.declared.node.Node.{Node}
 use Rattle.version_chains.proofs.ArenaLemmas.{touch_at}
-use Rattle.version_chains.proofs.PlacedLemmas.{read_item}
+use Rattle.marks.proofs.PlacedLemmas.{read_item}
 use Rattle.version_chains.proofs.arena.Arena.touch.Goals as goal
 
 abbrev IsTouch : ℕ → List Touch → Bor Node → Type 0

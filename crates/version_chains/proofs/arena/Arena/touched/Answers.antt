@@ -7,7 +7,7 @@ use Rattle.version_chains.specs.Given.{newest_of}
 use Rattle.version_chains.specs.Rows.{Kept, row_value}
 use Rattle.version_chains.specs.declared.node.Node.{Node}
 use Rattle.version_chains.proofs.ArenaLemmas.{item_of, touch_at}
-use Rattle.version_chains.proofs.PlacedLemmas.{read_item}
+use Rattle.marks.proofs.PlacedLemmas.{read_item}
 use Rattle.version_chains.proofs.arena.Arena.touched.Goals as goal
 
 shown : (nodes : List Node) (rows : List Kept) (touches : List Touch) (index : ℕ) (n : Node) (row : Kept)

@@ -37,7 +37,7 @@ returns-clause-appends c =
     let late : late_fault (last_at c.args.self.now.commits) c.args.at ≡ None = search rules in
     let once : repeat_from nat_eq [] 0 c.in_ok-numbers.numbers.items ≡ None = search rules in
     let room : length c.in_ok-numbers.numbers.items ≤ c.self.inside.limit - length c.self.inside.arena.touches = search rules in
-    let times : c.push.new.self.items ≡ c.self.inside.times.items ++ c.args.at ∷ [] = search rules in
+    let times : c.push_reserved.new.self.items ≡ c.self.inside.times.items ++ c.args.at ∷ [] = search rules in
     let numbers : c.as_slice-2.result.now ≡ c.in_ok-numbers.numbers.items = search rules in
     let are : AreNumbersOf c.reserve-2.new.self.tuples c.as_slice-2.result.now (tuple_values c.args.adds.now ++ tuple_values c.args.removes.now) = rw (c.reserve-2.ensures.tuples, numbers) c.in_ok-numbers.ensures.numbers in
     let pushed : c.push_commit.new.arena.touches ≡ c.self.inside.arena.touches ++ touches (record { at = c.args.at; adds = (tuple_values c.args.adds.now); removes = (tuple_values c.args.removes.now) }) =
@@ -52,7 +52,7 @@ invariant_of-self-2 c =
     let late : late_fault (last_at c.args.self.now.commits) c.args.at ≡ None = search rules in
     let once : repeat_from nat_eq [] 0 c.in_ok-numbers.numbers.items ≡ None = search rules in
     let room : length c.in_ok-numbers.numbers.items ≤ c.self.inside.limit - length c.self.inside.arena.touches = search rules in
-    let times : c.push.new.self.items ≡ c.self.inside.times.items ++ c.args.at ∷ [] = search rules in
+    let times : c.push_reserved.new.self.items ≡ c.self.inside.times.items ++ c.args.at ∷ [] = search rules in
     let numbers : c.as_slice-2.result.now ≡ c.in_ok-numbers.numbers.items = search rules in
     let are : AreNumbersOf c.reserve-2.new.self.tuples c.as_slice-2.result.now (tuple_values c.args.adds.now ++ tuple_values c.args.removes.now) = rw (c.reserve-2.ensures.tuples, numbers) c.in_ok-numbers.ensures.numbers in
     let pushed : c.push_commit.new.arena.touches ≡ c.self.inside.arena.touches ++ touches (record { at = c.args.at; adds = (tuple_values c.args.adds.now); removes = (tuple_values c.args.removes.now) }) =

@@ -2,7 +2,7 @@ use Rattle.std.proofs.Common.{◌≡◌, ◌∙◌, ap, List, subst, sym}
 use Rattle.std.specs.Prelude.{IfSome}
 use Rattle.tuple_text.specs.Order.{tuple_eq}
 use Rattle.version_chains.specs.Commits.{Changes, Touch, changelog}
-use Rattle.version_chains.specs.Placed.{last_place}
+use Rattle.marks.specs.Placed.{last_place}
 use Rattle.version_chains.specs.Touches.{touch_value}
 use Rattle.version_chains.proofs.chains.Chains.touch.Goals as goal
 

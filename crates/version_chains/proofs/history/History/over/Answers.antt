@@ -2,9 +2,9 @@ use Rattle.std.proofs.Common.{◌≡◌, ◌∙◌, ap, length}
 use Rattle.tuple_text.specs.Order.{tuple_eq}
 use Rattle.tuple_text.specs.Refs.{set_value, user_value}
 use Rattle.tuple_text.specs.Tuples.{TupleValue}
-use Rattle.version_chains.specs.Placed.{last_place}
+use Rattle.marks.specs.Placed.{last_place}
 use Rattle.version_chains.proofs.NewestLemmas.{history_start}
-use Rattle.version_chains.proofs.WalkLemmas.{linked_newest}
+use Rattle.marks.proofs.WalkLemmas.{linked_newest}
 use Rattle.version_chains.proofs.history.History.over.Goals as goal
 
 pub invariant_of-result : goal.invariant_of-result

@@ -2,9 +2,9 @@ use Rattle.std.proofs.Common.{◌≡◌, ◌∙◌, ◌∷◌, ◌-◌, ◌≤�
 use Rattle.tuple_text.specs.Order.{tuple_eq}
 use Rattle.version_chains.specs.Commits.{Touch}
 use Rattle.version_chains.specs.Given.{history_before}
-use Rattle.version_chains.specs.Placed.{IsLinkedPlace}
+use Rattle.marks.specs.Placed.{IsLinkedPlace}
 use Rattle.version_chains.proofs.NewestLemmas.{history_on, history_gives}
-use Rattle.version_chains.proofs.WalkLemmas.{linked_within}
+use Rattle.marks.proofs.WalkLemmas.{linked_within}
 use Rattle.version_chains.proofs.history.HistoryIterator.next.Goals as goal
 
 pub returns-in_err-touch-clause-steps : goal.returns-in_err-touch-clause-steps

@@ -1,7 +1,7 @@
 use Rattle.std.proofs.Common.{◌≡◌, ◌∙◌, ◌∷◌, ◌-◌, suc, sym, ap, subst, arith, rules}
 use Rattle.tuple_text.specs.Refs.{set_value}
 use Rattle.version_chains.specs.Given.{has_mark_of, users_before}
-use Rattle.version_chains.specs.Placed.{IsLinkedPlace}
+use Rattle.marks.specs.Placed.{IsLinkedPlace}
 use Rattle.version_chains.proofs.UserLemmas.{users_on, users_give, users_skip, users_smaller, user_at}
 use Rattle.version_chains.proofs.users.OfKindIterator.next.Goals as goal
 

@@ -1,7 +1,7 @@
 use Rattle.std.proofs.Common.{◌≡◌}
 use Rattle.tuple_text.specs.Refs.{set_value}
 use Rattle.version_chains.specs.Given.{users_before, has_mark_of}
-use Rattle.version_chains.specs.Placed.{IsLinkedPlace}
+use Rattle.marks.specs.Placed.{IsLinkedPlace}
 use Rattle.version_chains.proofs.users.OfKindIterator.next.Given as goal
 
 -- what is left to give stays

@@ -1,0 +1,4 @@
+pub mod Devices
+pub mod Given
+pub mod Moved
+pub mod Moves

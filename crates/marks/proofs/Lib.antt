@@ -1,0 +1,9 @@
+pub mod FindLemmas
+pub mod IndexLemmas
+pub mod LeftLemmas
+pub mod LinkLemmas
+pub mod PlacedLemmas
+pub mod SlotLemmas
+pub mod TableLemmas
+pub mod WalkLemmas
+pub mod WordLemmas

@@ -1,0 +1,7 @@
+use Rattle.marks.proofs.LinkLemmas.{newest_shown}
+use Rattle.marks.proofs.places.Places.newest.Goals as goal
+
+pub returns : goal.returns
+returns c =
+    newest_shown c.self.inside.links.items _ c.self.inside.newest _ c.args.mark _ c.self.invariant.0 c.self.view_is
+    c.deref.ensures.value c.newest.ensures

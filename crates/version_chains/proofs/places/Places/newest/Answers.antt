@@ -1,7 +1,0 @@
-use Rattle.version_chains.proofs.LinkLemmas.{newest_shown}
-use Rattle.version_chains.proofs.places.Places.newest.Goals as goal
-
-pub returns : goal.returns
-returns c =
-    newest_shown c.self.inside.links.items _ c.self.inside.newest _ c.args.mark _ c.self.invariant.0 c.self.view_is
-    c.deref.ensures.value c.newest.ensures

@@ -1,8 +1,0 @@
-use Rattle.std.proofs.Common.{rules, ◌≡◌, ◌∙◌, ap, length, sym}
-use Rattle.version_chains.proofs.SlotLemmas.{length-slots_of}
-use Rattle.version_chains.proofs.slots.Slots.len.Goals as goal
-
-pub returns : goal.returns
-returns c =
-    let tags : c.len.result ≡ length c.self.inside.tags.items = search rules in
-    tags ∙ sym (length-slots_of c.self.inside.tags.items c.self.inside.places.items c.self.invariant) ∙ ap length c.self.view_is

@@ -1,6 +1,0 @@
-use Rattle.std.proofs.Common.{◌≡◌, ◌-◌, ◌+◌}
-use Rattle.version_chains.specs.Links.{first_from, longest, probe_in, stops}
-use Rattle.version_chains.proofs.table.probe.Given as goal
-
-abbrev pub invariant-loop-step : goal.invariant-loop-step
-invariant-loop-step l = first_from (stops l.links l.mark) l.slots (longest - l.step) (l.start + l.step) ≡ probe_in longest l.links l.slots l.mark

@@ -1,7 +1,0 @@
-use Rattle.std.proofs.Common.{refl}
-use Rattle.std.specs.Hash.DefaultHasher.{with_keys}
-use Rattle.version_chains.proofs.words.WordHasher.keyed.Goals as goal
-
-pub returns : goal.returns
-unfolding with_keys
-returns c = refl
