@@ -13,7 +13,7 @@ use crate::numbers::Numbers;
 use crate::spans::Spans;
 use marks::MarkedSet;
 use namespaces::{RulePlace, Rules};
-use rewrites::{Part, PartedRule};
+use rewrites::{Part, PartedRule, Rewrite};
 use std::alloc::{AllocError, Global};
 use tuple_text::UserRef;
 use version_chains::{Chains, TouchRef};
@@ -241,10 +241,23 @@ pub(crate) struct Times {
     pub(crate) numbers: Vec<Numbers>,
 }
 
+fn reads_tupleset(part: &Part) -> bool {
+    match part {
+        Part::Leaf(
+            Rewrite::TupleTo {
+                tupleset: _,
+                computed: _,
+            },
+        ) => true,
+        Part::Leaf(_) => false,
+        Part::Through(_) => true,
+    }
+}
+
 /// Whether a rule reads through tuplesets what it asks by parts.
 fn reads_tuplesets(rule: &PartedRule) -> bool {
     for part in &rule.parts {
-        if let Part::Through(_) = part {
+        if reads_tupleset(part) {
             return true;
         }
     }
