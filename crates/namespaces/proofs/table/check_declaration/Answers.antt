@@ -26,8 +26,8 @@ relations full rs =
     (cond (list_any adding.is_too_deep rs) (Err TooDeep) (cond (adding.is_over_limits full rs) (Err TooMany) (Ok tt)))
 
 tested-steps : (repeated full : Bool) (new : Namespace)
-    → adding.check_declaration repeated full new ≡ (names repeated new >>= λ u. table new.relations >>= λ rs. relations full rs >>= λ v. Ok (record { name = new.name; relations = rs }))
-unfolding adding.check_declaration
+    → adding.tested repeated full new ≡ (names repeated new >>= λ u. table new.relations >>= λ rs. relations full rs >>= λ v. Ok (record { name = new.name; relations = rs }))
+unfolding adding.tested
 tested-steps repeated full new =
     let bad = not (is_name new.name && list_all adding.is_well_named new.relations) in
     let again = adding.has_repeats (relation_names new.relations) in
@@ -56,7 +56,7 @@ tested-steps repeated full new =
 
 -- the steps behind those of the names
 behind : (repeated full : Bool) (new : Namespace) → names repeated new ≡ Ok tt
-    → adding.check_declaration repeated full new ≡ (table new.relations >>= λ rs. relations full rs >>= λ v. Ok (record { name = new.name; relations = rs }))
+    → adding.tested repeated full new ≡ (table new.relations >>= λ rs. relations full rs >>= λ v. Ok (record { name = new.name; relations = rs }))
 behind repeated full new named = tested-steps repeated full new ∙ goes_on _ _ _ named
 
 pub returns-in_err-check_names : goal.returns-in_err-check_names
