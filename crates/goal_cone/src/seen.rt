@@ -1,25 +1,28 @@
 //! The facts that a search has seen.
 
-ghost use Rattle.std.specs.Prelude.{◌≡◌, ◌∷◌, ◌++◌, [], OnOk, OnErr, IsTrue, ◌↔◌, Contains, option_map, slice_get, length};
+ghost use Rattle.std.specs.Prelude.{◌≡◌, ◌∷◌, ◌++◌, [], None, Some, OnOk, OnErr, IfSome, IsTrue, ◌↔◌, Contains, map, option_map, slice_get, length};
 ghost use Rattle.tuple_text.specs.Refs.{set_value};
-ghost use Rattle.tuple_text.specs.Tuples.{fact_of};
+ghost use Rattle.tuple_text.specs.Tuples.{fact_of, fact_tuple};
+ghost use Rattle.version_chains.specs.Marks.{tuple_mark};
 
-use judgement::Known;
+use judgement::KnownFact;
 use std::alloc::{AllocError, Global};
 use std::marker::Model;
 use tuple_text::{Fact, SetRef};
+use version_chains::{MarkedSet, Places, fact_mark};
 
 /// The facts that were seen, which contracts see as the list of them in the order in which they came.
 #[derive(Drop)]
 pub(crate) struct Seen {
     facts: Vec<Fact>,
-    // the same facts, by an index
-    index: Known<Fact>,
+    // by which they are found
+    marks: Places,
 }
 
 impl Model for Seen {
-    ghost use Rattle.std.specs.Prelude.{List, ◌≡◌};
-    ghost use Rattle.tuple_text.specs.Tuples.{FactValue};
+    ghost use Rattle.std.specs.Prelude.{List, ◌≡◌, map};
+    ghost use Rattle.tuple_text.specs.Tuples.{FactValue, fact_tuple};
+    ghost use Rattle.version_chains.specs.Marks.{tuple_mark};
     ghost use Rattle.judgement.specs.KnownCode.{facts_code};
 
     ghost Value = { List FactValue };
@@ -28,7 +31,24 @@ impl Model for Seen {
 
     ghost view = { λ s. s.facts.items };
 
-    ghost invariant = { λ s. s.index.yes ≡ s.facts.items };
+    ghost invariant = { λ s. s.marks ≡ map tuple_mark (map fact_tuple s.facts.items) };
+}
+
+/// The place of the fact of a userset and a user id, among the places that its mark names.
+fn find(facts: &[Fact], marks: &Places, set: MarkedSet<'_>, user: u64) -> Option<usize>
+    requires { marks.now ≡ map tuple_mark (map fact_tuple facts.now) }
+    ensures there { IfSome result (λ i. slice_get facts.now i ≡ Some (fact_of (set_value set.entry.set) user)) }
+    ensures absent { result ≡ None → ¬ Contains facts.now (fact_of (set_value set.entry.set) user) }
+{
+    let mut place = marks.newest(fact_mark(set, user));
+    while place > 0 {
+        let number = place - 1;
+        if facts[number].is_of_marked(set, user) {
+            return Some(number);
+        }
+        place = marks.older(number);
+    }
+    None
 }
 
 impl Seen {
@@ -37,7 +57,7 @@ impl Seen {
     {
         Seen {
             facts: Vec::new(alloc),
-            index: Known::new(alloc),
+            marks: Places::new(alloc),
         }
     }
 
@@ -46,9 +66,9 @@ impl Seen {
         ensures ok { OnOk result (self.new ≡ self.old ++ fact ∷ []) }
         ensures err { OnErr result (self.new ≡ self.old) }
     {
-        let copy = fact.clone()?;
         self.facts.reserve(1)?;
-        self.index.add_yes(copy)?;
+        self.marks
+            .push(fact_mark(MarkedSet::of(fact.set()), fact.user()))?;
         if self.facts.push(fact).is_err() {
             unreachable!();
         }
@@ -59,7 +79,7 @@ impl Seen {
     pub(crate) fn has(&self, set: SetRef<'_>, user: u64) -> bool
         ensures { IsTrue result ↔ Contains self.now (fact_of (set_value set.entry) user) }
     {
-        self.index.yes(set, user)
+        find(&self.facts, &self.marks, MarkedSet::of(set), user).is_some()
     }
 
     pub(crate) fn len(&self) -> usize
@@ -78,7 +98,7 @@ impl Seen {
     pub(crate) fn into_facts(self) -> Vec<Fact>
         ensures { result.items ≡ self }
     {
-        let Seen { facts, index: _ } = self;
+        let Seen { facts, marks: _ } = self;
         facts
     }
 }
