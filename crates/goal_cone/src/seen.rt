@@ -3,13 +3,13 @@
 ghost use Rattle.std.specs.Prelude.{◌≡◌, ◌∷◌, ◌++◌, [], None, Some, OnOk, OnErr, IfSome, IsTrue, ◌↔◌, Contains, map, option_map, slice_get, length};
 ghost use Rattle.tuple_text.specs.Refs.{set_value};
 ghost use Rattle.tuple_text.specs.Tuples.{fact_of, fact_tuple};
-ghost use Rattle.version_chains.specs.Marks.{tuple_mark};
+ghost use Rattle.marks.specs.Marks.{tuple_mark};
 
 use judgement::KnownFact;
+use marks::{MarkedSet, Places, fact_mark};
 use std::alloc::{AllocError, Global};
 use std::marker::Model;
 use tuple_text::{Fact, SetRef};
-use version_chains::{MarkedSet, Places, fact_mark};
 
 /// The facts that were seen, which contracts see as the list of them in the order in which they came.
 #[derive(Drop)]
@@ -22,7 +22,7 @@ pub(crate) struct Seen {
 impl Model for Seen {
     ghost use Rattle.std.specs.Prelude.{List, ◌≡◌, map};
     ghost use Rattle.tuple_text.specs.Tuples.{FactValue, fact_tuple};
-    ghost use Rattle.version_chains.specs.Marks.{tuple_mark};
+    ghost use Rattle.marks.specs.Marks.{tuple_mark};
     ghost use Rattle.judgement.specs.KnownCode.{facts_code};
 
     ghost Value = { List FactValue };

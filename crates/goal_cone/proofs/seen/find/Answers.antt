@@ -5,9 +5,9 @@ use Rattle.std.proofs.lemmas.Option.{slice_get-map}
 use Rattle.tuple_text.specs.Refs.{set_value}
 use Rattle.tuple_text.specs.Tuples.{FactValue, fact_of, fact_tuple}
 use Rattle.tuple_text.proofs.ValueLemmas.{fact_eq-same}
-use Rattle.version_chains.specs.Placed.{last_place}
-use Rattle.version_chains.proofs.FindLemmas.{find_start, find_within, find_on, find_smaller, found_nowhere}
-use Rattle.version_chains.proofs.PlacedLemmas.{read_item}
+use Rattle.marks.specs.Placed.{last_place}
+use Rattle.marks.proofs.FindLemmas.{find_start, find_within, find_on, find_smaller, found_nowhere}
+use Rattle.marks.proofs.PlacedLemmas.{read_item}
 use Rattle.judgement.proofs.MarkedLemmas.{other_tuple, absent_fact}
 use Rattle.goal_cone.proofs.seen.find.Goals as goal
 

@@ -2,8 +2,8 @@ use Rattle.std.proofs.Common.{nat_eq, map}
 use Rattle.tuple_text.specs.Order.{tuple_eq}
 use Rattle.tuple_text.specs.Refs.{set_value}
 use Rattle.tuple_text.specs.Tuples.{fact_of, fact_tuple}
-use Rattle.version_chains.specs.Marks.{tuple_mark}
-use Rattle.version_chains.specs.Placed.{IsWalk}
+use Rattle.marks.specs.Marks.{tuple_mark}
+use Rattle.marks.specs.Placed.{IsWalk}
 use Rattle.goal_cone.proofs.seen.find.Given as goal
 
 abbrev pub invariant-loop-place : goal.invariant-loop-place
