@@ -11,7 +11,7 @@ ghost use Rattle.userset_index.specs.Numbers.{Has};
 use crate::life::Life;
 use crate::numbers::Numbers;
 use crate::spans::Spans;
-use namespaces::{Part, PartedRule, RulePlace, Rules};
+use namespaces::{Part, PartedRule, Rewrite, RulePlace, Rules};
 use std::alloc::{AllocError, Global};
 use tuple_text::UserRef;
 use version_chains::{Chains, MarkedSet, TouchRef};
@@ -239,10 +239,23 @@ pub(crate) struct Times {
     pub(crate) numbers: Vec<Numbers>,
 }
 
+fn reads_tupleset(part: &Part) -> bool {
+    match part {
+        Part::Leaf(
+            Rewrite::TupleTo {
+                tupleset: _,
+                computed: _,
+            },
+        ) => true,
+        Part::Leaf(_) => false,
+        Part::Through(_) => true,
+    }
+}
+
 /// Whether a rule reads through tuplesets what it asks by parts.
 fn reads_tuplesets(rule: &PartedRule) -> bool {
     for part in &rule.parts {
-        if let Part::Through(_) = part {
+        if reads_tupleset(part) {
             return true;
         }
     }
