@@ -7,12 +7,11 @@ use Rattle.tuple_text.specs.Tuples.{FactValue}
 use Rattle.rewrites.specs.Alike.{Leaves}
 use Rattle.rewrites.specs.Expression.{Expression, union, inter, minus}
 use Rattle.namespaces.specs.Lookup.{rule_at}
-use Rattle.rewrites.specs.Parts.{part_at}
 use Rattle.rewrites.specs.View.{children}
 use Rattle.version_chains.specs.Commits.{store_at}
 use Rattle.strata.proofs.Lists.{Contains-cons_cases}
 use Rattle.trace_lines.specs.Values.{TraceValue}
-use Rattle.judgement.specs.Asked.{does, Does, Agrees, AreRight, Follows, AreRightPaths, AsksMore, Tells, joined_of}
+use Rattle.judgement.specs.Asked.{Questions, asked_at, does, Does, Agrees, AreRight, Follows, AreRightPaths, AsksMore, Tells, joined_of}
 use Rattle.judgement.specs.Judgement.{KnownValue}
 use Rattle.judgement.specs.declared.answers.Asked.{Asked}
 use Rattle.judgement.specs.declared.paths.Path.{Path}
@@ -37,16 +36,16 @@ not_false false h = absurd (true≢false h)
 only_one : {X : Type 0} (a b : X) → Contains (a ∷ []) b → a ≡ b
 only_one a b there = elim (Contains-cons_cases a [] b there) [ inl is ↦ is | inr none ↦ absurd (omega (arith, none.1)) ]
 
-pub follows_later : (parts : List Expression) (old new : List Asked) (g : Bool) (e : Expression) (r : Bool) → AsksMore old new
-    → Follows parts old g e r → Follows parts new g e r
-follows_later parts old new g e r more h l agrees = h l (λ a there. agrees a (more a there))
+pub follows_later : (q : Questions) (old new : List Asked) (g : Bool) (e : Expression) (r : Bool) → AsksMore old new
+    → Follows q old g e r → Follows q new g e r
+follows_later q old new g e r more h l agrees = h l (λ a there. agrees a (more a there))
 
-pub one_path_more : (parts : List Expression) (e : Expression) (paths : List Path) (p : Path) → AreRightPaths parts e paths
-    → Follows parts p.asked.items p.is_given e p.answer → AreRightPaths parts e (paths ++ p ∷ [])
-one_path_more parts e paths p right follows q there =
-    elim (Contains-append_cases paths (p ∷ []) q there) [
-      | inl before ↦ right q before
-      | inr last ↦ subst (λ (x : Path). Follows parts x.asked.items x.is_given e x.answer) (only_one p q last) follows
+pub one_path_more : (q : Questions) (e : Expression) (paths : List Path) (p : Path) → AreRightPaths q e paths
+    → Follows q p.asked.items p.is_given e p.answer → AreRightPaths q e (paths ++ p ∷ [])
+one_path_more q e paths p right follows o there =
+    elim (Contains-append_cases paths (p ∷ []) o there) [
+      | inl before ↦ right o before
+      | inr last ↦ subst (λ (x : Path). Follows q x.asked.items x.is_given e x.answer) (only_one p o last) follows
     ]
 
 -- ---- the children of a node
@@ -55,14 +54,14 @@ abbrev joined_does : Bool → Bool → Bool → Bool
 joined_does true d rest = d || rest
 joined_does false d rest = d && rest
 
-joined_step : (l : Leaves) (stop g : Bool) (e : Expression) (es : List Expression)
+pub joined_step : (l : Leaves) (stop g : Bool) (e : Expression) (es : List Expression)
     → does l g (joined_of stop g (e ∷ es)) ≡ joined_does stop (does l g e) (does l g (joined_of stop g es))
 joined_step l true true e es = refl
 joined_step l true false e es = refl
 joined_step l false true e es = refl
 joined_step l false false e es = refl
 
-joined_none : (l : Leaves) (stop g : Bool) → does l g (joined_of stop g []) ≡ not stop
+pub joined_none : (l : Leaves) (stop g : Bool) → does l g (joined_of stop g []) ≡ not stop
 joined_none l true true = refl
 joined_none l true false = refl
 joined_none l false true = refl
@@ -72,7 +71,7 @@ stops : (stop rest : Bool) → joined_does stop stop rest ≡ stop
 stops true rest = refl
 stops false rest = refl
 
-goes_on : (stop d rest : Bool) → ¬ (d ≡ stop) → joined_does stop d rest ≡ rest
+pub goes_on : (stop d rest : Bool) → ¬ (d ≡ stop) → joined_does stop d rest ≡ rest
 goes_on true true rest h = absurd (h refl)
 goes_on true false rest h = refl
 goes_on false true rest h = refl
@@ -124,58 +123,58 @@ module _ (trace : TraceValue) (at : ℕ) (known : KnownValue) (f : FactValue) wh
   answer_is g e false false is h = refl
 
   -- where each answer is right, so is one that follows
-  pub right_then : (parts : List Expression) (asked : List Asked) (g : Bool) (e : Expression) (r : Bool) → AreRight trace at known f parts asked
-      → Follows parts asked g e r → (IsTrue r ↔ Does trace at known f g e)
-  right_then parts asked g e r right follows =
+  pub right_then : (q : Questions) (asked : List Asked) (g : Bool) (e : Expression) (r : Bool) → AreRight trace at known f q asked
+      → Follows q asked g e r → (IsTrue r ↔ Does trace at known f g e)
+  right_then q asked g e r right follows =
       let is : does leaves g e ≡ r =
-      follows leaves (λ a there. answer_is a.is_given (part_at parts a.part) (does leaves a.is_given (part_at parts a.part)) a.answer refl (right a there)) in
+      follows leaves (λ a there. answer_is a.is_given (asked_at q a.is_cover a.part) (does leaves a.is_given (asked_at q a.is_cover a.part)) a.answer refl (right a there)) in
       (λ t. does_then g e (is ∙ t), λ d. sym is ∙ then_does g e d)
 
   -- ---- one question
 
-  pub tells_found : (parts : List Expression) (asked : List Asked) (a : Asked) → Contains asked a
-      → Tells trace at known f parts asked asked a.is_given (part_at parts a.part) a.answer
-  tells_found parts asked a there = record {
+  pub tells_found : (q : Questions) (asked : List Asked) (a : Asked) → Contains asked a
+      → Tells trace at known f q asked asked a.is_given (asked_at q a.is_cover a.part) a.answer
+  tells_found q asked a there = record {
     more = λ b c. c;
     right = λ r. r;
     follows = λ l agrees. agrees a there;
   }
 
-  one_more : (parts : List Expression) (old : List Asked) (a : Asked) → (IsTrue a.answer ↔ Does trace at known f a.is_given (part_at parts a.part))
-      → AreRight trace at known f parts old → AreRight trace at known f parts (old ++ a ∷ [])
-  one_more parts old a is right b there =
+  one_more : (q : Questions) (old : List Asked) (a : Asked) → (IsTrue a.answer ↔ Does trace at known f a.is_given (asked_at q a.is_cover a.part))
+      → AreRight trace at known f q old → AreRight trace at known f q (old ++ a ∷ [])
+  one_more q old a is right b there =
       elim (Contains-append_cases old (a ∷ []) b there) [
         | inl before ↦ right b before
-        | inr last ↦ subst (λ (x : Asked). IsTrue x.answer ↔ Does trace at known f x.is_given (part_at parts x.part)) (only_one a b last) is
+        | inr last ↦ subst (λ (x : Asked). IsTrue x.answer ↔ Does trace at known f x.is_given (asked_at q x.is_cover x.part)) (only_one a b last) is
       ]
 
-  pub tells_noted : (parts : List Expression) (old : List Asked) (a : Asked) → (IsTrue a.answer ↔ Does trace at known f a.is_given (part_at parts a.part))
-      → Tells trace at known f parts old (old ++ a ∷ []) a.is_given (part_at parts a.part) a.answer
-  tells_noted parts old a is = record {
+  pub tells_noted : (q : Questions) (old : List Asked) (a : Asked) → (IsTrue a.answer ↔ Does trace at known f a.is_given (asked_at q a.is_cover a.part))
+      → Tells trace at known f q old (old ++ a ∷ []) a.is_given (asked_at q a.is_cover a.part) a.answer
+  tells_noted q old a is = record {
     more = λ b c. Contains-append_left old (a ∷ []) b c;
-    right = one_more parts old a is;
+    right = one_more q old a is;
     follows = λ l agrees. agrees a (Contains-append_right old (a ∷ []) a (0, omega arith, refl));
   }
 
   -- nothing more is asked where what was asked decides
-  pub tells_at_once : (parts : List Expression) (asked : List Asked) (g : Bool) (e : Expression) (r : Bool) → Follows parts asked g e r
-      → Tells trace at known f parts asked asked g e r
-  tells_at_once parts asked g e r follows = record { more = λ b c. c; right = λ h. h; follows = follows }
+  pub tells_at_once : (q : Questions) (asked : List Asked) (g : Bool) (e : Expression) (r : Bool) → Follows q asked g e r
+      → Tells trace at known f q asked asked g e r
+  tells_at_once q asked g e r follows = record { more = λ b c. c; right = λ h. h; follows = follows }
 
   -- ---- nodes, one after the other: what is left decides
 
-  pub record IsLeft (parts : List Expression) (old new : List Asked) (g : Bool) (whole left : Expression) : Type 0 where
+  pub record IsLeft (q : Questions) (old new : List Asked) (g : Bool) (whole left : Expression) : Type 0 where
     pub more : AsksMore old new
-    pub right : AreRight trace at known f parts old → AreRight trace at known f parts new
-    pub same : (l : Leaves) → Agrees l parts new → does l g whole ≡ does l g left
+    pub right : AreRight trace at known f q old → AreRight trace at known f q new
+    pub same : (l : Leaves) → Agrees l q new → does l g whole ≡ does l g left
 
-  pub left_first : (parts : List Expression) (asked : List Asked) (g : Bool) (whole : Expression) → IsLeft parts asked asked g whole whole
-  left_first parts asked g whole = record { more = λ b c. c; right = λ r. r; same = λ l agrees. refl }
+  pub left_first : (q : Questions) (asked : List Asked) (g : Bool) (whole : Expression) → IsLeft q asked asked g whole whole
+  left_first q asked g whole = record { more = λ b c. c; right = λ r. r; same = λ l agrees. refl }
 
-  pub left_step : (parts : List Expression) (old now new : List Asked) (stop g : Bool) (whole e : Expression) (es : List Expression) (d : Bool)
-      → IsLeft parts old now g whole (joined_of stop g (e ∷ es)) → Tells trace at known f parts now new g e d → ¬ (d ≡ stop)
-      → IsLeft parts old new g whole (joined_of stop g es)
-  left_step parts old now new stop g whole e es d left tells other = record {
+  pub left_step : (q : Questions) (old now new : List Asked) (stop g : Bool) (whole e : Expression) (es : List Expression) (d : Bool)
+      → IsLeft q old now g whole (joined_of stop g (e ∷ es)) → Tells trace at known f q now new g e d → ¬ (d ≡ stop)
+      → IsLeft q old new g whole (joined_of stop g es)
+  left_step q old now new stop g whole e es d left tells other = record {
     more = λ b c. tells.more b (left.more b c);
     right = λ r. tells.right (left.right r);
     same = λ l agrees.
@@ -184,10 +183,10 @@ module _ (trace : TraceValue) (at : ℕ) (known : KnownValue) (f : FactValue) wh
         ∙ goes_on stop (does l g e) (does l g (joined_of stop g es)) (subst (λ x. ¬ (x ≡ stop)) (sym (tells.follows l agrees)) other);
   }
 
-  pub left_stops : (parts : List Expression) (old now new : List Asked) (stop g : Bool) (whole e : Expression) (es : List Expression) (d : Bool)
-      → IsLeft parts old now g whole (joined_of stop g (e ∷ es)) → Tells trace at known f parts now new g e d → d ≡ stop
-      → Tells trace at known f parts old new g whole stop
-  left_stops parts old now new stop g whole e es d left tells is = record {
+  pub left_stops : (q : Questions) (old now new : List Asked) (stop g : Bool) (whole e : Expression) (es : List Expression) (d : Bool)
+      → IsLeft q old now g whole (joined_of stop g (e ∷ es)) → Tells trace at known f q now new g e d → d ≡ stop
+      → Tells trace at known f q old new g whole stop
+  left_stops q old now new stop g whole e es d left tells is = record {
     more = λ b c. tells.more b (left.more b c);
     right = λ r. tells.right (left.right r);
     follows = λ l agrees.
@@ -197,17 +196,17 @@ module _ (trace : TraceValue) (at : ℕ) (known : KnownValue) (f : FactValue) wh
         (stops stop (does l g (joined_of stop g es)));
   }
 
-  pub left_ends : (parts : List Expression) (old new : List Asked) (stop g : Bool) (whole : Expression)
-      → IsLeft parts old new g whole (joined_of stop g []) → Tells trace at known f parts old new g whole (not stop)
-  left_ends parts old new stop g whole left = record {
+  pub left_ends : (q : Questions) (old new : List Asked) (stop g : Bool) (whole : Expression)
+      → IsLeft q old new g whole (joined_of stop g []) → Tells trace at known f q old new g whole (not stop)
+  left_ends q old new stop g whole left = record {
     more = left.more;
     right = left.right;
     follows = λ l agrees. left.same l agrees ∙ joined_none l stop g;
   }
 
-  pub tells_as : (parts : List Expression) (old new : List Asked) (g : Bool) (e e' : Expression) (r : Bool) → e ≡ e'
-      → Tells trace at known f parts old new g e' r → Tells trace at known f parts old new g e r
-  tells_as parts old new g e e' r is tells = rw is tells
+  pub tells_as : (q : Questions) (old new : List Asked) (g : Bool) (e e' : Expression) (r : Bool) → e ≡ e'
+      → Tells trace at known f q old new g e' r → Tells trace at known f q old new g e r
+  tells_as q old new g e e' r is tells = rw is tells
 
   -- ---- a difference
 
@@ -223,18 +222,18 @@ module _ (trace : TraceValue) (at : ℕ) (known : KnownValue) (f : FactValue) wh
   minus_goes_on l false a b true is same = cc
   minus_goes_on l false a b false is same = rw is refl
 
-  pub tells_minus_at_once : (parts : List Expression) (old new : List Asked) (g : Bool) (a b : Expression) (d : Bool)
-      → Tells trace at known f parts old new g a d → ¬ (d ≡ g) → Tells trace at known f parts old new g (minus a b) d
-  tells_minus_at_once parts old new g a b d tells other = record {
+  pub tells_minus_at_once : (q : Questions) (old new : List Asked) (g : Bool) (a b : Expression) (d : Bool)
+      → Tells trace at known f q old new g a d → ¬ (d ≡ g) → Tells trace at known f q old new g (minus a b) d
+  tells_minus_at_once q old new g a b d tells other = record {
     more = tells.more;
     right = tells.right;
     follows = λ l agrees. minus_stops l g a b d (tells.follows l agrees) other;
   }
 
-  pub tells_minus : (parts : List Expression) (old now new : List Asked) (g : Bool) (a b : Expression) (d r : Bool)
-      → Tells trace at known f parts old now g a d → d ≡ g → Tells trace at known f parts now new (not g) b r
-      → Tells trace at known f parts old new g (minus a b) r
-  tells_minus parts old now new g a b d r first same second = record {
+  pub tells_minus : (q : Questions) (old now new : List Asked) (g : Bool) (a b : Expression) (d r : Bool)
+      → Tells trace at known f q old now g a d → d ≡ g → Tells trace at known f q now new (not g) b r
+      → Tells trace at known f q old new g (minus a b) r
+  tells_minus q old now new g a b d r first same second = record {
     more = λ x c. second.more x (first.more x c);
     right = λ h. second.right (first.right h);
     follows = λ l agrees.

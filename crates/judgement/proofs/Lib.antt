@@ -1,5 +1,6 @@
 pub mod AlikeLemmas
 pub mod AskedLemmas
+pub mod CoverLemmas
 pub mod DeclaringLemmas
 pub mod IndexLemmas
 pub mod LedLemmas

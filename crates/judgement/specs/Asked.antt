@@ -1,5 +1,7 @@
 -- What was asked of the parts of a rule, and what follows for the rule.
-use Rattle.std.specs.Prelude.{◌≡◌, ℕ, Bool, true, false, ◌↔◌, IsTrue, List, Contains}
+use Rattle.std.specs.Prelude.{◌≡◌, ℕ, Bool, true, false, not, if◌then◌else◌, ◌↔◌, IsTrue, List, Option, Some, slice_get, Contains}
+use Rattle.std.specs.declared.alloc.Global.{Global}
+use Rattle.std.specs.declared.vec.Vec.{Vec}
 use Rattle.tuple_text.specs.Tuples.{FactValue}
 use Rattle.rewrites.specs.Alike.{Leaves, gives, bars}
 use Rattle.rewrites.specs.Expression.{Expression, union, inter}
@@ -12,10 +14,15 @@ use Rattle.judgement.specs.Judgement.{KnownValue, Established, Refuted}
 use Rattle.judgement.specs.declared.answers.Asked.{Asked}
 use Rattle.judgement.specs.declared.paths.Path.{Path}
 
--- the parts of a rule, and the trace over which they are asked
+-- what may be asked for: the parts of a rule, and the covers, each of which stands for many parts
+pub record Questions : Type 0 where
+  pub parts : List Expression
+  pub covers : List Expression
+
+-- the questions of a rule, and the trace over which they are asked
 pub record PartsValue : Type 0 where
   pub trace : TraceValue
-  pub parts : List Expression
+  pub questions : Questions
 
 -- a rule, and the trace over which it is asked
 pub record RuleValue : Type 0 where
@@ -32,32 +39,36 @@ abbrev pub Does : TraceValue → ℕ → KnownValue → FactValue → Bool → E
 Does trace at known f true e = Established (rule_at trace.declarations at) (store_at trace.commits at) known f e
 Does trace at known f false e = Refuted (rule_at trace.declarations at) (store_at trace.commits at) known f e
 
+-- what is asked for by a number
+abbrev pub asked_at : Questions → Bool → ℕ → Expression
+asked_at q is_cover part = part_at (if is_cover then q.covers else q.parts) part
+
 -- the leaves do what was answered
-abbrev pub Agrees : Leaves → List Expression → List Asked → Type 0
-Agrees l parts asked = (a : Asked) → Contains asked a → does l a.is_given (part_at parts a.part) ≡ a.answer
+abbrev pub Agrees : Leaves → Questions → List Asked → Type 0
+Agrees l q asked = (a : Asked) → Contains asked a → does l a.is_given (asked_at q a.is_cover a.part) ≡ a.answer
 
 -- each answer is right, of a fact and by what is known
-abbrev pub AreRight : TraceValue → ℕ → KnownValue → FactValue → List Expression → List Asked → Type 0
-AreRight trace at known f parts asked =
-    (a : Asked) → Contains asked a → (IsTrue a.answer ↔ Does trace at known f a.is_given (part_at parts a.part))
+abbrev pub AreRight : TraceValue → ℕ → KnownValue → FactValue → Questions → List Asked → Type 0
+AreRight trace at known f q asked =
+    (a : Asked) → Contains asked a → (IsTrue a.answer ↔ Does trace at known f a.is_given (asked_at q a.is_cover a.part))
 
 -- an answer follows for an expression from what was asked, whatever else its leaves do
-abbrev pub Follows : List Expression → List Asked → Bool → Expression → Bool → Type 0
-Follows parts asked is_given e answer = (l : Leaves) → Agrees l parts asked → does l is_given e ≡ answer
+abbrev pub Follows : Questions → List Asked → Bool → Expression → Bool → Type 0
+Follows q asked is_given e answer = (l : Leaves) → Agrees l q asked → does l is_given e ≡ answer
 
 -- more was asked
 abbrev pub AsksMore : List Asked → List Asked → Type 0
 AsksMore old new = (a : Asked) → Contains old a → Contains new a
 
 -- the answer of a path follows from what was asked on it
-abbrev pub AreRightPaths : List Expression → Expression → List Path → Type 0
-AreRightPaths parts e paths = (p : Path) → Contains paths p → Follows parts p.asked.items p.is_given e p.answer
+abbrev pub AreRightPaths : Questions → Expression → List Path → Type 0
+AreRightPaths q e paths = (p : Path) → Contains paths p → Follows q p.asked.items p.is_given e p.answer
 
 -- more was asked, each answer is right, and an answer follows for an expression
-pub record Tells (trace : TraceValue) (at : ℕ) (known : KnownValue) (f : FactValue) (parts : List Expression) (old new : List Asked) (is_given : Bool) (e : Expression) (answer : Bool) : Type 0 where
+pub record Tells (trace : TraceValue) (at : ℕ) (known : KnownValue) (f : FactValue) (q : Questions) (old new : List Asked) (is_given : Bool) (e : Expression) (answer : Bool) : Type 0 where
   pub more : AsksMore old new
-  pub right : AreRight trace at known f parts old → AreRight trace at known f parts new
-  pub follows : Follows parts new is_given e answer
+  pub right : AreRight trace at known f q old → AreRight trace at known f q new
+  pub follows : Follows q new is_given e answer
 
 -- an expression that gives a fact, or rules it out, where some of others does (`stop` is true), or where each of them does
 abbrev pub joined_of : Bool → Bool → List Expression → Expression
@@ -65,3 +76,16 @@ joined_of true true es = union (children es)
 joined_of true false es = inter (children es)
 joined_of false true es = inter (children es)
 joined_of false false es = union (children es)
+
+-- where a cover has no answer that helps, its part has none: what a cover does not give, its part does not; what it rules out, its part does
+abbrev pub IsCoveredBy : Expression → Expression → Type 0
+IsCoveredBy e cover = (l : Leaves) (is_given : Bool) → does l is_given cover ≡ not is_given → does l is_given e ≡ not is_given
+
+-- these are numbers of its covers
+abbrev pub AreCovers : List Expression → Expression → List ℕ → Type 0
+AreCovers covers e numbers = (k : ℕ) → Contains numbers k → IsCoveredBy e (part_at covers k)
+
+-- so it is of each part
+abbrev pub AreCoversByPart : Questions → List (Vec ℕ Global) → Type 0
+AreCoversByPart q numbers =
+    (k : ℕ) (one : Vec ℕ Global) → slice_get numbers k ≡ Some one → AreCovers q.covers (part_at q.parts k) one.items

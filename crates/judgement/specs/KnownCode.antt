@@ -19,8 +19,9 @@ known_code =
 
 abbrev pub parts_code : Coded PartsValue
 parts_code =
-    code_by (TraceValue × List Expression) (coded× trace_code (coded_list expression_code))
-    (λ p. (p.trace, p.parts)) (λ p. record { trace = p.0; parts = p.1 }) (λ _. refl)
+    code_by (TraceValue × (List Expression × List Expression)) (coded× trace_code (coded× (coded_list expression_code) (coded_list expression_code)))
+    (λ p. (p.trace, (p.questions.parts, p.questions.covers)))
+    (λ p. record { trace = p.0; questions = record { parts = p.1.0; covers = p.1.1 } }) (λ _. refl)
 
 abbrev pub rule_code : Coded RuleValue
 rule_code =

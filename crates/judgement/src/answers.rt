@@ -6,10 +6,11 @@ ghost use Rattle.judgement.specs.Asked.{AsksMore};
 use std::alloc::{AllocError, Global};
 use std::marker::Model;
 
-/// Whether a part gives a fact, or whether it rules the fact out, and the answer.
+/// Whether a part or a cover, by its number, gives a fact, or whether it rules the fact out, and the answer.
 #[derive(Clone, Copy)]
 pub(crate) struct Asked {
     pub(crate) part: usize,
+    pub(crate) is_cover: bool,
     pub(crate) is_given: bool,
     pub(crate) answer: bool,
 }
@@ -21,6 +22,13 @@ pub(crate) struct Asked {
 #[derive(Drop)]
 pub(crate) struct Answers {
     asked: Vec<Asked>,
+    parts: Places,
+    covers: Places,
+}
+
+/// By the numbers of parts, or of covers, where the answers may be found of what is given, and of what is ruled out.
+#[derive(Drop)]
+struct Places {
     given: Vec<usize>,
     barred: Vec<usize>,
 }
@@ -34,32 +42,55 @@ impl Model for Answers {
     ghost view = { λ s. s.asked.items };
 }
 
+fn places_for(alloc: Global, count: usize) -> Result<Places, AllocError> {
+    Ok(Places {
+        given: vec![in alloc; 0usize; count]?,
+        barred: vec![in alloc; 0usize; count]?,
+    })
+}
+
 fn set_place(places: &mut Vec<usize>, part: usize, place: usize) {
     if part < places.len() {
         places[part] = place;
     }
 }
 
+impl Places {
+    fn at(&self, part: usize, is_given: bool) -> Option<usize> {
+        let places = if is_given { &self.given } else { &self.barred };
+        places.get(part).copied()
+    }
+
+    fn set(&mut self, part: usize, is_given: bool, place: usize) {
+        if is_given {
+            set_place(&mut self.given, part, place);
+        } else {
+            set_place(&mut self.barred, part, place);
+        }
+    }
+}
+
 impl Answers {
-    /// Nothing was asked, and there is room for the answers of so many parts.
-    pub(crate) fn new(alloc: Global, parts: usize) -> Result<Answers, AllocError>
+    /// Nothing was asked, and there is room for the answers of so many parts and covers.
+    pub(crate) fn new(alloc: Global, parts: usize, covers: usize) -> Result<Answers, AllocError>
         ensures { IfOk result (λ s. s ≡ []) }
     {
         Ok(Answers {
             asked: Vec::new(alloc),
-            given: vec![in alloc; 0usize; parts]?,
-            barred: vec![in alloc; 0usize; parts]?,
+            parts: places_for(alloc, parts)?,
+            covers: places_for(alloc, covers)?,
         })
     }
 
     /// The answer, where it was asked for.
-    pub(crate) fn find(&self, part: usize, is_given: bool) -> Option<bool>
-        ensures { IfSome result (λ answer. Contains self.now (record { part = part; is_given = is_given; answer = answer })) }
+    pub(crate) fn find(&self, part: usize, is_cover: bool, is_given: bool) -> Option<bool>
+        ensures { IfSome result (λ answer. Contains self.now
+            (record { part = part; is_cover = is_cover; is_given = is_given; answer = answer })) }
     {
-        let places = if is_given { &self.given } else { &self.barred };
-        let place = places.get(part).copied()?;
+        let places = if is_cover { &self.covers } else { &self.parts };
+        let place = places.at(part, is_given)?;
         let asked = self.asked.get(place).copied()?;
-        if asked.part == part && asked.is_given == is_given {
+        if asked.part == part && asked.is_cover == is_cover && asked.is_given == is_given {
             Some(asked.answer)
         } else {
             None
@@ -72,10 +103,10 @@ impl Answers {
     {
         let place = self.asked.len();
         self.asked.push(asked)?;
-        if asked.is_given {
-            set_place(&mut self.given, asked.part, place);
+        if asked.is_cover {
+            self.covers.set(asked.part, asked.is_given, place);
         } else {
-            set_place(&mut self.barred, asked.part, place);
+            self.parts.set(asked.part, asked.is_given, place);
         }
         Ok(())
     }
@@ -85,7 +116,7 @@ impl Answers {
         ensures { IsTrue result → AsksMore asked.now self.now }
     {
         for one in asked {
-            let Some(answer) = self.find(one.part, one.is_given) else {
+            let Some(answer) = self.find(one.part, one.is_cover, one.is_given) else {
                 return false;
             };
             if answer != one.answer {

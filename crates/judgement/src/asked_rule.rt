@@ -19,7 +19,7 @@ use trace_lines::Trace;
 
 /// A rule that many facts are asked for, one after the other. Contracts see its expression.
 ///
-/// Each part is asked for once for a fact, first those that were asked for facts before, in their order, as far as the answers are those of
+/// Each part is asked for once for a fact, where no cover answers for it, first those that were asked for facts before, in their order, as far as the answers are those of
 /// one of them. Where all of its answers are, the rule's answer is that fact's, and nothing else is asked.
 #[derive(Drop)]
 pub struct AskedRule<'r> {
@@ -41,8 +41,8 @@ impl<'r> Model for AskedRule<'r> {
 
     ghost view = { λ r. record { trace = r.parts.trace; expression = rule_shown r.rule.now } };
 
-    ghost invariant = { λ r. (r.parts.parts ≡ parts_shown r.rule.now.parts.items)
-        × AreRightPaths (parts_shown r.rule.now.parts.items) (rule_shown r.rule.now) r.paths };
+    ghost invariant = { λ r. (r.parts.questions.parts ≡ parts_shown r.rule.now.parts.items)
+        × AreRightPaths r.parts.questions (rule_shown r.rule.now) r.paths };
 }
 
 /// How many places some nodes have.
@@ -78,15 +78,15 @@ fn ask_again<F: KnownFact>(
     answers: &mut Answers,
 ) -> Result<Reached, AllocError>
     ensures same { parts.new ≡ parts.old }
-    ensures right { IfOk result (λ _. AreRight parts.old.trace at known.now (fact_of (set_value set.entry.set) user) parts.old.parts answers.old
-        → AreRight parts.old.trace at known.now (fact_of (set_value set.entry.set) user) parts.old.parts answers.new) }
+    ensures right { IfOk result (λ _. AreRight parts.old.trace at known.now (fact_of (set_value set.entry.set) user) parts.old.questions answers.old
+        → AreRight parts.old.trace at known.now (fact_of (set_value set.entry.set) user) parts.old.questions answers.new) }
 {
     let mut reached = paths.first(is_given);
     for _ in 0..paths.most() {
-        let Some((part, gives)) = paths.question(reached) else {
+        let Some((part, is_cover, gives)) = paths.question(reached) else {
             return Ok(reached);
         };
-        let answer = parts.ask(part, gives, set, user, at, known, answers)?;
+        let answer = parts.ask_once(part, is_cover, gives, set, user, at, known, answers)?;
         reached = paths.after(reached, answer);
     }
     Ok(reached)
@@ -101,10 +101,12 @@ impl<'r> AskedRule<'r> {
     ) -> Result<AskedRule<'r>, AllocError>
         ensures { IfOk result (λ r. r ≡ record { trace = trace.now; expression = rule_shown rule.now }) }
     {
+        let parts = Parts::of(alloc, trace, &rule.parts)?;
+        let covers = parts.covers();
         Ok(AskedRule {
             rule,
-            parts: Parts::of(alloc, trace, &rule.parts)?,
-            answers: Answers::new(alloc, rule.parts.len())?,
+            parts,
+            answers: Answers::new(alloc, rule.parts.len(), covers)?,
             paths: Paths::new(alloc, places_below(&rule.top)),
         })
     }

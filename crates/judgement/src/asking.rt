@@ -1,16 +1,16 @@
 //! Rules that are judged by their parts, each of which is asked for once for a fact.
 
-ghost use Rattle.std.specs.Prelude.{◌≡◌, ◌↔◌, IsTrue, List, IfOk};
+ghost use Rattle.std.specs.Prelude.{◌≡◌, ◌↔◌, IsTrue, true, not, IfOk, IfSome};
 ghost use Rattle.tuple_text.specs.Refs.{set_value};
 ghost use Rattle.tuple_text.specs.Tuples.{fact_of};
-ghost use Rattle.rewrites.specs.Expression.{Expression};
 ghost use Rattle.rewrites.specs.Parts.{part_at, parts_shown, node_expression, nodes_shown};
 ghost use Rattle.rewrites.specs.View.{expression_of};
 ghost use Rattle.trace_lines.specs.Values.{TraceValue};
-ghost use Rattle.judgement.specs.Asked.{Does, Follows, Tells, joined_of};
+ghost use Rattle.judgement.specs.Asked.{AreRight, AsksMore, Does, Follows, IsCoveredBy, Questions, Tells, asked_at, joined_of};
 ghost use Rattle.judgement.specs.Declaring.{AreKeptByPart};
 
 use crate::answers::{Answers, Asked};
+use crate::covers::{Covers, MOST_COVERS, covers_of};
 use crate::fact::KnownFact;
 use crate::kept::{Kept, through_bars};
 use crate::known::Known;
@@ -22,7 +22,7 @@ use std::alloc::{AllocError, Global};
 use std::marker::Model;
 use trace_lines::Trace;
 
-/// The parts of a rule, asked for facts over a trace, as contracts see them.
+/// The parts of a rule and their covers, asked for facts over a trace, as contracts see them.
 #[derive(Drop)]
 pub(crate) struct Parts<'r> {
     alloc: Global,
@@ -30,11 +30,14 @@ pub(crate) struct Parts<'r> {
     parts: &'r [Part],
     // of each part by its number
     kept: Vec<Option<Box<Kept>>>,
+    covers: Covers,
+    // of each cover by its number
+    covers_kept: Vec<Option<Box<Kept>>>,
 }
 
 impl<'r> Model for Parts<'r> {
     ghost use Rattle.rewrites.specs.Parts.{parts_shown};
-    ghost use Rattle.judgement.specs.Asked.{PartsValue};
+    ghost use Rattle.judgement.specs.Asked.{AreCoversByPart, PartsValue};
     ghost use Rattle.judgement.specs.Declaring.{AreKeptByPart};
     ghost use Rattle.judgement.specs.KnownCode.{parts_code};
 
@@ -42,9 +45,14 @@ impl<'r> Model for Parts<'r> {
 
     ghost coded = { parts_code };
 
-    ghost view = { λ p. record { trace = p.trace.now; parts = parts_shown p.parts.now } };
+    ghost view = { λ p. record {
+      trace = p.trace.now;
+      questions = record { parts = parts_shown p.parts.now; covers = parts_shown p.covers.covers.items };
+    } };
 
-    ghost invariant = { λ p. AreKeptByPart p.trace.now p.parts.now p.kept.items };
+    ghost invariant = { λ p. AreKeptByPart p.trace.now p.parts.now p.kept.items
+        × AreKeptByPart p.trace.now p.covers.covers.items p.covers_kept.items
+        × AreCoversByPart (record { parts = parts_shown p.parts.now; covers = parts_shown p.covers.covers.items }) p.covers.by_part.items };
 }
 
 /// Whether a part without children gives a fact, or whether it rules the fact out.
@@ -76,26 +84,74 @@ fn nothing_kept(alloc: Global, parts: &[Part]) -> Result<Vec<Option<Box<Kept>>>,
     Ok(kept)
 }
 
+/// Whether the part of a number gives a fact, or whether it rules the fact out. Where there is no such part, it is as a union of nothing.
+fn part_does<F: KnownFact>(
+    alloc: Global,
+    trace: &Trace,
+    parts: &[Part],
+    kept: &mut Vec<Option<Box<Kept>>>,
+    part: usize,
+    is_given: bool,
+    set: MarkedSet<'_>,
+    user: u64,
+    at: u64,
+    known: &Known<F>,
+) -> Result<bool, AllocError>
+    requires { AreKeptByPart trace.now parts.now kept.old.items }
+    ensures kept { AreKeptByPart trace.now parts.now kept.new.items }
+    ensures does { IfOk result (λ r. IsTrue r
+        ↔ Does trace.now at known.now (fact_of (set_value set.entry.set) user) is_given (part_at (parts_shown parts.now) part)) }
+{
+    match parts.get(part) {
+        Some(Part::Leaf(leaf)) => Ok(leaf_does(leaf, is_given, set, user, trace, at, known)),
+        Some(Part::Through(through)) => {
+            if is_given {
+                return Ok(through_gives(through, set, user, trace, at, known));
+            }
+            through_bars(alloc, through, set, user, trace, at, known, &mut kept[part])
+        }
+        None => Ok(!is_given),
+    }
+}
+
 impl<'r> Parts<'r> {
     pub(crate) fn of(
         alloc: Global,
         trace: &'r Trace,
         parts: &'r [Part],
     ) -> Result<Parts<'r>, AllocError>
-        ensures { IfOk result (λ p. p ≡ record { trace = trace.now; parts = parts_shown parts.now }) }
+        ensures trace { IfOk result (λ p. p.trace ≡ trace.now) }
+        ensures parts { IfOk result (λ p. p.questions.parts ≡ parts_shown parts.now) }
     {
+        let covers = covers_of(alloc, parts)?;
+        let covers_kept = nothing_kept(alloc, &covers.covers)?;
         Ok(Parts {
             alloc,
             trace,
             parts,
             kept: nothing_kept(alloc, parts)?,
+            covers,
+            covers_kept,
         })
     }
 
-    /// Whether the part of a number gives a fact, or whether it rules the fact out. Where there is no such part, it is as a union of nothing.
+    /// How many covers there are.
+    pub(crate) fn covers(&self) -> usize {
+        self.covers.covers.len()
+    }
+
+    /// One of the covers of a part, from the widest on.
+    fn cover(&self, part: usize, k: usize) -> Option<usize>
+        ensures { IfSome result (λ cover. IsCoveredBy (part_at self.now.questions.parts part) (part_at self.now.questions.covers cover)) }
+    {
+        self.covers.by_part.get(part)?.get(k).copied()
+    }
+
+    /// Whether the part or the cover of a number gives a fact, or whether it rules the fact out.
     fn does<F: KnownFact>(
         &mut self,
         part: usize,
+        is_cover: bool,
         is_given: bool,
         set: MarkedSet<'_>,
         user: u64,
@@ -104,34 +160,27 @@ impl<'r> Parts<'r> {
     ) -> Result<bool, AllocError>
         ensures same { self.new ≡ self.old }
         ensures does { IfOk result (λ r. IsTrue r
-            ↔ Does self.old.trace at known.now (fact_of (set_value set.entry.set) user) is_given (part_at self.old.parts part)) }
+            ↔ Does self.old.trace at known.now (fact_of (set_value set.entry.set) user) is_given (asked_at self.old.questions is_cover part)) }
     {
-        let (trace, parts) = (self.trace, self.parts);
-        match parts.get(part) {
-            Some(Part::Leaf(leaf)) => Ok(leaf_does(leaf, is_given, set, user, trace, at, known)),
-            Some(Part::Through(through)) => {
-                if is_given {
-                    return Ok(through_gives(through, set, user, trace, at, known));
-                }
-                through_bars(
-                    self.alloc,
-                    through,
-                    set,
-                    user,
-                    trace,
-                    at,
-                    known,
-                    &mut self.kept[part],
-                )
-            }
-            None => Ok(!is_given),
+        let (alloc, trace) = (self.alloc, self.trace);
+        if is_cover {
+            let covers = &self.covers.covers;
+            let kept = &mut self.covers_kept;
+            return part_does(
+                alloc, trace, covers, kept, part, is_given, set, user, at, known,
+            );
         }
+        let kept = &mut self.kept;
+        part_does(
+            alloc, trace, self.parts, kept, part, is_given, set, user, at, known,
+        )
     }
 
     /// The same, asked for once.
-    pub(crate) fn ask<F: KnownFact>(
+    pub(crate) fn ask_once<F: KnownFact>(
         &mut self,
         part: usize,
+        is_cover: bool,
         is_given: bool,
         set: MarkedSet<'_>,
         user: u64,
@@ -140,15 +189,16 @@ impl<'r> Parts<'r> {
         answers: &mut Answers,
     ) -> Result<bool, AllocError>
         ensures same { self.new ≡ self.old }
-        ensures tells { IfOk result (λ r. Tells self.old.trace at known.now (fact_of (set_value set.entry.set) user) self.old.parts
-            answers.old answers.new is_given (part_at self.old.parts part) r) }
+        ensures tells { IfOk result (λ r. Tells self.old.trace at known.now (fact_of (set_value set.entry.set) user) self.old.questions
+            answers.old answers.new is_given (asked_at self.old.questions is_cover part) r) }
     {
-        if let Some(answer) = answers.find(part, is_given) {
+        if let Some(answer) = answers.find(part, is_cover, is_given) {
             return Ok(answer);
         }
-        let answer = self.does(part, is_given, set, user, at, known)?;
+        let answer = self.does(part, is_cover, is_given, set, user, at, known)?;
         answers.note(Asked {
             part,
+            is_cover,
             is_given,
             answer,
         })?;
@@ -156,14 +206,65 @@ impl<'r> Parts<'r> {
     }
 }
 
+/// Whether a cover of a part shows that the part does not give a fact, or that it rules the fact out. Each cover is asked for once.
+fn is_covered<F: KnownFact>(
+    parts: &mut Parts<'_>,
+    part: usize,
+    is_given: bool,
+    set: MarkedSet<'_>,
+    user: u64,
+    at: u64,
+    known: &Known<F>,
+    answers: &mut Answers,
+) -> Result<bool, AllocError>
+    ensures same { parts.new ≡ parts.old }
+    ensures more { IfOk result (λ _. AsksMore answers.old answers.new) }
+    ensures right { IfOk result (λ _. AreRight parts.old.trace at known.now (fact_of (set_value set.entry.set) user) parts.old.questions answers.old
+        → AreRight parts.old.trace at known.now (fact_of (set_value set.entry.set) user) parts.old.questions answers.new) }
+    ensures covered { IfOk result (λ r. r ≡ true
+        → Follows parts.old.questions answers.new is_given (part_at parts.old.questions.parts part) (not is_given)) }
+{
+    for k in 0..MOST_COVERS {
+        let Some(cover) = parts.cover(part, k) else {
+            break;
+        };
+        let does = parts.ask_once(cover, true, is_given, set, user, at, known, answers)?;
+        if does != is_given {
+            return Ok(true);
+        }
+    }
+    Ok(false)
+}
+
+/// Whether the part of a number gives a fact, or whether it rules the fact out, asked for once, and only where no cover answers for it.
+fn ask<F: KnownFact>(
+    parts: &mut Parts<'_>,
+    part: usize,
+    is_given: bool,
+    set: MarkedSet<'_>,
+    user: u64,
+    at: u64,
+    known: &Known<F>,
+    answers: &mut Answers,
+) -> Result<bool, AllocError>
+    ensures same { parts.new ≡ parts.old }
+    ensures tells { IfOk result (λ r. Tells parts.old.trace at known.now (fact_of (set_value set.entry.set) user) parts.old.questions
+        answers.old answers.new is_given (part_at parts.old.questions.parts part) r) }
+{
+    if is_covered(parts, part, is_given, set, user, at, known, answers)? {
+        return Ok(!is_given);
+    }
+    parts.ask_once(part, false, is_given, set, user, at, known, answers)
+}
+
 /// Whether one of the nodes is a part that was asked for, and its answer is the one that decides.
 fn is_decided(nodes: &Vec<Node>, stop: bool, is_given: bool, answers: &Answers) -> bool
-    ensures { IsTrue result → (parts : List Expression)
-        → Follows parts answers.now is_given (joined_of stop is_given (nodes_shown parts nodes.now.items)) stop }
+    ensures { IsTrue result → (q : Questions)
+        → Follows q answers.now is_given (joined_of stop is_given (nodes_shown q.parts nodes.now.items)) stop }
 {
     for node in nodes {
         if let Node::Part(part) = node {
-            if let Some(answer) = answers.find(*part, is_given) {
+            if let Some(answer) = answers.find(*part, false, is_given) {
                 if answer == stop {
                     return true;
                 }
@@ -188,8 +289,8 @@ fn nodes_do<F: KnownFact>(
     answers: &mut Answers,
 ) -> Result<bool, AllocError>
     ensures same { parts.new ≡ parts.old }
-    ensures tells { IfOk result (λ r. Tells parts.old.trace at known.now (fact_of (set_value set.entry.set) user) parts.old.parts
-        answers.old answers.new is_given (joined_of stop is_given (nodes_shown parts.old.parts nodes.now.items)) r) }
+    ensures tells { IfOk result (λ r. Tells parts.old.trace at known.now (fact_of (set_value set.entry.set) user) parts.old.questions
+        answers.old answers.new is_given (joined_of stop is_given (nodes_shown parts.old.questions.parts nodes.now.items)) r) }
 {
     if is_decided(nodes, stop, is_given, answers) {
         return Ok(stop);
@@ -216,11 +317,11 @@ pub(crate) fn node_does<F: KnownFact>(
     answers: &mut Answers,
 ) -> Result<bool, AllocError>
     ensures same { parts.new ≡ parts.old }
-    ensures tells { IfOk result (λ r. Tells parts.old.trace at known.now (fact_of (set_value set.entry.set) user) parts.old.parts
-        answers.old answers.new is_given (node_expression parts.old.parts node.now) r) }
+    ensures tells { IfOk result (λ r. Tells parts.old.trace at known.now (fact_of (set_value set.entry.set) user) parts.old.questions
+        answers.old answers.new is_given (node_expression parts.old.questions.parts node.now) r) }
 {
     match node {
-        Node::Part(part) => parts.ask(*part, is_given, set, user, at, known, answers),
+        Node::Part(part) => ask(parts, *part, is_given, set, user, at, known, answers),
         Node::Union(nodes) => nodes_do(
             parts, nodes, is_given, is_given, set, user, at, known, answers,
         ),

@@ -2,15 +2,20 @@
 
 ghost use Rattle.std.specs.Prelude.{◌≡◌, ◌↔◌, ◌&&◌, IsTrue, true, All, None, Some, option_map, ◌<◌, ◌≤◌, suc, length, ℕ};
 ghost use Rattle.tuple_text.specs.Refs.{set_value};
-ghost use Rattle.namespaces.specs.Lookup.{namespace_names, rule_at};
+ghost use Rattle.tuple_text.specs.Sets.{SetValue};
+ghost use Rattle.tuple_text.specs.declared.users.User.TheVariants.{Set};
+ghost use Rattle.namespaces.specs.Lookup.{namespace_names, place_of, rule_at};
+ghost use Rattle.strata.specs.Meaning.{IsStored};
 ghost use Rattle.version_chains.specs.Commits.{store_at};
-ghost use Rattle.marks.specs.Marks.{set_mark};
+ghost use Rattle.marks.specs.Marks.{pair_mark, set_mark};
 ghost use Rattle.userset_index.specs.Index.{IsUsersetIndex, is_crowded};
+ghost use Rattle.userset_index.specs.Lives.{touches_alive};
 ghost use Rattle.judgement.specs.Passes.{AreThroughOut, IsTouchOut, IsBarred};
 
 use crate::declaring::MOST_NAMESPACES;
 use crate::fact::KnownFact;
 use crate::known::Known;
+use crate::live::{is_absent, stored_in};
 use crate::stored::is_out;
 use marks::MarkedSet;
 use trace_lines::Trace;
@@ -71,8 +76,38 @@ pub(crate) fn are_out<F: KnownFact>(
     true
 }
 
-/// Whether it holds of each touch of a crowded set that leads to a relation which is declared at the timestamp. It
-/// goes over the namespaces, of which there are 256 at most.
+/// Whether it holds of each touch of a crowded set of a namespace, by its number, where that declares the relation at the timestamp.
+fn is_namespace_out<F: KnownFact>(
+    trace: &Trace,
+    index: &UsersetIndex,
+    at: u64,
+    known: &Known<F>,
+    set: MarkedSet<'_>,
+    relation: &str,
+    user: u64,
+    namespace: &str,
+    number: u16,
+) -> bool
+    ensures out { IsTrue result → ¬ (rule_at trace.now.declarations at namespace.now relation.now ≡ None)
+        → All (IsTouchOut (rule_at trace.now.declarations at) trace.now.commits at known.now (set_value set.entry.set) (Some relation.now) user)
+        (touches_alive (pair_mark (set_mark (set_value set.entry.set)) number) at index.now.through (length index.now.through)) }
+    ensures barred { IsBarred (rule_at trace.now.declarations at) (store_at trace.now.commits at) known.now (set_value set.entry.set)
+        (Some relation.now) user → IsTrue result }
+{
+    let target = SetRef {
+        namespace,
+        id: "",
+        relation,
+    };
+    if trace.rules().body(target, at).is_none() {
+        return true;
+    }
+    let touches = index.through(set, number, at);
+    are_out(trace, at, known, set, Some(relation), user, touches)
+}
+
+/// Whether it holds of each touch of a crowded set that leads to a relation which is declared at the timestamp. It goes over the namespaces,
+/// of which there are 256 at most, and passes over those of which it was noted that nothing is stored.
 fn are_out_through<F: KnownFact>(
     trace: &Trace,
     index: &UsersetIndex,
@@ -82,29 +117,21 @@ fn are_out_through<F: KnownFact>(
     relation: &str,
     user: u64,
 ) -> bool
-    ensures out { IsTrue result → (n : ℕ) → n < 256 → AreThroughOut trace.now.declarations trace.now.commits at index.now.through known.now
-        (set_value set.entry.set) relation.now user (suc n) }
+    ensures out { IsTrue result → (n : ℕ) (g : SetValue) → n < 256
+        → IsStored (store_at trace.now.commits at) (set_value set.entry.set) (Set g)
+        → place_of g.namespace (namespace_names trace.now.declarations) ≡ Some (suc n)
+        → AreThroughOut trace.now.declarations trace.now.commits at index.now.through known.now (set_value set.entry.set) relation.now user (suc n) }
     ensures few { IsTrue result → length (namespace_names trace.now.declarations) ≤ 256 }
     ensures barred { IsBarred (rule_at trace.now.declarations at) (store_at trace.now.commits at) known.now (set_value set.entry.set)
         (Some relation.now) user → IsTrue result }
 {
+    let stored = stored_in(trace, at, set);
     for before in 0..MOST_NAMESPACES {
         let number = before + 1;
         if let Some(namespace) = trace.rules().namespace(number) {
-            let target = SetRef {
-                namespace,
-                id: "",
-                relation,
-            };
-            if trace.rules().body(target, at).is_some()
-                && !are_out(
-                    trace,
-                    at,
-                    known,
-                    set,
-                    Some(relation),
-                    user,
-                    index.through(set, number, at),
+            if !is_absent(stored, number)
+                && !is_namespace_out(
+                    trace, index, at, known, set, relation, user, namespace, number,
                 )
             {
                 return false;

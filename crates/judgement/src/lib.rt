@@ -15,7 +15,8 @@
 //! passed over by the trace's index of them, so that those that are dead or undeclared then are not looked at; and whether one of them
 //! leads to a known fact is found from the shorter of two lists, the stored usersets and the user's known facts. An `AskedRule` asks for each
 //! part once for a fact, and goes over the rule only where its parts have other answers than they had for each fact that it remembers. Of a
-//! part that reads through a tupleset it remembers which namespaces matter: what is stored of others has nobody.
+//! part that reads through a tupleset it remembers which namespaces matter: what is stored of others has nobody. Where many parts read through
+//! one tupleset, one question finds that none of them gives the fact, or that all rule it out.
 //!
 //! ```text
 //! known.add_yes(fact)?;
@@ -26,6 +27,7 @@
 mod answers;
 mod asked_rule;
 mod asking;
+mod covers;
 mod crowded;
 mod declaring;
 mod fact;

@@ -31,7 +31,7 @@ pub(crate) fn stored_in(trace: &Trace, at: u64, set: MarkedSet<'_>) -> Option<Nu
 }
 
 /// Whether nothing of the namespace of a number is stored, where it was noted of which something is.
-fn is_absent(stored: Option<Numbers>, number: u16) -> bool
+pub(crate) fn is_absent(stored: Option<Numbers>, number: u16) -> bool
     ensures { result ≡ true → IsSomeAnd stored (λ s. ¬ Has s number) }
 {
     match stored {

@@ -1,8 +1,8 @@
 //! What was asked for facts before, and what followed.
 
-ghost use Rattle.std.specs.Prelude.{◌≡◌, [], List, IfOk, IfSome};
+ghost use Rattle.std.specs.Prelude.{◌≡◌, [], IfOk, IfSome};
 ghost use Rattle.rewrites.specs.Expression.{Expression};
-ghost use Rattle.judgement.specs.Asked.{AreRightPaths, Follows};
+ghost use Rattle.judgement.specs.Asked.{AreRightPaths, Follows, Questions};
 
 use crate::answers::{Answers, Asked};
 use std::alloc::{AllocError, Global};
@@ -24,10 +24,11 @@ enum Next {
     Path(usize),
 }
 
-/// A part that is asked, and where its answers lead.
+/// A part or a cover that is asked, and where its answers lead.
 #[derive(Clone, Copy)]
 struct Question {
     part: usize,
+    is_cover: bool,
     is_given: bool,
     if_true: Next,
     if_false: Next,
@@ -107,13 +108,14 @@ impl Paths {
         Reached { next, turn: None }
     }
 
-    /// The question that was reached: the number of the part, and whether it is asked what it gives. `None` where a path ends or is not known.
-    pub(crate) fn question(&self, reached: Reached) -> Option<(usize, bool)> {
+    /// The question that was reached: the number of the part or the cover, whether it is a cover, and whether it is asked what it gives.
+    /// `None` where a path ends or is not known.
+    pub(crate) fn question(&self, reached: Reached) -> Option<(usize, bool, bool)> {
         let Next::Question(number) = reached.next else {
             return None;
         };
         let question = self.questions.get(number)?;
-        Some((question.part, question.is_given))
+        Some((question.part, question.is_cover, question.is_given))
     }
 
     /// What is reached by an answer.
@@ -142,8 +144,8 @@ impl Paths {
 
     /// The answer of the path that was reached, where all that was asked on it has the same answers again.
     pub(crate) fn answer(&self, reached: Reached, is_given: bool, answers: &Answers) -> Option<bool>
-        ensures { IfSome result (λ r. (parts : List Expression) (e : Expression) → AreRightPaths parts e self.now
-            → Follows parts answers.now is_given e r) }
+        ensures { IfSome result (λ r. (q : Questions) (e : Expression) → AreRightPaths q e self.now
+            → Follows q answers.now is_given e r) }
     {
         let Next::Path(number) = reached.next else {
             return None;
@@ -165,8 +167,8 @@ impl Paths {
         is_given: bool,
         answer: bool,
     ) -> Result<(), AllocError>
-        ensures { (parts : List Expression) (e : Expression) → AreRightPaths parts e self.old
-            → Follows parts asked.now is_given e answer → AreRightPaths parts e self.new }
+        ensures { (q : Questions) (e : Expression) → AreRightPaths q e self.old
+            → Follows q asked.now is_given e answer → AreRightPaths q e self.new }
     {
         if asked.len() > self.room.saturating_sub(self.kept) {
             self.forget();
@@ -211,6 +213,7 @@ impl Paths {
             let question = self.questions.len();
             self.questions.push(Question {
                 part: one.part,
+                is_cover: one.is_cover,
                 is_given: one.is_given,
                 if_true: Next::Unknown,
                 if_false: Next::Unknown,

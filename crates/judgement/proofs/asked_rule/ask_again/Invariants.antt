@@ -8,6 +8,6 @@ use Rattle.judgement.proofs.asked_rule.ask_again.Given as goal
 abbrev pub invariant-loop : goal.invariant-loop
 invariant-loop g l = record {
   same : l.parts ≡ l.fn.parts;
-  right : AreRight l.fn.parts.trace l.at l.known (fact_of (set_value l.set.set) l.user) l.fn.parts.parts l.fn.answers
-      → AreRight l.fn.parts.trace l.at l.known (fact_of (set_value l.set.set) l.user) l.fn.parts.parts l.answers;
+  right : AreRight l.fn.parts.trace l.at l.known (fact_of (set_value l.set.set) l.user) l.fn.parts.questions l.fn.answers
+      → AreRight l.fn.parts.trace l.at l.known (fact_of (set_value l.set.set) l.user) l.fn.parts.questions l.answers;
 }

@@ -10,7 +10,7 @@ use Rattle.judgement.proofs.asking.+node.Given as goal
 abbrev pub invariant-nodes_do-loop-node : goal.invariant-nodes_do-loop-node
 invariant-nodes_do-loop-node g l = record {
   same : l.parts ≡ l.fn.parts;
-  left : IsLeft l.fn.parts.trace l.at l.known (fact_of (set_value l.set.set) l.user) l.fn.parts.parts l.fn.answers l.answers l.is_given
-      (joined_of l.stop l.is_given (nodes_shown l.fn.parts.parts l.node-items))
-      (joined_of l.stop l.is_given (nodes_shown l.fn.parts.parts (drop l.node-index l.node-items)));
+  left : IsLeft l.fn.parts.trace l.at l.known (fact_of (set_value l.set.set) l.user) l.fn.parts.questions l.fn.answers l.answers l.is_given
+      (joined_of l.stop l.is_given (nodes_shown l.fn.parts.questions.parts l.node-items))
+      (joined_of l.stop l.is_given (nodes_shown l.fn.parts.questions.parts (drop l.node-index l.node-items)));
 }

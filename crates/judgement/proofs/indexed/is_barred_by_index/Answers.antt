@@ -38,7 +38,7 @@ returns-in-Some g c =
           subst (λ (o : Option (List ℕ)). IsBarred (rule_at trace.declarations at) (store_at trace.commits at) c.args.known.now set o c.args.user) (sym some)
           (barred_by_through trace.declarations trace.commits at c.ranges.at.fits v (c.requires.index (and-left v.is_whole (is_crowded v.crowds (set_mark set)) c.requires.crowded)) set
           (and-right v.is_whole (is_crowded v.crowds (set_mark set)) c.requires.crowded) c.args.known.now c.args.user
-          (c.are_out_through.ensures.few h) c.in-Some.relation.now (λ n g less stored place declared. c.are_out_through.ensures.out h n less)),
+          (c.are_out_through.ensures.few h) c.in-Some.relation.now (λ n g less stored place declared. c.are_out_through.ensures.out h n g less stored place)),
       λ barred.
           c.are_out_through.ensures.barred
           (subst (λ (o : Option (List ℕ)). IsBarred (rule_at trace.declarations at) (store_at trace.commits at) c.args.known.now set o c.args.user) some barred),
