@@ -5,12 +5,12 @@ use Rattle.std.proofs.Crossing.{crosses}
 use Rattle.std.proofs.MapsCrossing as maps
 use Rattle.rewrites.proofs.rewrite.Rewrite.TheLaws.TheKnot.{sync-Rewrite}
 use Rattle.rewrites.specs.contracts.parts.Part as part
-use Rattle.judgement.specs.contracts.answers.Answers as answers
-use Rattle.judgement.specs.contracts.kept.Kept as kept
-use Rattle.judgement.specs.contracts.paths.Path as path
-use Rattle.judgement.specs.contracts.paths.Paths as paths
-use Rattle.judgement.specs.contracts.asking.Parts as parts
-use Rattle.judgement.specs.contracts.asked_rule.AskedRule as asked_rule
+use Rattle.wide_rules.specs.contracts.answers.Answers as answers
+use Rattle.wide_rules.specs.contracts.kept.Kept as kept
+use Rattle.wide_rules.specs.contracts.paths.Path as path
+use Rattle.wide_rules.specs.contracts.paths.Paths as paths
+use Rattle.wide_rules.specs.contracts.asking.Parts as parts
+use Rattle.wide_rules.specs.contracts.asked_rule.AskedRule as asked_rule
 use Rattle.evidence_check.specs.contracts.asked_rules.AskedRules as asked_rules
 use Rattle.evidence_blocks.specs.contracts.telling.Desk as desk
 use Rattle.evidence_blocks.proofs.TraceSync.{parted_sync, through_sync, trace_sync}

@@ -18,9 +18,9 @@ use Rattle.version_chains.specs.Commits.{store_at}
 use Rattle.strata.proofs.Rounds.{stable_law, closed_law}
 use Rattle.trace_lines.specs.Values.{TraceValue, EntryValue}
 use Rattle.rewrites.proofs.AlikeLemmas.{alike_back}
-use Rattle.judgement.specs.Asked.{Does}
+use Rattle.wide_rules.specs.Asked.{Does}
 use Rattle.judgement.specs.Judgement.{KnownValue, Established, Refuted}
-use Rattle.judgement.proofs.AlikeLemmas.{alike_established, alike_refuted}
+use Rattle.wide_rules.proofs.AlikeLemmas.{alike_established, alike_refuted}
 use Rattle.evidence_check.specs.Accepted.{nothing_known, IsAccepted, AreAccepted, after_step, after_steps, IsTrueOf}
 use Rattle.evidence_check.specs.Decided.{decided, dec_accepted}
 use Rattle.evidence_check.specs.Judged.{is_accepted, first_bad, is_among, by_reply, by_goal, by_steps, judged}

@@ -5,16 +5,17 @@ ghost use Rattle.rewrites.specs.Alike.{AreAlike};
 ghost use Rattle.rewrites.specs.Expression.{Expression};
 ghost use Rattle.namespaces.specs.Lookup.{expression_in};
 ghost use Rattle.rewrites.specs.Parts.{rule_shown};
-ghost use Rattle.judgement.specs.Asked.{Does};
+ghost use Rattle.wide_rules.specs.Asked.{Does};
 ghost use Rattle.judgement.specs.Facts.{marked_fact};
 
-use judgement::{AskedRule, Known, KnownFact, MarkedFact};
+use judgement::{Known, KnownFact, MarkedFact};
 use namespaces::RulePlace;
 use rewrites::PartedRule;
 use std::alloc::{AllocError, Global};
 use std::collections::BTreeMap;
 use std::marker::Model;
 use trace_lines::Trace;
+use wide_rules::AskedRule;
 
 /// A rule, and where it stands.
 #[derive(Drop)]

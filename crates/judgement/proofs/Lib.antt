@@ -1,11 +1,5 @@
-pub mod AlikeLemmas
-pub mod AskedLemmas
-pub mod CoverLemmas
-pub mod DeclaringLemmas
 pub mod IndexLemmas
 pub mod LedLemmas
-pub mod LiveLemmas
 pub mod MarkedLemmas
-pub mod PartLemmas
 pub mod PassLemmas
-pub mod ThroughLemmas
+pub mod StoredLemmas

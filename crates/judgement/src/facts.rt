@@ -311,7 +311,7 @@ impl<F: KnownFact> Facts<F> {
 
 /// The usersets of a user's facts. A contract sees the list of those that are left to give.
 #[derive(Drop)]
-pub(crate) struct SetsOfUser<'a, F: KnownFact> {
+pub struct SetsOfUser<'a, F: KnownFact> {
     facts: &'a Facts<F>,
     user: u64,
     place: usize,

@@ -12,15 +12,17 @@ ghost use Rattle.userset_index.specs.Index.{IsUsersetIndex, is_crowded};
 ghost use Rattle.userset_index.specs.Lives.{touches_alive};
 ghost use Rattle.judgement.specs.Passes.{AreThroughOut, IsTouchOut, IsBarred};
 
-use crate::declaring::MOST_NAMESPACES;
+use crate::absent::{is_absent, stored_in};
 use crate::fact::KnownFact;
 use crate::known::Known;
-use crate::live::{is_absent, stored_in};
 use crate::stored::is_out;
 use marks::MarkedSet;
 use trace_lines::Trace;
 use tuple_text::{SetRef, UserRef};
 use userset_index::{Alive, UsersetIndex};
+
+/// How many namespaces there may be.
+pub const MOST_NAMESPACES: u16 = 256;
 
 /// Whether a touch of the changelog is not of a userset that is stored in a set and has a target that may hold a user.
 fn is_touch_out<F: KnownFact>(
@@ -54,7 +56,7 @@ fn is_touch_out<F: KnownFact>(
 }
 
 /// Whether that holds of each of some touches.
-pub(crate) fn are_out<F: KnownFact>(
+pub fn are_out<F: KnownFact>(
     trace: &Trace,
     at: u64,
     known: &Known<F>,

@@ -99,7 +99,7 @@ impl<F: KnownFact> Known<F> {
     }
 
     /// The usersets that are known to hold a user, the newest first.
-    pub(crate) fn sets_of(&self, user: u64) -> SetsOfUser<'_, F>
+    pub fn sets_of(&self, user: u64) -> SetsOfUser<'_, F>
         ensures { result ≡ sets_of_user user self.now.yes }
     {
         self.yes.sets_of(user)

@@ -8,15 +8,9 @@
 //! another relation's rule; neither takes memory. A userset that is undeclared at the timestamp counts as refuted where it is stored, in a
 //! tupleset too, and a user id in a tupleset contributes nobody.
 //!
-//! [`AskedRule`] answers the same for a rule that has many places, of many facts one after the other, by the rule's parts. It takes memory
-//! for what was asked.
-//!
 //! What a call costs is no promise. A look-up among known facts goes by their marks. What is stored in a userset with many usersets is
 //! passed over by the trace's index of them, so that those that are dead or undeclared then are not looked at; and whether one of them
-//! leads to a known fact is found from the shorter of two lists, the stored usersets and the user's known facts. An `AskedRule` asks for each
-//! part once for a fact, and goes over the rule only where its parts have other answers than they had for each fact that it remembers. Of a
-//! part that reads through a tupleset it remembers which namespaces matter: what is stored of others has nobody. Where many parts read through
-//! one tupleset, one question finds that none of them gives the fact, or that all rule it out.
+//! leads to a known fact is found from the shorter of two lists, the stored usersets and the user's known facts.
 //!
 //! ```text
 //! known.add_yes(fact)?;
@@ -24,25 +18,19 @@
 //! ```
 #![tactic(auto)]
 
-mod answers;
-mod asked_rule;
-mod asking;
-mod covers;
-mod crowded;
-mod declaring;
+mod absent;
 mod fact;
 mod facts;
 mod indexed;
-mod kept;
 mod known;
 mod leading;
-mod live;
-mod paths;
 mod stored;
 mod table;
-mod through;
 
-pub use asked_rule::AskedRule;
+pub use absent::{is_absent, stored_in};
 pub use fact::{KnownFact, MarkedFact};
+pub use facts::SetsOfUser;
+pub use indexed::{MOST_NAMESPACES, are_out};
 pub use known::Known;
+pub use stored::{is_barred, is_led, is_out, under};
 pub use table::{established, refuted};

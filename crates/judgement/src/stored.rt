@@ -19,7 +19,7 @@ use tuple_text::SetRef;
 use version_chains::Usersets;
 
 /// The same object under another relation.
-pub(crate) fn under<'a>(set: SetRef<'a>, relation: &'a str) -> SetRef<'a>
+pub fn under<'a>(set: SetRef<'a>, relation: &'a str) -> SetRef<'a>
     ensures { set_value result ≡ with_relation (set_value set.entry) relation.now }
 {
     SetRef { relation, ..set }
@@ -41,7 +41,7 @@ pub(crate) fn is_in<F: KnownFact>(
 }
 
 /// Whether the target of a userset is known not to hold a user, or is undeclared at a timestamp and so has no members.
-pub(crate) fn is_out<F: KnownFact>(
+pub fn is_out<F: KnownFact>(
     rules: &Rules,
     at: u64,
     known: &Known<F>,
@@ -103,7 +103,7 @@ pub(crate) fn is_stored(trace: &Trace, at: u64, set: MarkedSet<'_>, user: u64) -
 }
 
 /// Whether some userset that is stored in a set has a target that is known to hold a user.
-pub(crate) fn is_led<F: KnownFact>(
+pub fn is_led<F: KnownFact>(
     trace: &Trace,
     at: u64,
     known: &Known<F>,
@@ -123,7 +123,7 @@ pub(crate) fn is_led<F: KnownFact>(
 }
 
 /// Whether no userset that is stored in a set has a target that may hold a user.
-pub(crate) fn is_barred<F: KnownFact>(
+pub fn is_barred<F: KnownFact>(
     trace: &Trace,
     at: u64,
     known: &Known<F>,

@@ -1,8 +1,0 @@
-use Rattle.std.proofs.Common.{◌≡◌, length, arith}
-use Rattle.judgement.proofs.PartLemmas.{none_kept}
-use Rattle.judgement.proofs.asking.nothing_kept.Goals as goal
-
-pub returns : goal.returns
-returns c trace =
-    let room : length c.loop-kept.kept.items ≡ length c.args.parts.now = omega (arith, c.loop-kept.invariant.within, c.loop-kept-test.false, c.len.ensures, c.loop-kept.kept.ok) in
-    none_kept trace c.args.parts.now c.loop-kept.kept.items room c.loop-kept.invariant.none

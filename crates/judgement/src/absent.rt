@@ -1,0 +1,27 @@
+//! Of which namespaces nothing is stored in a userset.
+
+ghost use Rattle.std.specs.Prelude.{◌≡◌, true, IfSome, IsSomeAnd};
+ghost use Rattle.tuple_text.specs.Refs.{set_value};
+ghost use Rattle.userset_index.specs.Numbers.{Has};
+ghost use Rattle.judgement.specs.StoredIn.{HaveStored};
+
+use marks::MarkedSet;
+use trace_lines::Trace;
+use userset_index::Numbers;
+
+/// The namespaces of the usersets that are stored in a set, and maybe others. `None` where that was not noted.
+pub fn stored_in(trace: &Trace, at: u64, set: MarkedSet<'_>) -> Option<Numbers>
+    ensures { IfSome result (HaveStored trace.now.declarations trace.now.commits at (set_value set.entry.set)) }
+{
+    trace.usersets().namespaces(set, at)
+}
+
+/// Whether nothing of the namespace of a number is stored, where it was noted of which something is.
+pub fn is_absent(stored: Option<Numbers>, number: u16) -> bool
+    ensures { result ≡ true → IsSomeAnd stored (λ s. ¬ Has s number) }
+{
+    match stored {
+        Some(stored) => !stored.has(number),
+        None => false,
+    }
+}

@@ -1,0 +1,54 @@
+-- Which namespaces declare a relation that is read through a tupleset. No public clause cites this module.
+use Rattle.std.specs.Prelude.{◌≡◌, ◌<◌, ◌≤◌, ◌^◌, ℕ, suc, length, List, Contains, Option, None, Some, slice_get, string_bytes}
+use Rattle.std.specs.Option.{ForSome}
+use Rattle.std.specs.declared.alloc.Global.{Global}
+use Rattle.std.specs.declared.boxed.Box.{Box}
+use Rattle.tuple_text.specs.Sets.{SetValue}
+use Rattle.tuple_text.specs.declared.users.User.TheVariants.{Set}
+use Rattle.namespaces.specs.Declaration.{Declaration}
+use Rattle.namespaces.specs.Lookup.{namespace_names, namespace_numbered, place_of, rule_at}
+use Rattle.rewrites.specs.Parts.{computed_names}
+use Rattle.rewrites.specs.declared.parts.Part.{Part}
+use Rattle.rewrites.specs.declared.parts.Through.{Through}
+use Rattle.strata.specs.Meaning.{IsStored}
+use Rattle.version_chains.specs.Commits.{Commit, store_at}
+use Rattle.userset_index.specs.Numbers.{Has}
+use Rattle.userset_index.specs.declared.numbers.Numbers.{Numbers}
+use Rattle.trace_lines.specs.Values.{TraceValue}
+use Rattle.wide_rules.specs.declared.kept.Kept.{Kept}
+
+-- at a timestamp a namespace declares none of these relations
+abbrev pub DeclaresNone : List Declaration → ℕ → List (List ℕ) → List ℕ → Type 0
+DeclaresNone ds at names namespace = (relation : List ℕ) → Contains names relation → rule_at ds at namespace relation ≡ None
+
+-- the numbers of all namespaces, of 256 at most, that declare one of these relations at some time, and maybe of others
+pub record AreDeclaring (ds : List Declaration) (names : List (List ℕ)) (numbers : List ℕ) : Type 0 where
+  pub few : length (namespace_names ds) ≤ 256
+  pub all : (n at : ℕ) (namespace relation : List ℕ) → n < 256 → at < 2 ^ 64 → namespace_numbered (suc n) ds ≡ Some namespace
+      → Contains names relation → ¬ (rule_at ds at namespace relation ≡ None) → Contains numbers (suc n)
+
+-- the numbers of all namespaces of usersets that are stored in `set` at a timestamp and whose namespace declares one then, and maybe of others
+pub record AreLive (ds : List Declaration) (commits : List Commit) (at : ℕ) (set : SetValue) (names : List (List ℕ)) (numbers : List ℕ) : Type 0 where
+  pub few : length (namespace_names ds) ≤ 256
+  pub all : (n : ℕ) (g : SetValue) (relation : List ℕ) → IsStored (store_at commits at) set (Set g)
+      → place_of g.namespace (namespace_names ds) ≡ Some n → Contains names relation → ¬ (rule_at ds at g.namespace relation ≡ None)
+      → Contains numbers n
+
+-- the tupleset for whose usersets numbers are kept
+abbrev pub kept_set : Kept → Through → SetValue
+kept_set k through = record { namespace = string_bytes k.namespace; id = string_bytes k.id; relation = string_bytes through.tupleset }
+
+-- what is kept of a part that reads through a tupleset
+pub record IsKept (trace : TraceValue) (through : Through) (k : Kept) : Type 0 where
+  pub declaring : AreDeclaring trace.declarations (computed_names through) k.declaring.items
+  pub numbers : (n : ℕ) → Contains k.declaring.items n → Has k.numbers n
+  pub live : AreLive trace.declarations trace.commits k.at (kept_set k through) (computed_names through) k.live.items
+
+abbrev pub MayBeKept : TraceValue → Through → Option (Box Kept Global) → Type 0
+MayBeKept trace through kept = ForSome kept (λ k. IsKept trace through k.value)
+
+-- so it is of each part that reads through a tupleset, and there is room for each part
+pub record AreKeptByPart (trace : TraceValue) (parts : List Part) (kept : List (Option (Box Kept Global))) : Type 0 where
+  pub room : length kept ≡ length parts
+  pub each : (k : ℕ) (through : Through) (one : Option (Box Kept Global)) → slice_get parts k ≡ Some (Part.Through through)
+      → slice_get kept k ≡ Some one → MayBeKept trace through one

@@ -1,0 +1,141 @@
+//! A rule, and what was asked of its parts for facts before.
+
+ghost use Rattle.std.specs.Prelude.{◌≡◌, ◌↔◌, IsTrue, IfOk};
+ghost use Rattle.tuple_text.specs.Refs.{set_value};
+ghost use Rattle.tuple_text.specs.Tuples.{fact_of};
+ghost use Rattle.rewrites.specs.Parts.{rule_shown};
+ghost use Rattle.wide_rules.specs.Asked.{AreRight, Does};
+
+use crate::answers::Answers;
+use crate::asking::{Parts, node_does};
+use crate::paths::{Paths, Reached};
+use judgement::{Known, KnownFact};
+use marks::MarkedSet;
+use rewrites::{Node, PartedRule};
+use std::alloc::{AllocError, Global};
+use std::marker::Model;
+use trace_lines::Trace;
+
+/// A rule that many facts are asked for, one after the other. Contracts see its expression.
+///
+/// Each part is asked for once for a fact, where no cover answers for it, first those that were asked for facts before, in their order, as far as the answers are those of
+/// one of them. Where all of its answers are, the rule's answer is that fact's, and nothing else is asked.
+#[derive(Drop)]
+pub struct AskedRule<'r> {
+    rule: &'r PartedRule,
+    parts: Parts<'r>,
+    answers: Answers,
+    paths: Paths,
+}
+
+impl<'r> Model for AskedRule<'r> {
+    ghost use Rattle.rewrites.specs.Parts.{parts_shown, rule_shown};
+    ghost use Rattle.wide_rules.specs.Asked.{AreRightPaths, RuleValue};
+    ghost use Rattle.wide_rules.specs.AskedCode.{rule_code};
+    ghost use Rattle.std.specs.Prelude.{◌≡◌};
+
+    ghost Value = { RuleValue };
+
+    ghost coded = { rule_code };
+
+    ghost view = { λ r. record { trace = r.parts.trace; expression = rule_shown r.rule.now } };
+
+    ghost invariant = { λ r. (r.parts.questions.parts ≡ parts_shown r.rule.now.parts.items)
+        × AreRightPaths r.parts.questions (rule_shown r.rule.now) r.paths };
+}
+
+/// How many places some nodes have.
+#[cycle(places)]
+fn places_of(nodes: &Vec<Node>) -> usize {
+    let mut places = 0usize;
+    for node in nodes {
+        places = places.saturating_add(places_below(node));
+    }
+    places
+}
+
+/// How many places of parts stand at a node and below it.
+#[cycle(places)]
+fn places_below(node: &Node) -> usize {
+    match node {
+        Node::Part(_) => 1,
+        Node::Union(nodes) => places_of(nodes),
+        Node::Inter(nodes) => places_of(nodes),
+        Node::Minus(base, subtract) => places_below(base).saturating_add(places_below(subtract)),
+    }
+}
+
+/// Asks what was asked for facts before, as far as the answers lead. A path asks each question once at most.
+fn ask_again<F: KnownFact>(
+    paths: &Paths,
+    parts: &mut Parts<'_>,
+    is_given: bool,
+    set: MarkedSet<'_>,
+    user: u64,
+    at: u64,
+    known: &Known<F>,
+    answers: &mut Answers,
+) -> Result<Reached, AllocError>
+    ensures same { parts.new ≡ parts.old }
+    ensures right { IfOk result (λ _. AreRight parts.old.trace at known.now (fact_of (set_value set.entry.set) user) parts.old.questions answers.old
+        → AreRight parts.old.trace at known.now (fact_of (set_value set.entry.set) user) parts.old.questions answers.new) }
+{
+    let mut reached = paths.first(is_given);
+    for _ in 0..paths.most() {
+        let Some((part, is_cover, gives)) = paths.question(reached) else {
+            return Ok(reached);
+        };
+        let answer = parts.ask_once(part, is_cover, gives, set, user, at, known, answers)?;
+        reached = paths.after(reached, answer);
+    }
+    Ok(reached)
+}
+
+impl<'r> AskedRule<'r> {
+    /// A rule that is asked over a trace, and of which nothing was asked.
+    pub fn new(
+        alloc: Global,
+        trace: &'r Trace,
+        rule: &'r PartedRule,
+    ) -> Result<AskedRule<'r>, AllocError>
+        ensures { IfOk result (λ r. r ≡ record { trace = trace.now; expression = rule_shown rule.now }) }
+    {
+        let parts = Parts::of(alloc, trace, &rule.parts)?;
+        let covers = parts.covers();
+        Ok(AskedRule {
+            rule,
+            parts,
+            answers: Answers::new(alloc, rule.parts.len(), covers)?,
+            paths: Paths::new(alloc, places_below(&rule.top)),
+        })
+    }
+
+    /// Whether what is known gives by the rule that a user is in a userset, or whether it rules that out, over the tuples that are stored
+    /// at a timestamp.
+    pub fn does<F: KnownFact>(
+        &mut self,
+        is_given: bool,
+        set: MarkedSet<'_>,
+        user: u64,
+        at: u64,
+        known: &Known<F>,
+    ) -> Result<bool, AllocError>
+        ensures rule { self.new ≡ self.old }
+        ensures does { IfOk result (λ r. IsTrue r
+            ↔ Does self.old.trace at known.now (fact_of (set_value set.entry.set) user) is_given self.old.expression) }
+    {
+        self.answers.clear();
+        let parts = &mut self.parts;
+        let answers = &mut self.answers;
+        let reached = ask_again(&self.paths, parts, is_given, set, user, at, known, answers)?;
+        if let Some(answer) = self.paths.answer(reached, is_given, answers) {
+            return Ok(answer);
+        }
+        let depth = answers.as_slice().len();
+        let top = &self.rule.top;
+        let answer = node_does(parts, top, is_given, set, user, at, known, answers)?;
+        self.paths
+            .keep(reached, depth, answers.as_slice(), is_given, answer)?;
+        Ok(answer)
+    }
+}

@@ -1,0 +1,337 @@
+//! Rules that are judged by their parts, each of which is asked for once for a fact.
+
+ghost use Rattle.std.specs.Prelude.{◌≡◌, ◌↔◌, IsTrue, true, not, IfOk, IfSome};
+ghost use Rattle.tuple_text.specs.Refs.{set_value};
+ghost use Rattle.tuple_text.specs.Tuples.{fact_of};
+ghost use Rattle.rewrites.specs.Parts.{part_at, parts_shown, node_expression, nodes_shown};
+ghost use Rattle.rewrites.specs.View.{expression_of};
+ghost use Rattle.trace_lines.specs.Values.{TraceValue};
+ghost use Rattle.wide_rules.specs.Asked.{AreRight, AsksMore, Does, Follows, IsCoveredBy, Questions, Tells, asked_at, joined_of};
+ghost use Rattle.wide_rules.specs.Declaring.{AreKeptByPart};
+
+use crate::answers::{Answers, Asked};
+use crate::covers::{Covers, MOST_COVERS, covers_of};
+use crate::kept::{Kept, through_bars};
+use crate::through::through_gives;
+use judgement::{Known, KnownFact, established, refuted};
+use marks::MarkedSet;
+use rewrites::{Node, Part, Rewrite};
+use std::alloc::{AllocError, Global};
+use std::marker::Model;
+use trace_lines::Trace;
+
+/// The parts of a rule and their covers, asked for facts over a trace, as contracts see them.
+#[derive(Drop)]
+pub(crate) struct Parts<'r> {
+    alloc: Global,
+    trace: &'r Trace,
+    parts: &'r [Part],
+    // of each part by its number
+    kept: Vec<Option<Box<Kept>>>,
+    covers: Covers,
+    // of each cover by its number
+    covers_kept: Vec<Option<Box<Kept>>>,
+}
+
+impl<'r> Model for Parts<'r> {
+    ghost use Rattle.rewrites.specs.Parts.{parts_shown};
+    ghost use Rattle.wide_rules.specs.Asked.{AreCoversByPart, PartsValue};
+    ghost use Rattle.wide_rules.specs.Declaring.{AreKeptByPart};
+    ghost use Rattle.wide_rules.specs.AskedCode.{parts_code};
+
+    ghost Value = { PartsValue };
+
+    ghost coded = { parts_code };
+
+    ghost view = { λ p. record {
+      trace = p.trace.now;
+      questions = record { parts = parts_shown p.parts.now; covers = parts_shown p.covers.covers.items };
+    } };
+
+    ghost invariant = { λ p. AreKeptByPart p.trace.now p.parts.now p.kept.items
+        × AreKeptByPart p.trace.now p.covers.covers.items p.covers_kept.items
+        × AreCoversByPart (record { parts = parts_shown p.parts.now; covers = parts_shown p.covers.covers.items }) p.covers.by_part.items };
+}
+
+/// Whether a part without children gives a fact, or whether it rules the fact out.
+fn leaf_does<F: KnownFact>(
+    leaf: &Rewrite,
+    is_given: bool,
+    set: MarkedSet<'_>,
+    user: u64,
+    trace: &Trace,
+    at: u64,
+    known: &Known<F>,
+) -> bool
+    ensures { IsTrue result ↔ Does trace.now at known.now (fact_of (set_value set.entry.set) user) is_given (expression_of leaf.now) }
+{
+    if is_given {
+        established(leaf, set, user, trace, at, known)
+    } else {
+        refuted(leaf, set, user, trace, at, known)
+    }
+}
+
+fn nothing_kept(alloc: Global, parts: &[Part]) -> Result<Vec<Option<Box<Kept>>>, AllocError>
+    ensures { (trace : TraceValue) → IfOk result (λ v. AreKeptByPart trace parts.now v.items) }
+{
+    let mut kept = Vec::with_capacity(alloc, parts.len())?;
+    while kept.len() < parts.len() {
+        kept.push(None)?;
+    }
+    Ok(kept)
+}
+
+/// Whether the part of a number gives a fact, or whether it rules the fact out. Where there is no such part, it is as a union of nothing.
+fn part_does<F: KnownFact>(
+    alloc: Global,
+    trace: &Trace,
+    parts: &[Part],
+    kept: &mut Vec<Option<Box<Kept>>>,
+    part: usize,
+    is_given: bool,
+    set: MarkedSet<'_>,
+    user: u64,
+    at: u64,
+    known: &Known<F>,
+) -> Result<bool, AllocError>
+    requires { AreKeptByPart trace.now parts.now kept.old.items }
+    ensures kept { AreKeptByPart trace.now parts.now kept.new.items }
+    ensures does { IfOk result (λ r. IsTrue r
+        ↔ Does trace.now at known.now (fact_of (set_value set.entry.set) user) is_given (part_at (parts_shown parts.now) part)) }
+{
+    match parts.get(part) {
+        Some(Part::Leaf(leaf)) => Ok(leaf_does(leaf, is_given, set, user, trace, at, known)),
+        Some(Part::Through(through)) => {
+            if is_given {
+                return Ok(through_gives(through, set, user, trace, at, known));
+            }
+            through_bars(alloc, through, set, user, trace, at, known, &mut kept[part])
+        }
+        None => Ok(!is_given),
+    }
+}
+
+impl<'r> Parts<'r> {
+    pub(crate) fn of(
+        alloc: Global,
+        trace: &'r Trace,
+        parts: &'r [Part],
+    ) -> Result<Parts<'r>, AllocError>
+        ensures trace { IfOk result (λ p. p.trace ≡ trace.now) }
+        ensures parts { IfOk result (λ p. p.questions.parts ≡ parts_shown parts.now) }
+    {
+        let covers = covers_of(alloc, parts)?;
+        let covers_kept = nothing_kept(alloc, &covers.covers)?;
+        Ok(Parts {
+            alloc,
+            trace,
+            parts,
+            kept: nothing_kept(alloc, parts)?,
+            covers,
+            covers_kept,
+        })
+    }
+
+    /// How many covers there are.
+    pub(crate) fn covers(&self) -> usize {
+        self.covers.covers.len()
+    }
+
+    /// One of the covers of a part, from the widest on.
+    fn cover(&self, part: usize, k: usize) -> Option<usize>
+        ensures { IfSome result (λ cover. IsCoveredBy (part_at self.now.questions.parts part) (part_at self.now.questions.covers cover)) }
+    {
+        self.covers.by_part.get(part)?.get(k).copied()
+    }
+
+    /// Whether the part or the cover of a number gives a fact, or whether it rules the fact out.
+    fn does<F: KnownFact>(
+        &mut self,
+        part: usize,
+        is_cover: bool,
+        is_given: bool,
+        set: MarkedSet<'_>,
+        user: u64,
+        at: u64,
+        known: &Known<F>,
+    ) -> Result<bool, AllocError>
+        ensures same { self.new ≡ self.old }
+        ensures does { IfOk result (λ r. IsTrue r
+            ↔ Does self.old.trace at known.now (fact_of (set_value set.entry.set) user) is_given (asked_at self.old.questions is_cover part)) }
+    {
+        let (alloc, trace) = (self.alloc, self.trace);
+        if is_cover {
+            let covers = &self.covers.covers;
+            let kept = &mut self.covers_kept;
+            return part_does(
+                alloc, trace, covers, kept, part, is_given, set, user, at, known,
+            );
+        }
+        let kept = &mut self.kept;
+        part_does(
+            alloc, trace, self.parts, kept, part, is_given, set, user, at, known,
+        )
+    }
+
+    /// The same, asked for once.
+    pub(crate) fn ask_once<F: KnownFact>(
+        &mut self,
+        part: usize,
+        is_cover: bool,
+        is_given: bool,
+        set: MarkedSet<'_>,
+        user: u64,
+        at: u64,
+        known: &Known<F>,
+        answers: &mut Answers,
+    ) -> Result<bool, AllocError>
+        ensures same { self.new ≡ self.old }
+        ensures tells { IfOk result (λ r. Tells self.old.trace at known.now (fact_of (set_value set.entry.set) user) self.old.questions
+            answers.old answers.new is_given (asked_at self.old.questions is_cover part) r) }
+    {
+        if let Some(answer) = answers.find(part, is_cover, is_given) {
+            return Ok(answer);
+        }
+        let answer = self.does(part, is_cover, is_given, set, user, at, known)?;
+        answers.note(Asked {
+            part,
+            is_cover,
+            is_given,
+            answer,
+        })?;
+        Ok(answer)
+    }
+}
+
+/// Whether a cover of a part shows that the part does not give a fact, or that it rules the fact out. Each cover is asked for once.
+fn is_covered<F: KnownFact>(
+    parts: &mut Parts<'_>,
+    part: usize,
+    is_given: bool,
+    set: MarkedSet<'_>,
+    user: u64,
+    at: u64,
+    known: &Known<F>,
+    answers: &mut Answers,
+) -> Result<bool, AllocError>
+    ensures same { parts.new ≡ parts.old }
+    ensures more { IfOk result (λ _. AsksMore answers.old answers.new) }
+    ensures right { IfOk result (λ _. AreRight parts.old.trace at known.now (fact_of (set_value set.entry.set) user) parts.old.questions answers.old
+        → AreRight parts.old.trace at known.now (fact_of (set_value set.entry.set) user) parts.old.questions answers.new) }
+    ensures covered { IfOk result (λ r. r ≡ true
+        → Follows parts.old.questions answers.new is_given (part_at parts.old.questions.parts part) (not is_given)) }
+{
+    for k in 0..MOST_COVERS {
+        let Some(cover) = parts.cover(part, k) else {
+            break;
+        };
+        let does = parts.ask_once(cover, true, is_given, set, user, at, known, answers)?;
+        if does != is_given {
+            return Ok(true);
+        }
+    }
+    Ok(false)
+}
+
+/// Whether the part of a number gives a fact, or whether it rules the fact out, asked for once, and only where no cover answers for it.
+fn ask<F: KnownFact>(
+    parts: &mut Parts<'_>,
+    part: usize,
+    is_given: bool,
+    set: MarkedSet<'_>,
+    user: u64,
+    at: u64,
+    known: &Known<F>,
+    answers: &mut Answers,
+) -> Result<bool, AllocError>
+    ensures same { parts.new ≡ parts.old }
+    ensures tells { IfOk result (λ r. Tells parts.old.trace at known.now (fact_of (set_value set.entry.set) user) parts.old.questions
+        answers.old answers.new is_given (part_at parts.old.questions.parts part) r) }
+{
+    if is_covered(parts, part, is_given, set, user, at, known, answers)? {
+        return Ok(!is_given);
+    }
+    parts.ask_once(part, false, is_given, set, user, at, known, answers)
+}
+
+/// Whether one of the nodes is a part that was asked for, and its answer is the one that decides.
+fn is_decided(nodes: &Vec<Node>, stop: bool, is_given: bool, answers: &Answers) -> bool
+    ensures { IsTrue result → (q : Questions)
+        → Follows q answers.now is_given (joined_of stop is_given (nodes_shown q.parts nodes.now.items)) stop }
+{
+    for node in nodes {
+        if let Node::Part(part) = node {
+            if let Some(answer) = answers.find(*part, false, is_given) {
+                if answer == stop {
+                    return true;
+                }
+            }
+        }
+    }
+    false
+}
+
+/// Whether some of the nodes gives a fact, or rules it out; or where `stop` is false, whether each does. It looks no further than is needed,
+/// and asks for nothing where what was asked for decides.
+#[cycle(node)]
+fn nodes_do<F: KnownFact>(
+    parts: &mut Parts<'_>,
+    nodes: &Vec<Node>,
+    stop: bool,
+    is_given: bool,
+    set: MarkedSet<'_>,
+    user: u64,
+    at: u64,
+    known: &Known<F>,
+    answers: &mut Answers,
+) -> Result<bool, AllocError>
+    ensures same { parts.new ≡ parts.old }
+    ensures tells { IfOk result (λ r. Tells parts.old.trace at known.now (fact_of (set_value set.entry.set) user) parts.old.questions
+        answers.old answers.new is_given (joined_of stop is_given (nodes_shown parts.old.questions.parts nodes.now.items)) r) }
+{
+    if is_decided(nodes, stop, is_given, answers) {
+        return Ok(stop);
+    }
+    for node in nodes {
+        let does = node_does(parts, node, is_given, set, user, at, known, answers)?;
+        if does == stop {
+            return Ok(stop);
+        }
+    }
+    Ok(!stop)
+}
+
+/// Whether a node of a rule gives a fact, or whether it rules the fact out.
+#[cycle(node)]
+pub(crate) fn node_does<F: KnownFact>(
+    parts: &mut Parts<'_>,
+    node: &Node,
+    is_given: bool,
+    set: MarkedSet<'_>,
+    user: u64,
+    at: u64,
+    known: &Known<F>,
+    answers: &mut Answers,
+) -> Result<bool, AllocError>
+    ensures same { parts.new ≡ parts.old }
+    ensures tells { IfOk result (λ r. Tells parts.old.trace at known.now (fact_of (set_value set.entry.set) user) parts.old.questions
+        answers.old answers.new is_given (node_expression parts.old.questions.parts node.now) r) }
+{
+    match node {
+        Node::Part(part) => ask(parts, *part, is_given, set, user, at, known, answers),
+        Node::Union(nodes) => nodes_do(
+            parts, nodes, is_given, is_given, set, user, at, known, answers,
+        ),
+        Node::Inter(nodes) => nodes_do(
+            parts, nodes, !is_given, is_given, set, user, at, known, answers,
+        ),
+        Node::Minus(base, subtract) => {
+            let does = node_does(parts, base, is_given, set, user, at, known, answers)?;
+            if does != is_given {
+                return Ok(does);
+            }
+            node_does(parts, subtract, !is_given, set, user, at, known, answers)
+        }
+    }
+}

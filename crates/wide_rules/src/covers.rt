@@ -1,0 +1,297 @@
+//! Covers: parts that each read through one tupleset what many parts of a rule read.
+//!
+//! Where a cover does not give a fact, none of its parts does, and where it rules the fact out, each of them does: one question is enough for
+//! all. The covers of a tupleset make a tree. A part is asked for only where no cover above it answers for it.
+
+ghost use Rattle.std.specs.Prelude.{◌≡◌, ◌<◌, ℕ, List, Contains, true, IfOk};
+ghost use Rattle.rewrites.specs.Parts.{computed_names, part_at, part_expression, parts_shown, through_expression};
+ghost use Rattle.rewrites.specs.View.{expression_of};
+ghost use Rattle.wide_rules.specs.Asked.{AreCovers, AreCoversByPart, IsCoveredBy};
+
+use crate::declaring::name_at;
+use indexmap::IndexMap;
+use rewrites::{Part, Rewrite, Through};
+use std::alloc::{AllocError, Global};
+
+/// Up to how many parts that read through one tupleset have no cover.
+const FEW_PARTS: usize = 8;
+
+/// How many covers of one size a wider cover stands for.
+const FAN: usize = 16;
+
+/// How many covers a part has at most.
+pub(crate) const MOST_COVERS: usize = 16;
+
+/// Covers, and for each part the numbers of its covers, the widest first.
+#[derive(Drop)]
+pub(crate) struct Covers {
+    pub(crate) covers: Vec<Part>,
+    pub(crate) by_part: Vec<Vec<usize>>,
+}
+
+/// The tupleset through which a part reads.
+fn tupleset_of(part: &Part) -> Option<&String> {
+    match part {
+        Part::Leaf(
+            Rewrite::TupleTo {
+                tupleset,
+                computed: _,
+            },
+        ) => Some(tupleset),
+        Part::Leaf(_) => None,
+        Part::Through(through) => Some(&through.tupleset),
+    }
+}
+
+/// Puts the number of a part to those that read through its tupleset.
+fn put(
+    alloc: Global,
+    groups: &mut IndexMap<String, Vec<usize>>,
+    tupleset: &String,
+    number: usize,
+) -> Result<(), AllocError> {
+    if let Some(index) = groups.get_index_of(tupleset.as_str()) {
+        if let Some(numbers) = groups.get_index_mut(index) {
+            numbers.push(number)?;
+        }
+        return Ok(());
+    }
+    let mut numbers = Vec::new(alloc);
+    numbers.push(number)?;
+    let _ = groups.insert(tupleset.clone()?, numbers)?;
+    Ok(())
+}
+
+/// The numbers of the parts that read through each tupleset.
+fn groups_of(alloc: Global, parts: &[Part]) -> Result<IndexMap<String, Vec<usize>>, AllocError> {
+    let mut groups = IndexMap::new(alloc);
+    for number in 0..parts.len() {
+        if let Some(tupleset) = tupleset_of(&parts[number]) {
+            put(alloc, &mut groups, tupleset, number)?;
+        }
+    }
+    Ok(groups)
+}
+
+/// Reads through a cover's tupleset what a part reads.
+fn read_too(cover: &mut Through, part: &Part) -> Result<(), AllocError> {
+    match part {
+        Part::Leaf(
+            Rewrite::TupleTo {
+                tupleset: _,
+                computed,
+            },
+        ) => {
+            let _ = cover.computed.insert(computed.clone()?, ())?;
+        }
+        Part::Leaf(_) => {}
+        Part::Through(through) => {
+            for k in 0..through.computed.len() {
+                if let Some((name, _)) = through.computed.get_index(k) {
+                    let _ = cover.computed.insert(name.clone()?, ())?;
+                }
+            }
+        }
+    }
+    Ok(())
+}
+
+/// The cover of the parts of some numbers.
+fn cover_of(
+    alloc: Global,
+    tupleset: &String,
+    parts: &[Part],
+    numbers: &[usize],
+) -> Result<Part, AllocError> {
+    let mut cover = Through {
+        tupleset: tupleset.clone()?,
+        computed: IndexMap::new(alloc),
+    };
+    for number in numbers {
+        if let Some(part) = parts.get(*number) {
+            read_too(&mut cover, part)?;
+        }
+    }
+    Ok(Part::Through(cover))
+}
+
+impl Covers {
+    /// Covers of one size for the parts of some numbers.
+    fn add_size(
+        &mut self,
+        alloc: Global,
+        tupleset: &String,
+        parts: &[Part],
+        numbers: &[usize],
+        size: usize,
+    ) -> Result<(), AllocError>
+        requires { 0 < size }
+    {
+        for covered in numbers.chunks(size) {
+            let cover = self.covers.len();
+            self.covers
+                .push(cover_of(alloc, tupleset, parts, covered)?)?;
+            for number in covered {
+                if let Some(covers) = self.by_part.get_mut(*number) {
+                    covers.push(cover)?;
+                }
+            }
+        }
+        Ok(())
+    }
+
+    /// Covers of all sizes, from that of all these parts on. Each size takes as many steps as they read relations.
+    fn add_group(
+        &mut self,
+        alloc: Global,
+        tupleset: &String,
+        parts: &[Part],
+        numbers: &[usize],
+    ) -> Result<(), AllocError> {
+        if numbers.len() <= FEW_PARTS {
+            return Ok(());
+        }
+        let mut size = numbers.len();
+        for _ in 0..MOST_COVERS {
+            if size < 2 {
+                break;
+            }
+            self.add_size(alloc, tupleset, parts, numbers, size)?;
+            size = size / FAN + 1;
+        }
+        Ok(())
+    }
+}
+
+/// Covers of the parts of a rule, as they were put together.
+fn drafted(alloc: Global, parts: &[Part]) -> Result<Covers, AllocError> {
+    let mut drafted = Covers {
+        covers: Vec::new(alloc),
+        by_part: Vec::with_capacity(alloc, parts.len())?,
+    };
+    for _ in 0..parts.len() {
+        drafted.by_part.push(Vec::new(alloc))?;
+    }
+    let groups = groups_of(alloc, parts)?;
+    for k in 0..groups.len() {
+        if let Some((tupleset, numbers)) = groups.get_index(k) {
+            drafted.add_group(alloc, tupleset, parts, numbers)?;
+        }
+    }
+    Ok(drafted)
+}
+
+/// Whether all relations that are read through one tupleset are read through another.
+fn reads_all(cover: &Through, through: &Through) -> bool
+    ensures { result ≡ true → (c : List ℕ) → Contains (computed_names through.now) c → Contains (computed_names cover.now) c }
+{
+    for k in 0..through.computed.len() {
+        let Some(name) = name_at(through, k) else {
+            return false;
+        };
+        if !cover.reads(name) {
+            return false;
+        }
+    }
+    true
+}
+
+/// Whether a leaf is read through a tupleset.
+fn reads_leaf(cover: &Through, leaf: &Rewrite) -> bool
+    ensures { result ≡ true → IsCoveredBy (expression_of leaf.now) (through_expression cover.now) }
+{
+    match leaf {
+        Rewrite::TupleTo { tupleset, computed } => {
+            cover.tupleset == *tupleset && cover.reads(computed.as_str())
+        }
+        _ => false,
+    }
+}
+
+/// Whether a part is a cover of another.
+fn is_cover(cover: &Part, part: &Part) -> bool
+    ensures { result ≡ true → IsCoveredBy (part_expression part.now) (part_expression cover.now) }
+{
+    let Part::Through(cover) = cover else {
+        return false;
+    };
+    match part {
+        Part::Leaf(leaf) => reads_leaf(cover, leaf),
+        Part::Through(through) => {
+            cover.tupleset == through.tupleset && reads_all(cover, through)
+        }
+    }
+}
+
+/// Whether the part of a number is.
+fn is_cover_at(covers: &[Part], number: usize, part: &Part) -> bool
+    ensures { result ≡ true → IsCoveredBy (part_expression part.now) (part_at (parts_shown covers.now) number) }
+{
+    match covers.get(number) {
+        Some(cover) => is_cover(cover, part),
+        None => false,
+    }
+}
+
+/// Those of some numbers that are of covers of a part: all of them.
+fn checked(
+    alloc: Global,
+    covers: &[Part],
+    part: &Part,
+    drafted: &[usize],
+) -> Result<Vec<usize>, AllocError>
+    ensures { IfOk result (λ v. AreCovers (parts_shown covers.now) (part_expression part.now) v.items) }
+{
+    let mut numbers = Vec::with_capacity(alloc, drafted.len())?;
+    for number in drafted {
+        if is_cover_at(covers, *number, part) {
+            numbers.push(*number)?;
+        }
+    }
+    Ok(numbers)
+}
+
+/// The same of the part of a number.
+fn checked_at(
+    alloc: Global,
+    covers: &[Part],
+    parts: &[Part],
+    drafted: &[Vec<usize>],
+    k: usize,
+) -> Result<Vec<usize>, AllocError>
+    ensures { IfOk result (λ v. AreCovers (parts_shown covers.now) (part_at (parts_shown parts.now) k) v.items) }
+{
+    let Some(part) = parts.get(k) else {
+        return Ok(Vec::new(alloc));
+    };
+    let Some(numbers) = drafted.get(k) else {
+        return Ok(Vec::new(alloc));
+    };
+    checked(alloc, covers, part, numbers)
+}
+
+/// The same of each part.
+fn each_checked(
+    alloc: Global,
+    covers: &[Part],
+    parts: &[Part],
+    drafted: &[Vec<usize>],
+) -> Result<Vec<Vec<usize>>, AllocError>
+    ensures { IfOk result (λ v. AreCoversByPart (record { parts = parts_shown parts.now; covers = parts_shown covers.now }) v.items) }
+{
+    let mut each = Vec::with_capacity(alloc, parts.len())?;
+    for k in 0..parts.len() {
+        let numbers = checked_at(alloc, covers, parts, drafted, k)?;
+        each.push(numbers)?;
+    }
+    Ok(each)
+}
+
+/// The covers of the parts of a rule.
+pub(crate) fn covers_of(alloc: Global, parts: &[Part]) -> Result<Covers, AllocError>
+    ensures { IfOk result (λ c. AreCoversByPart (record { parts = parts_shown parts.now; covers = parts_shown c.covers.items }) c.by_part.items) }
+{
+    let Covers { covers, by_part } = drafted(alloc, parts)?;
+    let by_part = each_checked(alloc, &covers, parts, &by_part)?;
+    Ok(Covers { covers, by_part })
+}

@@ -1,0 +1,115 @@
+//! Which namespaces declare a relation that is read through a tupleset.
+
+ghost use Rattle.std.specs.Prelude.{◌≡◌, ◌<◌, ◌^◌, ℕ, List, Contains, None, false, slice_get, option_map, IfOk};
+ghost use Rattle.namespaces.specs.Lookup.{rule_at};
+ghost use Rattle.rewrites.specs.Parts.{computed_names};
+ghost use Rattle.userset_index.specs.Numbers.{Has};
+ghost use Rattle.wide_rules.specs.Declaring.{AreDeclaring, DeclaresNone};
+
+use judgement::MOST_NAMESPACES;
+use namespaces::Rules;
+use rewrites::Through;
+use std::alloc::{AllocError, Global};
+use tuple_text::SetRef;
+use userset_index::Numbers;
+
+/// The name of a relation that is read, by its place.
+pub(crate) fn name_at(through: &Through, k: usize) -> Option<&str>
+    ensures { option_map (λ s. s.now) result ≡ slice_get (computed_names through.now) k }
+{
+    let (name, _) = through.computed.get_index(k)?;
+    Some(name.as_str())
+}
+
+/// Whether a namespace declares, at a timestamp, one of the relations that are read, asked for these: at most as many as it declares.
+fn declares_name(rules: &Rules, through: &Through, namespace: &str, at: u64) -> bool
+    ensures { result ≡ false → DeclaresNone rules.now at (computed_names through.now) namespace.now }
+{
+    for k in 0..through.computed.len() {
+        if let Some(relation) = name_at(through, k) {
+            let set = SetRef {
+                namespace,
+                id: "",
+                relation,
+            };
+            if rules.body(set, at).is_some() {
+                return true;
+            }
+        }
+    }
+    false
+}
+
+/// The same, asked for those that it declares, of which there are 256 at most.
+fn declares_read(rules: &Rules, through: &Through, namespace: &str, at: u64) -> bool
+    ensures { result ≡ false → DeclaresNone rules.now at (computed_names through.now) namespace.now }
+{
+    for k in 0..rules.count_in_force(namespace, at) {
+        if let Some(name) = rules.name_in_force(namespace, at, k) {
+            if through.reads(name) {
+                return true;
+            }
+        }
+    }
+    false
+}
+
+/// The same, asked for the shorter of both lists.
+pub(crate) fn declares_some(rules: &Rules, through: &Through, namespace: &str, at: u64) -> bool
+    ensures { result ≡ false → DeclaresNone rules.now at (computed_names through.now) namespace.now }
+{
+    if through.computed.len() < rules.count_in_force(namespace, at) {
+        declares_name(rules, through, namespace, at)
+    } else {
+        declares_read(rules, through, namespace, at)
+    }
+}
+
+/// Whether it ever does. What is declared stays declared, so the last declaration tells.
+fn declares_ever(rules: &Rules, through: &Through, namespace: &str) -> bool
+    ensures { result ≡ false → (at : ℕ) → at < 2 ^ 64 → DeclaresNone rules.now at (computed_names through.now) namespace.now }
+{
+    declares_some(rules, through, namespace, u64::MAX)
+}
+
+/// The numbers of the namespaces that declare a relation that is read, at whatever time.
+pub(crate) fn declaring(
+    alloc: Global,
+    rules: &Rules,
+    through: &Through,
+) -> Result<Vec<u16>, AllocError>
+    ensures { IfOk result (λ numbers. AreDeclaring rules.now (computed_names through.now) numbers.items) }
+{
+    let mut numbers = Vec::new(alloc);
+    for before in 0..MOST_NAMESPACES {
+        let number = before + 1;
+        if let Some(namespace) = rules.namespace(number) {
+            if declares_ever(rules, through, namespace) {
+                numbers.push(number)?;
+            }
+        }
+    }
+    Ok(numbers)
+}
+
+/// Whether the namespace of this name is among some.
+pub(crate) fn is_among(rules: &Rules, namespace: &str, numbers: &[u16]) -> bool
+    ensures { result ≡ false → (names : List (List ℕ)) (at : ℕ) → AreDeclaring rules.now names numbers.now → at < 2 ^ 64
+        → DeclaresNone rules.now at names namespace.now }
+{
+    match rules.namespace_number(namespace) {
+        Some(number) => numbers.contains(&number),
+        None => false,
+    }
+}
+
+/// These numbers as a set. They are 256 at most.
+pub(crate) fn numbers_of(numbers: &[u16]) -> Numbers
+    ensures { (n : ℕ) → Contains numbers.now n → Has result n }
+{
+    let mut all = Numbers::none();
+    for number in numbers {
+        all = all.with(*number);
+    }
+    all
+}
