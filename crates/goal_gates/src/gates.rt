@@ -27,8 +27,8 @@ pub(crate) enum Wants {
     Parts(u32),
 }
 
-/// A gate: how many openings it waits for and of which gates, the links to those that it feeds and from those that feed it, how many gates
-/// had opened when it had, itself among them, and the one that opened it.
+/// A gate: how many openings it waits for and of which gates, the links to those that it feeds and from those that feed it, and how many gates
+/// had opened when it had, itself among them.
 #[derive(Clone, Copy, Drop)]
 pub(crate) struct Gate {
     pub(crate) wanted: u32,
@@ -36,7 +36,13 @@ pub(crate) struct Gate {
     pub(crate) feeds: Ends,
     pub(crate) fed_by: Ends,
     pub(crate) opened_at: u32,
-    pub(crate) opened_by: Option<u32>,
+}
+
+/// A gate that opened, and the one that opened it.
+#[derive(Clone, Copy, Drop)]
+pub(crate) struct Opened {
+    pub(crate) gate: u32,
+    pub(crate) by: Option<u32>,
 }
 
 /// An exclusion: its own gate, that of its subtracted side, and the place of the fact whose rule it is in.
@@ -71,7 +77,7 @@ pub struct Gates<'t> {
     // the facts of rules of many places of which a part opened, to be looked at
     pub(crate) waiting: VecDeque<usize>,
     // the gates that opened, in order; how many of them were let feed others, and how many were told
-    pub(crate) open: Vec<usize>,
+    pub(crate) open: Vec<Opened>,
     pub(crate) fed: usize,
     pub(crate) told: usize,
 }
@@ -163,7 +169,6 @@ impl<'t> Gates<'t> {
             feeds: Ends::none(),
             fed_by: Ends::none(),
             opened_at: 0,
-            opened_by: None,
         })?;
         Ok(gate)
     }
@@ -190,13 +195,21 @@ impl<'t> Gates<'t> {
     pub(crate) fn lower(&mut self, gate: usize, by: Option<u32>) -> Result<(), AllocError> {
         if let Some(found) = self.gates.get_mut(gate) {
             if found.wanted == 1 {
-                self.open.push(gate)?;
-                found.opened_by = by;
+                self.open.push(Opened {
+                    gate: small(gate)?,
+                    by,
+                })?;
                 found.opened_at = small(self.open.len())?;
             }
             found.wanted = found.wanted.saturating_sub(1);
         }
         Ok(())
+    }
+
+    /// The gate that opened a gate.
+    pub(crate) fn opened_by(&self, gate: Gate) -> Option<u32> {
+        let before = (gate.opened_at as usize).checked_sub(1)?;
+        self.open.get(before)?.by
     }
 
     pub(crate) fn is_open(&self, gate: usize) -> bool {

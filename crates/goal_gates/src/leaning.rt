@@ -76,7 +76,7 @@ impl<'t> Gates<'t> {
         if let Wants::Without(outer) = gate.wants {
             leaning.add(outer as usize)?;
         }
-        match (gate.wants, gate.opened_by) {
+        match (gate.wants, self.opened_by(gate)) {
             (Wants::Some, Some(by)) => leaning.add(by as usize),
             (Wants::Some, None) => Ok(()),
             _ => self.lean_on_each(gate, leaning),
@@ -92,15 +92,14 @@ impl<'t> Gates<'t> {
     }
 
     fn lean_on_each(&self, gate: Gate, leaning: &mut Leaning) -> Result<(), AllocError> {
-        let mut next = self.links.first(gate.fed_by);
+        let mut walk = self.links.walk(gate.fed_by, Way::FedBy);
         for _ in 0..self.links.len() {
-            let Some(link) = next else {
+            let Some(link) = self.links.next(&mut walk) else {
                 break;
             };
-            if let Some(from) = link.from {
+            if let Some(from) = link.from() {
                 leaning.add(from as usize)?;
             }
-            next = self.links.after(link, Way::FedBy);
         }
         Ok(())
     }
@@ -108,12 +107,12 @@ impl<'t> Gates<'t> {
     /// One that is shut is enough to keep a gate shut that waits for each: one that is kept already, and else the first.
     fn lean_on_one(&self, gate: Gate, leaning: &mut Leaning) -> Result<(), AllocError> {
         let mut first = None;
-        let mut next = self.links.first(gate.fed_by);
+        let mut walk = self.links.walk(gate.fed_by, Way::FedBy);
         for _ in 0..self.links.len() {
-            let Some(link) = next else {
+            let Some(link) = self.links.next(&mut walk) else {
                 break;
             };
-            if let Some(from) = link.from {
+            if let Some(from) = link.from() {
                 let from = from as usize;
                 if !self.is_open(from) {
                     if leaning.has(from) {
@@ -124,7 +123,6 @@ impl<'t> Gates<'t> {
                     }
                 }
             }
-            next = self.links.after(link, Way::FedBy);
         }
         match first {
             Some(from) => leaning.add(from),
@@ -134,7 +132,7 @@ impl<'t> Gates<'t> {
 
     /// How many gates had opened when that had from which a link comes: 0 where it comes from none, and no number where the gate is shut.
     fn opening(&self, link: Link) -> Option<u32> {
-        let Some(from) = link.from else {
+        let Some(from) = link.from() else {
             return Some(0);
         };
         let gate = self.gates.get(from as usize)?;
@@ -148,9 +146,9 @@ impl<'t> Gates<'t> {
     /// The least of these for each part that is open.
     fn openings(&self, gate: Gate, parts: usize) -> Result<Vec<Option<u32>>, AllocError> {
         let mut first = vec![in *self.open.allocator(); None; parts]?;
-        let mut next = self.links.first(gate.fed_by);
+        let mut walk = self.links.walk(gate.fed_by, Way::FedBy);
         for _ in 0..self.links.len() {
-            let Some(link) = next else {
+            let Some(link) = self.links.next(&mut walk) else {
                 break;
             };
             if let (Some(opening), Some(part)) = (
@@ -159,7 +157,6 @@ impl<'t> Gates<'t> {
             ) {
                 *part = Some(part.unwrap_or(opening).min(opening));
             }
-            next = self.links.after(link, Way::FedBy);
         }
         Ok(first)
     }
@@ -168,7 +165,7 @@ impl<'t> Gates<'t> {
     /// shut on each that feeds it.
     fn leans_on(&self, link: Link, first: &[Option<u32>]) -> Option<usize> {
         if first.get(link.part as usize).copied() == Some(self.opening(link)) {
-            Some(link.from? as usize)
+            Some(link.from()? as usize)
         } else {
             None
         }
@@ -182,9 +179,9 @@ impl<'t> Gates<'t> {
         leaning: &mut Leaning,
     ) -> Result<(), AllocError> {
         let first = self.openings(gate, kept.len())?;
-        let mut next = self.links.first(gate.fed_by);
+        let mut walk = self.links.walk(gate.fed_by, Way::FedBy);
         for _ in 0..self.links.len() {
-            let Some(link) = next else {
+            let Some(link) = self.links.next(&mut walk) else {
                 break;
             };
             if kept.get(link.part as usize).copied() == Some(true) {
@@ -192,7 +189,6 @@ impl<'t> Gates<'t> {
                     leaning.add(from)?;
                 }
             }
-            next = self.links.after(link, Way::FedBy);
         }
         Ok(())
     }

@@ -10,29 +10,50 @@ pub(crate) fn small(number: usize) -> Result<u32, AllocError> {
     }
 }
 
-/// The first and the last link of a list, counted from 1; 0 where there is none.
+/// A list of links by its last one, counted from 1, behind which the first stands again; 0 where there is none.
 #[derive(Clone, Copy, Drop)]
 pub(crate) struct Ends {
-    first: u32,
     last: u32,
 }
 
 impl Ends {
     pub(crate) fn none() -> Ends {
-        Ends { first: 0, last: 0 }
+        Ends { last: 0 }
     }
 }
 
 /// A link from a gate to one that it feeds, or to one that waits for nothing more of it.
 #[derive(Clone, Copy, Drop)]
 pub(crate) struct Link {
-    /// The gate that feeds, or none where what is fed is open from the first.
-    pub(crate) from: Option<u32>,
+    // counted from 1: 0 where what is fed is open from the first
+    from: u32,
     pub(crate) to: u32,
     /// Which part of a rule of many places is fed.
     pub(crate) part: u32,
     next_of_from: u32,
     next_of_to: u32,
+}
+
+impl Link {
+    /// The gate that feeds, or none where what is fed is open from the first.
+    pub(crate) fn from(&self) -> Option<u32> {
+        self.from.checked_sub(1)
+    }
+
+    /// The number of the link behind it in a list.
+    fn next(&self, way: Way) -> u32 {
+        match way {
+            Way::Feeds => self.next_of_from,
+            Way::FedBy => self.next_of_to,
+        }
+    }
+
+    fn set_next(&mut self, way: Way, number: u32) {
+        match way {
+            Way::Feeds => self.next_of_from = number,
+            Way::FedBy => self.next_of_to = number,
+        }
+    }
 }
 
 /// Links, each in two lists: of the gate that feeds, and of the one that is fed.
@@ -46,6 +67,14 @@ pub(crate) struct Links {
 pub(crate) enum Way {
     Feeds,
     FedBy,
+}
+
+/// How far a list was gone over: the link that was given last, and the last one, both 0 where there is no more.
+#[derive(Clone, Copy)]
+pub(crate) struct Walk {
+    at: u32,
+    last: u32,
+    way: Way,
 }
 
 impl Links {
@@ -64,20 +93,28 @@ impl Links {
         self.links.get((number as usize).checked_sub(1)?).copied()
     }
 
-    pub(crate) fn first(&self, ends: Ends) -> Option<Link> {
-        self.get(ends.first)
+    /// The beginning of a list.
+    pub(crate) fn walk(&self, ends: Ends, way: Way) -> Walk {
+        Walk {
+            at: ends.last,
+            last: ends.last,
+            way,
+        }
     }
 
-    /// The link behind one in a list.
-    pub(crate) fn after(&self, link: Link, way: Way) -> Option<Link> {
-        match way {
-            Way::Feeds => self.get(link.next_of_from),
-            Way::FedBy => self.get(link.next_of_to),
-        }
+    /// The next link of a list.
+    pub(crate) fn next(&self, walk: &mut Walk) -> Option<Link> {
+        let number = self.get(walk.at)?.next(walk.way);
+        walk.at = if number == walk.last { 0 } else { number };
+        self.get(number)
     }
 
     /// Adds a link, and gives its number.
     pub(crate) fn add(&mut self, from: Option<u32>, to: u32, part: u32) -> Result<u32, AllocError> {
+        let from = match from {
+            Some(from) => from.checked_add(1).ok_or(AllocError)?,
+            None => 0,
+        };
         self.links.push(Link {
             from,
             to,
@@ -88,19 +125,24 @@ impl Links {
         small(self.links.len())
     }
 
-    /// Puts a link last in a list.
-    pub(crate) fn append(&mut self, ends: &mut Ends, way: Way, number: u32) {
-        let last = (ends.last as usize).checked_sub(1);
-        ends.last = number;
-        let Some(last) = last else {
-            ends.first = number;
-            return;
-        };
-        if let Some(link) = self.links.get_mut(last) {
-            match way {
-                Way::Feeds => link.next_of_from = number,
-                Way::FedBy => link.next_of_to = number,
+    /// The first link of a list.
+    fn first(&self, ends: Ends, way: Way) -> Option<u32> {
+        Some(self.get(ends.last)?.next(way))
+    }
+
+    fn set_next(&mut self, of: u32, way: Way, number: u32) {
+        if let Some(of) = (of as usize).checked_sub(1) {
+            if let Some(link) = self.links.get_mut(of) {
+                link.set_next(way, number);
             }
         }
+    }
+
+    /// Puts a link last in a list.
+    pub(crate) fn append(&mut self, ends: &mut Ends, way: Way, number: u32) {
+        let first = self.first(*ends, way).unwrap_or(number);
+        self.set_next(ends.last, way, number);
+        self.set_next(number, way, first);
+        ends.last = number;
     }
 }

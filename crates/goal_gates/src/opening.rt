@@ -17,9 +17,9 @@ impl<'t> Gates<'t> {
     fn drain(&mut self) -> Result<(), AllocError> {
         let most = self.gates.len().saturating_add(self.links.len());
         for _ in 0..most.saturating_add(self.wide.len()).saturating_add(1) {
-            if let Some(gate) = self.open.get(self.fed).copied() {
+            if let Some(opened) = self.open.get(self.fed).copied() {
                 self.fed = self.fed.saturating_add(1);
-                self.pass_on(gate)?;
+                self.pass_on(opened.gate as usize)?;
             } else if let Some(number) = self.waiting.pop_front() {
                 self.look_at(number)?;
             } else {
@@ -33,13 +33,12 @@ impl<'t> Gates<'t> {
         let Some(found) = self.gates.get(gate).copied() else {
             return Ok(());
         };
-        let mut next = self.links.first(found.feeds);
+        let mut walk = self.links.walk(found.feeds, Way::Feeds);
         for _ in 0..self.links.len() {
-            let Some(link) = next else {
-                return Ok(());
+            let Some(link) = self.links.next(&mut walk) else {
+                break;
             };
             self.pass(link)?;
-            next = self.links.after(link, Way::Feeds);
         }
         Ok(())
     }
@@ -54,7 +53,7 @@ impl<'t> Gates<'t> {
                     ..
                 },
             ) => self.open_part(to, link.part as usize),
-            _ => self.lower(to, link.from),
+            _ => self.lower(to, link.from()),
         }
     }
 
@@ -152,8 +151,8 @@ impl<'t> Gates<'t> {
         self.tell_wide(strata, stratum)?;
         let mut places = Vec::new(*self.open.allocator());
         for k in self.told..self.open.len() {
-            if let Some(gate) = self.open.get(k).copied() {
-                places.push(gate)?;
+            if let Some(opened) = self.open.get(k).copied() {
+                places.push(opened.gate as usize)?;
             }
         }
         self.told = self.open.len();
