@@ -4,7 +4,7 @@
 #![tactic(auto)]
 
 #[cfg(test)]
-mod devices;
+mod failing;
 #[cfg(test)]
 mod in_memory;
 #[cfg(test)]
