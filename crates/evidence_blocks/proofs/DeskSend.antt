@@ -5,7 +5,6 @@ use Rattle.std.proofs.Crossing.{crosses}
 use Rattle.std.proofs.MapsCrossing as maps
 use Rattle.rewrites.proofs.rewrite.Rewrite.TheLaws.TheKnot.{send-Rewrite, sync-Rewrite}
 use Rattle.rewrites.specs.contracts.parts.Part as part
-use Rattle.rewrites.specs.contracts.parts.Through as through
 use Rattle.wide_rules.specs.contracts.answers.Answers as answers
 use Rattle.wide_rules.specs.contracts.covers.Covers as covers
 use Rattle.wide_rules.specs.contracts.kept.Kept as kept
@@ -32,13 +31,10 @@ paths_send = search (sendable, crosses, path_send) depth 40 fits 100000
 part_sync : IsSync part.the_row
 part_sync = search (sendable, crosses, sync-Rewrite, through_sync) depth 40 fits 100000
 
-through_send : IsSend through.the_row
-through_send = search (sendable, crosses, maps.crosses) depth 40 fits 100000
-
 part_send : IsSend part.the_row
-part_send = search (sendable, crosses, send-Rewrite, through_send) depth 40 fits 100000
+part_send = search (sendable, crosses, maps.crosses, send-Rewrite) depth 40 fits 100000
 
-covers_send : IsSend covers.the_row
+covers_send : IsSend (covers.the_field).row
 covers_send = search (sendable, crosses, part_send) depth 40 fits 100000
 
 parts_send : (κ : NamedLft) → IsSend (parts.the_row κ)
