@@ -5,6 +5,7 @@ use Rattle.std.proofs.Crossing.{crosses}
 use Rattle.std.proofs.MapsCrossing as maps
 use Rattle.rewrites.proofs.rewrite.Rewrite.TheLaws.TheKnot.{send-Rewrite, sync-Rewrite}
 use Rattle.rewrites.specs.contracts.parts.Part as part
+use Rattle.snapshots.specs.contracts.timeline.Timeline as timeline
 use Rattle.wide_rules.specs.contracts.answers.Answers as answers
 use Rattle.wide_rules.specs.contracts.covers.Covers as covers
 use Rattle.wide_rules.specs.contracts.kept.Kept as kept
@@ -14,7 +15,7 @@ use Rattle.wide_rules.specs.contracts.asking.Parts as parts
 use Rattle.wide_rules.specs.contracts.asked_rule.AskedRule as asked_rule
 use Rattle.evidence_check.specs.contracts.asked_rules.AskedRules as asked_rules
 use Rattle.evidence_blocks.specs.contracts.telling.Desk as desk
-use Rattle.evidence_blocks.proofs.TraceSync.{parted_sync, through_sync, trace_sync}
+use Rattle.evidence_blocks.proofs.TraceSync.{chains_sync, parted_sync, rules_sync, through_sync, trace_sync, usersets_sync}
 
 answers_send : IsSend answers.the_row
 answers_send = search (sendable, crosses) depth 40 fits 100000
@@ -37,8 +38,11 @@ part_send = search (sendable, crosses, maps.crosses, send-Rewrite) depth 40 fits
 covers_send : IsSend (covers.the_field).row
 covers_send = search (sendable, crosses, part_send) depth 40 fits 100000
 
+timeline_send : (κ : NamedLft) → IsSend ((timeline.the_field κ).row)
+timeline_send κ = search (sendable, crosses, rules_sync, chains_sync, usersets_sync) depth 40 fits 100000
+
 parts_send : (κ : NamedLft) → IsSend (parts.the_row κ)
-parts_send κ = search (sendable, crosses, kept_send, covers_send, part_sync, trace_sync) depth 40 fits 100000
+parts_send κ = search (sendable, crosses, timeline_send, kept_send, covers_send, part_sync) depth 40 fits 100000
 
 rule_send : (κ : NamedLft) → IsSend (asked_rule.the_row κ)
 rule_send κ = search (sendable, crosses, answers_send, paths_send, parts_send, parted_sync) depth 40 fits 100000

@@ -30,7 +30,7 @@ places_sync = search (sendable, crosses, maps.crosses) depth 40
 arena_sync : IsSync arena.the_row
 arena_sync = search (sendable, crosses, maps.crosses, tuple_sync, places_sync) depth 40
 
-chains_sync : IsSync chains.the_row
+pub chains_sync : IsSync chains.the_row
 chains_sync = search (sendable, crosses, maps.crosses, arena_sync) depth 40
 
 pub through_sync : IsSync through.the_row
@@ -51,7 +51,7 @@ namespace_sync = search (sendable, crosses, maps.crosses, relation_sync) depth 4
 line_sync : IsSync line.the_row
 line_sync = search (sendable, namespace_sync) depth 40
 
-rules_sync : IsSync rules.the_row
+pub rules_sync : IsSync rules.the_row
 rules_sync = search (sendable, crosses, maps.crosses, line_sync) depth 40 fits 100000
 
 sample_sync : IsSync sample.the_row
@@ -63,7 +63,7 @@ spans_sync = search (sendable, crosses, maps.crosses, places_sync) depth 40
 times_sync : IsSync times.the_row
 times_sync = search (sendable, crosses, maps.crosses, spans_sync) depth 40
 
-usersets_sync : IsSync usersets.the_row
+pub usersets_sync : IsSync usersets.the_row
 usersets_sync = search (sendable, crosses, maps.crosses, spans_sync, times_sync) depth 40
 
 pub trace_sync : IsSync trace.the_row

@@ -16,6 +16,7 @@ use Rattle.namespaces.specs.Lookup.{Rule, Lookup, rule_at, rule_of}
 use Rattle.rewrites.specs.Plain.{ArePlain}
 use Rattle.version_chains.specs.Commits.{store_at}
 use Rattle.strata.proofs.Rounds.{stable_law, closed_law}
+use Rattle.trace_lines.specs.Timelines.{snapshot_of}
 use Rattle.trace_lines.specs.Values.{TraceValue, EntryValue}
 use Rattle.rewrites.proofs.AlikeLemmas.{alike_back}
 use Rattle.wide_rules.specs.Asked.{Does}
@@ -120,7 +121,7 @@ module _ (trace : TraceValue) (at : ℕ) (known : KnownValue) (f : FactValue) wh
 
   -- a rule that is alike settles the fact as its own does
   pub settled_by_rule : (g : Bool) (x : Expression) → IsRuleOf trace.declarations at f.set (Some x)
-      → (Does trace at known f g x ↔ IsSettled lookup store known g f)
+      → (Does (snapshot_of trace at) known f g x ↔ IsSettled lookup store known g f)
   settled_by_rule true x alike = by_rule (rule_of lookup f.set) x (Established lookup store known f) (alike_established lookup store known f) alike
   settled_by_rule false x alike =
       let rule = by_rule (rule_of lookup f.set) x (Refuted lookup store known f) (alike_refuted lookup store known f) alike in (
@@ -133,7 +134,7 @@ module _ (trace : TraceValue) (at : ℕ) (known : KnownValue) (f : FactValue) wh
 
   -- rules that are alike do the same
   pub does_alike : (g : Bool) (x y : Expression) (o : Option Expression) → AreAlike (Some x) o → AreAlike (Some y) o
-      → (Does trace at known f g x ↔ Does trace at known f g y)
+      → (Does (snapshot_of trace at) known f g x ↔ Does (snapshot_of trace at) known f g y)
   does_alike g x y None alike other = absurd alike
   does_alike true x y (Some z) alike other = (
     λ d. alike_established lookup store known f z y (alike_back y z other) (alike_established lookup store known f x z alike d),

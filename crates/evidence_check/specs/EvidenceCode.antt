@@ -3,7 +3,8 @@ use Rattle.std.specs.Prelude.{◌≡◌, ℕ, ◌==◌, ◌⊎◌, List, Option,
 use Rattle.std.proofs.Common.{inl, inr}
 use Rattle.std.specs.Coded.{Coded, code_by, coded×, coded⊎, coded_ℕ, coded_list, coded_option}
 use Rattle.tuple_text.specs.Tuples.{FactValue}
-use Rattle.trace_lines.specs.TraceCode.{fact_code, trace_code}
+use Rattle.snapshots.specs.Codes.{fact_code}
+use Rattle.trace_lines.specs.TraceCode.{trace_code}
 use Rattle.trace_lines.specs.Values.{TraceValue}
 use Rattle.evidence_check.specs.Records.{Records, Judgements}
 use Rattle.evidence_check.specs.Steps.{StepValue, yes_step, no_step}

@@ -10,6 +10,7 @@ use Rattle.rewrites.specs.Expression.{Expression}
 use Rattle.namespaces.specs.Lookup.{Lookup, expression_in, rule_at, rule_of}
 use Rattle.rewrites.specs.Parts.{rule_shown}
 use Rattle.rewrites.specs.View.{expression_of}
+use Rattle.trace_lines.specs.Timelines.{timeline_of}
 use Rattle.trace_lines.specs.Values.{TraceValue}
 use Rattle.judgement.specs.Judgement.{KnownValue}
 use Rattle.evidence_check.specs.Accepted.{IsProved, IsDisproved}
@@ -35,7 +36,7 @@ IsInForce declarations at g (RuleInForce.Wide place r) =
 
 -- it is asked over a trace, and says what the rule of the trace says that stands at its place
 pub record IsPlaced (trace : TraceValue) (p : PlacedRule) : Type 0 where
-  pub over : p.rule.trace ≡ trace
+  pub over : p.rule.timeline ≡ timeline_of trace
   pub says : AreAlike (Some p.rule.expression) (expression_in p.place trace.declarations)
 
 abbrev pub ArePlaced : TraceValue → List PlacedRule → Type 0

@@ -5,6 +5,7 @@ ghost use Rattle.rewrites.specs.Alike.{AreAlike};
 ghost use Rattle.rewrites.specs.Expression.{Expression};
 ghost use Rattle.namespaces.specs.Lookup.{expression_in};
 ghost use Rattle.rewrites.specs.Parts.{rule_shown};
+ghost use Rattle.trace_lines.specs.Timelines.{snapshot_of};
 ghost use Rattle.wide_rules.specs.Asked.{Does};
 ghost use Rattle.judgement.specs.Facts.{marked_fact};
 
@@ -87,7 +88,7 @@ impl<'t> AskedRules<'t> {
     ) -> Result<bool, AllocError>
         requires { AreAlike (Some (rule_shown parted.now)) (expression_in place self.old.declarations) }
         ensures rules { self.new ≡ self.old }
-        ensures does { IfOk result (λ r. IsTrue r ↔ Does self.old at known.now (marked_fact fact.entry) is_given (rule_shown parted.now)) }
+        ensures does { IfOk result (λ r. IsTrue r ↔ Does (snapshot_of self.old at) known.now (marked_fact fact.entry) is_given (rule_shown parted.now)) }
     {
         let number = self
             .numbers
@@ -99,7 +100,7 @@ impl<'t> AskedRules<'t> {
                 .rule
                 .does(is_given, fact.set, fact.user, at, known);
         }
-        let mut rule = AskedRule::new(self.alloc, self.trace, parted)?;
+        let mut rule = AskedRule::new(self.alloc, self.trace.timeline(), parted)?;
         let does = rule.does(is_given, fact.set, fact.user, at, known)?;
         let number = self.asked.len();
         self.asked.push(PlacedRule { place, rule })?;

@@ -118,10 +118,11 @@ fn settles<'t, F: KnownFact>(
     match rule {
         RuleInForce::Undeclared => Ok(!is_given),
         RuleInForce::Narrow(rule) => {
+            let snapshot = asked.trace().timeline().at(at);
             if is_given {
-                Ok(established(rule, fact.set, fact.user, asked.trace(), at, known))
+                Ok(established(rule, fact.set, fact.user, &snapshot, known))
             } else {
-                Ok(refuted(rule, fact.set, fact.user, asked.trace(), at, known))
+                Ok(refuted(rule, fact.set, fact.user, &snapshot, known))
             }
         }
         RuleInForce::Wide(place, rule) => asked.does(place, rule, is_given, at, known, fact),

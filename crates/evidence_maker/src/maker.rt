@@ -112,8 +112,9 @@ pub fn make_after(
     if let Some(alike) = made_like(alloc, trace, entry, found)? {
         return Ok(alike);
     }
-    let cone = explore(alloc, trace, entry.snapshot, &entry.goal)?;
-    let mut gates = Gates::of(alloc, trace, entry.snapshot, &cone)?;
+    let snapshot = trace.timeline().at(entry.snapshot);
+    let cone = explore(alloc, &snapshot, &entry.goal)?;
+    let mut gates = Gates::of(alloc, snapshot, &cone)?;
     let steps = settle(alloc, trace, entry.snapshot, &cone, &mut gates)?;
     let short = slice(alloc, &mut gates, &steps)?;
     if is_record(trace, entry, &short)? {

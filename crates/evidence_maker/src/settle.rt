@@ -152,8 +152,7 @@ fn leave(
         IsMaking (rule_at trace.now.declarations at) (store_at trace.now.commits at) C (k + 1) known.new (step_values steps.new.items)) }
 {
     // Their strata are valid.
-    let _ = trace.rules();
-    well_formed(trace);
+    well_formed(trace.rules());
     if left.is_empty() {
         return Ok(());
     }
@@ -179,7 +178,8 @@ fn settle_stratum(
         IsMaking (rule_at asked.old.declarations at) (store_at asked.old.commits at) cone.now (stratum + 1) known.new (step_values steps.new.items)) }
 {
     look_at_each(asked, at, cone, places, known, steps)?;
-    let layer = layer_of(*steps.allocator(), asked.trace(), at, cone, stratum)?;
+    let snapshot = asked.trace().timeline().at(at);
+    let layer = layer_of(*steps.allocator(), &snapshot, cone, stratum)?;
     let left = settle_layer(asked, at, layer, known, steps)?;
     leave(asked.trace(), at, left, known, steps)
 }
@@ -195,11 +195,12 @@ pub(crate) fn settle(
     ensures { IfOk result (λ v. HasItsPremises (rule_at trace.now.declarations at) (store_at trace.now.commits at) cone.now → AreDistinct cone.now →
         IsMade (rule_at trace.now.declarations at) (store_at trace.now.commits at) cone.now (step_values v.items)) }
 {
-    let strata = strata_of(alloc, trace, at, cone)?;
+    let snapshot = trace.timeline().at(at);
+    let strata = strata_of(alloc, &snapshot, cone)?;
     let mut asked = AskedRules::new(alloc, trace);
     let mut known = Known::new(alloc);
     let mut steps = Vec::new(alloc);
-    let end = top_of(trace, at, cone) as u16 + 1;
+    let end = top_of(&snapshot, cone) as u16 + 1;
     for stratum in 0..end {
         let places = gates.tell(&strata, stratum)?;
         settle_stratum(

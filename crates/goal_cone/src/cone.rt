@@ -1,8 +1,7 @@
 //! The cone of a goal.
 
 ghost use Rattle.std.specs.Prelude.{◌≡◌, IfOk, Err, Some, slice_get};
-ghost use Rattle.namespaces.specs.Lookup.{rule_at};
-ghost use Rattle.version_chains.specs.Commits.{store_at};
+ghost use Rattle.snapshots.specs.Snapshots.{rules_in, tuples_in};
 ghost use Rattle.goal_cone.specs.Bounds.{IsOutgrown};
 ghost use Rattle.goal_cone.specs.Cone.{IsCone, AreDistinct};
 
@@ -10,20 +9,20 @@ use crate::fault::ConeFault;
 use crate::leaves::KnownLeaves;
 use crate::premises::{MAX_LINKS, MAX_USERSETS, see_read};
 use crate::seen::Seen;
+use snapshots::Snapshot;
 use std::alloc::Global;
-use trace_lines::Trace;
 use tuple_text::Fact;
 
 /// The cone of a goal, each fact once, and the goal first.
 ///
 /// Refusals: Outgrown, only where every list of facts that holds the goal and its own premises has more than [`MAX_USERSETS`] facts or reads
 /// more than [`MAX_LINKS`] stored usersets; OutOfMemory.
-pub fn explore(alloc: Global, trace: &Trace, at: u64, goal: &Fact) -> Result<Vec<Fact>, ConeFault>
-    ensures cone { IfOk result (λ v. IsCone (rule_at trace.now.declarations at) (store_at trace.now.commits at) goal.now v.items) }
+pub fn explore(alloc: Global, snapshot: &Snapshot<'_>, goal: &Fact) -> Result<Vec<Fact>, ConeFault>
+    ensures cone { IfOk result (λ v. IsCone (rules_in snapshot.now) (tuples_in snapshot.now) goal.now v.items) }
     ensures distinct { IfOk result (λ v. AreDistinct v.items) }
     ensures first { IfOk result (λ v. slice_get v.items 0 ≡ Some goal.now) }
     ensures outgrown { result ≡ Err ConeFault.Outgrown →
-        IsOutgrown MAX_USERSETS MAX_LINKS (rule_at trace.now.declarations at) (store_at trace.now.commits at) goal.now }
+        IsOutgrown MAX_USERSETS MAX_LINKS (rules_in snapshot.now) (tuples_in snapshot.now) goal.now }
 {
     let mut seen = Seen::new(alloc);
     seen.add(goal.clone()?)?;
@@ -34,7 +33,7 @@ pub fn explore(alloc: Global, trace: &Trace, at: u64, goal: &Fact) -> Result<Vec
             return Ok(seen.into_facts());
         };
         let fact = fact.clone()?;
-        see_read(alloc, trace, at, &fact, &mut leaves, &mut seen, &mut room)?;
+        see_read(alloc, snapshot, &fact, &mut leaves, &mut seen, &mut room)?;
     }
     Err(ConeFault::Outgrown)
 }

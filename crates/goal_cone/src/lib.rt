@@ -11,7 +11,7 @@
 //! facts goes by their marks.
 //!
 //! ```text
-//! let cone = explore(alloc, trace, entry.snapshot, &entry.goal)?;
+//! let cone = explore(alloc, &snapshot, &entry.goal)?;
 //! ```
 #![tactic(auto)]
 

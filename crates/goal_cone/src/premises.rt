@@ -4,10 +4,8 @@ ghost use Rattle.std.specs.Prelude.{◌≡◌, ◌+◌, ◌<◌, ◌≤◌, ◌�
 ghost use Rattle.tuple_text.specs.Faults.{is_memory};
 ghost use Rattle.tuple_text.specs.Refs.{set_value};
 ghost use Rattle.tuple_text.specs.Tuples.{fact_of};
-ghost use Rattle.namespaces.specs.Lookup.{rule_at};
 ghost use Rattle.rewrites.specs.View.{expression_of, expressions_of};
-ghost use Rattle.strata.specs.Meaning.{with_relation};
-ghost use Rattle.version_chains.specs.Commits.{store_at};
+ghost use Rattle.snapshots.specs.Snapshots.{rules_in, tuples_in};
 ghost use Rattle.judgement.specs.Passes.{target};
 ghost use Rattle.goal_cone.specs.Bounds.{stored_sets, links, links_all, links_of};
 ghost use Rattle.goal_cone.specs.Leaves.{ArePlaced};
@@ -18,10 +16,11 @@ ghost use Rattle.goal_cone.specs.Seen.{Sees, IsStuck};
 use crate::fault::ConeFault;
 use crate::leaves::KnownLeaves;
 use crate::seen::Seen;
+use judgement::under;
 use marks::MarkedSet;
 use rewrites::Rewrite;
+use snapshots::Snapshot;
 use std::alloc::Global;
-use trace_lines::Trace;
 use tuple_text::{Fact, SetRef, TupleFault};
 use version_chains::Usersets;
 
@@ -44,17 +43,16 @@ fn told(fault: TupleFault) -> ConeFault
 /// Sees a premise, unless its userset is undeclared.
 fn see(
     alloc: Global,
-    trace: &Trace,
-    at: u64,
+    snapshot: &Snapshot<'_>,
     set: SetRef<'_>,
     user: u64,
     seen: &mut Seen,
 ) -> Result<(), ConeFault>
-    ensures seen { OnOk result (Sees (rule_at trace.now.declarations at) (λ q. fact_of (set_value set.entry) user ≡ q) seen.old seen.new) }
-    ensures stuck { result ≡ Err ConeFault.Outgrown → IsStuck MAX_USERSETS MAX_LINKS (rule_at trace.now.declarations at) (store_at trace.now.commits at)
+    ensures seen { OnOk result (Sees (rules_in snapshot.now) (λ q. fact_of (set_value set.entry) user ≡ q) seen.old seen.new) }
+    ensures stuck { result ≡ Err ConeFault.Outgrown → IsStuck MAX_USERSETS MAX_LINKS (rules_in snapshot.now) (tuples_in snapshot.now)
         (λ q. fact_of (set_value set.entry) user ≡ q) seen.old }
 {
-    if trace.rules().body(set, at).is_none() || seen.has(set, user) {
+    if snapshot.rule(set).is_none() || seen.has(set, user) {
         return Ok(());
     }
     if seen.len() >= MAX_USERSETS {
@@ -82,18 +80,17 @@ fn target<'a>(set: SetRef<'a>, relation: Option<&'a str>) -> SetRef<'a>
 /// Sees the targets of usersets, each of which takes a link from the room.
 fn see_each(
     alloc: Global,
-    trace: &Trace,
-    at: u64,
+    snapshot: &Snapshot<'_>,
     relation: Option<&str>,
     user: u64,
     sets: Usersets<'_>,
     seen: &mut Seen,
     room: &mut usize,
 ) -> Result<(), ConeFault>
-    ensures seen { OnOk result (Sees (rule_at trace.now.declarations at) (AmongTargets (option_map (λ s. s.now) relation.entry) user sets.entry) seen.old seen.new) }
+    ensures seen { OnOk result (Sees (rules_in snapshot.now) (AmongTargets (option_map (λ s. s.now) relation.entry) user sets.entry) seen.old seen.new) }
     ensures links { OnOk result (room.old ≤ room.new + length sets.entry) }
     ensures stuck { result ≡ Err ConeFault.Outgrown → (room.old < length sets.entry)
-        ⊎ IsStuck MAX_USERSETS MAX_LINKS (rule_at trace.now.declarations at) (store_at trace.now.commits at)
+        ⊎ IsStuck MAX_USERSETS MAX_LINKS (rules_in snapshot.now) (tuples_in snapshot.now)
         (AmongTargets (option_map (λ s. s.now) relation.entry) user sets.entry) seen.old }
 {
     for set in sets {
@@ -101,7 +98,7 @@ fn see_each(
             return Err(ConeFault::Outgrown);
         }
         *room -= 1;
-        see(alloc, trace, at, target(set.set, relation), user, seen)?;
+        see(alloc, snapshot, target(set.set, relation), user, seen)?;
     }
     Ok(())
 }
@@ -109,30 +106,22 @@ fn see_each(
 /// Sees the targets of the usersets that are stored in a set.
 fn see_stored(
     alloc: Global,
-    trace: &Trace,
-    at: u64,
+    snapshot: &Snapshot<'_>,
     set: SetRef<'_>,
     relation: Option<&str>,
     user: u64,
     seen: &mut Seen,
     room: &mut usize,
 ) -> Result<(), ConeFault>
-    ensures seen { OnOk result (Sees (rule_at trace.now.declarations at)
-        (IsGiven (store_at trace.now.commits at) (set_value set.entry) (option_map (λ s. s.now) relation.entry) user) seen.old seen.new) }
-    ensures links { OnOk result (room.old ≤ room.new + length (stored_sets (store_at trace.now.commits at) (set_value set.entry))) }
-    ensures stuck { result ≡ Err ConeFault.Outgrown → (room.old < length (stored_sets (store_at trace.now.commits at) (set_value set.entry)))
-        ⊎ IsStuck MAX_USERSETS MAX_LINKS (rule_at trace.now.declarations at) (store_at trace.now.commits at)
-        (IsGiven (store_at trace.now.commits at) (set_value set.entry) (option_map (λ s. s.now) relation.entry) user) seen.old }
+    ensures seen { OnOk result (Sees (rules_in snapshot.now)
+        (IsGiven (tuples_in snapshot.now) (set_value set.entry) (option_map (λ s. s.now) relation.entry) user) seen.old seen.new) }
+    ensures links { OnOk result (room.old ≤ room.new + length (stored_sets (tuples_in snapshot.now) (set_value set.entry))) }
+    ensures stuck { result ≡ Err ConeFault.Outgrown → (room.old < length (stored_sets (tuples_in snapshot.now) (set_value set.entry)))
+        ⊎ IsStuck MAX_USERSETS MAX_LINKS (rules_in snapshot.now) (tuples_in snapshot.now)
+        (IsGiven (tuples_in snapshot.now) (set_value set.entry) (option_map (λ s. s.now) relation.entry) user) seen.old }
 {
-    let sets = trace.chains().usersets(MarkedSet::of(set), at);
-    see_each(alloc, trace, at, relation, user, sets, seen, room)
-}
-
-/// The same object under another relation.
-fn under<'a>(set: SetRef<'a>, relation: &'a str) -> SetRef<'a>
-    ensures { set_value result ≡ with_relation (set_value set.entry) relation.now }
-{
-    SetRef { relation, ..set }
+    let sets = snapshot.usersets(MarkedSet::of(set));
+    see_each(alloc, snapshot, relation, user, sets, seen, room)
 }
 
 /// Sees what a rule reads for a user in a userset.
@@ -142,29 +131,27 @@ fn see_premises(
     rewrite: &Rewrite,
     set: SetRef<'_>,
     user: u64,
-    trace: &Trace,
-    at: u64,
+    snapshot: &Snapshot<'_>,
     seen: &mut Seen,
     room: &mut usize,
 ) -> Result<(), ConeFault>
-    ensures seen { OnOk result (Sees (rule_at trace.now.declarations at)
-        (Reads (store_at trace.now.commits at) (fact_of (set_value set.entry) user) (expression_of rewrite.now)) seen.old seen.new) }
-    ensures links { OnOk result (room.old ≤ room.new + links (store_at trace.now.commits at) (set_value set.entry) (expression_of rewrite.now)) }
-    ensures stuck { result ≡ Err ConeFault.Outgrown → (room.old < links (store_at trace.now.commits at) (set_value set.entry) (expression_of rewrite.now))
-        ⊎ IsStuck MAX_USERSETS MAX_LINKS (rule_at trace.now.declarations at) (store_at trace.now.commits at)
-        (Reads (store_at trace.now.commits at) (fact_of (set_value set.entry) user) (expression_of rewrite.now)) seen.old }
+    ensures seen { OnOk result (Sees (rules_in snapshot.now)
+        (Reads (tuples_in snapshot.now) (fact_of (set_value set.entry) user) (expression_of rewrite.now)) seen.old seen.new) }
+    ensures links { OnOk result (room.old ≤ room.new + links (tuples_in snapshot.now) (set_value set.entry) (expression_of rewrite.now)) }
+    ensures stuck { result ≡ Err ConeFault.Outgrown → (room.old < links (tuples_in snapshot.now) (set_value set.entry) (expression_of rewrite.now))
+        ⊎ IsStuck MAX_USERSETS MAX_LINKS (rules_in snapshot.now) (tuples_in snapshot.now)
+        (Reads (tuples_in snapshot.now) (fact_of (set_value set.entry) user) (expression_of rewrite.now)) seen.old }
 {
     match rewrite {
-        Rewrite::This => see_stored(alloc, trace, at, set, None, user, seen, room),
+        Rewrite::This => see_stored(alloc, snapshot, set, None, user, seen, room),
         Rewrite::Computed(relation) => {
-            see(alloc, trace, at, under(set, relation.as_str()), user, seen)
+            see(alloc, snapshot, under(set, relation.as_str()), user, seen)
         }
         Rewrite::TupleTo { tupleset, computed } => {
             let tupleset = under(set, tupleset.as_str());
             see_stored(
                 alloc,
-                trace,
-                at,
+                snapshot,
                 tupleset,
                 Some(computed.as_str()),
                 user,
@@ -173,11 +160,11 @@ fn see_premises(
             )
         }
         Rewrite::Union(children) | Rewrite::Inter(children) => {
-            see_children(alloc, children, set, user, trace, at, seen, room)
+            see_children(alloc, children, set, user, snapshot, seen, room)
         }
         Rewrite::Minus(base, subtract) => {
-            see_premises(alloc, base, set, user, trace, at, seen, room)?;
-            see_premises(alloc, subtract, set, user, trace, at, seen, room)
+            see_premises(alloc, base, set, user, snapshot, seen, room)?;
+            see_premises(alloc, subtract, set, user, snapshot, seen, room)
         }
     }
 }
@@ -188,20 +175,19 @@ fn see_children(
     children: &Vec<Rewrite>,
     set: SetRef<'_>,
     user: u64,
-    trace: &Trace,
-    at: u64,
+    snapshot: &Snapshot<'_>,
     seen: &mut Seen,
     room: &mut usize,
 ) -> Result<(), ConeFault>
-    ensures seen { OnOk result (Sees (rule_at trace.now.declarations at)
-        (ReadsSome (store_at trace.now.commits at) (fact_of (set_value set.entry) user) (expressions_of children.now.items)) seen.old seen.new) }
-    ensures links { OnOk result (room.old ≤ room.new + links_all (store_at trace.now.commits at) (set_value set.entry) (expressions_of children.now.items)) }
-    ensures stuck { result ≡ Err ConeFault.Outgrown → (room.old < links_all (store_at trace.now.commits at) (set_value set.entry) (expressions_of children.now.items))
-        ⊎ IsStuck MAX_USERSETS MAX_LINKS (rule_at trace.now.declarations at) (store_at trace.now.commits at)
-        (ReadsSome (store_at trace.now.commits at) (fact_of (set_value set.entry) user) (expressions_of children.now.items)) seen.old }
+    ensures seen { OnOk result (Sees (rules_in snapshot.now)
+        (ReadsSome (tuples_in snapshot.now) (fact_of (set_value set.entry) user) (expressions_of children.now.items)) seen.old seen.new) }
+    ensures links { OnOk result (room.old ≤ room.new + links_all (tuples_in snapshot.now) (set_value set.entry) (expressions_of children.now.items)) }
+    ensures stuck { result ≡ Err ConeFault.Outgrown → (room.old < links_all (tuples_in snapshot.now) (set_value set.entry) (expressions_of children.now.items))
+        ⊎ IsStuck MAX_USERSETS MAX_LINKS (rules_in snapshot.now) (tuples_in snapshot.now)
+        (ReadsSome (tuples_in snapshot.now) (fact_of (set_value set.entry) user) (expressions_of children.now.items)) seen.old }
 {
     for child in children {
-        see_premises(alloc, child, set, user, trace, at, seen, room)?;
+        see_premises(alloc, child, set, user, snapshot, seen, room)?;
     }
     Ok(())
 }
@@ -209,35 +195,29 @@ fn see_children(
 /// Sees what a fact's rule reads, by the leaves of it.
 pub(crate) fn see_read(
     alloc: Global,
-    trace: &Trace,
-    at: u64,
+    snapshot: &Snapshot<'_>,
     fact: &Fact,
     known: &mut KnownLeaves,
     seen: &mut Seen,
     room: &mut usize,
 ) -> Result<(), ConeFault>
-    requires { ArePlaced trace.now.declarations known.old.rules.items }
-    ensures placed { ArePlaced trace.now.declarations known.new.rules.items }
-    ensures seen { OnOk result (Sees (rule_at trace.now.declarations at)
-        (IsRead (rule_at trace.now.declarations at) (store_at trace.now.commits at) fact.now) seen.old seen.new) }
-    ensures links { OnOk result (room.old ≤ room.new + links_of (rule_at trace.now.declarations at) (store_at trace.now.commits at) fact.now) }
-    ensures stuck { result ≡ Err ConeFault.Outgrown → (room.old < links_of (rule_at trace.now.declarations at) (store_at trace.now.commits at) fact.now)
-        ⊎ IsStuck MAX_USERSETS MAX_LINKS (rule_at trace.now.declarations at) (store_at trace.now.commits at)
-        (IsRead (rule_at trace.now.declarations at) (store_at trace.now.commits at) fact.now) seen.old }
+    requires { ArePlaced snapshot.now.timeline.declarations known.old.rules.items }
+    ensures placed { ArePlaced snapshot.now.timeline.declarations known.new.rules.items }
+    ensures seen { OnOk result (Sees (rules_in snapshot.now)
+        (IsRead (rules_in snapshot.now) (tuples_in snapshot.now) fact.now) seen.old seen.new) }
+    ensures links { OnOk result (room.old ≤ room.new + links_of (rules_in snapshot.now) (tuples_in snapshot.now) fact.now) }
+    ensures stuck { result ≡ Err ConeFault.Outgrown → (room.old < links_of (rules_in snapshot.now) (tuples_in snapshot.now) fact.now)
+        ⊎ IsStuck MAX_USERSETS MAX_LINKS (rules_in snapshot.now) (tuples_in snapshot.now)
+        (IsRead (rules_in snapshot.now) (tuples_in snapshot.now) fact.now) seen.old }
 {
-    let Some(place) = trace.rules().body_place(fact.set(), at) else {
+    let Some(place) = snapshot
+        .timeline
+        .rules()
+        .body_place(fact.set(), snapshot.at)
+    else {
         return Ok(());
     };
-    let number = known.number(trace.rules(), place)?;
+    let number = known.number(snapshot.timeline.rules(), place)?;
     let leaves = &known.rules[number].leaves;
-    see_children(
-        alloc,
-        leaves,
-        fact.set(),
-        fact.user(),
-        trace,
-        at,
-        seen,
-        room,
-    )
+    see_children(alloc, leaves, fact.set(), fact.user(), snapshot, seen, room)
 }

@@ -10,9 +10,9 @@ use crate::links::{Ends, Links, Way, small};
 use crate::wide::{Reached, WideRules};
 use marks::{MarkedSet, Places};
 use rewrites::{Part, PartedRule, Rewrite, Through};
+use snapshots::Snapshot;
 use std::alloc::{AllocError, Global};
 use std::collections::VecDeque;
-use trace_lines::Trace;
 use tuple_text::{Fact, SetRef};
 use version_chains::Usersets;
 
@@ -64,8 +64,7 @@ pub(crate) struct WideFact {
 /// The gates of a cone. Those of its facts come first, each at its fact's place.
 #[derive(Drop)]
 pub struct Gates<'t> {
-    trace: &'t Trace,
-    at: u64,
+    snapshot: Snapshot<'t>,
     cone: &'t [Fact],
     // the facts of the cone by the marks of their usersets: they are all of one user
     places: Places,
@@ -110,13 +109,11 @@ impl<'t> Gates<'t> {
     /// The gates of a cone.
     pub fn of(
         alloc: Global,
-        trace: &'t Trace,
-        at: u64,
+        snapshot: Snapshot<'t>,
         cone: &'t [Fact],
     ) -> Result<Gates<'t>, AllocError> {
         let mut gates = Gates {
-            trace,
-            at,
+            snapshot,
             cone,
             places: Places::with_room(alloc, cone.len())?,
             gates: Vec::with_capacity(alloc, cone.len())?,
@@ -226,8 +223,8 @@ impl<'t> Gates<'t> {
             gate: place,
             part: 0,
         };
-        let rules = self.trace.rules();
-        let Some(stands) = rules.body_place(fact.set(), self.at) else {
+        let rules = self.snapshot.timeline.rules();
+        let Some(stands) = rules.body_place(fact.set(), self.snapshot.at) else {
             return Ok(());
         };
         match rules.plain_in(stands) {
@@ -355,7 +352,7 @@ impl<'t> Gates<'t> {
     /// Whether the fact's user is stored in its userset.
     fn stores_user(&self, site: Site<'_>) -> bool {
         let set = MarkedSet::of(site.fact.set());
-        self.trace.chains().has_id(set, site.fact.user(), self.at)
+        self.snapshot.has_id(set, site.fact.user())
     }
 
     /// The gates of the targets of usersets that are stored in a set feed that of the site.
@@ -365,7 +362,7 @@ impl<'t> Gates<'t> {
         set: SetRef<'_>,
         relation: Option<&str>,
     ) -> Result<(), AllocError> {
-        let sets: Usersets<'_> = self.trace.chains().usersets(MarkedSet::of(set), self.at);
+        let sets: Usersets<'_> = self.snapshot.usersets(MarkedSet::of(set));
         for set in sets {
             let set = SetRef {
                 relation: relation.unwrap_or(set.set.relation),

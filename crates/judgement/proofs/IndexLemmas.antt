@@ -1,5 +1,5 @@
 -- What passes over the touches of an index show.
-use Rattle.std.proofs.Common.{◌≡◌, ℕ, zero, suc, ◌+◌, ◌-◌, ◌<◌, ◌≤◌, ◌^◌, Bool, true, false, List, ◌∷◌, [], length, refl, sym, ◌∙◌, ap, Option, None, Some, inl, arith, leb, ne_eqb}
+use Rattle.std.proofs.Common.{◌≡◌, ℕ, zero, suc, ◌+◌, ◌-◌, ◌<◌, ◌≤◌, ◌^◌, Bool, true, false, List, ◌∷◌, [], length, refl, sym, ◌∙◌, ap, subst, Option, None, Some, inl, arith, leb, ne_eqb}
 use Rattle.std.specs.Prelude.{slice_get, option_map, All, position, is_some, if◌then◌else◌}
 use Rattle.std.specs.List.{list_any}
 use Rattle.std.specs.Option.{option_or}
@@ -14,12 +14,14 @@ use Rattle.namespaces.proofs.Growth.{is_declared-names}
 use Rattle.rewrites.proofs.Names.{one_name}
 use Rattle.strata.proofs.Newest.{position_item, position_none}
 use Rattle.strata.specs.Meaning.{with_relation, IsStored}
-use Rattle.version_chains.specs.Commits.{Commit, Touch, changelog, is_stored, store_at}
+use Rattle.version_chains.specs.Commits.{Touch, changelog}
 use Rattle.marks.specs.Marks.{pair_mark, set_mark}
 use Rattle.version_chains.proofs.StoreLemmas.{store_at-iff}
 use Rattle.userset_index.specs.Index.{IndexValue, IsFound, IsLastTouch, IsWhole, is_crowded, object_mark}
 use Rattle.userset_index.specs.Lives.{touches_alive}
 use Rattle.userset_index.proofs.CallerLemmas.{each_found, stored_by_touch}
+use Rattle.snapshots.specs.Snapshots.{rules_in, tuples_in}
+use Rattle.snapshots.specs.declared.snapshot.Snapshot.{Snapshot}
 use Rattle.judgement.specs.Decided.{dec_undeclared}
 use Rattle.judgement.specs.Judgement.{KnownValue, IsOut}
 use Rattle.judgement.specs.Passes.{AreThroughOut, IsBarred, IsObjectStored, IsTouchApart, IsTouchOut, target}
@@ -74,77 +76,77 @@ numbered ds at q r declared few = by_position (position (bytes_eq q) (namespace_
 -- ---- passes
 
 -- a stored userset whose tuple a touch has is stored as the touch says it
-pub stored_as_said : (commits : List Commit) (at : ℕ) (set g said : SetValue) (x y : Touch) → Some x ≡ Some y → x.tuple ≡ tuple_of set (Set g) → y.tuple.user ≡ Set said
-    → IsStored (store_at commits at) set (Set g) → is_stored commits at (tuple_of set (Set said)) ≡ true
-stored_as_said commits at set g said x y both same user there =
+pub stored_as_said : (store : List TupleValue) (set g said : SetValue) (x y : Touch) → Some x ≡ Some y → x.tuple ≡ tuple_of set (Set g) → y.tuple.user ≡ Set said
+    → IsStored store set (Set g) → IsStored store set (Set said)
+stored_as_said store set g said x y both same user there =
     let is : x ≡ y = cc in
     let users : Set g ≡ Set said = sym (ap (λ (t : TupleValue). t.user) same) ∙ ap (λ (z : Touch). z.tuple.user) is ∙ user in
     let one : g ≡ said = cc in
-    ap (λ (z : SetValue). is_stored commits at (tuple_of set (Set z))) (sym one) ∙ (store_at-iff commits at (tuple_of set (Set g))).0 there
+    subst (λ (z : SetValue). IsStored store set (Set z)) one there
 
-module _ (ds : List Declaration) (commits : List Commit) (at : ℕ) (small : at < 2 ^ 64) (v : IndexValue) (is : IsWhole ds commits v) (set : SetValue) (crowded : is_crowded v.crowds (set_mark set) ≡ true) where
+module _ (s : Snapshot) (small : s.at < 2 ^ 64) (v : IndexValue) (is : IsWhole s.timeline.declarations s.timeline.commits v) (set : SetValue) (crowded : is_crowded v.crowds (set_mark set) ≡ true) where
   -- the touch of a stored userset
-  of_stored : (g : SetValue) → IsStored (store_at commits at) set (Set g) → (i : ℕ) × (x : Touch) × IsLastTouch (changelog commits) at i x × (x.tuple ≡ tuple_of set (Set g))
-  of_stored g stored = stored_by_touch commits at (tuple_of set (Set g)) ((store_at-iff commits at (tuple_of set (Set g))).0 stored)
+  of_stored : (g : SetValue) → IsStored (tuples_in s) set (Set g) → (i : ℕ) × (x : Touch) × IsLastTouch (changelog s.timeline.commits) s.at i x × (x.tuple ≡ tuple_of set (Set g))
+  of_stored g stored = stored_by_touch s.timeline.commits s.at (tuple_of set (Set g)) ((store_at-iff s.timeline.commits s.at (tuple_of set (Set g))).0 stored)
 
   crowded_there : (x : Touch) (g : SetValue) → x.tuple ≡ tuple_of set (Set g) → is_crowded v.crowds (set_mark x.tuple.set) ≡ true
   crowded_there x g same = ap (λ (t : TupleValue). is_crowded v.crowds (set_mark t.set)) same ∙ crowded
 
   -- it is found by the number of its namespace
-  through_there : (g : SetValue) (n : ℕ) → place_of g.namespace (namespace_names ds) ≡ Some n
-      → (i : ℕ) (x : Touch) → IsLastTouch (changelog commits) at i x → x.tuple ≡ tuple_of set (Set g) → IsFound v.through (pair_mark (set_mark set) n) at i
+  through_there : (g : SetValue) (n : ℕ) → place_of g.namespace (namespace_names s.timeline.declarations) ≡ Some n
+      → (i : ℕ) (x : Touch) → IsLastTouch (changelog s.timeline.commits) s.at i x → x.tuple ≡ tuple_of set (Set g) → IsFound v.through (pair_mark (set_mark set) n) s.at i
   through_there g n place i x last same =
       let mark : pair_mark (set_mark set) n ≡ pair_mark (set_mark x.tuple.set) n = ap (λ (t : TupleValue). pair_mark (set_mark t.set) n) (sym same) in
-      is.through i at (pair_mark (set_mark set) n) x g last (ap (λ (t : TupleValue). t.user) same) (crowded_there x g same) small (n, place, mark)
+      is.through i s.at (pair_mark (set_mark set) n) x g last (ap (λ (t : TupleValue). t.user) same) (crowded_there x g same) small (n, place, mark)
 
   -- so where nothing is found, none is stored
-  pub none_through : (g : SetValue) (n : ℕ) → place_of g.namespace (namespace_names ds) ≡ Some n
-      → touches_alive (pair_mark (set_mark set) n) at v.through (length v.through) ≡ [] → ¬ IsStored (store_at commits at) set (Set g)
+  pub none_through : (g : SetValue) (n : ℕ) → place_of g.namespace (namespace_names s.timeline.declarations) ≡ Some n
+      → touches_alive (pair_mark (set_mark set) n) s.at v.through (length v.through) ≡ [] → ¬ IsStored (tuples_in s) set (Set g)
   none_through g n place none stored =
       let w = of_stored g stored in
-      each_found (λ (i : ℕ). ⊥) v.through (pair_mark (set_mark set) n) at w.0 (through_there g n place w.0 w.1 w.2 w.3)
+      each_found (λ (i : ℕ). ⊥) v.through (pair_mark (set_mark set) n) s.at w.0 (through_there g n place w.0 w.1 w.2 w.3)
       (rw none (λ k d less. absurd (omega (arith, less))))
 
-  pub apart_by_objects : (other : SetValue) → All (IsTouchApart commits at set other) (touches_alive (object_mark set other) at v.objects (length v.objects))
-      → ¬ IsObjectStored (store_at commits at) set other
+  pub apart_by_objects : (other : SetValue) → All (IsTouchApart s set other) (touches_alive (object_mark set other) s.at v.objects (length v.objects))
+      → ¬ IsObjectStored (tuples_in s) set other
   apart_by_objects other all o =
       let g = o.0 in
       let w = of_stored g o.1 in
       let object : record other { relation = [] } ≡ record g { relation = [] } = λ i. record { namespace = sym o.2.0 i; id = sym o.2.1 i; relation = [] } in
       let mark : object_mark set other ≡ object_mark w.1.tuple.set g =
       ap (λ (h : SetValue). pair_mark (set_mark set) (set_mark h)) object ∙ ap (λ (t : TupleValue). object_mark t.set g) (sym w.3) in
-      let found = is.objects w.0 at (object_mark set other) w.1 g w.2 (ap (λ (t : TupleValue). t.user) w.3) (crowded_there w.1 g w.3) small mark in
-      each_found (IsTouchApart commits at set other) v.objects (object_mark set other) at w.0 found all w.1 g w.2.here w.3 o.1 o.2
+      let found = is.objects w.0 s.at (object_mark set other) w.1 g w.2 (ap (λ (t : TupleValue). t.user) w.3) (crowded_there w.1 g w.3) small mark in
+      each_found (IsTouchApart s set other) v.objects (object_mark set other) s.at w.0 found all w.1 g w.2.here w.3 o.1 o.2
 
   module _ (known : KnownValue) (id : ℕ) where
-    of_touch : (relation : Option (List ℕ)) (g : SetValue) → IsStored (store_at commits at) set (Set g)
-        → (i : ℕ) (x : Touch) → IsLastTouch (changelog commits) at i x → x.tuple ≡ tuple_of set (Set g) → IsTouchOut (rule_at ds at) commits at known set relation id i
-        → IsOut (rule_at ds at) known (fact_of (target g relation) id)
+    of_touch : (relation : Option (List ℕ)) (g : SetValue) → IsStored (tuples_in s) set (Set g)
+        → (i : ℕ) (x : Touch) → IsLastTouch (changelog s.timeline.commits) s.at i x → x.tuple ≡ tuple_of set (Set g) → IsTouchOut s known set relation id i
+        → IsOut (rules_in s) known (fact_of (target g relation) id)
     of_touch relation g stored i x last same out = out x g last.here same stored
 
-    pub barred_by_own : All (IsTouchOut (rule_at ds at) commits at known set None id) (touches_alive (set_mark set) at v.own (length v.own))
-        → IsBarred (rule_at ds at) (store_at commits at) known set None id
-    barred_by_own all g stored = by_rule (dec_undeclared (rule_of (rule_at ds at) g))
+    pub barred_by_own : All (IsTouchOut s known set None id) (touches_alive (set_mark set) s.at v.own (length v.own))
+        → IsBarred (rules_in s) (tuples_in s) known set None id
+    barred_by_own all g stored = by_rule (dec_undeclared (rule_of (rules_in s) g))
       where
-        by_rule : Dec (rule_of (rule_at ds at) g ≡ None) → IsOut (rule_at ds at) known (fact_of g id)
+        by_rule : Dec (rule_of (rules_in s) g ≡ None) → IsOut (rules_in s) known (fact_of g id)
         by_rule (yes none) = inl none
         by_rule (no declared) =
             let w = of_stored g stored in
-            let found = is.own w.0 at (set_mark set) w.1 g w.2 (ap (λ (t : TupleValue). t.user) w.3) (crowded_there w.1 g w.3) small (ap (λ (t : TupleValue). set_mark t.set) (sym w.3), declared) in
-            of_touch None g stored w.0 w.1 w.2 w.3 (each_found (IsTouchOut (rule_at ds at) commits at known set None id) v.own (set_mark set) at w.0 found all)
+            let found = is.own w.0 s.at (set_mark set) w.1 g w.2 (ap (λ (t : TupleValue). t.user) w.3) (crowded_there w.1 g w.3) small (ap (λ (t : TupleValue). set_mark t.set) (sym w.3), declared) in
+            of_touch None g stored w.0 w.1 w.2 w.3 (each_found (IsTouchOut s known set None id) v.own (set_mark set) s.at w.0 found all)
 
-    pub barred_by_through : length (namespace_names ds) ≤ 256 → (relation : List ℕ)
-        → ((n : ℕ) (g : SetValue) → n < 256 → IsStored (store_at commits at) set (Set g) → place_of g.namespace (namespace_names ds) ≡ Some (suc n)
-        → ¬ (rule_at ds at g.namespace relation ≡ None) → AreThroughOut ds commits at v.through known set relation id (suc n))
-        → IsBarred (rule_at ds at) (store_at commits at) known set (Some relation) id
-    barred_by_through few relation all g stored = by_rule (dec_undeclared (rule_at ds at g.namespace relation))
+    pub barred_by_through : length (namespace_names s.timeline.declarations) ≤ 256 → (relation : List ℕ)
+        → ((n : ℕ) (g : SetValue) → n < 256 → IsStored (tuples_in s) set (Set g) → place_of g.namespace (namespace_names s.timeline.declarations) ≡ Some (suc n)
+        → ¬ (rules_in s g.namespace relation ≡ None) → AreThroughOut s v.through known set relation id (suc n))
+        → IsBarred (rules_in s) (tuples_in s) known set (Some relation) id
+    barred_by_through few relation all g stored = by_rule (dec_undeclared (rules_in s g.namespace relation))
       where
-        by_rule : Dec (rule_at ds at g.namespace relation ≡ None) → IsOut (rule_at ds at) known (fact_of (with_relation g relation) id)
+        by_rule : Dec (rules_in s g.namespace relation ≡ None) → IsOut (rules_in s) known (fact_of (with_relation g relation) id)
         by_rule (yes none) = inl none
         by_rule (no declared) =
-            let n = numbered ds at g.namespace relation declared few in
+            let n = numbered s.timeline.declarations s.at g.namespace relation declared few in
             let w = of_stored g stored in
             let found = through_there g (suc n.0) n.2 w.0 w.1 w.2 w.3 in
             of_touch (Some relation) g stored w.0 w.1 w.2 w.3
-            (each_found (IsTouchOut (rule_at ds at) commits at known set (Some relation) id) v.through (pair_mark (set_mark set) (suc n.0)) at w.0 found
+            (each_found (IsTouchOut s known set (Some relation) id) v.through (pair_mark (set_mark set) (suc n.0)) s.at w.0 found
             (all n.0 g n.1 stored n.2 declared g.namespace n.3 declared))

@@ -5,13 +5,12 @@ use Rattle.std.specs.List.{list_any}
 use Rattle.std.proofs.lemmas.Bool.{eqb-true, eq-eqb}
 use Rattle.std.proofs.lemmas.Option.{slice_get-map, slice_get_within, slice_get_read, get_or_from_slice_get}
 use Rattle.tuple_text.specs.Sets.{SetValue, set_eq}
-use Rattle.tuple_text.specs.Tuples.{FactValue, TupleValue, fact_of, tuple_of}
+use Rattle.tuple_text.specs.Tuples.{FactValue, TupleValue, fact_of}
 use Rattle.tuple_text.specs.declared.users.User.TheVariants.{Set}
 use Rattle.tuple_text.proofs.ValueLemmas.{set_eq-same, set_eq-itself}
-use Rattle.version_chains.specs.Commits.{Commit, is_stored, store_at}
+use Rattle.strata.specs.Meaning.{IsStored}
 use Rattle.marks.specs.Placed.{IsLinkedPlace, last_place, newest_first, passes}
 use Rattle.marks.proofs.PlacedLemmas.{at_last_place, given_at, given_from, last_place-map, newest_first-here, newest_first-through}
-use Rattle.version_chains.proofs.StoreLemmas.{store_at-iff}
 use Rattle.judgement.specs.Facts.{is_of_user, sets_before, sets_of_user, user_of}
 use Rattle.judgement.specs.Judgement.{KnownValue}
 use Rattle.judgement.specs.Passes.{IsLed, IsLedByName, IsObjectStored, IsTargetStored, LeadsByName, SomeSet, target}
@@ -106,11 +105,10 @@ some_left P old new t whole is not_first same = (
 )
 
 -- a userset is a target itself where it is stored
-pub target_itself : (commits : List Commit) (at : ℕ) (set t : SetValue) (b : Bool) → b ≡ is_stored commits at (tuple_of set (Set t))
-    → IsTrue b ↔ IsTargetStored (store_at commits at) set None t
-target_itself commits at set t b is = (
-  λ h. (t, (store_at-iff commits at (tuple_of set (Set t))).1 (sym is ∙ h), refl),
-  λ w. is ∙ ap (λ (g : SetValue). is_stored commits at (tuple_of set (Set g))) (sym w.2) ∙ (store_at-iff commits at (tuple_of set (Set w.0))).0 w.1,
+pub target_itself : (store : List TupleValue) (set t : SetValue) (b : Bool) → (IsTrue b ↔ IsStored store set (Set t)) → IsTrue b ↔ IsTargetStored store set None t
+target_itself store set t b is = (
+  λ h. (t, is.0 h, refl),
+  λ w. is.1 (subst (λ (g : SetValue). IsStored store set (Set g)) w.2 w.1),
 )
 
 -- a userset's object under a relation is a target where it has that relation, and a userset of its object is stored

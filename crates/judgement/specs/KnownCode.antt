@@ -2,7 +2,7 @@
 use Rattle.std.specs.Prelude.{List, refl}
 use Rattle.std.specs.Coded.{Coded, code_by, coded×, coded_list}
 use Rattle.tuple_text.specs.Tuples.{FactValue}
-use Rattle.trace_lines.specs.TraceCode.{fact_code}
+use Rattle.snapshots.specs.Codes.{fact_code}
 use Rattle.judgement.specs.Judgement.{KnownValue}
 
 abbrev pub facts_code : Coded (List FactValue)

@@ -3,13 +3,14 @@ use Rattle.std.specs.Prelude.{◌≡◌, ℕ, List, ◌∷◌, [], length, slice
 use Rattle.tuple_text.specs.Sets.{SetValue}
 use Rattle.tuple_text.specs.Tuples.{TupleValue, fact_of, tuple_of}
 use Rattle.tuple_text.specs.declared.users.User.TheVariants.{Set}
-use Rattle.namespaces.specs.Declaration.{Declaration}
-use Rattle.namespaces.specs.Lookup.{Lookup, namespace_numbered, rule_at}
+use Rattle.namespaces.specs.Lookup.{Lookup, namespace_numbered}
 use Rattle.strata.specs.Meaning.{with_relation, IsStored}
-use Rattle.version_chains.specs.Commits.{Commit, Touch, changelog, store_at}
+use Rattle.version_chains.specs.Commits.{Touch, changelog}
 use Rattle.marks.specs.Marks.{pair_mark, set_mark}
 use Rattle.userset_index.specs.Lives.{touches_alive}
 use Rattle.userset_index.specs.declared.life.Life.{Life}
+use Rattle.snapshots.specs.Snapshots.{rules_in, tuples_in}
+use Rattle.snapshots.specs.declared.snapshot.Snapshot.{Snapshot}
 use Rattle.judgement.specs.Judgement.{KnownValue, IsOut}
 
 -- the userset whose members are asked for: a stored one itself, or its object under a relation
@@ -71,19 +72,19 @@ abbrev pub IsObjectStored : List TupleValue → SetValue → SetValue → Type 0
 IsObjectStored store set other = (g : SetValue) × IsStored store set (Set g) × AreOfOneObject g other
 
 -- the touch at an index is not of a userset of that object that is stored in `set`
-abbrev pub IsTouchApart : List Commit → ℕ → SetValue → SetValue → ℕ → Type 0
-IsTouchApart commits at set other touch =
-    (x : Touch) (g : SetValue) → slice_get (changelog commits) touch ≡ Some x → x.tuple ≡ tuple_of set (Set g)
-    → IsStored (store_at commits at) set (Set g) → ¬ AreOfOneObject g other
+abbrev pub IsTouchApart : Snapshot → SetValue → SetValue → ℕ → Type 0
+IsTouchApart s set other touch =
+    (x : Touch) (g : SetValue) → slice_get (changelog s.timeline.commits) touch ≡ Some x → x.tuple ≡ tuple_of set (Set g)
+    → IsStored (tuples_in s) set (Set g) → ¬ AreOfOneObject g other
 
 -- the touch at an index is not of a userset that is stored in `set` and has a target that may hold the user id
-abbrev pub IsTouchOut : Lookup → List Commit → ℕ → KnownValue → SetValue → Option (List ℕ) → ℕ → ℕ → Type 0
-IsTouchOut rules commits at known set relation id touch =
-    (x : Touch) (g : SetValue) → slice_get (changelog commits) touch ≡ Some x → x.tuple ≡ tuple_of set (Set g)
-    → IsStored (store_at commits at) set (Set g) → IsOut rules known (fact_of (target g relation) id)
+abbrev pub IsTouchOut : Snapshot → KnownValue → SetValue → Option (List ℕ) → ℕ → ℕ → Type 0
+IsTouchOut s known set relation id touch =
+    (x : Touch) (g : SetValue) → slice_get (changelog s.timeline.commits) touch ≡ Some x → x.tuple ≡ tuple_of set (Set g)
+    → IsStored (tuples_in s) set (Set g) → IsOut (rules_in s) known (fact_of (target g relation) id)
 
 -- nor is any touch that is found by the number of a namespace in which the relation is declared
-abbrev pub AreThroughOut : List Declaration → List Commit → ℕ → List Life → KnownValue → SetValue → List ℕ → ℕ → ℕ → Type 0
-AreThroughOut ds commits at lives known set relation id n =
-    (namespace : List ℕ) → namespace_numbered n ds ≡ Some namespace → ¬ (rule_at ds at namespace relation ≡ None)
-    → All (IsTouchOut (rule_at ds at) commits at known set (Some relation) id) (touches_alive (pair_mark (set_mark set) n) at lives (length lives))
+abbrev pub AreThroughOut : Snapshot → List Life → KnownValue → SetValue → List ℕ → ℕ → ℕ → Type 0
+AreThroughOut s lives known set relation id n =
+    (namespace : List ℕ) → namespace_numbered n s.timeline.declarations ≡ Some namespace → ¬ (rules_in s namespace relation ≡ None)
+    → All (IsTouchOut s known set (Some relation) id) (touches_alive (pair_mark (set_mark set) n) s.at lives (length lives))

@@ -6,14 +6,14 @@ ghost use Rattle.userset_index.specs.Numbers.{Has};
 ghost use Rattle.judgement.specs.StoredIn.{HaveStored};
 
 use marks::MarkedSet;
-use trace_lines::Trace;
+use snapshots::Snapshot;
 use userset_index::Numbers;
 
 /// The namespaces of the usersets that are stored in a set, and maybe others. `None` where that was not noted.
-pub fn stored_in(trace: &Trace, at: u64, set: MarkedSet<'_>) -> Option<Numbers>
-    ensures { IfSome result (HaveStored trace.now.declarations trace.now.commits at (set_value set.entry.set)) }
+pub fn stored_in(snapshot: &Snapshot<'_>, set: MarkedSet<'_>) -> Option<Numbers>
+    ensures { IfSome result (HaveStored snapshot.now (set_value set.entry.set)) }
 {
-    trace.usersets().namespaces(set, at)
+    snapshot.timeline.usersets().namespaces(set, snapshot.at)
 }
 
 /// Whether nothing of the namespace of a number is stored, where it was noted of which something is.

@@ -2,7 +2,7 @@
 
 ghost use Rattle.std.specs.Prelude.{◌≡◌, ◌↔◌, ◌&&◌, ◌⊎◌, IsTrue, true, false, All, option_map};
 ghost use Rattle.tuple_text.specs.Refs.{set_value};
-ghost use Rattle.version_chains.specs.Commits.{store_at};
+ghost use Rattle.snapshots.specs.Snapshots.{tuples_in};
 ghost use Rattle.marks.specs.Marks.{set_mark};
 ghost use Rattle.userset_index.specs.Index.{IsUsersetIndex, is_crowded};
 ghost use Rattle.judgement.specs.Passes.{GivesId, IsLed, IsObjectStored, IsTargetStored, IsTouchApart, SomeSet};
@@ -12,19 +12,24 @@ use crate::facts::SetsOfUser;
 use crate::known::Known;
 use crate::stored::is_in;
 use marks::MarkedSet;
-use trace_lines::Trace;
+use snapshots::Snapshot;
 use tuple_text::{SetRef, UserRef};
 use userset_index::{Alive, UsersetIndex};
 use version_chains::Usersets;
 
 /// Whether a touch is of a userset that is stored in a set and is of the object of another.
-fn is_of_object(trace: &Trace, at: u64, set: MarkedSet<'_>, other: SetRef<'_>, touch: usize) -> bool
+fn is_of_object(
+    snapshot: &Snapshot<'_>,
+    set: MarkedSet<'_>,
+    other: SetRef<'_>,
+    touch: usize,
+) -> bool
     ensures stored { result ≡ true
-        → IsObjectStored (store_at trace.now.commits at) (set_value set.entry.set) (set_value other.entry) }
+        → IsObjectStored (tuples_in snapshot.now) (set_value set.entry.set) (set_value other.entry) }
     ensures apart { result ≡ false
-        → IsTouchApart trace.now.commits at (set_value set.entry.set) (set_value other.entry) touch }
+        → IsTouchApart snapshot.now (set_value set.entry.set) (set_value other.entry) touch }
 {
-    let Some(touch) = trace.chains().touch(touch) else {
+    let Some(touch) = snapshot.timeline.chains().touch(touch) else {
         return false;
     };
     let UserRef::Set(stored) = touch.user.user else {
@@ -37,25 +42,24 @@ fn is_of_object(trace: &Trace, at: u64, set: MarkedSet<'_>, other: SetRef<'_>, t
         set: stored,
         mark: touch.user.mark,
     };
-    touch.set == set.set && trace.chains().has_set(set, stored, at)
+    touch.set == set.set && snapshot.has_set(set, stored)
 }
 
 /// Whether one of some touches is.
 fn is_one_of_object(
-    trace: &Trace,
-    at: u64,
+    snapshot: &Snapshot<'_>,
     set: MarkedSet<'_>,
     other: SetRef<'_>,
     touches: Alive<'_>,
 ) -> bool
     ensures stored { result ≡ true
-        → IsObjectStored (store_at trace.now.commits at) (set_value set.entry.set) (set_value other.entry) }
+        → IsObjectStored (tuples_in snapshot.now) (set_value set.entry.set) (set_value other.entry) }
     ensures apart { result ≡ false
-        → All (IsTouchApart trace.now.commits at (set_value set.entry.set) (set_value other.entry)) touches.entry }
+        → All (IsTouchApart snapshot.now (set_value set.entry.set) (set_value other.entry)) touches.entry }
 {
     // It ends at the first that is stored. Those before it share the mark of the set and the object by chance.
     for touch in touches {
-        if is_of_object(trace, at, set, other, touch) {
+        if is_of_object(snapshot, set, other, touch) {
             return true;
         }
     }
@@ -64,28 +68,26 @@ fn is_one_of_object(
 
 /// Whether some userset that is stored in a crowded set has this target: the userset itself, or its object under a relation.
 fn is_target_stored(
-    trace: &Trace,
+    snapshot: &Snapshot<'_>,
     index: &UsersetIndex,
-    at: u64,
     set: MarkedSet<'_>,
     relation: Option<&str>,
     target: MarkedSet<'_>,
 ) -> bool
-    requires index { IsUsersetIndex trace.now.declarations trace.now.commits index.now }
+    requires index { IsUsersetIndex snapshot.now.timeline.declarations snapshot.now.timeline.commits index.now }
     requires crowded { (index.now.is_whole && is_crowded index.now.crowds (set_mark (set_value set.set))) ≡ true }
-    ensures { IsTrue result ↔ IsTargetStored (store_at trace.now.commits at) (set_value set.entry.set)
+    ensures { IsTrue result ↔ IsTargetStored (tuples_in snapshot.now) (set_value set.entry.set)
         (option_map (λ s. s.now) relation.entry) (set_value target.entry.set) }
 {
     match relation {
-        None => trace.chains().has_set(set, target, at),
+        None => snapshot.has_set(set, target),
         Some(relation) => {
             target.set.relation == relation
                 && is_one_of_object(
-                    trace,
-                    at,
+                    snapshot,
                     set,
                     target.set,
-                    index.of_object(set, target.set, at),
+                    index.of_object(set, target.set, snapshot.at),
                 )
         }
     }
@@ -94,9 +96,8 @@ fn is_target_stored(
 /// Whether one of some usersets has a target that is known to hold a user, or one of some others is the target of what is stored in a
 /// crowded set. It goes over both lists side by side, so it takes no more steps than the shorter has items.
 fn leads_either<F: KnownFact>(
-    trace: &Trace,
+    snapshot: &Snapshot<'_>,
     index: &UsersetIndex,
-    at: u64,
     known: &Known<F>,
     set: MarkedSet<'_>,
     relation: Option<&str>,
@@ -104,13 +105,13 @@ fn leads_either<F: KnownFact>(
     stored: Usersets<'_>,
     targets: SetsOfUser<'_, F>,
 ) -> bool
-    requires index { IsUsersetIndex trace.now.declarations trace.now.commits index.now }
+    requires index { IsUsersetIndex snapshot.now.timeline.declarations snapshot.now.timeline.commits index.now }
     requires crowded { (index.now.is_whole && is_crowded index.now.crowds (set_mark (set_value set.set))) ≡ true }
     ensures leads { result ≡ true → SomeSet (GivesId known.now (option_map (λ s. s.now) relation.entry) user) stored.entry
-        ⊎ SomeSet (IsTargetStored (store_at trace.now.commits at) (set_value set.entry.set)
+        ⊎ SomeSet (IsTargetStored (tuples_in snapshot.now) (set_value set.entry.set)
         (option_map (λ s. s.now) relation.entry)) targets.entry }
     ensures none { result ≡ false → (¬ SomeSet (GivesId known.now (option_map (λ s. s.now) relation.entry) user) stored.entry)
-        ⊎ (¬ SomeSet (IsTargetStored (store_at trace.now.commits at) (set_value set.entry.set)
+        ⊎ (¬ SomeSet (IsTargetStored (tuples_in snapshot.now) (set_value set.entry.set)
         (option_map (λ s. s.now) relation.entry)) targets.entry) }
 {
     let mut targets = targets;
@@ -120,7 +121,7 @@ fn leads_either<F: KnownFact>(
         }
         match targets.next() {
             Some(target) => {
-                if is_target_stored(trace, index, at, set, relation, target) {
+                if is_target_stored(snapshot, index, set, relation, target) {
                     return true;
                 }
             }
@@ -132,24 +133,22 @@ fn leads_either<F: KnownFact>(
 
 /// Whether some userset that is stored in a crowded set has a target that is known to hold a user.
 pub(crate) fn is_led_by_index<F: KnownFact>(
-    trace: &Trace,
+    snapshot: &Snapshot<'_>,
     index: &UsersetIndex,
-    at: u64,
     known: &Known<F>,
     set: MarkedSet<'_>,
     relation: Option<&str>,
     user: u64,
 ) -> bool
-    requires index { IsUsersetIndex trace.now.declarations trace.now.commits index.now }
+    requires index { IsUsersetIndex snapshot.now.timeline.declarations snapshot.now.timeline.commits index.now }
     requires crowded { (index.now.is_whole && is_crowded index.now.crowds (set_mark (set_value set.set))) ≡ true }
     ensures { IsTrue result
-        ↔ IsLed (store_at trace.now.commits at) known.now (set_value set.entry.set) (option_map (λ s. s.now) relation.entry) user }
+        ↔ IsLed (tuples_in snapshot.now) known.now (set_value set.entry.set) (option_map (λ s. s.now) relation.entry) user }
 {
-    let stored = trace.chains().usersets(set, at);
+    let stored = snapshot.usersets(set);
     leads_either(
-        trace,
+        snapshot,
         index,
-        at,
         known,
         set,
         relation,

@@ -14,7 +14,7 @@
 //!
 //! ```text
 //! known.add_yes(fact)?;
-//! let is_given = established(rewrite, MarkedSet::of(set), user, &trace, at, &known);
+//! let is_given = established(rewrite, MarkedSet::of(set), user, &snapshot, &known);
 //! ```
 #![tactic(auto)]
 

@@ -2,10 +2,8 @@
 
 ghost use Rattle.std.specs.Prelude.{◌≡◌, ◌↔◌, IsTrue, option_map};
 ghost use Rattle.tuple_text.specs.Refs.{set_value};
-ghost use Rattle.tuple_text.specs.declared.users.User.TheVariants.{Id};
-ghost use Rattle.namespaces.specs.Lookup.{rule_at};
-ghost use Rattle.strata.specs.Meaning.{with_relation, IsStored};
-ghost use Rattle.version_chains.specs.Commits.{store_at};
+ghost use Rattle.strata.specs.Meaning.{with_relation};
+ghost use Rattle.snapshots.specs.Snapshots.{rules_in, tuples_in};
 ghost use Rattle.judgement.specs.Passes.{GivesId, BarsId, SomeSet, EachSet, IsLed, IsBarred};
 
 use crate::fact::KnownFact;
@@ -13,8 +11,7 @@ use crate::indexed::is_barred_by_index;
 use crate::known::Known;
 use crate::leading::is_led_by_index;
 use marks::MarkedSet;
-use namespaces::Rules;
-use trace_lines::Trace;
+use snapshots::Snapshot;
 use tuple_text::SetRef;
 use version_chains::Usersets;
 
@@ -40,22 +37,21 @@ pub(crate) fn is_in<F: KnownFact>(
     }
 }
 
-/// Whether the target of a userset is known not to hold a user, or is undeclared at a timestamp and so has no members.
+/// Whether the target of a userset is known not to hold a user, or is undeclared and so has no members.
 pub fn is_out<F: KnownFact>(
-    rules: &Rules,
-    at: u64,
+    snapshot: &Snapshot<'_>,
     known: &Known<F>,
     set: MarkedSet<'_>,
     relation: Option<&str>,
     id: u64,
 ) -> bool
-    ensures { IsTrue result ↔ BarsId (rule_at rules.now at) known.now (option_map (λ s. s.now) relation.entry) id (set_value set.entry.set) }
+    ensures { IsTrue result ↔ BarsId (rules_in snapshot.now) known.now (option_map (λ s. s.now) relation.entry) id (set_value set.entry.set) }
 {
     match relation {
-        None => known.no_marked(set, id) || rules.body(set.set, at).is_none(),
+        None => known.no_marked(set, id) || snapshot.rule(set.set).is_none(),
         Some(relation) => {
             let target = under(set.set, relation);
-            known.no(target, id) || rules.body(target, at).is_none()
+            known.no(target, id) || snapshot.rule(target).is_none()
         }
     }
 }
@@ -77,68 +73,58 @@ fn gives_some<F: KnownFact>(
 }
 
 fn bars_each<F: KnownFact>(
-    rules: &Rules,
-    at: u64,
+    snapshot: &Snapshot<'_>,
     known: &Known<F>,
     relation: Option<&str>,
     id: u64,
     sets: Usersets<'_>,
 ) -> bool
     ensures { IsTrue result
-        ↔ EachSet (BarsId (rule_at rules.now at) known.now (option_map (λ s. s.now) relation.entry) id) sets.entry }
+        ↔ EachSet (BarsId (rules_in snapshot.now) known.now (option_map (λ s. s.now) relation.entry) id) sets.entry }
 {
     for set in sets {
-        if !is_out(rules, at, known, set, relation, id) {
+        if !is_out(snapshot, known, set, relation, id) {
             return false;
         }
     }
     true
 }
 
-/// Whether the tuple of a userset and a user id is stored.
-pub(crate) fn is_stored(trace: &Trace, at: u64, set: MarkedSet<'_>, user: u64) -> bool
-    ensures { IsTrue result ↔ IsStored (store_at trace.now.commits at) (set_value set.entry.set) (Id user) }
-{
-    trace.chains().has_id(set, user, at)
-}
-
 /// Whether some userset that is stored in a set has a target that is known to hold a user.
 pub fn is_led<F: KnownFact>(
-    trace: &Trace,
-    at: u64,
+    snapshot: &Snapshot<'_>,
     known: &Known<F>,
     set: MarkedSet<'_>,
     relation: Option<&str>,
     user: u64,
 ) -> bool
     ensures { IsTrue result
-        ↔ IsLed (store_at trace.now.commits at) known.now (set_value set.entry.set) (option_map (λ s. s.now) relation.entry) user }
+        ↔ IsLed (tuples_in snapshot.now) known.now (set_value set.entry.set) (option_map (λ s. s.now) relation.entry) user }
 {
-    let index = trace.usersets();
+    let index = snapshot.timeline.usersets();
     if index.is_crowded(set) {
-        return is_led_by_index(trace, index, at, known, set, relation, user);
+        return is_led_by_index(snapshot, index, known, set, relation, user);
     }
-    let sets = trace.chains().usersets(set, at);
+    let sets = snapshot.usersets(set);
     gives_some(known, relation, user, sets)
 }
 
 /// Whether no userset that is stored in a set has a target that may hold a user.
 pub fn is_barred<F: KnownFact>(
-    trace: &Trace,
-    at: u64,
+    snapshot: &Snapshot<'_>,
     known: &Known<F>,
     set: MarkedSet<'_>,
     relation: Option<&str>,
     user: u64,
 ) -> bool
     ensures { IsTrue result
-        ↔ IsBarred (rule_at trace.now.declarations at) (store_at trace.now.commits at) known.now (set_value set.entry.set)
+        ↔ IsBarred (rules_in snapshot.now) (tuples_in snapshot.now) known.now (set_value set.entry.set)
         (option_map (λ s. s.now) relation.entry) user }
 {
-    let index = trace.usersets();
+    let index = snapshot.timeline.usersets();
     if index.is_crowded(set) {
-        return is_barred_by_index(trace, index, at, known, set, relation, user);
+        return is_barred_by_index(snapshot, index, known, set, relation, user);
     }
-    let sets = trace.chains().usersets(set, at);
-    bars_each(trace.rules(), at, known, relation, user, sets)
+    let sets = snapshot.usersets(set);
+    bars_each(snapshot, known, relation, user, sets)
 }

@@ -10,7 +10,9 @@ pub mod LineViews
 pub mod Placed
 pub mod Recorded
 pub mod Results
+pub mod Said
 pub mod Texts
+pub mod Timelines
 pub mod TraceCode
 pub mod TraceReads
 pub mod Traces
@@ -18,4 +20,3 @@ pub mod Tuples
 pub mod Values
 pub mod VersionMarks
 pub mod Versions
-pub mod Said

@@ -12,6 +12,7 @@ ghost use Rattle.trace_lines.specs.Indexed.{IsIndex};
 ghost use Rattle.trace_lines.specs.LineValues.{commits, declares, put_line, records};
 ghost use Rattle.trace_lines.specs.LineViews.{owned_value};
 ghost use Rattle.trace_lines.specs.Values.{empty_trace, entry_value, entry_lines, next_line};
+ghost use Rattle.trace_lines.specs.Timelines.{timeline_of};
 ghost use Rattle.trace_lines.specs.Traces.{is_declared, are_declared, is_begun, namespace_line, change_line, declaration_line, commit_checked, commit_of, with_commit, commit_line, entry_of, recorded, with_entry, entry_line, value_line};
 ghost use Rattle.trace_lines.specs.Versions.{entry_version, version_issued, issuer, content_among, content_of, AreIssuedOnce};
 ghost use Rattle.trace_lines.specs.declared.entry.EntryKind.TheVariants.{Content};
@@ -43,6 +44,7 @@ use json_lines::fields::{optional_number_at, text_at};
 use json_lines::{JsonLine, JsonRef, TakeJson};
 use namespaces::{Rules, RulesFault};
 use serde_json::Value;
+use snapshots::Timeline;
 use std::alloc::{AllocError, Global};
 use std::marker::Model;
 use tuple_text::{SetRef, TupleRef};
@@ -172,14 +174,14 @@ impl Trace {
         &self.chains
     }
 
-    /// An index of the usersets that are stored in others.
-    pub fn usersets(&self) -> &UsersetIndex
-        ensures { IsUsersetIndex self.now.declarations self.now.commits result.now }
+    /// The rules and the commits at every timestamp.
+    pub fn timeline(&self) -> Timeline<'_>
+        ensures { result ≡ timeline_of self.now }
     {
-        &self.usersets
+        Timeline::new(&self.rules, &self.chains, &self.usersets)
     }
 
-    /// Makes that index, when all lines are read. Where memory is refused there is none, and whoever asks walks over all usersets.
+    /// Makes an index of the usersets that are stored in others, when all lines are read. Where memory is refused there is none, and whoever asks walks over all usersets.
     pub fn settle(&mut self)
         ensures { self.new ≡ self.old }
     {

@@ -10,7 +10,8 @@ use Rattle.namespaces.specs.Lookup.{rule_at}
 use Rattle.rewrites.specs.View.{children}
 use Rattle.version_chains.specs.Commits.{store_at}
 use Rattle.strata.proofs.Lists.{Contains-cons_cases}
-use Rattle.trace_lines.specs.Values.{TraceValue}
+use Rattle.snapshots.specs.Snapshots.{rules_in, tuples_in}
+use Rattle.snapshots.specs.declared.snapshot.Snapshot.{Snapshot}
 use Rattle.wide_rules.specs.Asked.{Questions, asked_at, does, Does, Agrees, AreRight, Follows, AreRightPaths, AsksMore, Tells, joined_of}
 use Rattle.judgement.specs.Judgement.{KnownValue}
 use Rattle.wide_rules.specs.declared.answers.Asked.{Asked}
@@ -102,29 +103,29 @@ pub inter_joins : (g : Bool) (es : List Expression) → joined_of (not g) g es �
 inter_joins true es = refl
 inter_joins false es = refl
 
-module _ (trace : TraceValue) (at : ℕ) (known : KnownValue) (f : FactValue) where
+module _ (s : Snapshot) (known : KnownValue) (f : FactValue) where
   abbrev leaves : Leaves
-  leaves = by_known (rule_at trace.declarations at) (store_at trace.commits at) known f
+  leaves = by_known (rules_in s) (tuples_in s) known f
 
   -- ---- what the leaves do by what is known
 
-  does_then : (g : Bool) (e : Expression) → does leaves g e ≡ true → Does trace at known f g e
-  does_then true e h = given_then (rule_at trace.declarations at) (store_at trace.commits at) known f e h
-  does_then false e h = barred_then (rule_at trace.declarations at) (store_at trace.commits at) known f e h
+  does_then : (g : Bool) (e : Expression) → does leaves g e ≡ true → Does s known f g e
+  does_then true e h = given_then (rules_in s) (tuples_in s) known f e h
+  does_then false e h = barred_then (rules_in s) (tuples_in s) known f e h
 
-  then_does : (g : Bool) (e : Expression) → Does trace at known f g e → does leaves g e ≡ true
-  then_does true e h = then_given (rule_at trace.declarations at) (store_at trace.commits at) known f e h
-  then_does false e h = then_barred (rule_at trace.declarations at) (store_at trace.commits at) known f e h
+  then_does : (g : Bool) (e : Expression) → Does s known f g e → does leaves g e ≡ true
+  then_does true e h = then_given (rules_in s) (tuples_in s) known f e h
+  then_does false e h = then_barred (rules_in s) (tuples_in s) known f e h
 
-  answer_is : (g : Bool) (e : Expression) (b answer : Bool) → does leaves g e ≡ b → (IsTrue answer ↔ Does trace at known f g e) → b ≡ answer
+  answer_is : (g : Bool) (e : Expression) (b answer : Bool) → does leaves g e ≡ b → (IsTrue answer ↔ Does s known f g e) → b ≡ answer
   answer_is g e true true is h = refl
   answer_is g e true false is h = sym (h.1 (does_then g e is))
   answer_is g e false true is h = sym is ∙ then_does g e (h.0 refl)
   answer_is g e false false is h = refl
 
   -- where each answer is right, so is one that follows
-  pub right_then : (q : Questions) (asked : List Asked) (g : Bool) (e : Expression) (r : Bool) → AreRight trace at known f q asked
-      → Follows q asked g e r → (IsTrue r ↔ Does trace at known f g e)
+  pub right_then : (q : Questions) (asked : List Asked) (g : Bool) (e : Expression) (r : Bool) → AreRight s known f q asked
+      → Follows q asked g e r → (IsTrue r ↔ Does s known f g e)
   right_then q asked g e r right follows =
       let is : does leaves g e ≡ r =
       follows leaves (λ a there. answer_is a.is_given (asked_at q a.is_cover a.part) (does leaves a.is_given (asked_at q a.is_cover a.part)) a.answer refl (right a there)) in
@@ -133,23 +134,23 @@ module _ (trace : TraceValue) (at : ℕ) (known : KnownValue) (f : FactValue) wh
   -- ---- one question
 
   pub tells_found : (q : Questions) (asked : List Asked) (a : Asked) → Contains asked a
-      → Tells trace at known f q asked asked a.is_given (asked_at q a.is_cover a.part) a.answer
+      → Tells s known f q asked asked a.is_given (asked_at q a.is_cover a.part) a.answer
   tells_found q asked a there = record {
     more = λ b c. c;
     right = λ r. r;
     follows = λ l agrees. agrees a there;
   }
 
-  one_more : (q : Questions) (old : List Asked) (a : Asked) → (IsTrue a.answer ↔ Does trace at known f a.is_given (asked_at q a.is_cover a.part))
-      → AreRight trace at known f q old → AreRight trace at known f q (old ++ a ∷ [])
+  one_more : (q : Questions) (old : List Asked) (a : Asked) → (IsTrue a.answer ↔ Does s known f a.is_given (asked_at q a.is_cover a.part))
+      → AreRight s known f q old → AreRight s known f q (old ++ a ∷ [])
   one_more q old a is right b there =
       elim (Contains-append_cases old (a ∷ []) b there) [
         | inl before ↦ right b before
-        | inr last ↦ subst (λ (x : Asked). IsTrue x.answer ↔ Does trace at known f x.is_given (asked_at q x.is_cover x.part)) (only_one a b last) is
+        | inr last ↦ subst (λ (x : Asked). IsTrue x.answer ↔ Does s known f x.is_given (asked_at q x.is_cover x.part)) (only_one a b last) is
       ]
 
-  pub tells_noted : (q : Questions) (old : List Asked) (a : Asked) → (IsTrue a.answer ↔ Does trace at known f a.is_given (asked_at q a.is_cover a.part))
-      → Tells trace at known f q old (old ++ a ∷ []) a.is_given (asked_at q a.is_cover a.part) a.answer
+  pub tells_noted : (q : Questions) (old : List Asked) (a : Asked) → (IsTrue a.answer ↔ Does s known f a.is_given (asked_at q a.is_cover a.part))
+      → Tells s known f q old (old ++ a ∷ []) a.is_given (asked_at q a.is_cover a.part) a.answer
   tells_noted q old a is = record {
     more = λ b c. Contains-append_left old (a ∷ []) b c;
     right = one_more q old a is;
@@ -158,21 +159,21 @@ module _ (trace : TraceValue) (at : ℕ) (known : KnownValue) (f : FactValue) wh
 
   -- nothing more is asked where what was asked decides
   pub tells_at_once : (q : Questions) (asked : List Asked) (g : Bool) (e : Expression) (r : Bool) → Follows q asked g e r
-      → Tells trace at known f q asked asked g e r
+      → Tells s known f q asked asked g e r
   tells_at_once q asked g e r follows = record { more = λ b c. c; right = λ h. h; follows = follows }
 
   -- ---- nodes, one after the other: what is left decides
 
   pub record IsLeft (q : Questions) (old new : List Asked) (g : Bool) (whole left : Expression) : Type 0 where
     pub more : AsksMore old new
-    pub right : AreRight trace at known f q old → AreRight trace at known f q new
+    pub right : AreRight s known f q old → AreRight s known f q new
     pub same : (l : Leaves) → Agrees l q new → does l g whole ≡ does l g left
 
   pub left_first : (q : Questions) (asked : List Asked) (g : Bool) (whole : Expression) → IsLeft q asked asked g whole whole
   left_first q asked g whole = record { more = λ b c. c; right = λ r. r; same = λ l agrees. refl }
 
   pub left_step : (q : Questions) (old now new : List Asked) (stop g : Bool) (whole e : Expression) (es : List Expression) (d : Bool)
-      → IsLeft q old now g whole (joined_of stop g (e ∷ es)) → Tells trace at known f q now new g e d → ¬ (d ≡ stop)
+      → IsLeft q old now g whole (joined_of stop g (e ∷ es)) → Tells s known f q now new g e d → ¬ (d ≡ stop)
       → IsLeft q old new g whole (joined_of stop g es)
   left_step q old now new stop g whole e es d left tells other = record {
     more = λ b c. tells.more b (left.more b c);
@@ -184,8 +185,8 @@ module _ (trace : TraceValue) (at : ℕ) (known : KnownValue) (f : FactValue) wh
   }
 
   pub left_stops : (q : Questions) (old now new : List Asked) (stop g : Bool) (whole e : Expression) (es : List Expression) (d : Bool)
-      → IsLeft q old now g whole (joined_of stop g (e ∷ es)) → Tells trace at known f q now new g e d → d ≡ stop
-      → Tells trace at known f q old new g whole stop
+      → IsLeft q old now g whole (joined_of stop g (e ∷ es)) → Tells s known f q now new g e d → d ≡ stop
+      → Tells s known f q old new g whole stop
   left_stops q old now new stop g whole e es d left tells is = record {
     more = λ b c. tells.more b (left.more b c);
     right = λ r. tells.right (left.right r);
@@ -197,7 +198,7 @@ module _ (trace : TraceValue) (at : ℕ) (known : KnownValue) (f : FactValue) wh
   }
 
   pub left_ends : (q : Questions) (old new : List Asked) (stop g : Bool) (whole : Expression)
-      → IsLeft q old new g whole (joined_of stop g []) → Tells trace at known f q old new g whole (not stop)
+      → IsLeft q old new g whole (joined_of stop g []) → Tells s known f q old new g whole (not stop)
   left_ends q old new stop g whole left = record {
     more = left.more;
     right = left.right;
@@ -205,7 +206,7 @@ module _ (trace : TraceValue) (at : ℕ) (known : KnownValue) (f : FactValue) wh
   }
 
   pub tells_as : (q : Questions) (old new : List Asked) (g : Bool) (e e' : Expression) (r : Bool) → e ≡ e'
-      → Tells trace at known f q old new g e' r → Tells trace at known f q old new g e r
+      → Tells s known f q old new g e' r → Tells s known f q old new g e r
   tells_as q old new g e e' r is tells = rw is tells
 
   -- ---- a difference
@@ -223,7 +224,7 @@ module _ (trace : TraceValue) (at : ℕ) (known : KnownValue) (f : FactValue) wh
   minus_goes_on l false a b false is same = rw is refl
 
   pub tells_minus_at_once : (q : Questions) (old new : List Asked) (g : Bool) (a b : Expression) (d : Bool)
-      → Tells trace at known f q old new g a d → ¬ (d ≡ g) → Tells trace at known f q old new g (minus a b) d
+      → Tells s known f q old new g a d → ¬ (d ≡ g) → Tells s known f q old new g (minus a b) d
   tells_minus_at_once q old new g a b d tells other = record {
     more = tells.more;
     right = tells.right;
@@ -231,8 +232,8 @@ module _ (trace : TraceValue) (at : ℕ) (known : KnownValue) (f : FactValue) wh
   }
 
   pub tells_minus : (q : Questions) (old now new : List Asked) (g : Bool) (a b : Expression) (d r : Bool)
-      → Tells trace at known f q old now g a d → d ≡ g → Tells trace at known f q now new (not g) b r
-      → Tells trace at known f q old new g (minus a b) r
+      → Tells s known f q old now g a d → d ≡ g → Tells s known f q now new (not g) b r
+      → Tells s known f q old new g (minus a b) r
   tells_minus q old now new g a b d r first same second = record {
     more = λ x c. second.more x (first.more x c);
     right = λ h. second.right (first.right h);

@@ -25,14 +25,14 @@ never : (ds : List Declaration) (namespace relation : List ℕ) → rule_at ds l
 never ds namespace relation none at small = undeclared_before ds (object namespace relation) at last (omega (arith, small)) none
 
 -- where the last declaration has none, none before has one
-pub none_before : (ds : List Declaration) (names : List (List ℕ)) (namespace : List ℕ) → DeclaresNone ds last names namespace
-    → (at : ℕ) → at < 2 ^ 64 → DeclaresNone ds at names namespace
+pub none_before : (ds : List Declaration) (names : List (List ℕ)) (namespace : List ℕ) → DeclaresNone (rule_at ds last) names namespace
+    → (at : ℕ) → at < 2 ^ 64 → DeclaresNone (rule_at ds at) names namespace
 none_before ds names namespace none at small relation named = never ds namespace relation (none relation named) at small
 
 -- asked for each relation that is read
 pub none_by_names : (ds : List Declaration) (at : ℕ) (names : List (List ℕ)) (namespace : List ℕ)
     → ((k : ℕ) (relation : List ℕ) → k < length names → slice_get names k ≡ Some relation → rule_at ds at namespace relation ≡ None)
-    → DeclaresNone ds at names namespace
+    → DeclaresNone (rule_at ds at) names namespace
 none_by_names ds at names namespace each relation named = each_element (λ r. rule_at ds at namespace r ≡ None) names each relation named
 
 -- asked for each that is declared
@@ -40,7 +40,7 @@ pub none_by_declared : (ds : List Declaration) (at : ℕ) (names : List (List �
     → ((relation : List ℕ) → ¬ (rule_at ds at namespace relation ≡ None) → Contains (names_in_force at namespace ds) relation)
     → ((k : ℕ) (relation : List ℕ) → k < length (names_in_force at namespace ds) → slice_get (names_in_force at namespace ds) k ≡ Some relation
     → ¬ Contains names relation)
-    → DeclaresNone ds at names namespace
+    → DeclaresNone (rule_at ds at) names namespace
 none_by_declared ds at names namespace whole each relation named = by (dec_undeclared (rule_at ds at namespace relation))
   where
     by : Dec (rule_at ds at namespace relation ≡ None) → rule_at ds at namespace relation ≡ None
@@ -50,7 +50,7 @@ none_by_declared ds at names namespace whole each relation named = by (dec_undec
 -- a namespace whose number is not among them
 pub none_apart : (ds : List Declaration) (names : List (List ℕ)) (numbers : List ℕ) (namespace : List ℕ) (at : ℕ) → at < 2 ^ 64
     → AreDeclaring ds names numbers → ((n : ℕ) → place_of namespace (namespace_names ds) ≡ Some n → ¬ Contains numbers n)
-    → DeclaresNone ds at names namespace
+    → DeclaresNone (rule_at ds at) names namespace
 none_apart ds names numbers namespace at small are apart relation named = by (dec_undeclared (rule_at ds at namespace relation))
   where
     by : Dec (rule_at ds at namespace relation ≡ None) → rule_at ds at namespace relation ≡ None

@@ -10,7 +10,8 @@ use Rattle.rewrites.specs.declared.parts.Part.{Part}
 use Rattle.rewrites.specs.declared.parts.Through.{Through}
 use Rattle.marks.proofs.PlacedLemmas.{length-set, slice_get-set}
 use Rattle.tuple_text.specs.Tuples.{FactValue}
-use Rattle.trace_lines.specs.Values.{TraceValue}
+use Rattle.snapshots.specs.Snapshots.{TimelineValue}
+use Rattle.snapshots.specs.declared.snapshot.Snapshot.{Snapshot}
 use Rattle.wide_rules.specs.Asked.{Does}
 use Rattle.wide_rules.specs.Declaring.{AreKeptByPart, MayBeKept}
 use Rattle.judgement.specs.Judgement.{KnownValue}
@@ -23,29 +24,29 @@ pub no_part_there : (ps : List Part) (n : ℕ) → length ps ≤ n → part_at (
 no_part_there ps n past =
     ap (λ (o : Option Expression). unwrap_or o (union no_child)) (slice_get-map part_expression ps n ∙ ap (option_map part_expression) (slice_get_past ps n past))
 
-pub none_kept : (trace : TraceValue) (parts : List Part) (kept : List (Option (Box Kept Global))) → length kept ≡ length parts
-    → ((k : ℕ) (one : Option (Box Kept Global)) → slice_get kept k ≡ Some one → one ≡ None) → AreKeptByPart trace parts kept
-none_kept trace parts kept room none = record {
+pub none_kept : (timeline : TimelineValue) (parts : List Part) (kept : List (Option (Box Kept Global))) → length kept ≡ length parts
+    → ((k : ℕ) (one : Option (Box Kept Global)) → slice_get kept k ≡ Some one → one ≡ None) → AreKeptByPart timeline parts kept
+none_kept timeline parts kept room none = record {
   room = room;
   each = λ k through one at there numbers is. let bad : None ≡ Some numbers = sym (none k one there) ∙ is in cc;
 }
 
 -- it is kept of one part
-pub one_kept : (trace : TraceValue) (parts : List Part) (kept : List (Option (Box Kept Global))) (n : ℕ) (through : Through) (one : Option (Box Kept Global))
-    → AreKeptByPart trace parts kept → slice_get parts n ≡ Some (Part.Through through) → MayBeKept trace through one → AreKeptByPart trace parts (slice_set kept n one)
-one_kept trace parts kept n through one are at is = record {
+pub one_kept : (timeline : TimelineValue) (parts : List Part) (kept : List (Option (Box Kept Global))) (n : ℕ) (through : Through) (one : Option (Box Kept Global))
+    → AreKeptByPart timeline parts kept → slice_get parts n ≡ Some (Part.Through through) → MayBeKept timeline through one → AreKeptByPart timeline parts (slice_set kept n one)
+one_kept timeline parts kept n through one are at is = record {
   room = length-set kept n one ∙ are.room;
   each = λ k t o there within.
       elim (slice_get-set kept n k o one within) [
         | inl here ↦
             let same : Some (Part.Through t) ≡ Some (Part.Through through) = sym there ∙ ap (slice_get parts) here.0 ∙ at in
             let through_is : through ≡ t = cc in
-            subst (MayBeKept trace t) here.1 (subst (λ (x : Through). MayBeKept trace x one) through_is is)
+            subst (MayBeKept timeline t) here.1 (subst (λ (x : Through). MayBeKept timeline x one) through_is is)
         | inr other ↦ are.each k t o there other.1
       ];
 }
 
 -- a union of nothing gives nothing, and rules out each fact
-pub none_does : (trace : TraceValue) (at : ℕ) (known : KnownValue) (f : FactValue) (g : Bool) → (IsTrue (not g) ↔ Does trace at known f g (union no_child))
-none_does trace at known f true = (λ h. absurd cc, λ h. absurd h)
-none_does trace at known f false = (λ h. tt, λ h. refl)
+pub none_does : (s : Snapshot) (known : KnownValue) (f : FactValue) (g : Bool) → (IsTrue (not g) ↔ Does s known f g (union no_child))
+none_does s known f true = (λ h. absurd cc, λ h. absurd h)
+none_does s known f false = (λ h. tt, λ h. refl)

@@ -5,11 +5,10 @@ use Rattle.std.specs.declared.vec.Vec.{Vec}
 use Rattle.tuple_text.specs.Tuples.{FactValue}
 use Rattle.rewrites.specs.Alike.{Leaves, gives, bars}
 use Rattle.rewrites.specs.Expression.{Expression, union, inter}
-use Rattle.namespaces.specs.Lookup.{rule_at}
 use Rattle.rewrites.specs.Parts.{part_at}
 use Rattle.rewrites.specs.View.{children}
-use Rattle.version_chains.specs.Commits.{store_at}
-use Rattle.trace_lines.specs.Values.{TraceValue}
+use Rattle.snapshots.specs.Snapshots.{TimelineValue, rules_in, tuples_in}
+use Rattle.snapshots.specs.declared.snapshot.Snapshot.{Snapshot}
 use Rattle.judgement.specs.Judgement.{KnownValue, Established, Refuted}
 use Rattle.wide_rules.specs.declared.answers.Asked.{Asked}
 use Rattle.wide_rules.specs.declared.paths.Path.{Path}
@@ -19,14 +18,14 @@ pub record Questions : Type 0 where
   pub parts : List Expression
   pub covers : List Expression
 
--- the questions of a rule, and the trace over which they are asked
+-- the questions of a rule, and the timeline over which they are asked
 pub record PartsValue : Type 0 where
-  pub trace : TraceValue
+  pub timeline : TimelineValue
   pub questions : Questions
 
--- a rule, and the trace over which it is asked
+-- a rule, and the timeline over which it is asked
 pub record RuleValue : Type 0 where
-  pub trace : TraceValue
+  pub timeline : TimelineValue
   pub expression : Expression
 
 -- whether an expression gives the fact, or whether it rules it out, where its leaves do as they do
@@ -35,9 +34,9 @@ does l true e = gives l e
 does l false e = bars l e
 
 -- the same by what is known
-abbrev pub Does : TraceValue → ℕ → KnownValue → FactValue → Bool → Expression → Type 0
-Does trace at known f true e = Established (rule_at trace.declarations at) (store_at trace.commits at) known f e
-Does trace at known f false e = Refuted (rule_at trace.declarations at) (store_at trace.commits at) known f e
+abbrev pub Does : Snapshot → KnownValue → FactValue → Bool → Expression → Type 0
+Does s known f true e = Established (rules_in s) (tuples_in s) known f e
+Does s known f false e = Refuted (rules_in s) (tuples_in s) known f e
 
 -- what is asked for by a number
 abbrev pub asked_at : Questions → Bool → ℕ → Expression
@@ -48,9 +47,9 @@ abbrev pub Agrees : Leaves → Questions → List Asked → Type 0
 Agrees l q asked = (a : Asked) → Contains asked a → does l a.is_given (asked_at q a.is_cover a.part) ≡ a.answer
 
 -- each answer is right, of a fact and by what is known
-abbrev pub AreRight : TraceValue → ℕ → KnownValue → FactValue → Questions → List Asked → Type 0
-AreRight trace at known f q asked =
-    (a : Asked) → Contains asked a → (IsTrue a.answer ↔ Does trace at known f a.is_given (asked_at q a.is_cover a.part))
+abbrev pub AreRight : Snapshot → KnownValue → FactValue → Questions → List Asked → Type 0
+AreRight s known f q asked =
+    (a : Asked) → Contains asked a → (IsTrue a.answer ↔ Does s known f a.is_given (asked_at q a.is_cover a.part))
 
 -- an answer follows for an expression from what was asked, whatever else its leaves do
 abbrev pub Follows : Questions → List Asked → Bool → Expression → Bool → Type 0
@@ -65,9 +64,9 @@ abbrev pub AreRightPaths : Questions → Expression → List Path → Type 0
 AreRightPaths q e paths = (p : Path) → Contains paths p → Follows q p.asked.items p.is_given e p.answer
 
 -- more was asked, each answer is right, and an answer follows for an expression
-pub record Tells (trace : TraceValue) (at : ℕ) (known : KnownValue) (f : FactValue) (q : Questions) (old new : List Asked) (is_given : Bool) (e : Expression) (answer : Bool) : Type 0 where
+pub record Tells (s : Snapshot) (known : KnownValue) (f : FactValue) (q : Questions) (old new : List Asked) (is_given : Bool) (e : Expression) (answer : Bool) : Type 0 where
   pub more : AsksMore old new
-  pub right : AreRight trace at known f q old → AreRight trace at known f q new
+  pub right : AreRight s known f q old → AreRight s known f q new
   pub follows : Follows q new is_given e answer
 
 -- an expression that gives a fact, or rules it out, where some of others does (`stop` is true), or where each of them does

@@ -4,6 +4,7 @@ ghost use Rattle.std.specs.Prelude.{◌≡◌, ◌↔◌, IsTrue, IfOk};
 ghost use Rattle.tuple_text.specs.Refs.{set_value};
 ghost use Rattle.tuple_text.specs.Tuples.{fact_of};
 ghost use Rattle.rewrites.specs.Parts.{rule_shown};
+ghost use Rattle.snapshots.specs.Snapshots.{snapshot_at};
 ghost use Rattle.wide_rules.specs.Asked.{AreRight, Does};
 
 use crate::answers::Answers;
@@ -12,9 +13,9 @@ use crate::paths::{Paths, Reached};
 use judgement::{Known, KnownFact};
 use marks::MarkedSet;
 use rewrites::{Node, PartedRule};
+use snapshots::Timeline;
 use std::alloc::{AllocError, Global};
 use std::marker::Model;
-use trace_lines::Trace;
 
 /// A rule that many facts are asked for, one after the other. Contracts see its expression.
 ///
@@ -38,7 +39,7 @@ impl<'r> Model for AskedRule<'r> {
 
     ghost coded = { rule_code };
 
-    ghost view = { λ r. record { trace = r.parts.trace; expression = rule_shown r.rule.now } };
+    ghost view = { λ r. record { timeline = r.parts.timeline; expression = rule_shown r.rule.now } };
 
     ghost invariant = { λ r. (r.parts.questions.parts ≡ parts_shown r.rule.now.parts.items)
         × AreRightPaths r.parts.questions (rule_shown r.rule.now) r.paths };
@@ -77,8 +78,8 @@ fn ask_again<F: KnownFact>(
     answers: &mut Answers,
 ) -> Result<Reached, AllocError>
     ensures same { parts.new ≡ parts.old }
-    ensures right { IfOk result (λ _. AreRight parts.old.trace at known.now (fact_of (set_value set.entry.set) user) parts.old.questions answers.old
-        → AreRight parts.old.trace at known.now (fact_of (set_value set.entry.set) user) parts.old.questions answers.new) }
+    ensures right { IfOk result (λ _. AreRight (snapshot_at parts.old.timeline at) known.now (fact_of (set_value set.entry.set) user) parts.old.questions answers.old
+        → AreRight (snapshot_at parts.old.timeline at) known.now (fact_of (set_value set.entry.set) user) parts.old.questions answers.new) }
 {
     let mut reached = paths.first(is_given);
     for _ in 0..paths.most() {
@@ -92,15 +93,15 @@ fn ask_again<F: KnownFact>(
 }
 
 impl<'r> AskedRule<'r> {
-    /// A rule that is asked over a trace, and of which nothing was asked.
+    /// A rule that is asked over a timeline, and of which nothing was asked.
     pub fn new(
         alloc: Global,
-        trace: &'r Trace,
+        timeline: Timeline<'r>,
         rule: &'r PartedRule,
     ) -> Result<AskedRule<'r>, AllocError>
-        ensures { IfOk result (λ r. r ≡ record { trace = trace.now; expression = rule_shown rule.now }) }
+        ensures { IfOk result (λ r. r ≡ record { timeline = timeline.entry; expression = rule_shown rule.now }) }
     {
-        let parts = Parts::of(alloc, trace, &rule.parts)?;
+        let parts = Parts::of(alloc, timeline, &rule.parts)?;
         let covers = parts.covers();
         Ok(AskedRule {
             rule,
@@ -122,7 +123,7 @@ impl<'r> AskedRule<'r> {
     ) -> Result<bool, AllocError>
         ensures rule { self.new ≡ self.old }
         ensures does { IfOk result (λ r. IsTrue r
-            ↔ Does self.old.trace at known.now (fact_of (set_value set.entry.set) user) is_given self.old.expression) }
+            ↔ Does (snapshot_at self.old.timeline at) known.now (fact_of (set_value set.entry.set) user) is_given self.old.expression) }
     {
         self.answers.clear();
         let parts = &mut self.parts;

@@ -5,7 +5,7 @@ ghost use Rattle.tuple_text.specs.Refs.{set_value};
 ghost use Rattle.tuple_text.specs.Tuples.{fact_of};
 ghost use Rattle.rewrites.specs.Parts.{part_at, parts_shown, node_expression, nodes_shown};
 ghost use Rattle.rewrites.specs.View.{expression_of};
-ghost use Rattle.trace_lines.specs.Values.{TraceValue};
+ghost use Rattle.snapshots.specs.Snapshots.{TimelineValue, snapshot_at};
 ghost use Rattle.wide_rules.specs.Asked.{AreRight, AsksMore, Does, Follows, IsCoveredBy, Questions, Tells, asked_at, joined_of};
 ghost use Rattle.wide_rules.specs.Declaring.{AreKeptByPart};
 
@@ -16,15 +16,15 @@ use crate::through::through_gives;
 use judgement::{Known, KnownFact, established, refuted};
 use marks::MarkedSet;
 use rewrites::{Node, Part, Rewrite};
+use snapshots::{Snapshot, Timeline};
 use std::alloc::{AllocError, Global};
 use std::marker::Model;
-use trace_lines::Trace;
 
-/// The parts of a rule and their covers, asked for facts over a trace, as contracts see them.
+/// The parts of a rule and their covers, asked for facts over a timeline, as contracts see them.
 #[derive(Drop)]
 pub(crate) struct Parts<'r> {
     alloc: Global,
-    trace: &'r Trace,
+    timeline: Timeline<'r>,
     parts: &'r [Part],
     // of each part by its number
     kept: Vec<Option<Box<Kept>>>,
@@ -44,12 +44,12 @@ impl<'r> Model for Parts<'r> {
     ghost coded = { parts_code };
 
     ghost view = { λ p. record {
-      trace = p.trace.now;
+      timeline = p.timeline;
       questions = record { parts = parts_shown p.parts.now; covers = parts_shown p.covers.covers.items };
     } };
 
-    ghost invariant = { λ p. AreKeptByPart p.trace.now p.parts.now p.kept.items
-        × AreKeptByPart p.trace.now p.covers.covers.items p.covers_kept.items
+    ghost invariant = { λ p. AreKeptByPart p.timeline p.parts.now p.kept.items
+        × AreKeptByPart p.timeline p.covers.covers.items p.covers_kept.items
         × AreCoversByPart (record { parts = parts_shown p.parts.now; covers = parts_shown p.covers.covers.items }) p.covers.by_part.items };
 }
 
@@ -59,21 +59,20 @@ fn leaf_does<F: KnownFact>(
     is_given: bool,
     set: MarkedSet<'_>,
     user: u64,
-    trace: &Trace,
-    at: u64,
+    snapshot: &Snapshot<'_>,
     known: &Known<F>,
 ) -> bool
-    ensures { IsTrue result ↔ Does trace.now at known.now (fact_of (set_value set.entry.set) user) is_given (expression_of leaf.now) }
+    ensures { IsTrue result ↔ Does snapshot.now known.now (fact_of (set_value set.entry.set) user) is_given (expression_of leaf.now) }
 {
     if is_given {
-        established(leaf, set, user, trace, at, known)
+        established(leaf, set, user, snapshot, known)
     } else {
-        refuted(leaf, set, user, trace, at, known)
+        refuted(leaf, set, user, snapshot, known)
     }
 }
 
 fn nothing_kept(alloc: Global, parts: &[Part]) -> Result<Vec<Option<Box<Kept>>>, AllocError>
-    ensures { (trace : TraceValue) → IfOk result (λ v. AreKeptByPart trace parts.now v.items) }
+    ensures { (timeline : TimelineValue) → IfOk result (λ v. AreKeptByPart timeline parts.now v.items) }
 {
     let mut kept = Vec::with_capacity(alloc, parts.len())?;
     while kept.len() < parts.len() {
@@ -85,28 +84,27 @@ fn nothing_kept(alloc: Global, parts: &[Part]) -> Result<Vec<Option<Box<Kept>>>,
 /// Whether the part of a number gives a fact, or whether it rules the fact out. Where there is no such part, it is as a union of nothing.
 fn part_does<F: KnownFact>(
     alloc: Global,
-    trace: &Trace,
+    snapshot: &Snapshot<'_>,
     parts: &[Part],
     kept: &mut Vec<Option<Box<Kept>>>,
     part: usize,
     is_given: bool,
     set: MarkedSet<'_>,
     user: u64,
-    at: u64,
     known: &Known<F>,
 ) -> Result<bool, AllocError>
-    requires { AreKeptByPart trace.now parts.now kept.old.items }
-    ensures kept { AreKeptByPart trace.now parts.now kept.new.items }
+    requires { AreKeptByPart snapshot.now.timeline parts.now kept.old.items }
+    ensures kept { AreKeptByPart snapshot.now.timeline parts.now kept.new.items }
     ensures does { IfOk result (λ r. IsTrue r
-        ↔ Does trace.now at known.now (fact_of (set_value set.entry.set) user) is_given (part_at (parts_shown parts.now) part)) }
+        ↔ Does snapshot.now known.now (fact_of (set_value set.entry.set) user) is_given (part_at (parts_shown parts.now) part)) }
 {
     match parts.get(part) {
-        Some(Part::Leaf(leaf)) => Ok(leaf_does(leaf, is_given, set, user, trace, at, known)),
+        Some(Part::Leaf(leaf)) => Ok(leaf_does(leaf, is_given, set, user, snapshot, known)),
         Some(Part::Through(through)) => {
             if is_given {
-                return Ok(through_gives(through, set, user, trace, at, known));
+                return Ok(through_gives(through, set, user, snapshot, known));
             }
-            through_bars(alloc, through, set, user, trace, at, known, &mut kept[part])
+            through_bars(alloc, through, set, user, snapshot, known, &mut kept[part])
         }
         None => Ok(!is_given),
     }
@@ -115,17 +113,17 @@ fn part_does<F: KnownFact>(
 impl<'r> Parts<'r> {
     pub(crate) fn of(
         alloc: Global,
-        trace: &'r Trace,
+        timeline: Timeline<'r>,
         parts: &'r [Part],
     ) -> Result<Parts<'r>, AllocError>
-        ensures trace { IfOk result (λ p. p.trace ≡ trace.now) }
+        ensures timeline { IfOk result (λ p. p.timeline ≡ timeline.entry) }
         ensures parts { IfOk result (λ p. p.questions.parts ≡ parts_shown parts.now) }
     {
         let covers = covers_of(alloc, parts)?;
         let covers_kept = nothing_kept(alloc, &covers.covers)?;
         Ok(Parts {
             alloc,
-            trace,
+            timeline,
             parts,
             kept: nothing_kept(alloc, parts)?,
             covers,
@@ -158,19 +156,20 @@ impl<'r> Parts<'r> {
     ) -> Result<bool, AllocError>
         ensures same { self.new ≡ self.old }
         ensures does { IfOk result (λ r. IsTrue r
-            ↔ Does self.old.trace at known.now (fact_of (set_value set.entry.set) user) is_given (asked_at self.old.questions is_cover part)) }
+            ↔ Does (snapshot_at self.old.timeline at) known.now (fact_of (set_value set.entry.set) user) is_given (asked_at self.old.questions is_cover part)) }
     {
-        let (alloc, trace) = (self.alloc, self.trace);
+        let alloc = self.alloc;
+        let snapshot = self.timeline.at(at);
         if is_cover {
             let covers = &self.covers.covers;
             let kept = &mut self.covers_kept;
             return part_does(
-                alloc, trace, covers, kept, part, is_given, set, user, at, known,
+                alloc, &snapshot, covers, kept, part, is_given, set, user, known,
             );
         }
         let kept = &mut self.kept;
         part_does(
-            alloc, trace, self.parts, kept, part, is_given, set, user, at, known,
+            alloc, &snapshot, self.parts, kept, part, is_given, set, user, known,
         )
     }
 
@@ -187,7 +186,7 @@ impl<'r> Parts<'r> {
         answers: &mut Answers,
     ) -> Result<bool, AllocError>
         ensures same { self.new ≡ self.old }
-        ensures tells { IfOk result (λ r. Tells self.old.trace at known.now (fact_of (set_value set.entry.set) user) self.old.questions
+        ensures tells { IfOk result (λ r. Tells (snapshot_at self.old.timeline at) known.now (fact_of (set_value set.entry.set) user) self.old.questions
             answers.old answers.new is_given (asked_at self.old.questions is_cover part) r) }
     {
         if let Some(answer) = answers.find(part, is_cover, is_given) {
@@ -217,8 +216,8 @@ fn is_covered<F: KnownFact>(
 ) -> Result<bool, AllocError>
     ensures same { parts.new ≡ parts.old }
     ensures more { IfOk result (λ _. AsksMore answers.old answers.new) }
-    ensures right { IfOk result (λ _. AreRight parts.old.trace at known.now (fact_of (set_value set.entry.set) user) parts.old.questions answers.old
-        → AreRight parts.old.trace at known.now (fact_of (set_value set.entry.set) user) parts.old.questions answers.new) }
+    ensures right { IfOk result (λ _. AreRight (snapshot_at parts.old.timeline at) known.now (fact_of (set_value set.entry.set) user) parts.old.questions answers.old
+        → AreRight (snapshot_at parts.old.timeline at) known.now (fact_of (set_value set.entry.set) user) parts.old.questions answers.new) }
     ensures covered { IfOk result (λ r. r ≡ true
         → Follows parts.old.questions answers.new is_given (part_at parts.old.questions.parts part) (not is_given)) }
 {
@@ -246,7 +245,7 @@ fn ask<F: KnownFact>(
     answers: &mut Answers,
 ) -> Result<bool, AllocError>
     ensures same { parts.new ≡ parts.old }
-    ensures tells { IfOk result (λ r. Tells parts.old.trace at known.now (fact_of (set_value set.entry.set) user) parts.old.questions
+    ensures tells { IfOk result (λ r. Tells (snapshot_at parts.old.timeline at) known.now (fact_of (set_value set.entry.set) user) parts.old.questions
         answers.old answers.new is_given (part_at parts.old.questions.parts part) r) }
 {
     if is_covered(parts, part, is_given, set, user, at, known, answers)? {
@@ -287,7 +286,7 @@ fn nodes_do<F: KnownFact>(
     answers: &mut Answers,
 ) -> Result<bool, AllocError>
     ensures same { parts.new ≡ parts.old }
-    ensures tells { IfOk result (λ r. Tells parts.old.trace at known.now (fact_of (set_value set.entry.set) user) parts.old.questions
+    ensures tells { IfOk result (λ r. Tells (snapshot_at parts.old.timeline at) known.now (fact_of (set_value set.entry.set) user) parts.old.questions
         answers.old answers.new is_given (joined_of stop is_given (nodes_shown parts.old.questions.parts nodes.now.items)) r) }
 {
     if is_decided(nodes, stop, is_given, answers) {
@@ -315,7 +314,7 @@ pub(crate) fn node_does<F: KnownFact>(
     answers: &mut Answers,
 ) -> Result<bool, AllocError>
     ensures same { parts.new ≡ parts.old }
-    ensures tells { IfOk result (λ r. Tells parts.old.trace at known.now (fact_of (set_value set.entry.set) user) parts.old.questions
+    ensures tells { IfOk result (λ r. Tells (snapshot_at parts.old.timeline at) known.now (fact_of (set_value set.entry.set) user) parts.old.questions
         answers.old answers.new is_given (node_expression parts.old.questions.parts node.now) r) }
 {
     match node {

@@ -3,9 +3,9 @@
 ghost use Rattle.std.specs.Prelude.{◌≡◌, ◌↔◌, ◌&&◌, IsTrue, true, All, Contains, List, None, Some, slice_get, ◌<◌, ◌≤◌, suc, length, ℕ};
 ghost use Rattle.tuple_text.specs.Refs.{set_value};
 ghost use Rattle.namespaces.specs.InForce.{names_in_force};
-ghost use Rattle.namespaces.specs.Lookup.{namespace_names, namespace_numbered, rule_at};
+ghost use Rattle.namespaces.specs.Lookup.{namespace_names, namespace_numbered};
 ghost use Rattle.rewrites.specs.Parts.{computed_names};
-ghost use Rattle.version_chains.specs.Commits.{store_at};
+ghost use Rattle.snapshots.specs.Snapshots.{rules_in, tuples_in};
 ghost use Rattle.marks.specs.Marks.{pair_mark, set_mark};
 ghost use Rattle.userset_index.specs.Index.{IsUsersetIndex, is_crowded};
 ghost use Rattle.userset_index.specs.Lives.{touches_alive};
@@ -15,14 +15,13 @@ ghost use Rattle.judgement.specs.Passes.{AreBarred, AreThroughOut, IsTouchOut};
 use judgement::{Known, KnownFact, are_out};
 use marks::MarkedSet;
 use rewrites::Through;
-use trace_lines::Trace;
+use snapshots::Snapshot;
 use userset_index::UsersetIndex;
 
 /// Whether relation number `k` of a namespace is not read, or no stored userset of the namespace may have the user under it.
 fn is_name_out<F: KnownFact>(
-    trace: &Trace,
+    snapshot: &Snapshot<'_>,
     index: &UsersetIndex,
-    at: u64,
     known: &Known<F>,
     through: &Through,
     set: MarkedSet<'_>,
@@ -31,28 +30,31 @@ fn is_name_out<F: KnownFact>(
     number: u16,
     k: usize,
 ) -> bool
-    ensures out { IsTrue result → (c : List ℕ) → slice_get (names_in_force at namespace.now trace.now.declarations) k ≡ Some c
+    ensures out { IsTrue result → (c : List ℕ) → slice_get (names_in_force snapshot.now.at namespace.now snapshot.now.timeline.declarations) k ≡ Some c
         → Contains (computed_names through.now) c
-        → All (IsTouchOut (rule_at trace.now.declarations at) trace.now.commits at known.now (set_value set.entry.set) (Some c) user)
-        (touches_alive (pair_mark (set_mark (set_value set.entry.set)) number) at index.now.through (length index.now.through)) }
-    ensures barred { AreBarred (rule_at trace.now.declarations at) (store_at trace.now.commits at) known.now (set_value set.entry.set)
+        → All (IsTouchOut snapshot.now known.now (set_value set.entry.set) (Some c) user)
+        (touches_alive (pair_mark (set_mark (set_value set.entry.set)) number) snapshot.now.at index.now.through (length index.now.through)) }
+    ensures barred { AreBarred (rules_in snapshot.now) (tuples_in snapshot.now) known.now (set_value set.entry.set)
         (computed_names through.now) user → IsTrue result }
 {
-    let Some(name) = trace.rules().name_in_force(namespace, at, k) else {
+    let Some(name) = snapshot
+        .timeline
+        .rules()
+        .name_in_force(namespace, snapshot.at, k)
+    else {
         return true;
     };
     if !through.reads(name) {
         return true;
     }
-    let touches = index.through(set, number, at);
-    are_out(trace, at, known, set, Some(name), user, touches)
+    let touches = index.through(set, number, snapshot.at);
+    are_out(snapshot, known, set, Some(name), user, touches)
 }
 
 /// Whether that holds of each relation of a namespace. It has 256 at most.
 fn are_names_out<F: KnownFact>(
-    trace: &Trace,
+    snapshot: &Snapshot<'_>,
     index: &UsersetIndex,
-    at: u64,
     known: &Known<F>,
     through: &Through,
     set: MarkedSet<'_>,
@@ -61,15 +63,19 @@ fn are_names_out<F: KnownFact>(
     number: u16,
 ) -> bool
     ensures out { IsTrue result → (c : List ℕ) → Contains (computed_names through.now) c
-        → ¬ (rule_at trace.now.declarations at namespace.now c ≡ None)
-        → All (IsTouchOut (rule_at trace.now.declarations at) trace.now.commits at known.now (set_value set.entry.set) (Some c) user)
-        (touches_alive (pair_mark (set_mark (set_value set.entry.set)) number) at index.now.through (length index.now.through)) }
-    ensures barred { AreBarred (rule_at trace.now.declarations at) (store_at trace.now.commits at) known.now (set_value set.entry.set)
+        → ¬ (rules_in snapshot.now namespace.now c ≡ None)
+        → All (IsTouchOut snapshot.now known.now (set_value set.entry.set) (Some c) user)
+        (touches_alive (pair_mark (set_mark (set_value set.entry.set)) number) snapshot.now.at index.now.through (length index.now.through)) }
+    ensures barred { AreBarred (rules_in snapshot.now) (tuples_in snapshot.now) known.now (set_value set.entry.set)
         (computed_names through.now) user → IsTrue result }
 {
-    for k in 0..trace.rules().count_in_force(namespace, at) {
+    for k in 0..snapshot
+        .timeline
+        .rules()
+        .count_in_force(namespace, snapshot.at)
+    {
         if !is_name_out(
-            trace, index, at, known, through, set, user, namespace, number, k,
+            snapshot, index, known, through, set, user, namespace, number, k,
         ) {
             return false;
         }
@@ -79,9 +85,8 @@ fn are_names_out<F: KnownFact>(
 
 /// Whether it holds of the namespace of a number, where there is one. Where nothing of it is stored, its relations are not looked at.
 fn is_namespace_out<F: KnownFact>(
-    trace: &Trace,
+    snapshot: &Snapshot<'_>,
     index: &UsersetIndex,
-    at: u64,
     known: &Known<F>,
     through: &Through,
     set: MarkedSet<'_>,
@@ -89,43 +94,42 @@ fn is_namespace_out<F: KnownFact>(
     number: u16,
 ) -> bool
     ensures out { IsTrue result → (c : List ℕ) → Contains (computed_names through.now) c
-        → AreThroughOut trace.now.declarations trace.now.commits at index.now.through known.now (set_value set.entry.set) c user number }
-    ensures barred { AreBarred (rule_at trace.now.declarations at) (store_at trace.now.commits at) known.now (set_value set.entry.set)
+        → AreThroughOut snapshot.now index.now.through known.now (set_value set.entry.set) c user number }
+    ensures barred { AreBarred (rules_in snapshot.now) (tuples_in snapshot.now) known.now (set_value set.entry.set)
         (computed_names through.now) user → IsTrue result }
 {
-    let Some(namespace) = trace.rules().namespace(number) else {
+    let Some(namespace) = snapshot.timeline.rules().namespace(number) else {
         return true;
     };
-    let mut touches = index.through(set, number, at);
+    let mut touches = index.through(set, number, snapshot.at);
     if touches.next().is_none() {
         return true;
     }
     are_names_out(
-        trace, index, at, known, through, set, user, namespace, number,
+        snapshot, index, known, through, set, user, namespace, number,
     )
 }
 
 /// Whether no userset that is stored in a crowded set may have the user under a relation that is read. It goes over the namespaces of which
 /// something matters that is stored, of which there are 256 at most.
 pub(crate) fn are_barred_by_index<F: KnownFact>(
-    trace: &Trace,
+    snapshot: &Snapshot<'_>,
     index: &UsersetIndex,
-    at: u64,
     known: &Known<F>,
     through: &Through,
     set: MarkedSet<'_>,
     user: u64,
     numbers: &[u16],
 ) -> bool
-    requires index { IsUsersetIndex trace.now.declarations trace.now.commits index.now }
+    requires index { IsUsersetIndex snapshot.now.timeline.declarations snapshot.now.timeline.commits index.now }
     requires crowded { (index.now.is_whole && is_crowded index.now.crowds (set_mark (set_value set.set))) ≡ true }
-    requires numbers { AreLive trace.now.declarations trace.now.commits at (set_value set.set) (computed_names through.now) numbers.now }
+    requires numbers { AreLive snapshot.now (set_value set.set) (computed_names through.now) numbers.now }
     ensures { IsTrue result
-        ↔ AreBarred (rule_at trace.now.declarations at) (store_at trace.now.commits at) known.now (set_value set.entry.set)
+        ↔ AreBarred (rules_in snapshot.now) (tuples_in snapshot.now) known.now (set_value set.entry.set)
         (computed_names through.now) user }
 {
     for number in numbers {
-        if !is_namespace_out(trace, index, at, known, through, set, user, *number) {
+        if !is_namespace_out(snapshot, index, known, through, set, user, *number) {
             return false;
         }
     }

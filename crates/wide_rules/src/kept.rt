@@ -3,10 +3,9 @@
 ghost use Rattle.std.specs.Prelude.{◌≡◌, ◌↔◌, [], IsTrue, true, string_bytes, IfOk};
 ghost use Rattle.tuple_text.specs.Refs.{set_value};
 ghost use Rattle.tuple_text.specs.Tuples.{fact_of};
-ghost use Rattle.namespaces.specs.Lookup.{rule_at};
 ghost use Rattle.rewrites.specs.Parts.{computed_names, through_expression};
 ghost use Rattle.strata.specs.Meaning.{with_relation};
-ghost use Rattle.version_chains.specs.Commits.{store_at};
+ghost use Rattle.snapshots.specs.Snapshots.{rules_in, tuples_in};
 ghost use Rattle.wide_rules.specs.Declaring.{AreDeclaring, AreLive, IsKept, MayBeKept, kept_set};
 ghost use Rattle.judgement.specs.Judgement.{Refuted};
 ghost use Rattle.judgement.specs.Passes.{AreBarred};
@@ -17,8 +16,8 @@ use crate::through::are_barred;
 use judgement::{Known, KnownFact, stored_in, under};
 use marks::MarkedSet;
 use rewrites::Through;
+use snapshots::Snapshot;
 use std::alloc::{AllocError, Global};
-use trace_lines::Trace;
 use tuple_text::SetRef;
 use userset_index::Numbers;
 
@@ -51,28 +50,27 @@ fn is_of(kept: &Kept, set: SetRef<'_>, at: u64) -> bool
     kept.at == at && set.id == kept.id.as_str() && set.namespace == kept.namespace.as_str()
 }
 
-/// What is kept for the object of a userset, at a timestamp, where the namespaces that declare what is read are these.
+/// What is kept for the object of a userset in a snapshot, where the namespaces that declare what is read are these.
 fn kept_of(
     alloc: Global,
-    trace: &Trace,
-    at: u64,
+    snapshot: &Snapshot<'_>,
     through: &Through,
     set: SetRef<'_>,
     declaring: Vec<u16>,
 ) -> Result<Kept, AllocError>
-    requires { AreDeclaring trace.now.declarations (computed_names through.now) declaring.items }
-    ensures { IfOk result (λ k. IsKept trace.now through.now k × (k.at ≡ at)
+    requires { AreDeclaring snapshot.now.timeline.declarations (computed_names through.now) declaring.items }
+    ensures { IfOk result (λ k. IsKept snapshot.now.timeline through.now k × (k.at ≡ snapshot.now.at)
         × (kept_set k through.now ≡ with_relation (set_value set.entry) (string_bytes through.now.tupleset))) }
 {
     let tupleset = MarkedSet::of(under(set, through.tupleset.as_str()));
-    let live = live_in(alloc, trace, at, through, tupleset, &declaring)?;
+    let live = live_in(alloc, snapshot, through, tupleset, &declaring)?;
     let numbers = numbers_of(&declaring);
     Ok(Kept {
         declaring,
         numbers,
         namespace: copied(alloc, set.namespace)?,
         id: copied(alloc, set.id)?,
-        at,
+        at: snapshot.at,
         live,
     })
 }
@@ -80,19 +78,18 @@ fn kept_of(
 /// The same, where something was kept before.
 fn kept_after(
     alloc: Global,
-    trace: &Trace,
-    at: u64,
+    snapshot: &Snapshot<'_>,
     through: &Through,
     set: SetRef<'_>,
     kept: Option<Box<Kept>>,
 ) -> Result<Kept, AllocError>
-    requires { MayBeKept trace.now through.now kept }
-    ensures { IfOk result (λ k. IsKept trace.now through.now k × (k.at ≡ at)
+    requires { MayBeKept snapshot.now.timeline through.now kept }
+    ensures { IfOk result (λ k. IsKept snapshot.now.timeline through.now k × (k.at ≡ snapshot.now.at)
         × (kept_set k through.now ≡ with_relation (set_value set.entry) (string_bytes through.now.tupleset))) }
 {
     let Some(kept) = kept else {
-        let declaring = declaring(alloc, trace.rules(), through)?;
-        return kept_of(alloc, trace, at, through, set, declaring);
+        let declaring = declaring(alloc, snapshot.timeline.rules(), through)?;
+        return kept_of(alloc, snapshot, through, set, declaring);
     };
     let Kept {
         declaring,
@@ -102,29 +99,27 @@ fn kept_after(
         at: _,
         live: _,
     } = Box::into_inner(kept);
-    kept_of(alloc, trace, at, through, set, declaring)
+    kept_of(alloc, snapshot, through, set, declaring)
 }
 
 /// Whether all that is read through a tupleset rules a fact out, where what is kept is of that tupleset.
 fn bars<F: KnownFact>(
-    trace: &Trace,
-    at: u64,
+    snapshot: &Snapshot<'_>,
     known: &Known<F>,
     through: &Through,
     tupleset: MarkedSet<'_>,
     user: u64,
     kept: &Kept,
 ) -> bool
-    requires kept { IsKept trace.now through.now kept.now }
-    requires at { kept.now.at ≡ at }
+    requires kept { IsKept snapshot.now.timeline through.now kept.now }
+    requires at { kept.now.at ≡ snapshot.now.at }
     requires set { kept_set kept.now through.now ≡ set_value tupleset.set }
     ensures { IsTrue result
-        ↔ AreBarred (rule_at trace.now.declarations at) (store_at trace.now.commits at) known.now (set_value tupleset.entry.set)
+        ↔ AreBarred (rules_in snapshot.now) (tuples_in snapshot.now) known.now (set_value tupleset.entry.set)
         (computed_names through.now) user }
 {
     are_barred(
-        trace,
-        at,
+        snapshot,
         known,
         through,
         tupleset,
@@ -135,11 +130,16 @@ fn bars<F: KnownFact>(
 }
 
 /// Whether it is known at one look that nothing matters that is stored in a tupleset, of whatever object.
-fn is_quiet(trace: &Trace, at: u64, through: &Through, tupleset: MarkedSet<'_>, kept: &Kept) -> bool
-    requires { IsKept trace.now through.now kept.now }
-    ensures { IsTrue result → AreLive trace.now.declarations trace.now.commits at (set_value tupleset.entry.set) (computed_names through.now) [] }
+fn is_quiet(
+    snapshot: &Snapshot<'_>,
+    through: &Through,
+    tupleset: MarkedSet<'_>,
+    kept: &Kept,
+) -> bool
+    requires { IsKept snapshot.now.timeline through.now kept.now }
+    ensures { IsTrue result → AreLive snapshot.now (set_value tupleset.entry.set) (computed_names through.now) [] }
 {
-    match stored_in(trace, at, tupleset) {
+    match stored_in(snapshot, tupleset) {
         Some(stored) => !stored.meets(kept.numbers),
         None => false,
     }
@@ -151,28 +151,27 @@ pub(crate) fn through_bars<F: KnownFact>(
     through: &Through,
     set: MarkedSet<'_>,
     user: u64,
-    trace: &Trace,
-    at: u64,
+    snapshot: &Snapshot<'_>,
     known: &Known<F>,
     kept: &mut Option<Box<Kept>>,
 ) -> Result<bool, AllocError>
-    requires { MayBeKept trace.now through.now kept.old }
-    ensures kept { MayBeKept trace.now through.now kept.new }
+    requires { MayBeKept snapshot.now.timeline through.now kept.old }
+    ensures kept { MayBeKept snapshot.now.timeline through.now kept.new }
     ensures bars { IfOk result (λ r. IsTrue r
-        ↔ Refuted (rule_at trace.now.declarations at) (store_at trace.now.commits at) known.now
+        ↔ Refuted (rules_in snapshot.now) (tuples_in snapshot.now) known.now
         (fact_of (set_value set.entry.set) user) (through_expression through.now)) }
 {
     let tupleset = MarkedSet::of(under(set.set, through.tupleset.as_str()));
     if let Some(found) = kept {
-        if is_of(found, set.set, at) {
-            return Ok(bars(trace, at, known, through, tupleset, user, found));
+        if is_of(found, set.set, snapshot.at) {
+            return Ok(bars(snapshot, known, through, tupleset, user, found));
         }
-        if is_quiet(trace, at, through, tupleset, found) {
+        if is_quiet(snapshot, through, tupleset, found) {
             return Ok(true);
         }
     }
-    let now = kept_after(alloc, trace, at, through, set.set, kept.take())?;
-    let is_barred = bars(trace, at, known, through, tupleset, user, &now);
+    let now = kept_after(alloc, snapshot, through, set.set, kept.take())?;
+    let is_barred = bars(snapshot, known, through, tupleset, user, &now);
     *kept = Some(Box::new(alloc, now)?);
     Ok(is_barred)
 }

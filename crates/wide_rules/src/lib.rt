@@ -1,7 +1,7 @@
 //! Rules of many places, of which each part is asked for once for a fact.
 //!
 //! An [`AskedRule`] answers what `established` and `refuted` of `judgement` answer, of one rule and many facts one after the other, by the
-//! rule's parts (`PartedRule` of `rewrites`). It takes memory for what was asked. Contracts see it as a `RuleValue`, the trace and the rule's
+//! rule's parts (`PartedRule` of `rewrites`). It takes memory for what was asked. Contracts see it as a `RuleValue`, the timeline and the rule's
 //! expression; what its parts were asked is `Asked`, and what follows from that for the rule is `Follows`.
 //!
 //! Callers may rely on this: each answer is that of `Established` or `Refuted`, whatever was asked before.
@@ -11,7 +11,7 @@
 //! of others has nobody.
 //!
 //! ```text
-//! let mut rule = AskedRule::new(alloc, &trace, parted)?;
+//! let mut rule = AskedRule::new(alloc, timeline, parted)?;
 //! let is_given = rule.does(true, MarkedSet::of(set), user, at, &known)?;
 //! ```
 #![tactic(auto)]

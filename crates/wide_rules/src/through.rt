@@ -4,9 +4,8 @@ ghost use Rattle.std.specs.Prelude.{◌≡◌, ◌↔◌, ◌⊎◌, ℕ, List, 
 ghost use Rattle.tuple_text.specs.Refs.{set_value};
 ghost use Rattle.tuple_text.specs.Tuples.{fact_of};
 ghost use Rattle.namespaces.specs.InForce.{names_in_force};
-ghost use Rattle.namespaces.specs.Lookup.{rule_at};
 ghost use Rattle.rewrites.specs.Parts.{computed_names, through_expression};
-ghost use Rattle.version_chains.specs.Commits.{store_at};
+ghost use Rattle.snapshots.specs.Snapshots.{rules_in, tuples_in};
 ghost use Rattle.judgement.specs.Judgement.{Established};
 ghost use Rattle.wide_rules.specs.Declaring.{AreDeclaring, AreLive};
 ghost use Rattle.judgement.specs.Passes.{AreBarred, BarsId, BarsNames, EachSet, IsLed, IsLedByName, LeadsByName, SomeSet};
@@ -15,9 +14,8 @@ use crate::crowded::are_barred_by_index;
 use crate::declaring::{is_among, name_at};
 use judgement::{Known, KnownFact, SetsOfUser, is_barred, is_led, is_out, under};
 use marks::MarkedSet;
-use namespaces::Rules;
 use rewrites::Through;
-use trace_lines::Trace;
+use snapshots::Snapshot;
 use tuple_text::SetRef;
 use version_chains::Usersets;
 
@@ -26,45 +24,48 @@ const FEW_RELATIONS: usize = 4;
 
 /// Whether relation number `k` of a stored userset's namespace is not read, or its object does not have the user under it.
 fn bars_name_at<F: KnownFact>(
-    rules: &Rules,
-    at: u64,
+    snapshot: &Snapshot<'_>,
     known: &Known<F>,
     through: &Through,
     set: MarkedSet<'_>,
     user: u64,
     k: usize,
 ) -> bool
-    ensures bars { IsTrue result → (c : List ℕ) → slice_get (names_in_force at (set_value set.entry.set).namespace rules.now) k ≡ Some c
-        → Contains (computed_names through.now) c → BarsId (rule_at rules.now at) known.now (Some c) user (set_value set.entry.set) }
-    ensures none { BarsNames (rule_at rules.now at) known.now (computed_names through.now) user (set_value set.entry.set) → IsTrue result }
+    ensures bars { IsTrue result → (c : List ℕ) → slice_get (names_in_force snapshot.now.at (set_value set.entry.set).namespace snapshot.now.timeline.declarations) k ≡ Some c
+        → Contains (computed_names through.now) c → BarsId (rules_in snapshot.now) known.now (Some c) user (set_value set.entry.set) }
+    ensures none { BarsNames (rules_in snapshot.now) known.now (computed_names through.now) user (set_value set.entry.set) → IsTrue result }
 {
-    match rules.name_in_force(set.set.namespace, at, k) {
+    match snapshot
+        .timeline
+        .rules()
+        .name_in_force(set.set.namespace, snapshot.at, k)
+    {
         Some(relation) => {
-            !through.reads(relation) || is_out(rules, at, known, set, Some(relation), user)
+            !through.reads(relation) || is_out(snapshot, known, set, Some(relation), user)
         }
         None => true,
     }
 }
 
 /// Whether a stored userset's object has the user under none of the relations that are read. Those that its namespace does not declare
-/// at the timestamp have no members, so no others are asked for; there are 256 at most.
+/// have no members, so no others are asked for; there are 256 at most.
 fn bars_names<F: KnownFact>(
-    rules: &Rules,
-    at: u64,
+    snapshot: &Snapshot<'_>,
     known: &Known<F>,
     through: &Through,
     set: MarkedSet<'_>,
     user: u64,
     declaring: &[u16],
 ) -> bool
-    requires { AreDeclaring rules.now (computed_names through.now) declaring.now }
-    ensures { IsTrue result ↔ BarsNames (rule_at rules.now at) known.now (computed_names through.now) user (set_value set.entry.set) }
+    requires { AreDeclaring snapshot.now.timeline.declarations (computed_names through.now) declaring.now }
+    ensures { IsTrue result ↔ BarsNames (rules_in snapshot.now) known.now (computed_names through.now) user (set_value set.entry.set) }
 {
+    let rules = snapshot.timeline.rules();
     if !is_among(rules, set.set.namespace, declaring) {
         return true;
     }
-    for k in 0..rules.count_in_force(set.set.namespace, at) {
-        if !bars_name_at(rules, at, known, through, set, user, k) {
+    for k in 0..rules.count_in_force(set.set.namespace, snapshot.at) {
+        if !bars_name_at(snapshot, known, through, set, user, k) {
             return false;
         }
     }
@@ -73,19 +74,18 @@ fn bars_names<F: KnownFact>(
 
 /// Whether that holds of each of some usersets.
 fn each_bars_names<F: KnownFact>(
-    rules: &Rules,
-    at: u64,
+    snapshot: &Snapshot<'_>,
     known: &Known<F>,
     through: &Through,
     sets: Usersets<'_>,
     user: u64,
     declaring: &[u16],
 ) -> bool
-    requires { AreDeclaring rules.now (computed_names through.now) declaring.now }
-    ensures { IsTrue result ↔ EachSet (BarsNames (rule_at rules.now at) known.now (computed_names through.now) user) sets.entry }
+    requires { AreDeclaring snapshot.now.timeline.declarations (computed_names through.now) declaring.now }
+    ensures { IsTrue result ↔ EachSet (BarsNames (rules_in snapshot.now) known.now (computed_names through.now) user) sets.entry }
 {
     for set in sets {
-        if !bars_names(rules, at, known, through, set, user, declaring) {
+        if !bars_names(snapshot, known, through, set, user, declaring) {
             return false;
         }
     }
@@ -94,8 +94,7 @@ fn each_bars_names<F: KnownFact>(
 
 /// Whether some userset that is stored in a set has the user under relation number `k` that is read.
 fn leads_at<F: KnownFact>(
-    trace: &Trace,
-    at: u64,
+    snapshot: &Snapshot<'_>,
     known: &Known<F>,
     through: &Through,
     set: MarkedSet<'_>,
@@ -103,59 +102,57 @@ fn leads_at<F: KnownFact>(
     k: usize,
 ) -> bool
     ensures leads { IsTrue result
-        → IsLedByName (store_at trace.now.commits at) known.now (set_value set.entry.set) (computed_names through.now) user }
+        → IsLedByName (tuples_in snapshot.now) known.now (set_value set.entry.set) (computed_names through.now) user }
     ensures none { (c : List ℕ) → slice_get (computed_names through.now) k ≡ Some c
-        → IsLed (store_at trace.now.commits at) known.now (set_value set.entry.set) (Some c) user → IsTrue result }
+        → IsLed (tuples_in snapshot.now) known.now (set_value set.entry.set) (Some c) user → IsTrue result }
 {
     match name_at(through, k) {
-        Some(name) => is_led(trace, at, known, set, Some(name), user),
+        Some(name) => is_led(snapshot, known, set, Some(name), user),
         None => false,
     }
 }
 
 /// Whether one has the user under the relation of a target, where that is read.
 fn leads_by_name<F: KnownFact>(
-    trace: &Trace,
-    at: u64,
+    snapshot: &Snapshot<'_>,
     known: &Known<F>,
     through: &Through,
     set: MarkedSet<'_>,
     user: u64,
     target: SetRef<'_>,
 ) -> bool
-    ensures { IsTrue result ↔ LeadsByName (store_at trace.now.commits at) known.now (set_value set.entry.set) (computed_names through.now) user
+    ensures { IsTrue result ↔ LeadsByName (tuples_in snapshot.now) known.now (set_value set.entry.set) (computed_names through.now) user
         (set_value target.entry) }
 {
     let name = target.relation;
-    through.reads(name) && is_led(trace, at, known, set, Some(name), user)
+    through.reads(name) && is_led(snapshot, known, set, Some(name), user)
 }
 
 /// Whether one has the user under a relation that is read, or under that of one of some targets. It goes over both lists side by side, so it
 /// takes no more steps than the shorter has items.
 fn leads_by_either<F: KnownFact>(
-    trace: &Trace,
-    at: u64,
+    snapshot: &Snapshot<'_>,
     known: &Known<F>,
     through: &Through,
     set: MarkedSet<'_>,
     user: u64,
     targets: SetsOfUser<'_, F>,
 ) -> bool
-    ensures leads { result ≡ true → IsLedByName (store_at trace.now.commits at) known.now (set_value set.entry.set) (computed_names through.now) user
-        ⊎ SomeSet (LeadsByName (store_at trace.now.commits at) known.now (set_value set.entry.set) (computed_names through.now) user) targets.entry }
+    ensures leads { result ≡ true → IsLedByName (tuples_in snapshot.now) known.now (set_value set.entry.set) (computed_names through.now) user
+        ⊎ SomeSet (LeadsByName (tuples_in snapshot.now) known.now (set_value set.entry.set) (computed_names through.now) user) targets.entry }
     ensures none { result ≡ false
-        → (¬ IsLedByName (store_at trace.now.commits at) known.now (set_value set.entry.set) (computed_names through.now) user)
-        ⊎ (¬ SomeSet (LeadsByName (store_at trace.now.commits at) known.now (set_value set.entry.set) (computed_names through.now) user) targets.entry) }
+        → (¬ IsLedByName (tuples_in snapshot.now) known.now (set_value set.entry.set) (computed_names through.now) user)
+        ⊎ (¬ SomeSet (LeadsByName (tuples_in snapshot.now) known.now (set_value set.entry.set) (computed_names through.now) user) targets.entry) }
 {
     let mut targets = targets;
     for k in 0..through.computed.len() {
-        if leads_at(trace, at, known, through, set, user, k) {
+        if leads_at(snapshot, known, through, set, user, k) {
             return true;
         }
         let Some(target) = targets.next() else {
             return false;
         };
-        if leads_by_name(trace, at, known, through, set, user, target.set) {
+        if leads_by_name(snapshot, known, through, set, user, target.set) {
             return true;
         }
     }
@@ -164,35 +161,33 @@ fn leads_by_either<F: KnownFact>(
 
 /// Whether some userset that is stored in a set has the user under a relation that is read, as far as that is known.
 fn is_led_by_name<F: KnownFact>(
-    trace: &Trace,
-    at: u64,
+    snapshot: &Snapshot<'_>,
     known: &Known<F>,
     through: &Through,
     set: MarkedSet<'_>,
     user: u64,
 ) -> bool
     ensures { IsTrue result
-        ↔ IsLedByName (store_at trace.now.commits at) known.now (set_value set.entry.set) (computed_names through.now) user }
+        ↔ IsLedByName (tuples_in snapshot.now) known.now (set_value set.entry.set) (computed_names through.now) user }
 {
-    leads_by_either(trace, at, known, through, set, user, known.sets_of(user))
+    leads_by_either(snapshot, known, through, set, user, known.sets_of(user))
 }
 
 /// Whether no userset that is stored in a set may have the user under a relation that is read, one relation after the other.
 fn are_barred_one_by_one<F: KnownFact>(
-    trace: &Trace,
-    at: u64,
+    snapshot: &Snapshot<'_>,
     known: &Known<F>,
     through: &Through,
     set: MarkedSet<'_>,
     user: u64,
 ) -> bool
     ensures { IsTrue result
-        ↔ AreBarred (rule_at trace.now.declarations at) (store_at trace.now.commits at) known.now (set_value set.entry.set)
+        ↔ AreBarred (rules_in snapshot.now) (tuples_in snapshot.now) known.now (set_value set.entry.set)
         (computed_names through.now) user }
 {
     for k in 0..through.computed.len() {
         if let Some(name) = name_at(through, k) {
-            if !is_barred(trace, at, known, set, Some(name), user) {
+            if !is_barred(snapshot, known, set, Some(name), user) {
                 return false;
             }
         }
@@ -202,8 +197,7 @@ fn are_barred_one_by_one<F: KnownFact>(
 
 /// The same. Where the set is crowded, or many relations are read, it goes over what is stored once for all of them.
 pub(crate) fn are_barred<F: KnownFact>(
-    trace: &Trace,
-    at: u64,
+    snapshot: &Snapshot<'_>,
     known: &Known<F>,
     through: &Through,
     set: MarkedSet<'_>,
@@ -211,24 +205,24 @@ pub(crate) fn are_barred<F: KnownFact>(
     declaring: &[u16],
     live: &[u16],
 ) -> bool
-    requires declaring { AreDeclaring trace.now.declarations (computed_names through.now) declaring.now }
-    requires live { AreLive trace.now.declarations trace.now.commits at (set_value set.set) (computed_names through.now) live.now }
+    requires declaring { AreDeclaring snapshot.now.timeline.declarations (computed_names through.now) declaring.now }
+    requires live { AreLive snapshot.now (set_value set.set) (computed_names through.now) live.now }
     ensures { IsTrue result
-        ↔ AreBarred (rule_at trace.now.declarations at) (store_at trace.now.commits at) known.now (set_value set.entry.set)
+        ↔ AreBarred (rules_in snapshot.now) (tuples_in snapshot.now) known.now (set_value set.entry.set)
         (computed_names through.now) user }
 {
     if live.is_empty() {
         return true;
     }
-    let index = trace.usersets();
+    let index = snapshot.timeline.usersets();
     if index.is_crowded(set) {
-        return are_barred_by_index(trace, index, at, known, through, set, user, live);
+        return are_barred_by_index(snapshot, index, known, through, set, user, live);
     }
     if through.computed.len() <= FEW_RELATIONS {
-        return are_barred_one_by_one(trace, at, known, through, set, user);
+        return are_barred_one_by_one(snapshot, known, through, set, user);
     }
-    let sets = trace.chains().usersets(set, at);
-    each_bars_names(trace.rules(), at, known, through, sets, user, declaring)
+    let sets = snapshot.usersets(set);
+    each_bars_names(snapshot, known, through, sets, user, declaring)
 }
 
 /// Whether what is read through a tupleset gives a fact.
@@ -236,13 +230,12 @@ pub(crate) fn through_gives<F: KnownFact>(
     through: &Through,
     set: MarkedSet<'_>,
     user: u64,
-    trace: &Trace,
-    at: u64,
+    snapshot: &Snapshot<'_>,
     known: &Known<F>,
 ) -> bool
-    ensures { IsTrue result ↔ Established (rule_at trace.now.declarations at) (store_at trace.now.commits at) known.now
+    ensures { IsTrue result ↔ Established (rules_in snapshot.now) (tuples_in snapshot.now) known.now
         (fact_of (set_value set.entry.set) user) (through_expression through.now) }
 {
     let tupleset = MarkedSet::of(under(set.set, through.tupleset.as_str()));
-    is_led_by_name(trace, at, known, through, tupleset, user)
+    is_led_by_name(snapshot, known, through, tupleset, user)
 }

@@ -3,5 +3,5 @@ use Rattle.evidence_maker.proofs.layers.stratum_at.Goals as goal
 
 pub returns-in-Some : goal.returns-in-Some
 returns-in-Some c =
-    stratum_in_force c.args.trace.now.declarations c.well_formed-2.ensures c.args.at c.args.set.namespace.now c.args.set.relation.now _ c.stratum.result
-    (rw c.rules-rules.ensures.declarations at c.in-Some.ensures) (rw c.rules-rules.ensures.declarations at c.stratum.ensures)
+    stratum_in_force c.args.snapshot.now.timeline.declarations (rw c.rules-rules.ensures at c.well_formed-2.ensures) c.args.snapshot.now.at c.args.set.namespace.now c.args.set.relation.now _ c.stratum.result
+    (rw c.rules-rules.ensures at c.in-Some.ensures) (rw c.rules-rules.ensures at c.stratum.ensures)

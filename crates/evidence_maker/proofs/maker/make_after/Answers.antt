@@ -73,9 +73,10 @@ returns-clause-complete c = λ gave e at.
     → AreDistinct c.in_ok-cone.cone.items
     → IsMade (rule_at c.args.trace.now.declarations c.entry-entry.result.now.snapshot) (store_at c.args.trace.now.commits c.entry-entry.result.now.snapshot) c.in_ok-cone.cone.items
     (step_values c.in_ok-steps.steps.items) = rw c.deref-2.ensures.value at c.in_ok-steps.ensures in
+    let cone = rw (c.at-snapshot.ensures, c.timeline.ensures) at c.in_ok-cone.ensures.cone in
     subst (λ (x : EntryValue). IsOutgrown 100000 4194304 (rule_at c.args.trace.now.declarations x.snapshot) (store_at c.args.trace.now.commits x.snapshot) x.goal ⊎ IsTooLong c.args.trace.now x) same
-    (outgrown_made c.args.trace.now (entry_value c.entry-entry.result.now) c.in_ok-cone.cone.items (step_values c.in_ok-steps.steps.items) c.in_ok-cone.ensures.cone
-    (settled c.in_ok-cone.ensures.cone.premises c.in_ok-cone.ensures.distinct) 4194304
+    (outgrown_made c.args.trace.now (entry_value c.entry-entry.result.now) c.in_ok-cone.cone.items (step_values c.in_ok-steps.steps.items) cone
+    (settled cone.premises c.in_ok-cone.ensures.distinct) 4194304
     (one_step_fails c.args.trace.now (entry_value c.entry-entry.result.now) c.has_text.ensures.line c.has_text.ensures.fact no_yes no_no) no_record)
 
 pub returns-clause-one_step : goal.returns-clause-one_step
@@ -94,7 +95,7 @@ returns-in_err-cone-clause-complete c = λ gave e at.
     let le : 100000 ≤ 131072 = omega arith in
     subst (λ (x : EntryValue). IsOutgrown 100000 4194304 (rule_at c.args.trace.now.declarations x.snapshot) (store_at c.args.trace.now.commits x.snapshot) x.goal ⊎ IsTooLong c.args.trace.now x) same
     (inl (outgrown_lower 131072 100000 4194304 (rule_at c.args.trace.now.declarations c.entry-entry.result.now.snapshot)
-    (store_at c.args.trace.now.commits c.entry-entry.result.now.snapshot) c.entry-entry.result.now.goal le (c.in_err-cone.ensures.outgrown (rw cause refl))))
+    (store_at c.args.trace.now.commits c.entry-entry.result.now.snapshot) c.entry-entry.result.now.goal le ((rw (c.at-snapshot.ensures, c.timeline.ensures) at c.in_err-cone.ensures.outgrown) (rw cause refl))))
 
 pub returns-in_err-cone-clause-one_step : goal.returns-in_err-cone-clause-one_step
 returns-in_err-cone-clause-one_step c = λ gave e at.

@@ -12,7 +12,7 @@ returns-then-is_empty c = λ C k premises left unproved distinct making.
     let empty : length c.args.left.items ≡ 0 = search rules in
     let none : c.args.left.items ≡ [] = is_none_left c.args.left.items (omega (arith, empty)) in
     making_none (rule_at c.args.trace.now.declarations c.args.at) (store_at c.args.trace.now.commits c.args.at)
-    (own_relations_law c.args.trace.now.declarations c.well_formed-2.ensures c.args.at) (c.rules.ensures.strata c.args.at) C premises k c.args.known.now
+    (own_relations_law c.args.trace.now.declarations (rw c.rules.ensures.declarations at c.well_formed-2.ensures) c.args.at) (c.rules.ensures.strata c.args.at) C premises k c.args.known.now
     (step_values c.args.steps.now.items) making c.args.left.items left unproved none
 
 pub returns : goal.returns
@@ -22,5 +22,5 @@ returns c = λ C k premises left unproved distinct making.
     rw c.in_ok-push.ensures.items (step_values-push c.args.steps.now.items _) in
     rw (known, steps)
     (making_no (rule_at c.args.trace.now.declarations c.args.at) (store_at c.args.trace.now.commits c.args.at)
-    (own_relations_law c.args.trace.now.declarations c.well_formed-2.ensures c.args.at) (c.rules.ensures.strata c.args.at) C premises k c.args.known.now
+    (own_relations_law c.args.trace.now.declarations (rw c.rules.ensures.declarations at c.well_formed-2.ensures) c.args.at) (c.rules.ensures.strata c.args.at) C premises k c.args.known.now
     (step_values c.args.steps.now.items) making c.args.left.items left unproved distinct)

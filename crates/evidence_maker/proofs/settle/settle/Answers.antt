@@ -13,7 +13,7 @@ returns c = λ premises distinct.
     (step_values c.loop-stratum.steps.items)
     (subst (λ (n : ℕ). IsMaking (rule_at c.args.trace.now.declarations c.args.at) (store_at c.args.trace.now.commits c.args.at) c.args.cone.now n c.loop-stratum.known
     (step_values c.loop-stratum.steps.items)) end (c.loop-stratum.invariant.1 premises distinct))
-    c.top_of.ensures
+    (rw (c.at-snapshot.ensures, c.timeline.ensures) at c.top_of.ensures)
 
 pub loop-stratum-preserved : goal.loop-stratum-preserved
 loop-stratum-preserved c = (

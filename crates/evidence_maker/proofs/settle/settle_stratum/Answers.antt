@@ -15,7 +15,7 @@ returns-clause-making c =
     let store = store_at c.args.asked.now.commits c.args.at in
     let looked : c.look_at_each.new.asked ≡ c.args.asked.now = c.in_ok-look_at_each.ensures.asked in
     let layered : c.settle_layer.new.asked ≡ c.args.asked.now = c.in_ok-left.ensures.asked ∙ looked in
-    let layer = rw (c.trace.ensures, looked) at c.in_ok-layer.ensures in
+    let layer = rw (c.at-snapshot.ensures, c.timeline.ensures, c.trace.ensures, looked) at c.in_ok-layer.ensures in
     let kept = rw looked at c.in_ok-left.ensures.kept in
     let left = rw looked at c.in_ok-left.ensures.left in
     ok_then c.leave.result _ _

@@ -1,7 +1,6 @@
 use Rattle.std.proofs.Common.{rules, ◌≡◌, [], ◌∷◌, None, Some, slice_get, arith}
-use Rattle.namespaces.specs.Lookup.{rule_at}
-use Rattle.version_chains.specs.Commits.{store_at}
 use Rattle.strata.proofs.Lists.{not_in_nil}
+use Rattle.snapshots.specs.Snapshots.{rules_in, tuples_in}
 use Rattle.goal_cone.proofs.Searching.{searching_start, searching_done, searching_full, searching_stuck, searching_step}
 use Rattle.goal_cone.proofs.cone.explore.Goals.{In_ok-fact}
 use Rattle.goal_cone.proofs.cone.explore.Goals as goal
@@ -12,7 +11,7 @@ there c = let same : c.in_ok-fact.fact ≡ c.in-Some.fact.now = search rules in 
 pub loop-next-init : goal.loop-next-init
 loop-next-init c =
     let seen : c.add.new.self ≡ c.args.goal.now ∷ [] = search rules in (
-      rw seen (searching_start (rule_at c.args.trace.now.declarations c.args.at) (store_at c.args.trace.now.commits c.args.at) 4194304 c.args.goal.now),
+      rw seen (searching_start (rules_in c.args.snapshot.now) (tuples_in c.args.snapshot.now) 4194304 c.args.goal.now),
       rw c.new-leaves.ensures (λ p there. absurd (not_in_nil p there)),
     )
 
@@ -20,7 +19,7 @@ pub returns-in_default-clause-cone : goal.returns-in_default-clause-cone
 returns-in_default-clause-cone c =
     let none : slice_get c.loop-next.seen c.loop-next.next ≡ None = search rules in
     rw c.into_facts.ensures
-    (searching_done (rule_at c.args.trace.now.declarations c.args.at) (store_at c.args.trace.now.commits c.args.at) 4194304 c.args.goal.now
+    (searching_done (rules_in c.args.snapshot.now) (tuples_in c.args.snapshot.now) 4194304 c.args.goal.now
     c.loop-next.seen c.loop-next.next c.loop-next.room c.loop-next.invariant.0 none)
 
 pub returns-in_default-clause-first : goal.returns-in_default-clause-first
@@ -28,13 +27,13 @@ returns-in_default-clause-first c = rw c.into_facts.ensures c.loop-next.invarian
 
 pub returns-in_err-see_read-clause-outgrown : goal.returns-in_err-see_read-clause-outgrown
 returns-in_err-see_read-clause-outgrown c = λ e.
-    searching_stuck (rule_at c.args.trace.now.declarations c.args.at) (store_at c.args.trace.now.commits c.args.at) 4194304 c.args.goal.now
+    searching_stuck (rules_in c.args.snapshot.now) (tuples_in c.args.snapshot.now) 4194304 c.args.goal.now
     c.loop-next.seen c.loop-next.next c.loop-next.room c.loop-next.invariant.0 c.in_ok-fact.fact (there (goal.at.returns-in_err-see_read-clause-outgrown c).In_ok-fact) 131072
     (c.in_err-see_read.ensures.stuck (search rules))
 
 pub loop-next-preserved : goal.loop-next-preserved
 loop-next-preserved c = (
-  searching_step (rule_at c.args.trace.now.declarations c.args.at) (store_at c.args.trace.now.commits c.args.at) 4194304 c.args.goal.now
+  searching_step (rules_in c.args.snapshot.now) (tuples_in c.args.snapshot.now) 4194304 c.args.goal.now
       c.loop-next.seen c.loop-next.next c.loop-next.room c.loop-next.invariant.0 c.in_ok-fact.fact (there (goal.at.loop-next-preserved c).In_ok-fact)
       c.see_read.new.seen c.see_read.new.room c.in_ok-see_read.ensures.seen c.in_ok-see_read.ensures.links,
   c.in_ok-see_read.ensures.placed,
@@ -42,5 +41,5 @@ loop-next-preserved c = (
 
 pub returns-clause-outgrown : goal.returns-clause-outgrown
 returns-clause-outgrown c = λ e.
-    searching_full (rule_at c.args.trace.now.declarations c.args.at) (store_at c.args.trace.now.commits c.args.at) 4194304 c.args.goal.now
+    searching_full (rules_in c.args.snapshot.now) (tuples_in c.args.snapshot.now) 4194304 c.args.goal.now
     c.loop-next.seen c.loop-next.next c.loop-next.room c.loop-next.invariant.0 131072 (omega arith)

@@ -4,11 +4,9 @@ use Rattle.std.specs.Prelude.{string_bytes}
 use Rattle.tuple_text.specs.Refs.{set_value}
 use Rattle.tuple_text.specs.Sets.{SetValue}
 use Rattle.tuple_text.specs.Tuples.{fact_of}
-use Rattle.namespaces.specs.Lookup.{rule_at}
 use Rattle.rewrites.specs.Expression.{this, computed, tuple_to, union, inter, minus, child}
 use Rattle.rewrites.specs.View.{expression_of, expressions_of}
 use Rattle.strata.specs.Meaning.{with_relation}
-use Rattle.version_chains.specs.Commits.{store_at}
 use Rattle.goal_cone.specs.Bounds.{stored_sets, links, links_all}
 use Rattle.goal_cone.specs.Pass.{IsGiven}
 use Rattle.goal_cone.specs.Premises.{Reads, ReadsSome}
@@ -16,6 +14,7 @@ use Rattle.goal_cone.specs.Seen.{Sees, IsStuck}
 use Rattle.goal_cone.proofs.SeenLemmas.{under_way_start, under_way_step, under_way_stuck, under_way_done, both_ok, second_stuck, first_stuck}
 use Rattle.rewrites.specs.declared.rewrite.Rewrite.{the_lemmas}
 use Rattle.rewrites.proofs.Walks.{children_step}
+use Rattle.snapshots.specs.Snapshots.{rules_in, tuples_in}
 use Rattle.goal_cone.proofs.premises.+see_premises.Goals as goal
 
 pub see_premises-returns-in-This-clause-seen : goal.see_premises-returns-in-This-clause-seen
@@ -29,7 +28,7 @@ see_premises-returns-in-Computed-clause-seen t c =
     let e : expression_of c.args.rewrite.now ≡ computed (string_bytes c.in-Computed.relation) = rw c.in-Computed.is (search (rules, the_lemmas)) in
     let q : set_value c.under.result ≡ with_relation (set_value c.args.set) (string_bytes c.in-Computed.relation) = rw (← c.as_str.ensures.value) c.under.ensures in
     rw e
-    (subst (λ (g : SetValue). OnOk c.see.result (Sees (rule_at c.args.trace.now.declarations c.args.at) (λ p. fact_of g c.args.user ≡ p) c.args.seen.now c.see.new.seen)) q c.see.ensures.seen)
+    (subst (λ (g : SetValue). OnOk c.see.result (Sees (rules_in c.args.snapshot.now) (λ p. fact_of g c.args.user ≡ p) c.args.seen.now c.see.new.seen)) q c.see.ensures.seen)
 
 pub see_premises-returns-in-Computed-clause-stuck : goal.see_premises-returns-in-Computed-clause-stuck
 see_premises-returns-in-Computed-clause-stuck t c =
@@ -37,7 +36,7 @@ see_premises-returns-in-Computed-clause-stuck t c =
     let q : set_value c.under.result ≡ with_relation (set_value c.args.set) (string_bytes c.in-Computed.relation) = rw (← c.as_str.ensures.value) c.under.ensures in
     rw e
     (λ h. inr
-    (subst (λ (g : SetValue). IsStuck 131072 4194304 (rule_at c.args.trace.now.declarations c.args.at) (store_at c.args.trace.now.commits c.args.at) (λ p. fact_of g c.args.user ≡ p) c.args.seen.now) q
+    (subst (λ (g : SetValue). IsStuck 131072 4194304 (rules_in c.args.snapshot.now) (tuples_in c.args.snapshot.now) (λ p. fact_of g c.args.user ≡ p) c.args.seen.now) q
     (c.see.ensures.stuck h)))
 
 pub see_premises-returns-in-TupleTo-clause-seen : goal.see_premises-returns-in-TupleTo-clause-seen
@@ -45,8 +44,8 @@ see_premises-returns-in-TupleTo-clause-seen t c =
     let e : expression_of c.args.rewrite.now ≡ tuple_to (string_bytes c.in-TupleTo.tupleset) (string_bytes c.in-TupleTo.computed) = rw c.in-TupleTo.is (search (rules, the_lemmas)) in
     let q : set_value c.under-tupleset.result ≡ with_relation (set_value c.args.set) (string_bytes c.in-TupleTo.tupleset) = rw (← c.as_str-in-TupleTo.ensures.value) c.under-tupleset.ensures in
     let r : c.as_str-in-TupleTo-2.result.now ≡ string_bytes c.in-TupleTo.computed = c.as_str-in-TupleTo-2.ensures.value in
-    let rules_at = rule_at c.args.trace.now.declarations c.args.at in
-    let store = store_at c.args.trace.now.commits c.args.at in
+    let rules_at = rules_in c.args.snapshot.now in
+    let store = tuples_in c.args.snapshot.now in
     let under_q : OnOk c.see_stored-in-TupleTo.result (Sees rules_at (IsGiven store (with_relation (set_value c.args.set) (string_bytes c.in-TupleTo.tupleset))
     (Some c.as_str-in-TupleTo-2.result.now) c.args.user) c.args.seen.now c.see_stored-in-TupleTo.new.seen) =
     subst (λ (g : SetValue). OnOk c.see_stored-in-TupleTo.result (Sees rules_at (IsGiven store g (Some c.as_str-in-TupleTo-2.result.now) c.args.user)
@@ -60,8 +59,8 @@ see_premises-returns-in-TupleTo-clause-stuck t c =
     let e : expression_of c.args.rewrite.now ≡ tuple_to (string_bytes c.in-TupleTo.tupleset) (string_bytes c.in-TupleTo.computed) = rw c.in-TupleTo.is (search (rules, the_lemmas)) in
     let q : set_value c.under-tupleset.result ≡ with_relation (set_value c.args.set) (string_bytes c.in-TupleTo.tupleset) = rw (← c.as_str-in-TupleTo.ensures.value) c.under-tupleset.ensures in
     let r : c.as_str-in-TupleTo-2.result.now ≡ string_bytes c.in-TupleTo.computed = c.as_str-in-TupleTo-2.ensures.value in
-    let rules_at = rule_at c.args.trace.now.declarations c.args.at in
-    let store = store_at c.args.trace.now.commits c.args.at in
+    let rules_at = rules_in c.args.snapshot.now in
+    let store = tuples_in c.args.snapshot.now in
     rw e
     (λ h. subst (λ (x : List ℕ). (c.args.room.now < length (stored_sets store (with_relation (set_value c.args.set) (string_bytes c.in-TupleTo.tupleset))))
     ⊎ IsStuck 131072 4194304 rules_at store (IsGiven store (with_relation (set_value c.args.set) (string_bytes c.in-TupleTo.tupleset)) (Some x) c.args.user) c.args.seen.now) r
@@ -84,19 +83,19 @@ see_premises-returns-in-Union-clause-stuck t c = elim c.in-Union.is [
 pub see_premises-returns-in_ok-see_premises-in-Minus-clause-seen : goal.see_premises-returns-in_ok-see_premises-in-Minus-clause-seen
 see_premises-returns-in_ok-see_premises-in-Minus-clause-seen t c =
     let e : expression_of c.args.rewrite.now ≡ minus (expression_of c.deref.result.now) (expression_of c.deref-in-Minus.result.now) = rw c.in-Minus.is (search (rules, the_lemmas)) in
-    let store = store_at c.args.trace.now.commits c.args.at in
+    let store = tuples_in c.args.snapshot.now in
     let f = fact_of (set_value c.args.set) c.args.user in
     rw e
-    (both_ok (rule_at c.args.trace.now.declarations c.args.at) (Reads store f (expression_of c.deref.result.now)) (Reads store f (expression_of c.deref-in-Minus.result.now))
+    (both_ok (rules_in c.args.snapshot.now) (Reads store f (expression_of c.deref.result.now)) (Reads store f (expression_of c.deref-in-Minus.result.now))
     c.args.seen.now c.see_premises.new.seen c.see_premises-in-Minus.new.seen c.see_premises-in-Minus.result c.in_ok-see_premises-in-Minus.ensures.seen c.see_premises-in-Minus.ensures.seen)
 
 pub see_premises-returns-in_ok-see_premises-in-Minus-clause-stuck : goal.see_premises-returns-in_ok-see_premises-in-Minus-clause-stuck
 see_premises-returns-in_ok-see_premises-in-Minus-clause-stuck t c =
     let e : expression_of c.args.rewrite.now ≡ minus (expression_of c.deref.result.now) (expression_of c.deref-in-Minus.result.now) = rw c.in-Minus.is (search (rules, the_lemmas)) in
-    let store = store_at c.args.trace.now.commits c.args.at in
+    let store = tuples_in c.args.snapshot.now in
     let f = fact_of (set_value c.args.set) c.args.user in
     rw e
-    (λ h. second_stuck 131072 4194304 (rule_at c.args.trace.now.declarations c.args.at) store (Reads store f (expression_of c.deref.result.now)) (Reads store f (expression_of c.deref-in-Minus.result.now))
+    (λ h. second_stuck 131072 4194304 (rules_in c.args.snapshot.now) store (Reads store f (expression_of c.deref.result.now)) (Reads store f (expression_of c.deref-in-Minus.result.now))
     c.args.seen.now c.see_premises.new.seen c.args.room.now c.see_premises.new.room
     (links store (set_value c.args.set) (expression_of c.deref.result.now)) (links store (set_value c.args.set) (expression_of c.deref-in-Minus.result.now))
     c.in_ok-see_premises-in-Minus.ensures.links c.in_ok-see_premises-in-Minus.ensures.seen (c.see_premises-in-Minus.ensures.stuck h))
@@ -104,10 +103,10 @@ see_premises-returns-in_ok-see_premises-in-Minus-clause-stuck t c =
 pub see_premises-returns-in_err-see_premises-in-Minus-clause-stuck : goal.see_premises-returns-in_err-see_premises-in-Minus-clause-stuck
 see_premises-returns-in_err-see_premises-in-Minus-clause-stuck t c =
     let e : expression_of c.args.rewrite.now ≡ minus (expression_of c.deref.result.now) (expression_of c.in-Minus.subtract.value) = rw c.in-Minus.is (search (rules, the_lemmas)) in
-    let store = store_at c.args.trace.now.commits c.args.at in
+    let store = tuples_in c.args.snapshot.now in
     let f = fact_of (set_value c.args.set) c.args.user in
     rw e
-    (λ h. first_stuck 131072 4194304 (rule_at c.args.trace.now.declarations c.args.at) store (Reads store f (expression_of c.deref.result.now)) (Reads store f (expression_of c.in-Minus.subtract.value))
+    (λ h. first_stuck 131072 4194304 (rules_in c.args.snapshot.now) store (Reads store f (expression_of c.deref.result.now)) (Reads store f (expression_of c.in-Minus.subtract.value))
     c.args.seen.now c.args.room.now
     (links store (set_value c.args.set) (expression_of c.deref.result.now)) (links store (set_value c.args.set) (expression_of c.in-Minus.subtract.value))
     (c.in_err-see_premises-in-Minus.ensures.stuck (search rules)))
@@ -115,21 +114,21 @@ see_premises-returns-in_err-see_premises-in-Minus-clause-stuck t c =
 pub see_children-loop-child-init : goal.see_children-loop-child-init
 see_children-loop-child-init t c =
     let same = c.deref-child-items.ensures.value in
-    let store = store_at c.args.trace.now.commits c.args.at in
+    let store = tuples_in c.args.snapshot.now in
     rw same
-    (under_way_start 131072 4194304 (rule_at c.args.trace.now.declarations c.args.at) store
+    (under_way_start 131072 4194304 (rules_in c.args.snapshot.now) store
     (ReadsSome store (fact_of (set_value c.args.set) c.args.user) (expressions_of c.args.children.now.items)) c.args.seen.now c.args.room.now
     (links_all store (set_value c.args.set) (expressions_of c.args.children.now.items)))
 
 pub see_children-loop-child-preserved : goal.see_children-loop-child-preserved
 see_children-loop-child-preserved t c =
-    let store = store_at c.args.trace.now.commits c.args.at in
+    let store = tuples_in c.args.snapshot.now in
     let f = fact_of (set_value c.args.set) c.args.user in
     let x = expression_of c.child-item.result in
     let rest = expressions_of (drop (c.loop-child.child-index + 1) c.deref-child-items.result.now) in
     let step : expressions_of (drop c.loop-child.child-index c.deref-child-items.result.now) ≡ child x rest =
     rw c.child-item.is (children_step c.deref-child-items.result.now c.loop-child.child-index c.child-item.result c.loop-child-test.true) in
-    under_way_step 131072 4194304 (rule_at c.args.trace.now.declarations c.args.at) store
+    under_way_step 131072 4194304 (rules_in c.args.snapshot.now) store
     (ReadsSome store f (expressions_of c.args.children.now.items)) c.args.seen.now c.args.room.now (links_all store (set_value c.args.set) (expressions_of c.args.children.now.items))
     (Reads store f x) (ReadsSome store f rest) c.loop-child.seen c.loop-child.room (links_all store (set_value c.args.set) (child x rest))
     (links store (set_value c.args.set) x) (links_all store (set_value c.args.set) rest) refl
@@ -137,13 +136,13 @@ see_children-loop-child-preserved t c =
 
 pub see_children-returns-in_err-see_premises-clause-stuck : goal.see_children-returns-in_err-see_premises-clause-stuck
 see_children-returns-in_err-see_premises-clause-stuck t c = λ h.
-    let store = store_at c.args.trace.now.commits c.args.at in
+    let store = tuples_in c.args.snapshot.now in
     let f = fact_of (set_value c.args.set) c.args.user in
     let x = expression_of c.child-item.result in
     let rest = expressions_of (drop (c.loop-child.child-index + 1) c.deref-child-items.result.now) in
     let step : expressions_of (drop c.loop-child.child-index c.deref-child-items.result.now) ≡ child x rest =
     rw c.child-item.is (children_step c.deref-child-items.result.now c.loop-child.child-index c.child-item.result c.loop-child-test.true) in
-    under_way_stuck 131072 4194304 (rule_at c.args.trace.now.declarations c.args.at) store
+    under_way_stuck 131072 4194304 (rules_in c.args.snapshot.now) store
     (ReadsSome store f (expressions_of c.args.children.now.items)) c.args.seen.now c.args.room.now (links_all store (set_value c.args.set) (expressions_of c.args.children.now.items))
     (Reads store f x) (ReadsSome store f rest) c.loop-child.seen c.loop-child.room (links_all store (set_value c.args.set) (child x rest))
     (links store (set_value c.args.set) x) (links_all store (set_value c.args.set) rest) refl
@@ -151,10 +150,10 @@ see_children-returns-in_err-see_premises-clause-stuck t c = λ h.
 
 pub see_children-returns-clause-seen : goal.see_children-returns-clause-seen
 see_children-returns-clause-seen t c =
-    let store = store_at c.args.trace.now.commits c.args.at in
+    let store = tuples_in c.args.snapshot.now in
     let f = fact_of (set_value c.args.set) c.args.user in
     let none : drop c.loop-child.child-index c.deref-child-items.result.now ≡ [] = drop_all c.loop-child.child-index c.deref-child-items.result.now c.loop-child-test.false in
-    (under_way_done 131072 4194304 (rule_at c.args.trace.now.declarations c.args.at) store
+    (under_way_done 131072 4194304 (rules_in c.args.snapshot.now) store
     (ReadsSome store f (expressions_of c.args.children.now.items)) c.args.seen.now c.args.room.now (links_all store (set_value c.args.set) (expressions_of c.args.children.now.items))
     (ReadsSome store f (expressions_of (drop c.loop-child.child-index c.deref-child-items.result.now))) (rw none (λ p h. h)) c.loop-child.seen c.loop-child.room
     (links_all store (set_value c.args.set) (expressions_of (drop c.loop-child.child-index c.deref-child-items.result.now))) c.loop-child.invariant).0

@@ -4,15 +4,15 @@ use Rattle.tuple_text.specs.Refs.{set_value}
 use Rattle.tuple_text.specs.Tuples.{fact_of}
 use Rattle.namespaces.specs.Lookup.{Rule, rule_at, rule_of}
 use Rattle.rewrites.specs.View.{expression_of}
-use Rattle.version_chains.specs.Commits.{store_at}
+use Rattle.snapshots.specs.Snapshots.{rules_in, tuples_in}
 use Rattle.judgement.specs.Judgement.{IsUndeclared}
 use Rattle.goal_cone.proofs.SeenLemmas.{sees_new, stuck_here, declared_by, given, refused}
 use Rattle.goal_cone.proofs.premises.see.Goals.{After-len}
 use Rattle.goal_cone.proofs.premises.see.Goals as goal
 
-declared : (c : After-len) → ¬ IsUndeclared (rule_at c.args.trace.now.declarations c.args.at) (set_value c.args.set)
+declared : (c : After-len) → ¬ IsUndeclared (rules_in c.args.snapshot.now) (set_value c.args.set)
 declared c =
-    declared_by (λ r. expression_of r.now) (λ (r : Rule). r.expression) c.body.result (rule_of (rule_at c.args.trace.now.declarations c.args.at) (set_value c.args.set))
+    declared_by (λ r. expression_of r.now) (λ (r : Rule). r.expression) c.body.result (rule_of (rules_in c.args.snapshot.now) (set_value c.args.set))
     (rw c.rules.ensures.declarations at c.body.ensures) c.if-is_none.ensures
 
 absent : (c : After-len) → ¬ Contains c.args.seen.now (fact_of (set_value c.args.set) c.args.user)
@@ -22,7 +22,7 @@ pub returns-then-len-ge-MAX_USERSETS-clause-stuck : goal.returns-then-len-ge-MAX
 returns-then-len-ge-MAX_USERSETS-clause-stuck c =
     let d = declared (goal.at.returns-then-len-ge-MAX_USERSETS-clause-stuck c).After-len in
     let a = absent (goal.at.returns-then-len-ge-MAX_USERSETS-clause-stuck c).After-len in
-    λ _. stuck_here 131072 4194304 (rule_at c.args.trace.now.declarations c.args.at) (store_at c.args.trace.now.commits c.args.at) c.args.seen.now
+    λ _. stuck_here 131072 4194304 (rules_in c.args.snapshot.now) (tuples_in c.args.snapshot.now) c.args.seen.now
     (fact_of (set_value c.args.set) c.args.user) d a (inr (omega arith))
 
 pub returns-in_ok-add-in-Ok-clause-seen : goal.returns-in_ok-add-in-Ok-clause-seen
@@ -32,12 +32,12 @@ returns-in_ok-add-in-Ok-clause-seen c =
     let p = fact_of (set_value c.args.set) c.args.user in
     let new : c.add.new.self ≡ c.args.seen.now ++ c.in-Ok.fact ∷ [] = c.in_ok-add-in-Ok.ensures.ok in
     let same : p ≡ c.in-Ok.fact = given (set_value c.args.set) c.args.user c.in-Ok.fact c.in-Ok.ensures.exact in
-    rw (new, ← same) (sees_new (rule_at c.args.trace.now.declarations c.args.at) c.args.seen.now p d a)
+    rw (new, ← same) (sees_new (rules_in c.args.snapshot.now) c.args.seen.now p d a)
 
 pub returns-in-Err-clause-stuck : goal.returns-in-Err-clause-stuck
 returns-in-Err-clause-stuck c = λ e.
     let d = declared (goal.at.returns-in-Err-clause-stuck c).After-len in
     let a = absent (goal.at.returns-in-Err-clause-stuck c).After-len in
-    stuck_here 131072 4194304 (rule_at c.args.trace.now.declarations c.args.at) (store_at c.args.trace.now.commits c.args.at) c.args.seen.now
+    stuck_here 131072 4194304 (rules_in c.args.snapshot.now) (tuples_in c.args.snapshot.now) c.args.seen.now
     (fact_of (set_value c.args.set) c.args.user) d a
     (inl (refused (set_value c.args.set) c.args.user c.in-Err.fault c.in-Err.ensures.exact (c.told.ensures cc)))

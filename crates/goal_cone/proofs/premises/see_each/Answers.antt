@@ -3,8 +3,7 @@ use Rattle.std.specs.Prelude.{option_map}
 use Rattle.tuple_text.specs.Refs.{set_value}
 use Rattle.tuple_text.specs.Sets.{SetValue}
 use Rattle.tuple_text.specs.Tuples.{fact_of}
-use Rattle.namespaces.specs.Lookup.{rule_at}
-use Rattle.version_chains.specs.Commits.{store_at}
+use Rattle.snapshots.specs.Snapshots.{rules_in, tuples_in}
 use Rattle.judgement.specs.Passes.{target}
 use Rattle.goal_cone.specs.Pass.{AmongTargets}
 use Rattle.goal_cone.specs.Seen.{Sees, IsStuck}
@@ -15,18 +14,18 @@ pub loop-set-init : goal.loop-set-init
 loop-set-init c =
     let same : c.into_iter-set-iterator.result ≡ c.args.sets = search rules in
     rw same
-    (under_way_start 131072 4194304 (rule_at c.args.trace.now.declarations c.args.at) (store_at c.args.trace.now.commits c.args.at)
+    (under_way_start 131072 4194304 (rules_in c.args.snapshot.now) (tuples_in c.args.snapshot.now)
     (AmongTargets (option_map (λ s. s.now) c.args.relation) c.args.user c.args.sets) c.args.seen.now c.args.room.now (length c.args.sets))
 
 pub loop-set-preserved : goal.loop-set-preserved
 loop-set-preserved c =
     let left : c.loop-set.set-iterator ≡ set_value c.in-Some.set.set ∷ c.next.new.self = search rules in
-    let rules_at = rule_at c.args.trace.now.declarations c.args.at in
+    let rules_at = rules_in c.args.snapshot.now in
     let relation = option_map (λ s. s.now) c.args.relation in
     let one : Sees rules_at (λ q. fact_of (target (set_value c.in-Some.set.set) relation) c.args.user ≡ q) c.loop-set.seen c.see.new.seen =
     subst (λ (g : SetValue). Sees rules_at (λ q. fact_of g c.args.user ≡ q) c.loop-set.seen c.see.new.seen) c.target.ensures c.in_ok-see.ensures.seen in
     let sum : length (set_value c.in-Some.set.set ∷ c.next.new.self) ≡ 1 + length c.next.new.self = omega arith in
-    under_way_step 131072 4194304 rules_at (store_at c.args.trace.now.commits c.args.at)
+    under_way_step 131072 4194304 rules_at (tuples_in c.args.snapshot.now)
     (AmongTargets relation c.args.user c.args.sets) c.args.seen.now c.args.room.now (length c.args.sets)
     (λ q. fact_of (target (set_value c.in-Some.set.set) relation) c.args.user ≡ q) (AmongTargets relation c.args.user c.next.new.self)
     c.loop-set.seen c.loop-set.room (length (set_value c.in-Some.set.set ∷ c.next.new.self)) 1 (length c.next.new.self) sum
@@ -35,8 +34,8 @@ loop-set-preserved c =
 pub returns-in_err-see-clause-stuck : goal.returns-in_err-see-clause-stuck
 returns-in_err-see-clause-stuck c = λ e.
     let left : c.loop-set.set-iterator ≡ set_value c.in-Some.set.set ∷ c.next.new.self = search rules in
-    let rules_at = rule_at c.args.trace.now.declarations c.args.at in
-    let store = store_at c.args.trace.now.commits c.args.at in
+    let rules_at = rules_in c.args.snapshot.now in
+    let store = tuples_in c.args.snapshot.now in
     let relation = option_map (λ s. s.now) c.args.relation in
     let one : IsStuck 131072 4194304 rules_at store (λ q. fact_of (target (set_value c.in-Some.set.set) relation) c.args.user ≡ q) c.loop-set.seen =
     subst (λ (g : SetValue). IsStuck 131072 4194304 rules_at store (λ q. fact_of g c.args.user ≡ q) c.loop-set.seen) c.target.ensures (c.in_err-see.ensures.stuck (search rules)) in
@@ -51,6 +50,6 @@ pub returns-clause-seen : goal.returns-clause-seen
 returns-clause-seen c =
     let left : c.loop-set.set-iterator ≡ [] = search rules in
     let relation = option_map (λ s. s.now) c.args.relation in
-    (under_way_done 131072 4194304 (rule_at c.args.trace.now.declarations c.args.at) (store_at c.args.trace.now.commits c.args.at)
+    (under_way_done 131072 4194304 (rules_in c.args.snapshot.now) (tuples_in c.args.snapshot.now)
     (AmongTargets relation c.args.user c.args.sets) c.args.seen.now c.args.room.now (length c.args.sets)
     (AmongTargets relation c.args.user c.loop-set.set-iterator) (rw left (λ p h. h)) c.loop-set.seen c.loop-set.room (length c.loop-set.set-iterator) c.loop-set.invariant).0

@@ -4,7 +4,6 @@ use Rattle.judgement.proofs.absent.stored_in.Goals as goal
 
 pub returns : goal.returns
 returns c =
-    let trace = c.args.trace.now in
     some_weaker c.namespaces.result
-    (λ numbers. have_stored trace.declarations trace.commits c.args.at (set_value c.args.set.set) c.usersets.result.now numbers c.ranges.at.fits c.usersets.ensures)
+    (λ numbers. have_stored c.args.snapshot.now (set_value c.args.set.set) c.usersets.result.now numbers c.ranges.at.fits c.usersets.ensures)
     c.namespaces.ensures

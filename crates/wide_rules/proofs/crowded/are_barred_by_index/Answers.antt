@@ -13,21 +13,20 @@ use Rattle.wide_rules.proofs.crowded.are_barred_by_index.Goals as goal
 
 pub loop-number-preserved : goal.loop-number-preserved
 loop-number-preserved g c =
-    let trace = c.args.trace.now in
+    let s = c.args.snapshot.now in
     let Out : ℕ → Type 0 = λ n. (name : List ℕ) → Contains (computed_names c.args.through.now) name
-    → AreThroughOut trace.declarations trace.commits c.args.at c.args.index.now.through c.args.known.now (set_value c.args.set.set) name c.args.user n in
+    → AreThroughOut s c.args.index.now.through c.args.known.now (set_value c.args.set.set) name c.args.user n in
     next_element Out c.args.numbers.now c.loop-number.number-index c.loop-number.invariant
     (λ n here. subst Out (get_or_from_slice_get c.args.numbers.now c.loop-number.number-index n 0 here) (c.if-not-is_namespace_out.ensures.out refl))
 
 pub returns : goal.returns
 returns g c =
-    let trace = c.args.trace.now in
-    let at = c.args.at in
+    let s = c.args.snapshot.now in
     let set = set_value c.args.set.set in
     let live = c.requires.numbers in
     let v = c.args.index.now in (
       λ t name named.
-          barred_by_through trace.declarations trace.commits at c.ranges.at.fits v (c.requires.index (and-left v.is_whole (is_crowded v.crowds (set_mark set)) c.requires.crowded)) set
+          barred_by_through s c.ranges.at.fits v (c.requires.index (and-left v.is_whole (is_crowded v.crowds (set_mark set)) c.requires.crowded)) set
           (and-right v.is_whole (is_crowded v.crowds (set_mark set)) c.requires.crowded) c.args.known.now c.args.user live.few name
           (λ n h less stored place declared.
           let there = live.all (suc n) h name stored place named declared in

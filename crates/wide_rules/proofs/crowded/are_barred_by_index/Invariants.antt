@@ -9,4 +9,4 @@ use Rattle.wide_rules.proofs.crowded.are_barred_by_index.Given as goal
 abbrev pub invariant-loop-number : goal.invariant-loop-number
 invariant-loop-number g l =
     (k n : ℕ) → k < l.number-index → slice_get l.numbers k ≡ Some n → (c : List ℕ) → Contains (computed_names l.through) c
-    → AreThroughOut l.trace.declarations l.trace.commits l.at l.index.through l.known (set_value l.set.set) c l.user n
+    → AreThroughOut l.snapshot l.index.through l.known (set_value l.set.set) c l.user n

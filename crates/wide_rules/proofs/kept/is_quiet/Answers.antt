@@ -6,8 +6,8 @@ use Rattle.wide_rules.proofs.kept.is_quiet.Goals as goal
 
 pub returns-in-Some : goal.returns-in-Some
 returns-in-Some c quiet =
-    let trace = c.args.trace.now in
+    let s = c.args.snapshot.now in
     let kept = c.args.kept.now in
     let apart : c.meets.result ≡ false = search rules in
-    none_shared trace.declarations trace.commits c.args.at (set_value c.args.tupleset.set) (computed_names c.args.through.now) kept.declaring.items
+    none_shared s (set_value c.args.tupleset.set) (computed_names c.args.through.now) kept.declaring.items
     c.in-Some.stored kept.numbers c.ranges.at.fits c.requires.declaring c.requires.numbers c.in-Some.ensures (c.meets.ensures apart)

@@ -2,9 +2,8 @@ use Rattle.std.proofs.Common.{◌≡◌, ◌∙◌, refl, sym, arith, Some, leng
 use Rattle.std.proofs.lemmas.List.{length-map}
 use Rattle.std.specs.Prelude.{slice_get}
 use Rattle.tuple_text.specs.Refs.{set_value}
-use Rattle.namespaces.specs.Lookup.{rule_at}
 use Rattle.rewrites.specs.Parts.{computed_names}
-use Rattle.version_chains.specs.Commits.{store_at}
+use Rattle.snapshots.specs.Snapshots.{rules_in, tuples_in}
 use Rattle.judgement.specs.Passes.{IsBarred}
 use Rattle.judgement.proofs.PassLemmas.{each_element, element_at}
 use Rattle.wide_rules.proofs.through.are_barred_one_by_one.Goals as goal
@@ -18,8 +17,8 @@ returns-then-not-is_barred g c =
 
 pub returns : goal.returns
 returns g c =
-    let rules = rule_at c.args.trace.now.declarations c.args.at in
-    let store = store_at c.args.trace.now.commits c.args.at in
+    let rules = rules_in c.args.snapshot.now in
+    let store = tuples_in c.args.snapshot.now in
     let entries = c.args.through.now.computed.entries in
     let count : c.len-k-end.result ≡ length entries = c.len-k-end.ensures.len in
     let named : length (computed_names c.args.through.now) ≡ length entries = length-map entries (λ e. string_bytes e.0) in (

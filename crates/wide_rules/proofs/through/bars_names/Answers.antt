@@ -2,16 +2,16 @@ use Rattle.std.proofs.Common.{Some, ◌∙◌, sym, refl, inl, arith}
 use Rattle.std.specs.Prelude.{Contains}
 use Rattle.tuple_text.specs.Refs.{set_value}
 use Rattle.namespaces.specs.InForce.{names_in_force}
-use Rattle.namespaces.specs.Lookup.{rule_at}
 use Rattle.rewrites.specs.Parts.{computed_names}
+use Rattle.snapshots.specs.Snapshots.{rules_in}
 use Rattle.judgement.specs.Passes.{BarsId}
 use Rattle.judgement.proofs.PassLemmas.{each_element, next_element}
 use Rattle.wide_rules.proofs.ThroughLemmas.{names_enough}
 use Rattle.wide_rules.proofs.through.bars_names.Goals as goal
 
 pub returns-then-not-is_among : goal.returns-then-not-is_among
-returns-then-not-is_among g c = (
-  λ t name named. inl (c.is_among.ensures c.if-not-is_among.true (computed_names c.args.through.now) c.args.at c.requires c.ranges.at.fits name named),
+returns-then-not-is_among g c = let none = rw c.rules.ensures at (c.is_among.ensures c.if-not-is_among.true) in (
+  λ t name named. inl (none (computed_names c.args.through.now) c.args.snapshot.now.at c.requires c.ranges.at.fits name named),
   λ b. refl,
 )
 
@@ -20,20 +20,22 @@ returns-then-not-bars_name_at g c = (λ t. cc, λ b. sym c.if-not-bars_name_at.t
 
 pub loop-k-preserved : goal.loop-k-preserved
 loop-k-preserved g c = λ i name less at named.
-    let ds = c.args.rules.now in
+    let s = c.args.snapshot.now in
+    let ds = s.timeline.declarations in
     let set = set_value c.args.set.set in
-    next_element (λ n. Contains (computed_names c.args.through.now) n → BarsId (rule_at ds c.args.at) c.args.known.now (Some n) c.args.user set)
-    (names_in_force c.args.at set.namespace ds) c.loop-k.k (λ k n l a. c.loop-k.invariant k n l a)
+    next_element (λ n. Contains (computed_names c.args.through.now) n → BarsId (rules_in s) c.args.known.now (Some n) c.args.user set)
+    (names_in_force s.at set.namespace ds) c.loop-k.k (λ k n l a. c.loop-k.invariant k n l a)
     (λ n a. c.bars_name_at.ensures.bars c.if-not-bars_name_at.false n a) i name less at named
 
 pub returns : goal.returns
 returns g c =
-    let ds = c.args.rules.now in
+    let s = c.args.snapshot.now in
+    let ds = s.timeline.declarations in
     let set = set_value c.args.set.set in
     let names = computed_names c.args.through.now in
-    let each = each_element (λ n. Contains names n → BarsId (rule_at ds c.args.at) c.args.known.now (Some n) c.args.user set)
-    (names_in_force c.args.at set.namespace ds)
-    (λ k n within at. c.loop-k.invariant k n (omega (arith, within, c.loop-k-test.false, c.count_in_force-k-end.ensures.count)) at) in (
-      λ t. names_enough ds c.args.at c.args.known.now names c.args.user set c.count_in_force-k-end.ensures.whole each,
+    let each = each_element (λ n. Contains names n → BarsId (rules_in s) c.args.known.now (Some n) c.args.user set)
+    (names_in_force s.at set.namespace ds)
+    (λ k n within at. c.loop-k.invariant k n (omega (arith, within, c.loop-k-test.false, rw c.rules.ensures at c.count_in_force-k-end.ensures.count)) at) in (
+      λ t. names_enough ds s.at c.args.known.now names c.args.user set (rw c.rules.ensures at c.count_in_force-k-end.ensures.whole) each,
       λ b. refl,
     )

@@ -3,7 +3,7 @@ use Rattle.std.proofs.lemmas.List.{length-map}
 use Rattle.tuple_text.specs.Refs.{set_value}
 use Rattle.tuple_text.specs.Sets.{SetValue}
 use Rattle.rewrites.specs.Parts.{computed_names}
-use Rattle.version_chains.specs.Commits.{store_at}
+use Rattle.snapshots.specs.Snapshots.{tuples_in}
 use Rattle.judgement.specs.Passes.{IsLed, LeadsByName, SomeSet}
 use Rattle.judgement.proofs.LedLemmas.{some_left}
 use Rattle.judgement.proofs.PassLemmas.{next_element, place_of_element}
@@ -11,7 +11,7 @@ use Rattle.wide_rules.proofs.through.leads_by_either.Goals as goal
 
 pub loop-k-preserved : goal.loop-k-preserved
 loop-k-preserved g c =
-    let store = store_at c.args.trace.now.commits c.args.at in
+    let store = tuples_in c.args.snapshot.now in
     let set = set_value c.args.set.set in
     let names = computed_names c.args.through.now in
     let P : List ℕ → Type 0 = λ name. ¬ IsLed store c.args.known.now set (Some name) c.args.user in

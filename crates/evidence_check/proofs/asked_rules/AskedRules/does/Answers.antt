@@ -6,6 +6,7 @@ use Rattle.rewrites.specs.Alike.{AreAlike}
 use Rattle.namespaces.specs.Lookup.{expression_in}
 use Rattle.rewrites.specs.Parts.{rule_shown}
 use Rattle.marks.proofs.PlacedLemmas.{slice_get-set}
+use Rattle.trace_lines.specs.Timelines.{timeline_of}
 use Rattle.judgement.specs.Facts.{marked_fact}
 use Rattle.judgement.proofs.PassLemmas.{element_at, place_of_element}
 use Rattle.evidence_check.specs.Rules.{IsPlaced}
@@ -36,16 +37,16 @@ returns-then-eq-clause-does g c =
 pub invariant_of-self-in_err-insert : goal.invariant_of-self-in_err-insert
 invariant_of-self-in_err-insert g c =
     let s = c.self.inside in
-    let p : PlacedRule = record { place = c.args.place; rule = record { trace = s.trace.now; expression = rule_shown c.args.parted.now } } in
-    let is : c.push.new.self.items ≡ s.asked.items ++ p ∷ [] = rw (c.in_ok-push.ensures.items, c.does-2.ensures.rule, c.in_ok-rule.ensures) refl in
+    let p : PlacedRule = record { place = c.args.place; rule = record { timeline = timeline_of s.trace.now; expression = rule_shown c.args.parted.now } } in
+    let is : c.push.new.self.items ≡ s.asked.items ++ p ∷ [] = rw (c.in_ok-push.ensures.items, c.does-2.ensures.rule, c.in_ok-rule.ensures, c.timeline.ensures) refl in
     let asked : AreAlike (Some p.rule.expression) (expression_in p.place s.trace.now.declarations) = rw (c.self.view_is) c.requires in
     rw is (one_placed_more s.trace.now s.asked.items p c.self.invariant (record { over = refl; says = asked }))
 
 pub invariant_of-self-2 : goal.invariant_of-self-2
 invariant_of-self-2 g c =
     let s = c.self.inside in
-    let p : PlacedRule = record { place = c.args.place; rule = record { trace = s.trace.now; expression = rule_shown c.args.parted.now } } in
-    let is : c.push.new.self.items ≡ s.asked.items ++ p ∷ [] = rw (c.in_ok-push.ensures.items, c.does-2.ensures.rule, c.in_ok-rule.ensures) refl in
+    let p : PlacedRule = record { place = c.args.place; rule = record { timeline = timeline_of s.trace.now; expression = rule_shown c.args.parted.now } } in
+    let is : c.push.new.self.items ≡ s.asked.items ++ p ∷ [] = rw (c.in_ok-push.ensures.items, c.does-2.ensures.rule, c.in_ok-rule.ensures, c.timeline.ensures) refl in
     let asked : AreAlike (Some p.rule.expression) (expression_in p.place s.trace.now.declarations) = rw (c.self.view_is) c.requires in
     rw is (one_placed_more s.trace.now s.asked.items p c.self.invariant (record { over = refl; says = asked }))
 

@@ -2,9 +2,10 @@ use Rattle.tuple_text.specs.Refs.{set_value}
 use Rattle.tuple_text.specs.Tuples.{tuple_of}
 use Rattle.tuple_text.specs.declared.users.User.TheVariants.{Id}
 use Rattle.version_chains.proofs.StoreLemmas.{store_at-iff}
-use Rattle.judgement.proofs.stored.is_stored.Goals as goal
+use Rattle.snapshots.proofs.snapshot.Snapshot.has_id.Goals as goal
 
 pub returns : goal.returns
-returns c =
-    let both = store_at-iff c.args.trace.now.commits c.args.at (tuple_of (set_value c.args.set.set) (Id c.args.user)) in
+returns g c =
+    let s = c.args.self.now in
+    let both = store_at-iff s.timeline.commits s.at (tuple_of (set_value c.args.set.set) (Id c.args.user)) in
     rw (c.has_id.ensures, c.chains.ensures) (both.1, both.0)

@@ -1,0 +1,11 @@
+use Rattle.tuple_text.specs.Refs.{set_value}
+use Rattle.tuple_text.specs.Tuples.{tuple_of}
+use Rattle.tuple_text.specs.declared.users.User.TheVariants.{Set}
+use Rattle.version_chains.proofs.StoreLemmas.{store_at-iff}
+use Rattle.snapshots.proofs.snapshot.Snapshot.has_set.Goals as goal
+
+pub returns : goal.returns
+returns g c =
+    let s = c.args.self.now in
+    let both = store_at-iff s.timeline.commits s.at (tuple_of (set_value c.args.set.set) (Set (set_value c.args.user.set))) in
+    rw (c.has_set.ensures, c.chains.ensures) (both.1, both.0)
