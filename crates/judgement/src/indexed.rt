@@ -154,6 +154,7 @@ pub(crate) fn is_barred_by_index<F: KnownFact>(
         ↔ IsBarred (rules_in snapshot.now) (tuples_in snapshot.now) known.now (set_value set.entry.set)
         (option_map (λ s. s.now) relation.entry) user }
 {
+    snapshot.fits();
     match relation {
         None => are_out(
             snapshot,

@@ -8,7 +8,7 @@ use Rattle.tuple_text.specs.declared.users.User.{User}
 use Rattle.tuple_text.specs.declared.users.User.TheVariants.{Id, Set}
 use Rattle.namespaces.specs.Declaration.{Declaration, declaration_code}
 use Rattle.version_chains.specs.Commits.{Commit}
-use Rattle.snapshots.specs.Snapshots.{TimelineValue}
+use Rattle.snapshots.specs.Timelines.{TimelineValue}
 
 abbrev pub text_code : Coded (List ℕ)
 text_code = coded_list coded_ℕ

@@ -1,15 +1,10 @@
--- What is declared and stored at every timestamp, and at one.
+-- What is declared and stored at a timestamp.
 use Rattle.std.specs.Prelude.{ℕ, List}
 use Rattle.tuple_text.specs.Tuples.{TupleValue}
-use Rattle.namespaces.specs.Declaration.{Declaration}
 use Rattle.namespaces.specs.Lookup.{Lookup, rule_at}
-use Rattle.version_chains.specs.Commits.{Commit, store_at}
+use Rattle.version_chains.specs.Commits.{store_at}
+use Rattle.snapshots.specs.Timelines.{TimelineValue}
 use Rattle.snapshots.specs.declared.snapshot.Snapshot.{Snapshot}
-
--- the declarations and the commits, each in line order
-pub record TimelineValue : Type 0 where
-  pub declarations : List Declaration
-  pub commits : List Commit
 
 abbrev pub snapshot_at : TimelineValue → ℕ → Snapshot
 snapshot_at timeline at = record { timeline = timeline; at = at }

@@ -1,6 +1,6 @@
 //! What is declared and stored at one timestamp.
 
-ghost use Rattle.std.specs.Prelude.{◌≡◌, ◌↔◌, IsTrue, option_map};
+ghost use Rattle.std.specs.Prelude.{◌≡◌, ◌↔◌, ◌<◌, ◌^◌, IsTrue, option_map};
 ghost use Rattle.std.specs.List.{list_any, IsDistinct};
 ghost use Rattle.tuple_text.specs.Refs.{set_value};
 ghost use Rattle.tuple_text.specs.Sets.{SetValue, set_eq};
@@ -10,7 +10,7 @@ ghost use Rattle.rewrites.specs.View.{expression_of};
 ghost use Rattle.namespaces.specs.Lookup.{rule_of};
 ghost use Rattle.strata.specs.Meaning.{IsStored};
 ghost use Rattle.version_chains.specs.Commits.{is_stored};
-ghost use Rattle.snapshots.specs.Snapshots.{rules_in, tuples_in};
+ghost use Rattle.snapshots.specs.Snapshots.{rules_in, snapshot_at, tuples_in};
 
 use crate::timeline::Timeline;
 use marks::MarkedSet;
@@ -18,14 +18,37 @@ use rewrites::Rewrite;
 use tuple_text::SetRef;
 use version_chains::Usersets;
 
+fn has_64_bits(at: u64)
+    ensures { at < 2 ^ 64 }
+{}
+
 /// The rules that are in force and the tuples that are stored at a timestamp, lent.
-#[derive(Clone, Copy)]
+#[derive(Drop)]
 pub struct Snapshot<'a> {
     pub timeline: Timeline<'a>,
     pub at: u64,
 }
 
+impl<'a> Timeline<'a> {
+    /// All of that at a timestamp.
+    pub fn at(&self, at: u64) -> Snapshot<'a>
+        ensures { result ≡ snapshot_at self.now at }
+    {
+        Snapshot {
+            timeline: Timeline::new(self.rules(), self.chains(), self.usersets()),
+            at,
+        }
+    }
+}
+
 impl<'a> Snapshot<'a> {
+    /// A timestamp is a number of 64 bits. That is a law: it computes nothing.
+    pub fn fits(&self)
+        ensures { self.now.at < 2 ^ 64 }
+    {
+        has_64_bits(self.at);
+    }
+
     /// The rule of a userset's relation.
     pub fn rule(&self, set: SetRef<'_>) -> Option<&'a Rewrite>
         ensures { option_map (λ r. expression_of r.now) result

@@ -2,16 +2,14 @@
 
 ghost use Rattle.std.specs.Prelude.{◌≡◌};
 ghost use Rattle.userset_index.specs.Index.{IsUsersetIndex};
-ghost use Rattle.snapshots.specs.Snapshots.{snapshot_at};
 
-use crate::snapshot::Snapshot;
 use namespaces::Rules;
 use std::marker::Model;
 use userset_index::UsersetIndex;
 use version_chains::Chains;
 
 /// The rules and the tuples at every timestamp, lent.
-#[derive(Clone, Copy)]
+#[derive(Drop)]
 pub struct Timeline<'a> {
     rules: &'a Rules,
     chains: &'a Chains,
@@ -19,7 +17,7 @@ pub struct Timeline<'a> {
 }
 
 impl<'a> Model for Timeline<'a> {
-    ghost use Rattle.snapshots.specs.Snapshots.{TimelineValue};
+    ghost use Rattle.snapshots.specs.Timelines.{TimelineValue};
     ghost use Rattle.snapshots.specs.Codes.{timeline_code};
 
     ghost Value = { TimelineValue };
@@ -65,12 +63,5 @@ impl<'a> Timeline<'a> {
         ensures { IsUsersetIndex self.now.declarations self.now.commits result.now }
     {
         self.usersets
-    }
-
-    /// All of that at a timestamp.
-    pub fn at(self, at: u64) -> Snapshot<'a>
-        ensures { result ≡ snapshot_at self.entry at }
-    {
-        Snapshot { timeline: self, at }
     }
 }

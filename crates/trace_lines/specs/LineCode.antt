@@ -4,7 +4,8 @@ use Rattle.std.proofs.Common.{inl, inr}
 use Rattle.std.specs.Coded.{Coded, code_by, coded⊎}
 use Rattle.version_chains.specs.Commits.{Commit}
 use Rattle.trace_lines.specs.LineValues.{LineValue, commits, declares, records}
-use Rattle.trace_lines.specs.TraceCode.{commit_code, entry_code, text_code}
+use Rattle.snapshots.specs.Codes.{commit_code, text_code}
+use Rattle.trace_lines.specs.TraceCode.{entry_code}
 use Rattle.trace_lines.specs.Values.{EntryValue}
 
 abbrev line_parts : LineValue → List ℕ ⊎ (Commit ⊎ EntryValue)

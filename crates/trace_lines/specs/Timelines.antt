@@ -1,6 +1,7 @@
 -- What a trace declares and stores, without its entries.
 use Rattle.std.specs.Prelude.{ℕ}
-use Rattle.snapshots.specs.Snapshots.{TimelineValue, snapshot_at}
+use Rattle.snapshots.specs.Snapshots.{snapshot_at}
+use Rattle.snapshots.specs.Timelines.{TimelineValue}
 use Rattle.snapshots.specs.declared.snapshot.Snapshot.{Snapshot}
 use Rattle.trace_lines.specs.Values.{TraceValue}
 

@@ -10,7 +10,7 @@ use Rattle.rewrites.specs.declared.parts.Part.{Part}
 use Rattle.rewrites.specs.declared.parts.Through.{Through}
 use Rattle.marks.proofs.PlacedLemmas.{length-set, slice_get-set}
 use Rattle.tuple_text.specs.Tuples.{FactValue}
-use Rattle.snapshots.specs.Snapshots.{TimelineValue}
+use Rattle.snapshots.specs.Timelines.{TimelineValue}
 use Rattle.snapshots.specs.declared.snapshot.Snapshot.{Snapshot}
 use Rattle.wide_rules.specs.Asked.{Does}
 use Rattle.wide_rules.specs.Declaring.{AreKeptByPart, MayBeKept}

@@ -7,7 +7,8 @@ use Rattle.rewrites.specs.Alike.{Leaves, gives, bars}
 use Rattle.rewrites.specs.Expression.{Expression, union, inter}
 use Rattle.rewrites.specs.Parts.{part_at}
 use Rattle.rewrites.specs.View.{children}
-use Rattle.snapshots.specs.Snapshots.{TimelineValue, rules_in, tuples_in}
+use Rattle.snapshots.specs.Snapshots.{rules_in, tuples_in}
+use Rattle.snapshots.specs.Timelines.{TimelineValue}
 use Rattle.snapshots.specs.declared.snapshot.Snapshot.{Snapshot}
 use Rattle.judgement.specs.Judgement.{KnownValue, Established, Refuted}
 use Rattle.wide_rules.specs.declared.answers.Asked.{Asked}

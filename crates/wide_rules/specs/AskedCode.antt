@@ -4,7 +4,7 @@ use Rattle.std.specs.Coded.{Coded, code_by, coded×, coded_list}
 use Rattle.rewrites.specs.Expression.{Expression}
 use Rattle.rewrites.specs.ExpressionCode.{expression_code}
 use Rattle.snapshots.specs.Codes.{timeline_code}
-use Rattle.snapshots.specs.Snapshots.{TimelineValue}
+use Rattle.snapshots.specs.Timelines.{TimelineValue}
 use Rattle.wide_rules.specs.Asked.{PartsValue, RuleValue}
 
 abbrev pub parts_code : Coded PartsValue

@@ -13,7 +13,8 @@ use Rattle.rewrites.specs.declared.parts.Through.{Through}
 use Rattle.strata.specs.Meaning.{IsStored}
 use Rattle.userset_index.specs.Numbers.{Has}
 use Rattle.userset_index.specs.declared.numbers.Numbers.{Numbers}
-use Rattle.snapshots.specs.Snapshots.{TimelineValue, rules_in, snapshot_at, tuples_in}
+use Rattle.snapshots.specs.Snapshots.{rules_in, snapshot_at, tuples_in}
+use Rattle.snapshots.specs.Timelines.{TimelineValue}
 use Rattle.snapshots.specs.declared.snapshot.Snapshot.{Snapshot}
 use Rattle.wide_rules.specs.declared.kept.Kept.{Kept}
 

@@ -5,7 +5,8 @@ ghost use Rattle.tuple_text.specs.Refs.{set_value};
 ghost use Rattle.tuple_text.specs.Tuples.{fact_of};
 ghost use Rattle.rewrites.specs.Parts.{part_at, parts_shown, node_expression, nodes_shown};
 ghost use Rattle.rewrites.specs.View.{expression_of};
-ghost use Rattle.snapshots.specs.Snapshots.{TimelineValue, snapshot_at};
+ghost use Rattle.snapshots.specs.Snapshots.{snapshot_at};
+ghost use Rattle.snapshots.specs.Timelines.{TimelineValue};
 ghost use Rattle.wide_rules.specs.Asked.{AreRight, AsksMore, Does, Follows, IsCoveredBy, Questions, Tells, asked_at, joined_of};
 ghost use Rattle.wide_rules.specs.Declaring.{AreKeptByPart};
 

@@ -128,6 +128,7 @@ pub(crate) fn are_barred_by_index<F: KnownFact>(
         ↔ AreBarred (rules_in snapshot.now) (tuples_in snapshot.now) known.now (set_value set.entry.set)
         (computed_names through.now) user }
 {
+    snapshot.fits();
     for number in numbers {
         if !is_namespace_out(snapshot, index, known, through, set, user, *number) {
             return false;

@@ -139,6 +139,7 @@ fn is_quiet(
     requires { IsKept snapshot.now.timeline through.now kept.now }
     ensures { IsTrue result → AreLive snapshot.now (set_value tupleset.entry.set) (computed_names through.now) [] }
 {
+    snapshot.fits();
     match stored_in(snapshot, tupleset) {
         Some(stored) => !stored.meets(kept.numbers),
         None => false,

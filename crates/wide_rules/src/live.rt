@@ -74,6 +74,7 @@ fn live_in_crowd(
     ensures { IfOk result (λ live. AreLive snapshot.now (set_value set.entry.set) (computed_names through.now)
         live.items) }
 {
+    snapshot.fits();
     let stored = stored_in(snapshot, set);
     let mut live = Vec::new(alloc);
     for number in declaring {
@@ -89,6 +90,7 @@ fn is_quiet(snapshot: &Snapshot<'_>, through: &Through, namespace: &str, declari
     requires { AreDeclaring snapshot.now.timeline.declarations (computed_names through.now) declaring.now }
     ensures { IsTrue result → DeclaresNone (rules_in snapshot.now) (computed_names through.now) namespace.now }
 {
+    snapshot.fits();
     let rules = snapshot.timeline.rules();
     !is_among(rules, namespace, declaring) || !declares_some(rules, through, namespace, snapshot.at)
 }
@@ -131,6 +133,7 @@ pub(crate) fn live_in(
     ensures { IfOk result (λ live. AreLive snapshot.now (set_value set.entry.set) (computed_names through.now)
         live.items) }
 {
+    snapshot.fits();
     let index = snapshot.timeline.usersets();
     if index.is_crowded(set) {
         return live_in_crowd(alloc, snapshot, index, through, set, declaring);

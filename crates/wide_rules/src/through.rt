@@ -60,6 +60,7 @@ fn bars_names<F: KnownFact>(
     requires { AreDeclaring snapshot.now.timeline.declarations (computed_names through.now) declaring.now }
     ensures { IsTrue result ↔ BarsNames (rules_in snapshot.now) known.now (computed_names through.now) user (set_value set.entry.set) }
 {
+    snapshot.fits();
     let rules = snapshot.timeline.rules();
     if !is_among(rules, set.set.namespace, declaring) {
         return true;

@@ -1,4 +1,4 @@
-use Rattle.std.proofs.Common.{◌≡◌, ℕ, List, Option, None, Some, ap, subst, sym}
+use Rattle.std.proofs.Common.{◌≡◌, ℕ, List, Option, None, Some, ap, subst, sym, arith}
 use Rattle.std.specs.Prelude.{All, option_map}
 use Rattle.tuple_text.specs.Refs.{set_value}
 use Rattle.snapshots.specs.Snapshots.{rules_in, tuples_in}
@@ -17,7 +17,7 @@ returns-in-None g c =
     let none : option_map (λ s. s.now) c.args.relation ≡ None = ap (option_map (λ s. s.now)) c.in-None.is in (
       λ h.
           subst (λ (o : Option (List ℕ)). IsBarred (rules_in s) (tuples_in s) c.args.known.now set o c.args.user) (sym none)
-          (barred_by_own s c.ranges.at.fits v (c.requires.index (and-left v.is_whole (is_crowded v.crowds (set_mark set)) c.requires.crowded)) set
+          (barred_by_own s c.fits.ensures v (c.requires.index (and-left v.is_whole (is_crowded v.crowds (set_mark set)) c.requires.crowded)) set
           (and-right v.is_whole (is_crowded v.crowds (set_mark set)) c.requires.crowded) c.args.known.now c.args.user
           (subst (All (IsTouchOut s c.args.known.now set None c.args.user)) c.own.ensures (c.are_out.ensures.out h))),
       λ barred.
@@ -33,7 +33,7 @@ returns-in-Some g c =
     let some : option_map (λ s. s.now) c.args.relation ≡ Some c.in-Some.relation.now = ap (option_map (λ s. s.now)) c.in-Some.is in (
       λ h.
           subst (λ (o : Option (List ℕ)). IsBarred (rules_in s) (tuples_in s) c.args.known.now set o c.args.user) (sym some)
-          (barred_by_through s c.ranges.at.fits v (c.requires.index (and-left v.is_whole (is_crowded v.crowds (set_mark set)) c.requires.crowded)) set
+          (barred_by_through s c.fits.ensures v (c.requires.index (and-left v.is_whole (is_crowded v.crowds (set_mark set)) c.requires.crowded)) set
           (and-right v.is_whole (is_crowded v.crowds (set_mark set)) c.requires.crowded) c.args.known.now c.args.user
           (c.are_out_through.ensures.few h) c.in-Some.relation.now (λ n g less stored place declared. c.are_out_through.ensures.out h n g less stored place)),
       λ barred.

@@ -1,4 +1,4 @@
-use Rattle.std.proofs.Common.{◌≡◌, ℕ, List, Option, None, Some, ◌↔◌, IsTrue, ap, sym, subst, rules}
+use Rattle.std.proofs.Common.{◌≡◌, ℕ, List, Option, None, Some, ◌↔◌, IsTrue, ap, sym, subst, rules, ◌<◌, ◌^◌}
 use Rattle.std.specs.Prelude.{All, option_map}
 use Rattle.tuple_text.specs.Refs.{set_value}
 use Rattle.marks.specs.Marks.{set_mark}
@@ -21,6 +21,7 @@ returns-in-None c =
 
 pub returns-then-eq : goal.returns-then-eq
 returns-then-eq c =
+    let small : c.args.snapshot.now.at < 2 ^ 64 = search rules in
     let s = c.args.snapshot.now in
     let set = set_value c.args.set.set in
     let t = set_value c.args.target.set in
@@ -29,6 +30,6 @@ returns-then-eq c =
     subst (λ (o : Option (List ℕ)). IsTrue c.is_one_of_object.result ↔ IsTargetStored (tuples_in s) set o t) (sym some)
     (target_by_test (tuples_in s) set t c.in-Some.relation.now c.is_one_of_object.result (search rules) c.is_one_of_object.ensures.stored
     (λ gone.
-    apart_by_objects s c.ranges.at.fits v (c.requires.index (and-left v.is_whole (is_crowded v.crowds (set_mark set)) c.requires.crowded)) set
+    apart_by_objects s small v (c.requires.index (and-left v.is_whole (is_crowded v.crowds (set_mark set)) c.requires.crowded)) set
     (and-right v.is_whole (is_crowded v.crowds (set_mark set)) c.requires.crowded) t
     (subst (All (IsTouchApart s set t)) c.of_object.ensures (c.is_one_of_object.ensures.apart gone))))

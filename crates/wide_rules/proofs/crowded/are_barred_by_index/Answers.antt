@@ -26,7 +26,7 @@ returns g c =
     let live = c.requires.numbers in
     let v = c.args.index.now in (
       λ t name named.
-          barred_by_through s c.ranges.at.fits v (c.requires.index (and-left v.is_whole (is_crowded v.crowds (set_mark set)) c.requires.crowded)) set
+          barred_by_through s c.fits.ensures v (c.requires.index (and-left v.is_whole (is_crowded v.crowds (set_mark set)) c.requires.crowded)) set
           (and-right v.is_whole (is_crowded v.crowds (set_mark set)) c.requires.crowded) c.args.known.now c.args.user live.few name
           (λ n h less stored place declared.
           let there = live.all (suc n) h name stored place named declared in

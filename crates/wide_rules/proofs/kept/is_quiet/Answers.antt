@@ -10,4 +10,4 @@ returns-in-Some c quiet =
     let kept = c.args.kept.now in
     let apart : c.meets.result ≡ false = search rules in
     none_shared s (set_value c.args.tupleset.set) (computed_names c.args.through.now) kept.declaring.items
-    c.in-Some.stored kept.numbers c.ranges.at.fits c.requires.declaring c.requires.numbers c.in-Some.ensures (c.meets.ensures apart)
+    c.in-Some.stored kept.numbers c.fits.ensures c.requires.declaring c.requires.numbers c.in-Some.ensures (c.meets.ensures apart)

@@ -1,4 +1,4 @@
-use Rattle.std.proofs.Common.{rules, ◌≡◌, ◌∙◌, [], Some, sym}
+use Rattle.std.proofs.Common.{rules, ◌≡◌, ◌∙◌, [], Some, sym, ◌<◌, ◌^◌}
 use Rattle.tuple_text.specs.Refs.{set_value}
 use Rattle.namespaces.specs.Lookup.{namespace_numbered}
 use Rattle.rewrites.specs.Parts.{computed_names}
@@ -11,11 +11,12 @@ use Rattle.wide_rules.proofs.live.is_live.Goals as goal
 
 pub returns-then-is_none : goal.returns-then-is_none
 returns-then-is_none c _ g stored place =
+    let small : c.args.snapshot.now.at < 2 ^ 64 = search rules in
     let s = c.args.snapshot.now in
     let set = set_value c.args.set.set in
     let v = c.args.index.now in
     let none : c.through-touches.result ≡ [] = search rules in
-    absurd (none_through s c.ranges.at.fits v
+    absurd (none_through s small v
     (c.requires.index (and-left v.is_whole (is_crowded v.crowds (set_mark set)) c.requires.crowded)) set
     (and-right v.is_whole (is_crowded v.crowds (set_mark set)) c.requires.crowded) g c.args.number place (sym c.through-touches.ensures ∙ none) stored)
 

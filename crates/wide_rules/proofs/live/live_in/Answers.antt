@@ -22,4 +22,4 @@ pub returns : goal.returns
 returns c =
     IfOk-weaker c.copied.result _ _
     (λ v is. rw is (live_declaring c.args.snapshot.now (set_value c.args.set.set)
-    (computed_names c.args.through.now) c.args.declaring.now c.ranges.at.fits c.requires)) c.copied.ensures
+    (computed_names c.args.through.now) c.args.declaring.now c.fits.ensures c.requires)) c.copied.ensures

@@ -43,5 +43,5 @@ loop-number-preserved c =
 pub returns : goal.returns
 returns c =
     live_by_numbers c.args.snapshot.now (set_value c.args.set.set) (computed_names c.args.through.now)
-    c.args.declaring.now c.loop-number.live.items c.ranges.at.fits c.requires.declaring
+    c.args.declaring.now c.loop-number.live.items c.fits.ensures c.requires.declaring
     (λ k n within at. c.loop-number.invariant k n (omega (arith, within, c.loop-number-test.false)) at)

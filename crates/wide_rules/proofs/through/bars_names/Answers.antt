@@ -10,10 +10,11 @@ use Rattle.wide_rules.proofs.ThroughLemmas.{names_enough}
 use Rattle.wide_rules.proofs.through.bars_names.Goals as goal
 
 pub returns-then-not-is_among : goal.returns-then-not-is_among
-returns-then-not-is_among g c = let none = rw c.rules.ensures at (c.is_among.ensures c.if-not-is_among.true) in (
-  λ t name named. inl (none (computed_names c.args.through.now) c.args.snapshot.now.at c.requires c.ranges.at.fits name named),
-  λ b. refl,
-)
+returns-then-not-is_among g c =
+    let none = rw c.rules.ensures at (c.is_among.ensures c.if-not-is_among.true) in (
+      λ t name named. inl (none (computed_names c.args.through.now) c.args.snapshot.now.at c.requires c.fits.ensures name named),
+      λ b. refl,
+    )
 
 pub returns-then-not-bars_name_at : goal.returns-then-not-bars_name_at
 returns-then-not-bars_name_at g c = (λ t. cc, λ b. sym c.if-not-bars_name_at.true ∙ c.bars_name_at.ensures.none b)

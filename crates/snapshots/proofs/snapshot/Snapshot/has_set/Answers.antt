@@ -5,7 +5,7 @@ use Rattle.version_chains.proofs.StoreLemmas.{store_at-iff}
 use Rattle.snapshots.proofs.snapshot.Snapshot.has_set.Goals as goal
 
 pub returns : goal.returns
-returns g c =
+returns c =
     let s = c.args.self.now in
     let both = store_at-iff s.timeline.commits s.at (tuple_of (set_value c.args.set.set) (Set (set_value c.args.user.set))) in
     rw (c.has_set.ensures, c.chains.ensures) (both.1, both.0)
