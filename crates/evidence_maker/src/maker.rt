@@ -114,7 +114,7 @@ pub fn make_after(
     }
     let snapshot = trace.timeline().at(entry.snapshot);
     let cone = explore(alloc, &snapshot, &entry.goal)?;
-    let mut gates = Gates::of(alloc, snapshot, &cone)?;
+    let mut gates = Gates::of(alloc, &snapshot, &cone)?;
     let steps = settle(alloc, trace, entry.snapshot, &cone, &mut gates)?;
     let short = slice(alloc, &mut gates, &steps)?;
     if is_record(trace, entry, &short)? {

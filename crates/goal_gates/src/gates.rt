@@ -64,7 +64,7 @@ pub(crate) struct WideFact {
 /// The gates of a cone. Those of its facts come first, each at its fact's place.
 #[derive(Drop)]
 pub struct Gates<'t> {
-    snapshot: Snapshot<'t>,
+    snapshot: &'t Snapshot<'t>,
     cone: &'t [Fact],
     // the facts of the cone by the marks of their usersets: they are all of one user
     places: Places,
@@ -109,7 +109,7 @@ impl<'t> Gates<'t> {
     /// The gates of a cone.
     pub fn of(
         alloc: Global,
-        snapshot: Snapshot<'t>,
+        snapshot: &'t Snapshot<'t>,
         cone: &'t [Fact],
     ) -> Result<Gates<'t>, AllocError> {
         let mut gates = Gates {
@@ -362,7 +362,8 @@ impl<'t> Gates<'t> {
         set: SetRef<'_>,
         relation: Option<&str>,
     ) -> Result<(), AllocError> {
-        let sets: Usersets<'_> = self.snapshot.usersets(MarkedSet::of(set));
+        let snapshot = self.snapshot;
+        let sets: Usersets<'_> = snapshot.usersets(MarkedSet::of(set));
         for set in sets {
             let set = SetRef {
                 relation: relation.unwrap_or(set.set.relation),

@@ -8,7 +8,7 @@
 //! `evidence_maker` looks at each fact again by its rule, and judges the steps that it makes of them.
 //!
 //! ```text
-//! let mut gates = Gates::of(alloc, snapshot, &cone)?;
+//! let mut gates = Gates::of(alloc, &snapshot, &cone)?;
 //! let places = gates.tell(&strata, 0)?;
 //! ```
 #![tactic(auto)]

@@ -23,7 +23,7 @@ pub(crate) fn name_at(through: &Through, k: usize) -> Option<&str>
 
 /// Whether a namespace declares, at a timestamp, one of the relations that are read, asked for these: at most as many as it declares.
 fn declares_name(rules: &Rules, through: &Through, namespace: &str, at: u64) -> bool
-    ensures { result ≡ false → DeclaresNone rules.now at (computed_names through.now) namespace.now }
+    ensures { result ≡ false → DeclaresNone (rule_at rules.now at) (computed_names through.now) namespace.now }
 {
     for k in 0..through.computed.len() {
         if let Some(relation) = name_at(through, k) {
@@ -42,7 +42,7 @@ fn declares_name(rules: &Rules, through: &Through, namespace: &str, at: u64) -> 
 
 /// The same, asked for those that it declares, of which there are 256 at most.
 fn declares_read(rules: &Rules, through: &Through, namespace: &str, at: u64) -> bool
-    ensures { result ≡ false → DeclaresNone rules.now at (computed_names through.now) namespace.now }
+    ensures { result ≡ false → DeclaresNone (rule_at rules.now at) (computed_names through.now) namespace.now }
 {
     for k in 0..rules.count_in_force(namespace, at) {
         if let Some(name) = rules.name_in_force(namespace, at, k) {
@@ -56,7 +56,7 @@ fn declares_read(rules: &Rules, through: &Through, namespace: &str, at: u64) -> 
 
 /// The same, asked for the shorter of both lists.
 pub(crate) fn declares_some(rules: &Rules, through: &Through, namespace: &str, at: u64) -> bool
-    ensures { result ≡ false → DeclaresNone rules.now at (computed_names through.now) namespace.now }
+    ensures { result ≡ false → DeclaresNone (rule_at rules.now at) (computed_names through.now) namespace.now }
 {
     if through.computed.len() < rules.count_in_force(namespace, at) {
         declares_name(rules, through, namespace, at)
@@ -67,7 +67,7 @@ pub(crate) fn declares_some(rules: &Rules, through: &Through, namespace: &str, a
 
 /// Whether it ever does. What is declared stays declared, so the last declaration tells.
 fn declares_ever(rules: &Rules, through: &Through, namespace: &str) -> bool
-    ensures { result ≡ false → (at : ℕ) → at < 2 ^ 64 → DeclaresNone rules.now at (computed_names through.now) namespace.now }
+    ensures { result ≡ false → (at : ℕ) → at < 2 ^ 64 → DeclaresNone (rule_at rules.now at) (computed_names through.now) namespace.now }
 {
     declares_some(rules, through, namespace, u64::MAX)
 }
@@ -95,7 +95,7 @@ pub(crate) fn declaring(
 /// Whether the namespace of this name is among some.
 pub(crate) fn is_among(rules: &Rules, namespace: &str, numbers: &[u16]) -> bool
     ensures { result ≡ false → (names : List (List ℕ)) (at : ℕ) → AreDeclaring rules.now names numbers.now → at < 2 ^ 64
-        → DeclaresNone rules.now at names namespace.now }
+        → DeclaresNone (rule_at rules.now at) names namespace.now }
 {
     match rules.namespace_number(namespace) {
         Some(number) => numbers.contains(&number),

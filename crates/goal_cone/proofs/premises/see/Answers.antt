@@ -2,7 +2,7 @@ use Rattle.std.proofs.Common.{◌≡◌, inl, inr, arith, false, IsTrue, ◌∷�
 use Rattle.std.specs.Prelude.{Contains}
 use Rattle.tuple_text.specs.Refs.{set_value}
 use Rattle.tuple_text.specs.Tuples.{fact_of}
-use Rattle.namespaces.specs.Lookup.{Rule, rule_at, rule_of}
+use Rattle.namespaces.specs.Lookup.{Rule, rule_of}
 use Rattle.rewrites.specs.View.{expression_of}
 use Rattle.snapshots.specs.Snapshots.{rules_in, tuples_in}
 use Rattle.judgement.specs.Judgement.{IsUndeclared}
@@ -12,8 +12,8 @@ use Rattle.goal_cone.proofs.premises.see.Goals as goal
 
 declared : (c : After-len) → ¬ IsUndeclared (rules_in c.args.snapshot.now) (set_value c.args.set)
 declared c =
-    declared_by (λ r. expression_of r.now) (λ (r : Rule). r.expression) c.body.result (rule_of (rules_in c.args.snapshot.now) (set_value c.args.set))
-    (rw c.rules.ensures.declarations at c.body.ensures) c.if-is_none.ensures
+    declared_by (λ r. expression_of r.now) (λ (r : Rule). r.expression) c.rule.result (rule_of (rules_in c.args.snapshot.now) (set_value c.args.set))
+    c.rule.ensures c.if-is_none.ensures
 
 absent : (c : After-len) → ¬ Contains c.args.seen.now (fact_of (set_value c.args.set) c.args.user)
 absent c h = let t : IsTrue c.has.result = c.has.ensures.1 h in let f : c.has.result ≡ false = c.if-has.false in cc

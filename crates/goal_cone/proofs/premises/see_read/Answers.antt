@@ -1,6 +1,6 @@
 use Rattle.std.proofs.Common.{◌≡◌, map, option_map, subst}
 use Rattle.tuple_text.specs.Sets.{SetValue}
-use Rattle.namespaces.specs.Lookup.{Rule, rule_at, rule_of, expression_in}
+use Rattle.namespaces.specs.Lookup.{Rule, rule_of, expression_in}
 use Rattle.rewrites.specs.View.{children, expression_of}
 use Rattle.snapshots.specs.Snapshots.{rules_in, tuples_in}
 use Rattle.goal_cone.specs.Bounds.{links_all, links_of}
@@ -16,10 +16,10 @@ found c =
     let number = c.in_ok-number.ensures.number in
     found_leaves c.args.snapshot.now.timeline.declarations c.number.new.self.rules.items c.in_ok-number.number number.0 c.index.result.now c.in-Some.place
     (option_map (λ (r : Rule). r.expression) (rule_of (rules_in c.args.snapshot.now) c.args.fact.now.set))
-    (rw c.rules-2.ensures.declarations at c.in_ok-number.ensures.placed) number.1 number.2 c.index.ensures
+    (rw c.rules-2.ensures at c.in_ok-number.ensures.placed) number.1 number.2 c.index.ensures
     (subst (λ (g : SetValue). expression_in c.in-Some.place c.args.snapshot.now.timeline.declarations
     ≡ option_map (λ (r : Rule). r.expression) (rule_of (rules_in c.args.snapshot.now) g)) c.set.ensures.parts
-    (rw c.rules.ensures.declarations at c.in-Some.ensures))
+    (rw c.rules.ensures at c.in-Some.ensures))
 
 pub returns-clause-seen : goal.returns-clause-seen
 returns-clause-seen c =

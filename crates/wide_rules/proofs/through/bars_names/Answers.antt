@@ -11,7 +11,7 @@ use Rattle.wide_rules.proofs.through.bars_names.Goals as goal
 
 pub returns-then-not-is_among : goal.returns-then-not-is_among
 returns-then-not-is_among g c =
-    let none = rw c.rules.ensures at (c.is_among.ensures c.if-not-is_among.true) in (
+    let none = rw c.rules-rules.ensures at (c.is_among.ensures c.if-not-is_among.true) in (
       λ t name named. inl (none (computed_names c.args.through.now) c.args.snapshot.now.at c.requires c.fits.ensures name named),
       λ b. refl,
     )
@@ -36,7 +36,7 @@ returns g c =
     let names = computed_names c.args.through.now in
     let each = each_element (λ n. Contains names n → BarsId (rules_in s) c.args.known.now (Some n) c.args.user set)
     (names_in_force s.at set.namespace ds)
-    (λ k n within at. c.loop-k.invariant k n (omega (arith, within, c.loop-k-test.false, rw c.rules.ensures at c.count_in_force-k-end.ensures.count)) at) in (
-      λ t. names_enough ds s.at c.args.known.now names c.args.user set (rw c.rules.ensures at c.count_in_force-k-end.ensures.whole) each,
+    (λ k n within at. c.loop-k.invariant k n (omega (arith, within, c.loop-k-test.false, rw c.rules-rules.ensures at c.count_in_force-k-end.ensures.count)) at) in (
+      λ t. names_enough ds s.at c.args.known.now names c.args.user set (rw c.rules-rules.ensures at c.count_in_force-k-end.ensures.whole) each,
       λ b. refl,
     )
