@@ -47,6 +47,8 @@ KIND is one of
   wide_tuples    a rule of many intersections of relations that are read through ten tuplesets, no two alike and none declared
   wide_stored    the same, and each tupleset stores 17 usersets, among 250 namespaces
   same_object    a tupleset that stores usersets of one object alone, and facts that name what is read of it
+  same_object_in_turn      the same, where each userset is removed when the next is added, and a record at each snapshot, in random order
+  same_object_overlapping  the same, where each userset stays until a fifth of them are added behind it
   wide_folders   as `wide_through`, and each fact is of another object, in whose tupleset a userset is stored
   ring           groups in a circle, and checks that each of many strangers is not in it: for `make`
   wide_make      a rule of many places that compute one relation, and objects in a chain of such rules: for `make`
@@ -622,10 +624,14 @@ def wide_tuples(size, names=0):
     return asked_of_many(given)
 
 
-def same_object(size):
+def one_object(size):
     rule = {"tuple_to": {"tupleset": "parent", "computed": "member"}}
-    given = Input(size, [{"name": "doc", "relations": [relation("parent"), relation("viewer", rule)]},
-                         {"name": "group", "relations": [relation("member")]}])
+    return Input(size, [{"name": "doc", "relations": [relation("parent"), relation("viewer", rule)]},
+                        {"name": "group", "relations": [relation("member")]}])
+
+
+def same_object(size):
+    given = one_object(size)
     k = 0
     while given.bytes < size // 2:
         given.commit([f"doc:a#parent@group:g#x{j}" for j in range(k, k + 100)])
@@ -635,6 +641,21 @@ def same_object(size):
         users = range(user, user + min(max((given.size - given.bytes) // 40, 1), 20000))
         refused(given, [f"{goal}@{one}" for one in users for goal in ("doc:a#viewer", "group:g#member")])
         user += len(users)
+    return given
+
+
+def same_object_for(size, stay):
+    """Each userset of the object is removed when so many are added behind it."""
+    given = one_object(size)
+    k = 0
+    while given.bytes < size // 2:
+        given.commit([f"doc:a#parent@group:g#x{k}"], [f"doc:a#parent@group:g#x{k - stay}"] if k >= stay else [])
+        k += 1
+    order = random.Random(7)
+    user = 0
+    while not given.is_full():
+        refused(given, [f"doc:a#viewer@{user}", f"group:g#member@{user}"], order.randrange(1, k + 1))
+        user += 1
     return given
 
 
@@ -812,6 +833,8 @@ KINDS = {
     "wide_tuples": wide_tuples,
     "wide_stored": lambda size: wide_tuples(size, 250),
     "same_object": same_object,
+    "same_object_in_turn": lambda size: same_object_for(size, 1),
+    "same_object_overlapping": lambda size: same_object_for(size, max(size // 1000, 1)),
     "wide_folders": wide_folders,
     "ring": ring,
     "wide_make": wide_make,

@@ -14,12 +14,12 @@ use Rattle.namespaces.proofs.Growth.{is_declared-names}
 use Rattle.rewrites.proofs.Names.{one_name}
 use Rattle.strata.proofs.Newest.{position_item, position_none}
 use Rattle.strata.specs.Meaning.{with_relation, IsStored}
-use Rattle.version_chains.specs.Commits.{Touch, changelog}
+use Rattle.version_chains.specs.Commits.{Touch, changelog, is_stored}
 use Rattle.marks.specs.Marks.{pair_mark, set_mark}
 use Rattle.version_chains.proofs.StoreLemmas.{store_at-iff}
-use Rattle.userset_index.specs.Index.{IndexValue, IsFound, IsLastTouch, IsWhole, is_crowded, object_mark}
+use Rattle.userset_index.specs.Index.{IndexValue, IsFoundThrough, IsLastTouch, IsWhole, is_crowded, object_mark}
 use Rattle.userset_index.specs.Lives.{touches_alive}
-use Rattle.userset_index.proofs.CallerLemmas.{each_found, stored_by_touch}
+use Rattle.userset_index.proofs.CallerLemmas.{each_found, stored_by_touch, touch_stored}
 use Rattle.snapshots.specs.Snapshots.{rules_in, tuples_in}
 use Rattle.snapshots.specs.declared.snapshot.Snapshot.{Snapshot}
 use Rattle.judgement.specs.Decided.{dec_undeclared}
@@ -92,19 +92,20 @@ module _ (s : Snapshot) (small : s.at < 2 ^ 64) (v : IndexValue) (is : IsWhole s
   crowded_there : (x : Touch) (g : SetValue) → x.tuple ≡ tuple_of set (Set g) → is_crowded v.crowds (set_mark x.tuple.set) ≡ true
   crowded_there x g same = ap (λ (t : TupleValue). is_crowded v.crowds (set_mark t.set)) same ∙ crowded
 
-  -- it is found by the number of its namespace
-  through_there : (g : SetValue) (n : ℕ) → place_of g.namespace (namespace_names s.timeline.declarations) ≡ Some n
-      → (i : ℕ) (x : Touch) → IsLastTouch (changelog s.timeline.commits) s.at i x → x.tuple ≡ tuple_of set (Set g) → IsFound v.through (pair_mark (set_mark set) n) s.at i
-  through_there g n place i x last same =
-      let mark : pair_mark (set_mark set) n ≡ pair_mark (set_mark x.tuple.set) n = ap (λ (t : TupleValue). pair_mark (set_mark t.set) n) (sym same) in
-      is.through i s.at (pair_mark (set_mark set) n) x g last (ap (λ (t : TupleValue). t.user) same) (crowded_there x g same) small (n, place, mark)
+  -- one of its object is found by the number of its namespace
+  through_there : (g : SetValue) (n : ℕ) → place_of g.namespace (namespace_names s.timeline.declarations) ≡ Some n → IsStored (tuples_in s) set (Set g)
+      → IsFoundThrough (changelog s.timeline.commits) v.through (pair_mark (set_mark set) n) s.at set g
+  through_there g n place stored =
+      let w = of_stored g stored in
+      subst (λ (x : SetValue). IsFoundThrough (changelog s.timeline.commits) v.through (pair_mark (set_mark x) n) s.at x g) (ap (λ (t : TupleValue). t.set) w.3)
+      (is.through w.0 s.at n w.1 g w.2 (ap (λ (t : TupleValue). t.user) w.3) (crowded_there w.1 g w.3) small place)
 
   -- so where nothing is found, none is stored
   pub none_through : (g : SetValue) (n : ℕ) → place_of g.namespace (namespace_names s.timeline.declarations) ≡ Some n
       → touches_alive (pair_mark (set_mark set) n) s.at v.through (length v.through) ≡ [] → ¬ IsStored (tuples_in s) set (Set g)
   none_through g n place none stored =
-      let w = of_stored g stored in
-      each_found (λ (i : ℕ). ⊥) v.through (pair_mark (set_mark set) n) s.at w.0 (through_there g n place w.0 w.1 w.2 w.3)
+      let f = through_there g n place stored in
+      each_found (λ (i : ℕ). ⊥) v.through (pair_mark (set_mark set) n) s.at f.touch f.found
       (rw none (λ k d less. absurd (omega (arith, less))))
 
   pub apart_by_objects : (other : SetValue) → All (IsTouchApart s set other) (touches_alive (object_mark set other) s.at v.objects (length v.objects))
@@ -145,8 +146,11 @@ module _ (s : Snapshot) (small : s.at < 2 ^ 64) (v : IndexValue) (is : IsWhole s
         by_rule (yes none) = inl none
         by_rule (no declared) =
             let n = numbered s.timeline.declarations s.at g.namespace relation declared few in
-            let w = of_stored g stored in
-            let found = through_there g (suc n.0) n.2 w.0 w.1 w.2 w.3 in
-            of_touch (Some relation) g stored w.0 w.1 w.2 w.3
-            (each_found (IsTouchOut s known set (Some relation) id) v.through (pair_mark (set_mark set) (suc n.0)) s.at w.0 found
-            (all n.0 g n.1 stored n.2 declared g.namespace n.3 declared))
+            let f = through_there g (suc n.0) n.2 stored in
+            let there = ap (is_stored s.timeline.commits s.at) (sym f.stored) ∙ touch_stored s.timeline.commits s.at f.touch f.is f.last in
+            let target : with_relation f.of relation ≡ with_relation g relation =
+            λ i. record { namespace = f.one_namespace i; id = f.one_id i; relation = relation } in
+            subst (λ (t : SetValue). IsOut (rules_in s) known (fact_of t id)) target
+            (of_touch (Some relation) f.of ((store_at-iff s.timeline.commits s.at (tuple_of set (Set f.of))).1 there) f.touch f.is f.last f.stored
+            (each_found (IsTouchOut s known set (Some relation) id) v.through (pair_mark (set_mark set) (suc n.0)) s.at f.touch f.found
+            (all n.0 g n.1 stored n.2 declared g.namespace n.3 declared)))

@@ -20,7 +20,7 @@ use Rattle.marks.specs.Marks.{set_mark}
 use Rattle.marks.specs.Placed.{last_place, passes}
 use Rattle.marks.proofs.PlacedLemmas.{at_last_place, slice_get-cases, slice_get-set}
 use Rattle.userset_index.specs.Building.{HaveEnds, HoldsFirst, IsEnd, IsLifeOf, IsUndeclaredBelow, kept}
-use Rattle.userset_index.specs.Index.{Holds, IsFound, IsLastTouch, IsMark, count_of, few, is_crowded}
+use Rattle.userset_index.specs.Index.{Holds, HoldsThrough, IsFound, IsLastTouch, IsMark, count_of, few, is_crowded}
 use Rattle.userset_index.specs.Lives.{is_alive}
 use Rattle.userset_index.specs.declared.life.Life.{Life}
 use Rattle.userset_index.specs.declared.life.Way.{Way}
@@ -163,4 +163,9 @@ none_passes p (x ∷ xs) (suc n) e = none_passes p xs n (or_false (p x) (list_an
 -- where no count is high, nothing is looked for
 pub holds_none : (ds : List Declaration) (way : Way) (touches : List Touch) (crowds : List ℕ) → list_any (nat_lt few) crowds ≡ false → Holds ds way touches crowds []
 holds_none ds way touches crowds e i at mark x g last is crowded =
+    absurd (true≢false (sym crowded ∙ none_passes (nat_lt few) crowds (count_of (set_mark x.tuple.set)) e))
+
+-- where no count is high, nothing is looked for through a userset
+pub through_none : (ds : List Declaration) (touches : List Touch) (crowds : List ℕ) → list_any (nat_lt few) crowds ≡ false → HoldsThrough ds touches crowds []
+through_none ds touches crowds e i at n x g last is crowded =
     absurd (true≢false (sym crowded ∙ none_passes (nat_lt few) crowds (count_of (set_mark x.tuple.set)) e))

@@ -2,7 +2,7 @@
 use Rattle.std.proofs.Common.{◌≡◌, ℕ, zero, suc, ◌<◌, ◌≤◌, Bool, true, false, cond, List, [], ◌∷◌, length, map, refl, sym, ◌∙◌, ap, subst, Option, None, Some, ◌⊎◌, inl, inr, arith, leb}
 use Rattle.std.specs.Prelude.{slice_get, All}
 use Rattle.std.proofs.Math.Nat.{eq-or-lt_of_le}
-use Rattle.std.proofs.lemmas.Bool.{eq-eqb, leb-true, leb-false}
+use Rattle.std.proofs.lemmas.Bool.{eq-eqb, le-leb, leb-true, leb-false}
 use Rattle.std.proofs.lemmas.List.Elements.{All-head, All-tail}
 use Rattle.std.proofs.lemmas.Option.{slice_get_read}
 use Rattle.tuple_text.specs.Order.{tuple_eq}
@@ -80,6 +80,43 @@ stored_by_touch commits at t h = elim (last_among t at (changelog commits) false
   | inl n ↦ absurd (let bad : false ≡ true = n.0 in cc)
   | inr w ↦ w
 ]
+
+-- where no touch of a tuple is at or below a timestamp, none decides
+none_until : (t : TupleValue) (at : ℕ) (xs : List Touch) (before : Bool) → AreAfter t at xs → last_live before (touches_to t (until at xs)) ≡ before
+none_until t at [] before after = refl
+none_until t at (x ∷ xs) before after = by_tests (leb x.at at) refl (tuple_eq x.tuple t) refl (none_until t at xs before (λ j y here same. after (suc j) y here same))
+  where
+    by_tests : (b : Bool) → leb x.at at ≡ b → (c : Bool) → tuple_eq x.tuple t ≡ c → last_live before (touches_to t (until at xs)) ≡ before
+        → last_live before (touches_to t (until at (x ∷ xs))) ≡ before
+    by_tests false e c f rest = rw e rest
+    by_tests true e false f rest = rw (e, f) rest
+    by_tests true e true f rest =
+        let late = after zero x refl (tuple_eq-same x.tuple t f) in
+        let early = leb-true x.at at e in
+        absurd (omega (arith, late, early))
+
+last_decides : (xs : List Touch) (at i : ℕ) (x : Touch) (before : Bool) → IsLastTouch xs at i x → last_live before (touches_to x.tuple (until at xs)) ≡ true
+last_decides [] at i x before last = absurd (let none = last.here in let bad : None ≡ Some x = none in cc)
+last_decides (y ∷ ys) at zero x before last =
+    let is : y ≡ x = let here = last.here in cc in
+    let own : tuple_eq y.tuple x.tuple ≡ true = ap (λ (z : Touch). tuple_eq z.tuple x.tuple) is ∙ tuple_eq-itself x.tuple in
+    let early : leb y.at at ≡ true = ap (λ (z : Touch). leb z.at at) is ∙ le-leb x.at at last.until in
+    rw (early, own)
+    (none_until x.tuple at ys y.live (λ j z here same. last.last (suc j) z (omega arith) here same) ∙ ap (λ (z : Touch). z.live) is ∙ last.adds)
+last_decides (y ∷ ys) at (suc i) x before last = by_tests (leb y.at at) refl (tuple_eq y.tuple x.tuple) refl (λ b. last_decides ys at i x b rest)
+  where
+    rest : IsLastTouch ys at i x
+    rest = record { here = last.here; until = last.until; adds = last.adds; last = λ j z less here same. last.last (suc j) z (omega (arith, less)) here same }
+
+    by_tests : (b : Bool) → leb y.at at ≡ b → (c : Bool) → tuple_eq y.tuple x.tuple ≡ c → ((d : Bool) → last_live d (touches_to x.tuple (until at ys)) ≡ true)
+        → last_live before (touches_to x.tuple (until at (y ∷ ys))) ≡ true
+    by_tests false e c f further = rw e (further before)
+    by_tests true e false f further = rw (e, f) (further before)
+    by_tests true e true f further = rw (e, f) (further y.live)
+
+-- the last of its touches makes a tuple stored
+pub touch_stored : (commits : List Commit) (at i : ℕ) (x : Touch) → IsLastTouch (changelog commits) at i x → is_stored commits at x.tuple ≡ true
+touch_stored commits at i x last = last_decides (changelog commits) at i x false last
 
 -- ---- what a pass over the touches of an index shows
 

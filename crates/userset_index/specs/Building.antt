@@ -1,5 +1,5 @@
 -- What the passes leave that make an index. No public clause cites this module.
-use Rattle.std.specs.Prelude.{◌≡◌, ◌≤◌, ◌<◌, ◌^◌, ℕ, true, List, [], ◌∷◌, ◌++◌, Option, None, Some, length, slice_get}
+use Rattle.std.specs.Prelude.{◌≡◌, ◌≤◌, ◌<◌, ◌^◌, ℕ, true, List, [], ◌∷◌, ◌++◌, Option, None, Some, length, slice_get, Contains}
 use Rattle.tuple_text.specs.Sets.{SetValue}
 use Rattle.tuple_text.specs.declared.users.User.TheVariants.{Set}
 use Rattle.namespaces.specs.Declaration.{Declaration}
@@ -21,10 +21,23 @@ abbrev pub HaveEnds : List Touch → List ℕ → Type 0
 HaveEnds touches ends =
     (i : ℕ) (x : Touch) (end : ℕ) → slice_get touches i ≡ Some x → slice_get ends i ≡ Some end → IsEnd touches i x end
 
+-- up to its end no later one among the first so many touches is of its tuple
+abbrev pub AreLastAmong : ℕ → List Touch → List ℕ → Type 0
+AreLastAmong n touches ends =
+    (i j end : ℕ) (x y : Touch) → slice_get touches i ≡ Some x → slice_get ends i ≡ Some end → i < j → j < n
+    → slice_get touches j ≡ Some y → y.tuple ≡ x.tuple → end < y.at
+
 -- an end for each touch
 pub record AreEnds (touches : List Touch) (ends : List ℕ) : Type 0 where
   pub all : length ends ≡ length touches
   pub each : HaveEnds touches ends
+  pub last : AreLastAmong (length touches) touches ends
+
+-- a later touch of a tuple has a later timestamp
+abbrev pub AreRising : List Touch → Type 0
+AreRising touches =
+    (i j : ℕ) (x y : Touch) → i < j → slice_get touches i ≡ Some x → slice_get touches j ≡ Some y → y.tuple ≡ x.tuple
+    → x.at < y.at
 
 abbrev pub IsNeverDeclared : List Declaration → SetValue → Type 0
 IsNeverDeclared ds g = (at : ℕ) → at < 2 ^ 64 → rule_of (rule_at ds at) g ≡ None
@@ -44,6 +57,20 @@ IsLifeOf ds way crowds i x end life =
     → is_crowded crowds (set_mark x.tuple.set) ≡ true → at < 2 ^ 64
     → x.at ≤ at → at ≤ end → IsMark ds way x.tuple.set g at mark
     → (l : Life) × (life ≡ Some l) × (l.mark ≡ mark) × (l.touch ≡ i) × (is_alive at l ≡ true)
+
+-- a life of a touch that adds, from no earlier than that on and up to its end at most
+pub record IsWithin (i : ℕ) (x : Touch) (end : ℕ) (l : Life) : Type 0 where
+  pub of : l.touch ≡ i
+  pub adds : x.live ≡ true
+  pub since : x.at ≤ l.from
+  pub until : l.until ≤ end
+
+-- at each timestamp of a life its touch is the last of its tuple
+abbrev pub IsTimely : List Touch → Life → Type 0
+IsTimely touches l = (at : ℕ) → is_alive at l ≡ true → (x : Touch) × IsLastTouch touches at l.touch x
+
+abbrev pub AreTimely : List Touch → List Life → Type 0
+AreTimely touches lives = (l : Life) → Contains lives l → IsTimely touches l
 
 -- with a life behind the others, if there is one
 abbrev pub kept : List Life → Option Life → List Life

@@ -1,6 +1,7 @@
 -- What an index finds: the touches that make a userset stored in another at a timestamp.
 use Rattle.std.specs.Prelude.{◌≡◌, ◌≤◌, ◌<◌, ◌/◌, ◌^◌, ℕ, Bool, true, List, [], None, Some, slice_get, nat_lt, Contains}
 use Rattle.tuple_text.specs.Sets.{SetValue}
+use Rattle.tuple_text.specs.Tuples.{tuple_of}
 use Rattle.tuple_text.specs.declared.users.User.TheVariants.{Set}
 use Rattle.namespaces.specs.Declaration.{Declaration}
 use Rattle.namespaces.specs.Lookup.{rule_at, rule_of, place_of, namespace_names}
@@ -12,11 +13,11 @@ use Rattle.userset_index.specs.Numbers.{Has}
 use Rattle.userset_index.specs.declared.life.Life.{Life}
 use Rattle.userset_index.specs.declared.life.Way.{Way}
 use Rattle.userset_index.specs.declared.numbers.Numbers.{Numbers}
-use Rattle.userset_index.specs.declared.life.Way.TheVariants.{Own, Through, Object}
+use Rattle.userset_index.specs.declared.life.Way.TheVariants.{Own, Object}
 
 -- what a contract sees of an index: whether it holds of the changelog and the rules; the counts by which usersets are
--- crowded; the lives by the mark of the userset that is stored in; those by that and a namespace; and those by that
--- and an object. And whether the moments hold of them: lives by the mark of the userset that is stored in, at whose
+-- crowded; the lives by the mark of the userset that is stored in; those by that and a namespace, where one of an object
+-- is enough at a time; and those by that and an object. And whether the moments hold of them: lives by the mark of the userset that is stored in, at whose
 -- places stand the namespaces of which something is stored there while they last
 pub record IndexValue : Type 0 where
   pub is_whole : Bool
@@ -63,11 +64,9 @@ abbrev pub object_mark : SetValue → SetValue → ℕ
 object_mark s g = pair_mark (set_mark s) (set_mark (record g { relation = [] }))
 
 -- a mark by which a userset g that is stored in another, s, is looked for at a timestamp: for its own members, where
--- it is declared then; through it, by its namespace; or by its object
+-- it is declared then; or by its object
 abbrev pub IsMark : List Declaration → Way → SetValue → SetValue → ℕ → ℕ → Type 0
 IsMark ds Own s g at mark = (mark ≡ set_mark s) × IsDeclaredAt ds at g
-IsMark ds Through s g at mark =
-    (n : ℕ) × (place_of g.namespace (namespace_names ds) ≡ Some n) × (mark ≡ pair_mark (set_mark s) n)
 IsMark ds Object s g at mark = mark ≡ object_mark s g
 
 -- each touch that makes a userset stored in a crowded one at a timestamp is found by such a mark
@@ -76,6 +75,26 @@ Holds ds way touches crowds lives =
     (i at mark : ℕ) (x : Touch) (g : SetValue) → IsLastTouch touches at i x → x.tuple.user ≡ Set g
     → is_crowded crowds (set_mark x.tuple.set) ≡ true → at < 2 ^ 64 → IsMark ds way x.tuple.set g at mark
     → IsFound lives mark at i
+
+-- one of the lives with the mark holds the timestamp, and its touch makes a userset of the object of g stored in s then
+pub record IsFoundThrough (touches : List Touch) (lives : List Life) (mark at : ℕ) (s g : SetValue) : Type 0 where
+  pub touch : ℕ
+  pub is : Touch
+  pub of : SetValue
+  pub last : IsLastTouch touches at touch is
+  pub stored : is.tuple ≡ tuple_of s (Set of)
+  pub one_namespace : of.namespace ≡ g.namespace
+  pub one_id : of.id ≡ g.id
+  pub found : IsFound lives mark at touch
+
+-- for each userset that is stored in a crowded one at a timestamp, one of its object that is stored there then is found
+-- by the number of its namespace
+abbrev pub HoldsThrough : List Declaration → List Touch → List ℕ → List Life → Type 0
+HoldsThrough ds touches crowds lives =
+    (i at n : ℕ) (x : Touch) (g : SetValue) → IsLastTouch touches at i x → x.tuple.user ≡ Set g
+    → is_crowded crowds (set_mark x.tuple.set) ≡ true → at < 2 ^ 64
+    → place_of g.namespace (namespace_names ds) ≡ Some n
+    → IsFoundThrough touches lives (pair_mark (set_mark x.tuple.set) n) at x.tuple.set g
 
 -- one of the lives with a mark holds a timestamp, and what stands at its place has a number
 pub record IsCovered (lives : List Life) (numbers : List Numbers) (mark n t : ℕ) : Type 0 where
@@ -95,7 +114,7 @@ HaveMoments ds touches lives numbers =
 
 pub record IsWhole (ds : List Declaration) (commits : List Commit) (v : IndexValue) : Type 0 where
   pub own : Holds ds Own (changelog commits) v.crowds v.own
-  pub through : Holds ds Through (changelog commits) v.crowds v.through
+  pub through : HoldsThrough ds (changelog commits) v.crowds v.through
   pub objects : Holds ds Object (changelog commits) v.crowds v.objects
   pub timed : v.is_timed ≡ true → HaveMoments ds (changelog commits) v.moments v.numbers
 

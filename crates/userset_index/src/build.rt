@@ -1,6 +1,6 @@
 //! Making an index, in passes over the changelog.
 
-ghost use Rattle.std.specs.Prelude.{◌≡◌, ◌<◌, ◌≤◌, ◌^◌, ◌++◌, ℕ, None, Some, List, length, slice_get, nat_lt, IfOk, MatchOption, OnOk, IsPermutation, Contains};
+ghost use Rattle.std.specs.Prelude.{◌≡◌, ◌<◌, ◌≤◌, ◌^◌, ◌++◌, ℕ, None, Some, List, length, slice_get, nat_lt, IfOk, MatchOption, OnOk, IfSome, IsPermutation, Contains};
 ghost use Rattle.std.specs.List.{list_any};
 ghost use Rattle.tuple_text.specs.Refs.{set_value};
 ghost use Rattle.tuple_text.specs.Sets.{SetValue};
@@ -8,7 +8,7 @@ ghost use Rattle.namespaces.specs.Lookup.{rule_at, rule_of};
 ghost use Rattle.version_chains.specs.Commits.{changelog};
 ghost use Rattle.marks.specs.Marks.{set_mark};
 ghost use Rattle.version_chains.specs.Touches.{touch_value};
-ghost use Rattle.userset_index.specs.Building.{AreEnds, IsUndeclaredBelow, IsKeyOf, IsLifeOf, IsNeverDeclared, kept};
+ghost use Rattle.userset_index.specs.Building.{AreEnds, AreRising, AreTimely, IsUndeclaredBelow, IsKeyOf, IsLifeOf, IsNeverDeclared, IsWithin, kept};
 ghost use Rattle.userset_index.specs.Index as spec;
 ghost use Rattle.userset_index.specs.Index.{Holds};
 
@@ -69,11 +69,19 @@ pub(crate) fn count_crowds(
     Ok(crowds)
 }
 
+/// A later touch of a tuple has a later timestamp: no commit touches a tuple twice. It computes nothing.
+fn touches_rise(chains: &Chains)
+    ensures { AreRising (changelog chains.now.commits) }
+{
+    let _ = chains.commits();
+}
+
 /// For each touch the last timestamp at which it may be the last of its tuple: one before the next touch of that
 /// tuple, else the greatest. It goes once over the changelog.
 pub(crate) fn ends_of(alloc: Global, chains: &Chains) -> Result<Vec<u64>, AllocError>
     ensures { IfOk result (λ ends. AreEnds (changelog chains.now.commits) ends.items) }
 {
+    touches_rise(chains);
     let mut ends = Vec::new(alloc);
     while let Some(touch) = chains.touch(ends.len()) {
         if touch.older > 0 {
@@ -131,10 +139,6 @@ fn key_of(way: Way, rules: &Rules, mark: u64, user: SetRef<'_>) -> Option<(u64, 
             let from = declared_from(rules, user)?;
             Some((mark, from))
         }
-        Way::Through => {
-            let number = rules.namespace_number(user.namespace)?;
-            Some((pair_mark(mark, u64::from(number)), 0))
-        }
         Way::Object => Some((object_mark(mark, user), 0)),
     }
 }
@@ -149,7 +153,8 @@ fn life_of(
     touch: TouchRef<'_>,
     end: u64,
 ) -> Option<Life>
-    ensures { IsLifeOf rules.now way crowds.now index (touch_value touch.entry) end result }
+    ensures finds { IsLifeOf rules.now way crowds.now index (touch_value touch.entry) end result }
+    ensures within { IfSome result (IsWithin index (touch_value touch.entry) end) }
 {
     let UserRef::Set(user) = touch.user.user else {
         return None;
@@ -168,7 +173,7 @@ fn life_of(
 }
 
 /// Puts a life last, if there is one.
-fn keep(lives: &mut Vec<Life>, life: Option<Life>) -> Result<(), AllocError>
+pub(crate) fn keep(lives: &mut Vec<Life>, life: Option<Life>) -> Result<(), AllocError>
     ensures { OnOk result (lives.new.items ≡ kept lives.old.items life) }
 {
     if let Some(life) = life {
@@ -178,7 +183,7 @@ fn keep(lives: &mut Vec<Life>, life: Option<Life>) -> Result<(), AllocError>
 }
 
 /// The lives that can matter, in the order of their touches. It goes once over the changelog.
-fn lives_of(
+pub(crate) fn lives_of(
     alloc: Global,
     way: Way,
     chains: &Chains,
@@ -187,7 +192,8 @@ fn lives_of(
     ends: &[u64],
 ) -> Result<Vec<Life>, AllocError>
     requires { AreEnds (changelog chains.now.commits) ends.now }
-    ensures { IfOk result (λ lives. Holds rules.now way (changelog chains.now.commits) crowds.now lives.items) }
+    ensures holds { IfOk result (λ lives. Holds rules.now way (changelog chains.now.commits) crowds.now lives.items) }
+    ensures timely { IfOk result (λ lives. AreTimely (changelog chains.now.commits) lives.items) }
 {
     let mut lives = Vec::new(alloc);
     for index in 0..ends.len() {

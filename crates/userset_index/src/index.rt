@@ -11,6 +11,7 @@ use crate::build::{count_crowds, ends_of, is_any_crowded, is_crowded, linked_liv
 use crate::life::Way;
 use crate::moments::Times;
 use crate::numbers::Numbers;
+use crate::objects::linked_through;
 use crate::spans::{Alive, Spans};
 use marks::{MarkedSet, pair_mark};
 use namespaces::Rules;
@@ -85,7 +86,7 @@ impl UsersetIndex {
             });
         }
         let own = linked_lives(alloc, Way::Own, chains, rules, &crowds, &ends)?;
-        let through = linked_lives(alloc, Way::Through, chains, rules, &crowds, &ends)?;
+        let through = linked_through(alloc, chains, rules, &crowds, &ends)?;
         let objects = linked_lives(alloc, Way::Object, chains, rules, &crowds, &ends)?;
         Ok(UsersetIndex {
             is_whole: true,
@@ -132,8 +133,8 @@ impl UsersetIndex {
         self.own.alive(set.mark, at)
     }
 
-    /// The touches of usersets of a namespace, by its number, that are stored in a userset at a timestamp, and maybe
-    /// others.
+    /// For each object of a namespace, by its number, of which usersets are stored in a userset at a timestamp, a touch of such a
+    /// userset, and maybe others.
     pub fn through(&self, set: MarkedSet<'_>, namespace: u16, at: u64) -> Alive<'_>
         ensures { result ≡ touches_alive (marks.pair_mark (marks.set_mark (set_value set.entry.set)) namespace) at
             self.now.through (length self.now.through) }

@@ -10,11 +10,9 @@ pub struct Life {
     pub until: u64,
 }
 
-/// How a userset that is stored in another is looked for: for its own members, or through it for those of another
-/// relation of its object, or by its object.
+/// How a userset that is stored in another is looked for: for its own members, or by its object.
 #[derive(Clone, Copy, Drop)]
 pub enum Way {
     Own,
-    Through,
     Object,
 }

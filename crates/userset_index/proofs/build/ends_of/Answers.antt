@@ -1,4 +1,4 @@
-use Rattle.std.proofs.Common.{◌≡◌, ◌≤◌, ◌-◌, ◌++◌, ◌∷◌, [], ◌∙◌, suc, None, Some, length, inl, inr, ap, subst, sym, arith, rules}
+use Rattle.std.proofs.Common.{◌≡◌, ℕ, ◌≤◌, ◌-◌, ◌++◌, ◌∷◌, [], ◌∙◌, suc, None, Some, length, inl, inr, ap, subst, sym, arith, rules}
 use Rattle.std.specs.Prelude.{slice_get, slice_set, option_map}
 use Rattle.std.proofs.lemmas.Option.{none-some, slice_get_cases, slice_get_within}
 use Rattle.tuple_text.specs.Order.{tuple_eq}
@@ -6,8 +6,9 @@ use Rattle.version_chains.specs.Commits.{Touch, changelog}
 use Rattle.marks.specs.Placed.{last_place}
 use Rattle.version_chains.specs.Touches.{touch_value}
 use Rattle.marks.proofs.PlacedLemmas.{last_place-within, length-more, length-set}
-use Rattle.userset_index.specs.Building.{HaveEnds}
+use Rattle.userset_index.specs.Building.{AreLastAmong, HaveEnds}
 use Rattle.userset_index.proofs.BuildLemmas.{ends_more, ends_set}
+use Rattle.userset_index.proofs.EndLemmas.{last_alone, last_more, last_set}
 use Rattle.userset_index.proofs.build.ends_of.Goals.{then-touch-gt0, else-touch-gt0}
 use Rattle.userset_index.proofs.build.ends_of.Goals as goal
 
@@ -47,10 +48,28 @@ loop-touch-preserved c =
           ap length set ∙ length-set ends (c.in-Some.touch.older - 1) w.saturating_sub.result
       | else-touch-gt0 w ↦ let same : c.if-touch-gt0.ends.items ≡ ends = search rules in ap length same
     ] in
+    let last : AreLastAmong (suc (length ends)) touches c.if-touch-gt0.ends.items = elim c.if-touch-gt0.branch [
+      | then-touch-gt0 w ↦
+          let some = w.if-touch-gt0.true in
+          let k : c.in-Some.touch.older ≡ suc (c.in-Some.touch.older - 1) = omega (arith, some) in
+          let set : c.if-touch-gt0.ends.items ≡ slice_set ends (c.in-Some.touch.older - 1) w.saturating_sub.result = search rules in
+          let end : w.saturating_sub.result ≡ y.at - 1 = search rules in
+          subst (AreLastAmong (suc (length ends)) touches) (sym set)
+          (last_set touches ends y now c.loop-touch.invariant.last (c.in-Some.touch.older - 1) w.saturating_sub.result c.touches_rise.ensures (sym older ∙ k) end)
+      | else-touch-gt0 w ↦
+          let same : c.if-touch-gt0.ends.items ≡ ends = search rules in
+          let none = w.if-touch-gt0.false in
+          let alone : c.in-Some.touch.older ≡ 0 = omega (arith, none) in
+          subst (AreLastAmong (suc (length ends)) touches) (sym same) (last_alone touches ends y now c.loop-touch.invariant.last (sym older ∙ alone))
+    ] in
     let less = slice_get_within touches (length ends) y now in
     let more = ap length pushed ∙ length-more c.if-touch-gt0.ends.items 18446744073709551615 in
+    let count : suc (length ends) ≡ length c.push.new.self.items = omega (arith, more, long) in
     record {
       within = omega (arith, more, long, less);
+      last = subst (λ (n : ℕ). AreLastAmong n touches c.push.new.self.items) count
+          (subst (AreLastAmong (suc (length ends)) touches) (sym pushed)
+          (last_more touches c.if-touch-gt0.ends.items (suc (length ends)) 18446744073709551615 (ap suc (sym long)) last));
       each = subst (HaveEnds touches) (sym pushed) (ends_more touches c.if-touch-gt0.ends.items each 18446744073709551615 (λ at late small. omega (arith, late, small)));
     }
 
@@ -83,4 +102,9 @@ returns c =
       | inl w ↦ absurd (none-some w.0 (sym none ∙ w.2))
       | inr p ↦ p.0
     ] in
-    record { all = omega (arith, within, past); each = c.loop-touch.invariant.each }
+    let all : length ends ≡ length touches = omega (arith, within, past) in
+    record {
+      all = all;
+      each = c.loop-touch.invariant.each;
+      last = subst (λ (n : ℕ). AreLastAmong n touches ends) all c.loop-touch.invariant.last;
+    }

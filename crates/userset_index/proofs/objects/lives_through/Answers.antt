@@ -1,0 +1,27 @@
+use Rattle.std.proofs.Common.{◌≡◌, List, subst, rules}
+use Rattle.std.specs.Prelude.{IsPermutation}
+use Rattle.std.proofs.lemmas.List.Sorted.{IsPermutation-sym}
+use Rattle.std.proofs.lemmas.Result.{IfOk-weaker}
+use Rattle.version_chains.specs.Commits.{changelog}
+use Rattle.userset_index.specs.Objects.{AreNumbered}
+use Rattle.userset_index.specs.declared.life.Life.{Life}
+use Rattle.userset_index.specs.declared.life.Way.TheVariants.{Object}
+use Rattle.userset_index.proofs.BuildLemmas.{holds_permuted}
+use Rattle.userset_index.proofs.ObjectLemmas.{through_by_objects, timely_permuted}
+use Rattle.userset_index.proofs.objects.lives_through.Goals as goal
+
+pub returns : goal.returns
+returns c =
+    let ds = c.args.rules.now in
+    let touches = changelog c.args.chains.now.commits in
+    let crowds = c.args.crowds.now in
+    let lives = c.in_ok-lives.lives.items in
+    let sorted = c.deref.result.now in
+    let moved : IsPermutation lives sorted = search rules in
+    let kept = c.in_ok-kept.kept.items in
+    let read : c.deref-2.result.now ≡ kept = search rules in
+    IfOk-weaker c.all_numbered.result _ _
+    (λ numbered all.
+    through_by_objects ds touches crowds sorted kept numbered.items (holds_permuted ds Object touches crowds lives sorted moved c.in_ok-lives.ensures.holds) c.in_ok-kept.ensures.covers
+    (c.in_ok-kept.ensures.timely (timely_permuted touches lives sorted (IsPermutation-sym lives sorted moved) c.in_ok-lives.ensures.timely))
+    (subst (λ (ls : List Life). AreNumbered ds touches ls numbered.items) read all)) c.all_numbered.ensures

@@ -1,0 +1,175 @@
+//! Lives of usersets that are stored in others, of which at a time one for each object is enough.
+//!
+//! What is read through a tupleset depends on the objects of what it stores, and not on their relations. Of the lives of one object those
+//! are kept that cover its timestamps, each cut off where another one ends. So a walk meets an object once at a timestamp, however many of
+//! its usersets are stored then, and meets it twice only where it shares its mark with another object.
+
+ghost use Rattle.std.specs.Prelude.{◌≡◌, ℕ, true, Contains, IfOk, OnOk};
+ghost use Rattle.version_chains.specs.Commits.{changelog};
+ghost use Rattle.userset_index.specs.Building.{AreEnds, AreTimely, IsTimely};
+ghost use Rattle.userset_index.specs.Index.{HoldsThrough};
+ghost use Rattle.userset_index.specs.Lives.{is_alive};
+ghost use Rattle.userset_index.specs.Objects.{AreNumbered, IsCover, IsCoveredBy, IsNumbered, object_at};
+ghost use Rattle.userset_index.specs.declared.life.Life.{Life};
+
+use crate::build::{keep, lives_of};
+use crate::life::{Life, Way};
+use crate::spans::Spans;
+use marks::{MarkedSet, pair_mark};
+use namespaces::Rules;
+use std::alloc::{AllocError, Global};
+use tuple_text::UserRef;
+use version_chains::Chains;
+
+/// Whether two touches are of usersets of one object, stored in one userset. It compares their texts: objects may share a mark.
+fn are_of_one_object(chains: &Chains, one: usize, other: usize) -> bool
+    ensures { result ≡ true
+        → object_at (changelog chains.now.commits) one ≡ object_at (changelog chains.now.commits) other }
+{
+    let Some(one) = chains.touch(one) else {
+        return false;
+    };
+    let Some(other) = chains.touch(other) else {
+        return false;
+    };
+    let UserRef::Set(user) = one.user.user else {
+        return false;
+    };
+    let UserRef::Set(other_user) = other.user.user else {
+        return false;
+    };
+    one.set == other.set && user.namespace == other_user.namespace && user.id == other_user.id
+}
+
+/// The lives that are kept, and the timestamps that they cover of the object of one touch, from one on up to another.
+#[derive(Drop)]
+struct Merged {
+    lives: Vec<Life>,
+    cover: Life,
+}
+
+impl Merged {
+    /// Whether what is covered reaches to a life, and is of its object.
+    fn reaches(&self, chains: &Chains, life: Life) -> bool
+        ensures object { result ≡ true → object_at (changelog chains.now.commits) self.now.cover.touch
+            ≡ object_at (changelog chains.now.commits) life.touch }
+        ensures since { result ≡ true → is_alive life.from self.now.cover ≡ true }
+    {
+        self.cover.from <= life.from
+            && life.from <= self.cover.until
+            && are_of_one_object(chains, self.cover.touch, life.touch)
+    }
+
+    /// Keeps of a life what is not covered.
+    fn put(&mut self, chains: &Chains, life: Life) -> Result<(), AllocError>
+        ensures old { OnOk result ((i t : ℕ) → IsCoveredBy (changelog chains.now.commits) self.old.lives.items i t
+            → IsCoveredBy (changelog chains.now.commits) self.new.lives.items i t) }
+        ensures new { OnOk result (IsCover (changelog chains.now.commits) self.old → (t : ℕ) → is_alive t life ≡ true
+            → IsCoveredBy (changelog chains.now.commits) self.new.lives.items life.touch t) }
+        ensures cover { OnOk result (IsCover (changelog chains.now.commits) self.old
+            → IsCover (changelog chains.now.commits) self.new) }
+        ensures timely { OnOk result (AreTimely (changelog chains.now.commits) self.old.lives.items
+            → IsTimely (changelog chains.now.commits) life → AreTimely (changelog chains.now.commits) self.new.lives.items) }
+    {
+        if !self.reaches(chains, life) {
+            self.lives.push(life)?;
+            self.cover = life;
+            return Ok(());
+        }
+        if self.cover.until < life.until {
+            self.lives.push(Life {
+                from: self.cover.until + 1,
+                ..life
+            })?;
+            self.cover.until = life.until;
+        }
+        Ok(())
+    }
+}
+
+/// Lives that cover what these cover, of each object. Where those of an object stand one behind the other in the order of their first
+/// timestamps, no two of them that are kept share a timestamp.
+fn thinned(alloc: Global, chains: &Chains, lives: &[Life]) -> Result<Vec<Life>, AllocError>
+    ensures covers { IfOk result (λ thinned. (l : Life) (t : ℕ) → Contains lives.now l → is_alive t l ≡ true
+        → IsCoveredBy (changelog chains.now.commits) thinned.items l.touch t) }
+    ensures timely { IfOk result (λ thinned. AreTimely (changelog chains.now.commits) lives.now
+        → AreTimely (changelog chains.now.commits) thinned.items) }
+{
+    let mut merged = Merged {
+        lives: Vec::new(alloc),
+        cover: Life {
+            mark: 0,
+            touch: 0,
+            from: 1,
+            until: 0,
+        },
+    };
+    for life in lives {
+        merged.put(chains, *life)?;
+    }
+    Ok(merged.lives)
+}
+
+/// A life, to be looked for through a userset by the number of a namespace. `None` where nobody declares that.
+fn numbered(chains: &Chains, rules: &Rules, life: Life) -> Option<Life>
+    ensures { IsNumbered rules.now (changelog chains.now.commits) life result }
+{
+    let touch = chains.touch(life.touch)?;
+    let UserRef::Set(user) = touch.user.user else {
+        return None;
+    };
+    let number = rules.namespace_number(user.namespace)?;
+    Some(Life {
+        mark: pair_mark(MarkedSet::of(touch.set).mark, u64::from(number)),
+        ..life
+    })
+}
+
+/// These lives, each to be looked for so.
+fn all_numbered(
+    alloc: Global,
+    chains: &Chains,
+    rules: &Rules,
+    lives: &[Life],
+) -> Result<Vec<Life>, AllocError>
+    ensures { IfOk result (λ numbered. AreNumbered rules.now (changelog chains.now.commits) lives.now numbered.items) }
+{
+    let mut all = Vec::with_capacity(alloc, lives.len())?;
+    for life in lives {
+        keep(&mut all, numbered(chains, rules, *life))?;
+    }
+    Ok(all)
+}
+
+/// Lives by which usersets are looked for through a userset, one of an object at a time.
+fn lives_through(
+    alloc: Global,
+    chains: &Chains,
+    rules: &Rules,
+    crowds: &[u8],
+    ends: &[u64],
+) -> Result<Vec<Life>, AllocError>
+    requires { AreEnds (changelog chains.now.commits) ends.now }
+    ensures { IfOk result (λ lives. HoldsThrough rules.now (changelog chains.now.commits) crowds.now lives.items) }
+{
+    let mut lives = lives_of(alloc, Way::Object, chains, rules, crowds, ends)?;
+    lives.sort_unstable_by_key(|life| (life.mark, life.from));
+    let kept = thinned(alloc, chains, &lives)?;
+    all_numbered(alloc, chains, rules, &kept)
+}
+
+/// These, in the order of their first timestamps, so that a walk passes over those that are later.
+pub(crate) fn linked_through(
+    alloc: Global,
+    chains: &Chains,
+    rules: &Rules,
+    crowds: &[u8],
+    ends: &[u64],
+) -> Result<Spans, AllocError>
+    requires { AreEnds (changelog chains.now.commits) ends.now }
+    ensures { IfOk result (λ lives. HoldsThrough rules.now (changelog chains.now.commits) crowds.now lives) }
+{
+    let mut lives = lives_through(alloc, chains, rules, crowds, ends)?;
+    lives.sort_unstable_by_key(|life| life.from);
+    Spans::of(alloc, &lives)
+}
