@@ -14,14 +14,14 @@ ghost use Rattle.rule_reads.specs.Reads.{IsSound, TakesAllAt, TakesAt, Widens, m
 
 use crate::kinds::{Kinds, has_mark, relation_mark, take_mark};
 use marks::{MarkedSet, Places};
-use namespaces::{RelNo, Rules};
+use namespaces::{MAX_NUMBER, RelNo, Rules};
 use rewrites::Rewrite;
 use std::alloc::{AllocError, Global};
 use std::collections::BTreeMap;
 use tuple_text::{SetRef, Tuple, TupleFault, UserRef, Userset};
 
 /// Namespaces have numbers from 1 on and below this, and so have the relations of one.
-const PAST_NUMBERS: u16 = 257;
+const PAST_NUMBERS: u16 = MAX_NUMBER + 1;
 
 /// The rules, and the tuples of a sample with their kinds.
 #[derive(Clone, Copy)]
