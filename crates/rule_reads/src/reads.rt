@@ -168,16 +168,13 @@ impl Reads {
         ensures { result ≡ true →
             EachMarked marks.now mark scope.entry.tuples.now (FitsOwn scope.entry.rules.now self.now) }
     {
-        let mut place = marks.newest(mark);
-        while place > 0 {
-            let index = place - 1;
+        for index in marks.with(mark) {
             let Some(tuple) = scope.tuples.get(index) else {
                 return false;
             };
             if !self.own_fits(scope.rules, tuple) {
                 return false;
             }
-            place = marks.older(index);
         }
         true
     }
@@ -186,16 +183,13 @@ impl Reads {
     fn through_fits_along(&self, scope: Scope<'_>, marks: &Places, mark: u64, users: &str) -> bool
         ensures { result ≡ true → EachMarked marks.now mark self.now.through.items (IsLowAt scope.entry users.now) }
     {
-        let mut place = marks.newest(mark);
-        while place > 0 {
-            let index = place - 1;
+        for index in marks.with(mark) {
             let Some(through) = self.through.get(index) else {
                 return false;
             };
             if !through.fits(scope, users) {
                 return false;
             }
-            place = marks.older(index);
         }
         true
     }
