@@ -136,15 +136,12 @@ impl<'t> Gates<'t> {
         Ok(gates)
     }
 
-    /// The place of a userset in the cone.
+    /// The place of a userset in the cone. Only the places with its mark are gone over, mostly one.
     fn place_of(&self, set: SetRef<'_>) -> Option<usize> {
-        let mut next = self.places.newest(MarkedSet::of(set).mark);
-        for _ in 0..self.cone.len() {
-            let place = next.checked_sub(1)?;
+        for place in self.places.with(MarkedSet::of(set).mark) {
             if self.cone.get(place)?.set() == set {
                 return Some(place);
             }
-            next = self.places.older(place);
         }
         None
     }

@@ -30,7 +30,7 @@ mod rules;
 mod table;
 
 pub use fault::RulesFault;
-pub use number::{RelNo, RulePlace};
+pub use number::{MAX_NUMBER, RelNo, RulePlace};
 pub use relation::PlainRule;
 pub use rewrites::Rewrite;
 pub use rules::Rules;

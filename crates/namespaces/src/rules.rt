@@ -12,7 +12,7 @@ ghost use Rattle.namespaces.specs.WellFormed.{IsWellFormed};
 use crate::fault::RulesFault;
 use crate::index::{Revision, note, revision_at, revision_with};
 use crate::lookups::{place_in, value_in};
-use crate::number::{RelNo, RulePlace};
+use crate::number::{MAX_NUMBER, RelNo, RulePlace};
 use crate::reading::{Draft, read_draft};
 use crate::relation::{PlainRule, Relation};
 use crate::table::{Namespace, check_declaration, copied_namespace, keeps_names, keeps_strata};
@@ -22,9 +22,6 @@ use serde_json::Value;
 use std::alloc::{AllocError, Global};
 use std::marker::Model;
 use tuple_text::SetRef;
-
-/// How many namespaces there may be.
-const MAX_NAMESPACES: usize = 256;
 
 /// How many changes may be made.
 const MAX_CHANGES: u16 = 4096;
@@ -436,7 +433,7 @@ impl Rules {
     fn is_full(&self) -> bool
         ensures { result ≡ adding.is_full self.now }
     {
-        self.namespaces.len() >= MAX_NAMESPACES
+        self.namespaces.len() >= MAX_NUMBER as usize
     }
 
     /// Whether there is no room for a change of this namespace.

@@ -14,6 +14,7 @@ ghost use Rattle.namespaces.specs.Shown.{show_relation, show_relations, show_nam
 ghost use Rattle.rewrites.specs.View.{expression_of};
 
 use crate::fault::RulesFault;
+use crate::number::MAX_NUMBER;
 use crate::reading::{Draft, reads_declared};
 use crate::relation::{Relation, relation_of};
 use indexmap::IndexMap;
@@ -23,9 +24,6 @@ use tuple_text::is_name;
 
 /// How deep the rule of a relation may nest.
 const MAX_DEPTH: u8 = 32;
-
-/// How many relations a namespace may have.
-const MAX_RELATIONS: usize = 256;
 
 /// A namespace that passed every test of its own value.
 #[derive(Drop)]
@@ -215,7 +213,7 @@ fn all_counts_fit(relations: &IndexMap<String, Relation>) -> bool
 fn is_over_limits(full: bool, relations: &IndexMap<String, Relation>) -> bool
     ensures { result ≡ adding.is_over_limits full (show_relations relations.now.entries) }
 {
-    full || relations.len() > MAX_RELATIONS || !all_counts_fit(relations)
+    full || relations.len() > MAX_NUMBER as usize || !all_counts_fit(relations)
 }
 
 /// Whether the new relations begin with the names of the old ones.

@@ -1,13 +1,17 @@
--- A walk along the places that have one mark, at each of which something holds of the item.
-use Rattle.std.proofs.Common.{◌≡◌, ℕ, zero, suc, ◌<◌, ◌≤◌, nat_eq, nat_lt, List, [], ◌∷◌, length, Bool, true, false, cond, Some, ◌⊎◌, inl, inr, refl, sym, ap, ◌∙◌, subst, arith}
+-- Going over the places that have one mark, at each of which something holds of the item.
+use Rattle.std.proofs.Common.{◌≡◌, ℕ, zero, suc, ◌<◌, nat_eq, nat_lt, List, [], ◌∷◌, length, Bool, true, false, cond, ◌||◌, Some, ◌⊎◌, inl, inr, refl, sym, ap, ◌∙◌, subst, arith}
 use Rattle.std.specs.Prelude.{Contains, slice_get}
+use Rattle.std.specs.List.{list_any}
 use Rattle.std.proofs.lemmas.Bool.{eqb-true, eq-eqb}
+use Rattle.std.proofs.lemmas.List.{map-id}
 use Rattle.std.proofs.lemmas.Bool.Decides.{nat_tests}
 use Rattle.std.proofs.lemmas.Option.{slice_get_within}
 use Rattle.rewrites.proofs.Names.{by_bool, clash}
 use Rattle.strata.proofs.Lists.{Contains-cons_cases, Contains-here, Contains-there, not_in_nil}
-use Rattle.marks.specs.Placed.{last_place, passes}
-use Rattle.marks.proofs.PlacedLemmas.{last_place-within, at_last_place}
+use Rattle.marks.specs.Placed.{indices_of, last_place, passes}
+use Rattle.marks.proofs.LeftLemmas.{left_first}
+use Rattle.marks.proofs.PlacedLemmas.{at_last_place}
+use Rattle.rule_reads.specs.Reads.{EachMarked}
 
 pub member : {X : Type 0} (xs : List X) (i : ℕ) (x : X) → slice_get xs i ≡ Some x → Contains xs x
 member [] i x h = cc
@@ -51,60 +55,30 @@ module _ (marks : List ℕ) (mark : ℕ) where
       member marks m mark (w.1 ∙ ap (λ (k : ℕ). Some k) (sym (eqb-true mark w.0 w.2)))
 
   module _ {X : Type 0} (P : X → Type 0) (xs : List X) where
-    -- a place on the walk, behind which P holds of each item with the mark
-    pub record IsLeft (place : ℕ) : Type 0 where
-      pub first : ℕ
-      pub within : first ≤ length marks
-      pub is : place ≡ last_place (nat_eq mark) marks first
-      pub done : (i : ℕ) (x : X) → place ≤ i → slice_get marks i ≡ Some mark → slice_get xs i ≡ Some x → P x
+    -- of each item with the mark P holds, or its place is left to go over
+    abbrev pub IsLeftOrHolds : List ℕ → Type 0
+    IsLeftOrHolds left = (i : ℕ) (x : X) → slice_get marks i ≡ Some mark → slice_get xs i ≡ Some x → (list_any (nat_eq i) left ≡ true) ⊎ P x
 
-    pub left_start : (place : ℕ) → place ≡ last_place (nat_eq mark) marks (length marks) → IsLeft place
-    left_start place is = record {
-      first = length marks;
-      within = omega arith;
-      is = is;
-      done = λ i x past at there.
-          let before = reach i (length marks) at (slice_get_within marks i mark at) in
-          absurd (omega (arith, before, past, is));
-    }
+    pub left_start : IsLeftOrHolds (indices_of mark marks (length marks))
+    left_start i x at there =
+        let left = left_first (λ m. m) mark (nat_eq mark) (λ m h. eqb-true mark m h) marks marks (sym (map-id marks)) in
+        inl (left.all i mark at (eq-eqb mark mark refl))
 
-    pub left_end : (place : ℕ) → place ≡ 0 → IsLeft place → (i : ℕ) (x : X) → slice_get marks i ≡ Some mark → slice_get xs i ≡ Some x → P x
-    left_end place none left i x at there = left.done i x (omega (arith, none)) at there
+    -- P holds of what stands at the next one
+    pub left_step : (m : ℕ) (left : List ℕ) (x : X) → slice_get xs m ≡ Some x → P x → IsLeftOrHolds (m ∷ left) → IsLeftOrHolds left
+    left_step m left x here holds was i y at there = by (nat_eq i m) refl (was i y at there)
+      where
+        by : (b : Bool) → nat_eq i m ≡ b → ((b || list_any (nat_eq i) left) ≡ true) ⊎ P y → (list_any (nat_eq i) left ≡ true) ⊎ P y
+        by b is (inr done) = inr done
+        by true is (inl among) =
+            let same : Some x ≡ Some y = sym here ∙ ap (slice_get xs) (sym (eqb-true i m is)) ∙ there in
+            let one : x ≡ y = cc in
+            inr (subst P one holds)
+        by false is (inl among) = inl among
 
-    module _ (place m : ℕ) (next : place ≡ suc m) (left : IsLeft place) (older : ℕ) (link : (k : ℕ) → slice_get marks m ≡ Some k → older ≡ last_place (nat_eq k) marks m) where
-      marked : slice_get marks m ≡ Some mark
-      marked =
-          let w = at_last_place (nat_eq mark) marks left.first m (sym left.is ∙ next) in
-          w.1 ∙ ap (λ (k : ℕ). Some k) (sym (eqb-true mark w.0 w.2))
-
-      below : m < length marks
-      below = slice_get_within marks m mark marked
-
-      pub left_smaller : older < place
-      left_smaller =
-          let is = link mark marked in
-          let within = last_place-within (nat_eq mark) marks m in
-          omega (arith, is, within, next)
-
-      pub left_step : (x : X) → slice_get xs m ≡ Some x → P x → IsLeft older
-      left_step x here holds = record {
-        first = m;
-        within = let within = below in omega (arith, within);
-        is = link mark marked;
-        done = λ i y past at there. by i y past at there (at_or_below_place i);
-      }
-        where
-          at_or_below_place : (i : ℕ) → (i < m) ⊎ ((i ≡ m) ⊎ (place ≤ i))
-          at_or_below_place i = by_bool (nat_lt i m) (λ t. inl (grind (arith, nat_tests)))
-              (λ f. by_bool (nat_eq i m) (λ t. inr (inl (eqb-true i m t))) (λ g. inr (inr (grind (arith, nat_tests)))))
-
-          by : (i : ℕ) (y : X) → older ≤ i → slice_get marks i ≡ Some mark → slice_get xs i ≡ Some y → (i < m) ⊎ ((i ≡ m) ⊎ (place ≤ i)) → P y
-          by i y past at there (inl less) =
-              let before = reach i m at less in
-              let is = link mark marked in
-              absurd (omega (arith, before, past, is))
-          by i y past at there (inr (inl e)) =
-              let same : Some x ≡ Some y = sym here ∙ ap (slice_get xs) (sym e) ∙ there in
-              let one : x ≡ y = cc in
-              subst P one holds
-          by i y past at there (inr (inr behind)) = left.done i y behind at there
+    pub left_end : IsLeftOrHolds [] → EachMarked marks mark xs P
+    left_end was i x at there = by (was i x at there)
+      where
+        by : (list_any {X = ℕ} (nat_eq i) [] ≡ true) ⊎ P x → P x
+        by (inl among) = absurd (let no : false ≡ true = among in cc)
+        by (inr done) = done

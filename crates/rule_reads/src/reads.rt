@@ -14,14 +14,14 @@ ghost use Rattle.rule_reads.specs.Reads.{IsSound, TakesAllAt, TakesAt, Widens, m
 
 use crate::kinds::{Kinds, has_mark, relation_mark, take_mark};
 use marks::{MarkedSet, Places};
-use namespaces::{RelNo, Rules};
+use namespaces::{MAX_NUMBER, RelNo, Rules};
 use rewrites::Rewrite;
 use std::alloc::{AllocError, Global};
 use std::collections::BTreeMap;
 use tuple_text::{SetRef, Tuple, TupleFault, UserRef, Userset};
 
 /// Namespaces have numbers from 1 on and below this, and so have the relations of one.
-const PAST_NUMBERS: u16 = 257;
+const PAST_NUMBERS: u16 = MAX_NUMBER + 1;
 
 /// The rules, and the tuples of a sample with their kinds.
 #[derive(Clone, Copy)]
@@ -168,16 +168,13 @@ impl Reads {
         ensures { result ≡ true →
             EachMarked marks.now mark scope.entry.tuples.now (FitsOwn scope.entry.rules.now self.now) }
     {
-        let mut place = marks.newest(mark);
-        while place > 0 {
-            let index = place - 1;
+        for index in marks.with(mark) {
             let Some(tuple) = scope.tuples.get(index) else {
                 return false;
             };
             if !self.own_fits(scope.rules, tuple) {
                 return false;
             }
-            place = marks.older(index);
         }
         true
     }
@@ -186,16 +183,13 @@ impl Reads {
     fn through_fits_along(&self, scope: Scope<'_>, marks: &Places, mark: u64, users: &str) -> bool
         ensures { result ≡ true → EachMarked marks.now mark self.now.through.items (IsLowAt scope.entry users.now) }
     {
-        let mut place = marks.newest(mark);
-        while place > 0 {
-            let index = place - 1;
+        for index in marks.with(mark) {
             let Some(through) = self.through.get(index) else {
                 return false;
             };
             if !through.fits(scope, users) {
                 return false;
             }
-            place = marks.older(index);
         }
         true
     }

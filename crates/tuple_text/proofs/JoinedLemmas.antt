@@ -4,7 +4,7 @@ use Rattle.std.specs.Str.{IsUtf8}
 use Rattle.std.proofs.Math.Seq.{take-append_seam, drop-append_seam}
 use Rattle.std.proofs.lemmas.Str.{IsCharBoundary-from_take, IsUtf8-drop}
 use Rattle.tuple_text.specs.Sets.{SetValue}
-use Rattle.tuple_text.specs.Joined.{cut_set, IsCut}
+use Rattle.tuple_text.specs.Joined.{split_set, IsSplit}
 
 module _ (n i r text : List ℕ) (is : text ≡ (n ++ i) ++ r) where
   whole : text ≡ n ++ (i ++ r)
@@ -19,12 +19,12 @@ module _ (n i r text : List ℕ) (is : text ≡ (n ++ i) ++ r) where
   abbrev parts : SetValue
   parts = record { namespace = n; id = i; relation = r }
 
-  pub joined_parts : cut_set text (length n) (length i) ≡ parts
+  pub joined_parts : split_set text (length n) (length i) ≡ parts
   joined_parts = rw (front, behind, take-append_seam i r, drop-append_seam i r) refl
 
-  -- each text may be cut from those behind it
-  pub joined_cut : IsUtf8 n → IsUtf8 (n ++ i) → IsUtf8 text → IsCut text (length n) (length i)
-  joined_cut u v w =
+  -- each text may be split from those behind it
+  pub joined_split : IsUtf8 n → IsUtf8 (n ++ i) → IsUtf8 text → IsSplit text (length n) (length i)
+  joined_split u v w =
       let size = length-append n i in
       let sum = length-append i r in
       let all : length text ≡ length (n ++ i) + length r = ap length is ∙ length-append (n ++ i) r in

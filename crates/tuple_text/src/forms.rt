@@ -209,7 +209,7 @@ fn ends_at(bytes: &[u8], len: usize, delimiter: u8) -> bool
 }
 
 /// What stands before the delimiter at `len`, and what after it.
-fn cut(text: &str, len: usize) -> (&str, &str)
+fn split_around(text: &str, len: usize) -> (&str, &str)
     requires within { len < length text.now }
     requires ascii { slice_index text.now len < 128 }
     ensures front { result.0.now ≡ take len text.now }
@@ -232,7 +232,7 @@ pub fn name_before(text: &str, delimiter: u8, fault: TupleFault) -> Result<(&str
     if len == 0 || len > 64 || !bytes[0].is_ascii_lowercase() {
         return Err(fault);
     }
-    Ok(cut(text, len))
+    Ok(split_around(text, len))
 }
 
 /// The object id before the delimiter, and what stands after it.
@@ -249,5 +249,5 @@ pub fn id_before(text: &str, delimiter: u8, fault: TupleFault) -> Result<(&str, 
     if len == 0 || len > 128 {
         return Err(fault);
     }
-    Ok(cut(text, len))
+    Ok(split_around(text, len))
 }

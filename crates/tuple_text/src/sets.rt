@@ -34,14 +34,14 @@ pub struct Userset {
 impl Model for Userset {
     ghost use Rattle.std.specs.Prelude.{string_bytes};
     ghost use Rattle.tuple_text.specs.Sets.{SetValue};
-    ghost use Rattle.tuple_text.specs.Joined.{cut_set, IsCut};
+    ghost use Rattle.tuple_text.specs.Joined.{split_set, IsSplit};
     ghost use Rattle.tuple_text.specs.Forms.{IsUserset};
 
     ghost Value = { SetValue };
 
-    ghost view = { λ s. cut_set (string_bytes s.text) s.namespace_len s.id_len };
+    ghost view = { λ s. split_set (string_bytes s.text) s.namespace_len s.id_len };
 
-    ghost invariant = { λ s. IsUserset (cut_set (string_bytes s.text) s.namespace_len s.id_len) × IsCut (string_bytes s.text) s.namespace_len s.id_len };
+    ghost invariant = { λ s. IsUserset (split_set (string_bytes s.text) s.namespace_len s.id_len) × IsSplit (string_bytes s.text) s.namespace_len s.id_len };
 }
 
 impl Clone for Userset {

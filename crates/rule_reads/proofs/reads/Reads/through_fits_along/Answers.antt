@@ -1,28 +1,23 @@
-use Rattle.std.proofs.Common.{rules, ◌≡◌, ◌-◌, true, arith}
+use Rattle.std.proofs.Common.{rules, ◌≡◌, ◌∙◌, true, subst, sym}
 use Rattle.marks.proofs.PlacedLemmas.{read_item}
 use Rattle.rule_reads.specs.Reads.{IsLowWhereStored}
-use Rattle.rule_reads.proofs.Chains.{left_start, left_smaller, left_step, left_end}
+use Rattle.rule_reads.proofs.Chains.{IsLeftOrHolds, left_start, left_step, left_end}
 use Rattle.rule_reads.proofs.reads.Reads.through_fits_along.Goals as goal
 
-pub loop-place-init : goal.loop-place-init
-loop-place-init c =
-    left_start c.args.marks.now c.args.mark (IsLowWhereStored c.args.scope.rules.now c.args.scope.kinds.now c.args.users.now) c.args.self.now.through.items c.newest-place.result c.newest-place.ensures
+pub loop-index-init : goal.loop-index-init
+loop-index-init c =
+    subst (IsLeftOrHolds c.args.marks.now c.args.mark (IsLowWhereStored c.args.scope.rules.now c.args.scope.kinds.now c.args.users.now) c.args.self.now.through.items)
+    (sym (c.into_iter-index-iterator.ensures.into_iter_gives ∙ c.with-index-items.ensures))
+    (left_start c.args.marks.now c.args.mark (IsLowWhereStored c.args.scope.rules.now c.args.scope.kinds.now c.args.users.now) c.args.self.now.through.items)
 
-pub loop-place-smaller : goal.loop-place-smaller
-loop-place-smaller c =
-    let some = c.loop-place-test.true in
-    left_smaller c.args.marks.now c.args.mark (IsLowWhereStored c.args.scope.rules.now c.args.scope.kinds.now c.args.users.now) c.args.self.now.through.items c.loop-place.place (c.loop-place.place - 1) (omega (arith, some))
-    c.loop-place.invariant c.older-place.result c.older-place.ensures
-
-pub loop-place-preserved : goal.loop-place-preserved
-loop-place-preserved c =
-    let some = c.loop-place-test.true in
-    let here = read_item c.args.self.now.through.items c.deref.result.now (c.loop-place.place - 1) c.in-Some.through.now c.deref.ensures.value c.in-Some.ensures.lookup.3.0 c.in-Some.ensures.lookup.1 in
+pub loop-index-preserved : goal.loop-index-preserved
+loop-index-preserved c =
+    let left = subst (IsLeftOrHolds c.args.marks.now c.args.mark (IsLowWhereStored c.args.scope.rules.now c.args.scope.kinds.now c.args.users.now) c.args.self.now.through.items) c.in-Some.ensures.steps c.loop-index.invariant in
+    let here = read_item c.args.self.now.through.items c.deref.result.now c.in-Some.index c.in-Some-get.through.now c.deref.ensures.value c.in-Some-get.ensures.lookup.3.0 c.in-Some-get.ensures.lookup.1 in
     let fits : c.fits.result ≡ true = search rules in
-    left_step c.args.marks.now c.args.mark (IsLowWhereStored c.args.scope.rules.now c.args.scope.kinds.now c.args.users.now) c.args.self.now.through.items c.loop-place.place (c.loop-place.place - 1) (omega (arith, some))
-    c.loop-place.invariant c.older-place.result c.older-place.ensures c.in-Some.through.now here (c.fits.ensures fits)
+    left_step c.args.marks.now c.args.mark (IsLowWhereStored c.args.scope.rules.now c.args.scope.kinds.now c.args.users.now) c.args.self.now.through.items c.in-Some.index _ c.in-Some-get.through.now here (c.fits.ensures fits) left
 
 pub returns : goal.returns
-returns c all i e at there =
-    let none = c.loop-place-test.false in
-    left_end c.args.marks.now c.args.mark (IsLowWhereStored c.args.scope.rules.now c.args.scope.kinds.now c.args.users.now) c.args.self.now.through.items c.loop-place.place (omega (arith, none)) c.loop-place.invariant i e at there
+returns c all =
+    left_end c.args.marks.now c.args.mark (IsLowWhereStored c.args.scope.rules.now c.args.scope.kinds.now c.args.users.now) c.args.self.now.through.items
+    (subst (IsLeftOrHolds c.args.marks.now c.args.mark (IsLowWhereStored c.args.scope.rules.now c.args.scope.kinds.now c.args.users.now) c.args.self.now.through.items) c.in-None.ensures.steps.0 c.loop-index.invariant)
