@@ -4,5 +4,6 @@ pub mod InputRead
 pub mod Joined
 pub mod Json
 pub mod Lines
+pub mod Nodes
 pub mod Places
 pub mod Reading

@@ -8,11 +8,11 @@ ghost use Rattle.json_lines.specs.Lines.{ComeAtMost};
 ghost use Rattle.json_lines.specs.Reading.{read_all, Reads, IsOfSomeLine, IsOfLine};
 ghost use Rattle.json_lines.specs.declared.lines.InputFault.TheVariants.{Read, TooLong, OutOfMemory};
 
+use crate::line::Desk;
 use crate::lines::{CHUNK, InputFault, Lines};
 use crate::reading::{LineFault, MAX_INPUT, MAX_LINE, Stop, is_over};
 use crate::taking::{TakeJson, take_line};
 use devices::Source;
-use json::Scratch;
 use std::alloc::Global;
 use std::marker::Model;
 
@@ -53,12 +53,11 @@ fn is_marker(whole: bool, line: &[u8]) -> bool
 
 /// Takes a line of which all is there, and refuses another.
 fn take_whole<T: TakeJson>(
-    alloc: Global,
     value: &mut T,
     number: u64,
     line: &[u8],
     whole: bool,
-    scratch: &mut Scratch,
+    desk: &mut Desk,
 ) -> Result<Result<(), LineFault<T::Cause>>, InputFault>
     requires { T.next value.old ≤ number }
     ensures exact { IfOk result (λ read. Reads read value.new (line_taken (taken_line T.Cause.not_json T.taken) whole number value.old line.now)) }
@@ -72,7 +71,7 @@ fn take_whole<T: TakeJson>(
             stop: Stop::Input(InputFault::TooLong),
         }));
     }
-    match take_line(alloc, value, number, line, scratch) {
+    match take_line(value, number, line, desk) {
         Ok(()) => Ok(Ok(())),
         Err(Stop::Line(cause)) => Ok(Err(LineFault {
             line: number,
@@ -225,7 +224,7 @@ impl Rest {
         ensures kept { result ≢ Err Read → R.failures reader.new ≡ R.failures reader.old }
     {
         let mut line = Vec::new(alloc);
-        let mut scratch = Scratch::new(alloc);
+        let mut desk = Desk::new(alloc);
         let mut read = Ok(());
         let mut number = 1;
         while !self.ended {
@@ -234,7 +233,7 @@ impl Rest {
                 return Ok((read, true));
             }
             if read.is_ok() {
-                read = take_whole(alloc, value, number, &line, whole, &mut scratch)?;
+                read = take_whole(value, number, &line, whole, &mut desk)?;
                 number += 1;
             }
         }

@@ -100,17 +100,23 @@ fn is_short(bytes: &[u8]) -> bool
     are_digits(bytes)
 }
 
-/// Whether the text of a number is an integer of 64 bits, or the float nearest to it is finite.
-pub(crate) fn is_number(text: &str) -> bool
-    ensures { result ≡ is_some (number_of text.now) }
+/// As [`is_number`], of any text. It stands alone so that the room that it needs is not made ready for the few digits that most numbers have.
+#[cold]
+#[inline(never)]
+fn is_any_number(bytes: &[u8]) -> bool
+    ensures { result ≡ is_some (number_of bytes.now) }
 {
-    let bytes = text.as_bytes();
-    if is_short(bytes) {
-        return true;
-    }
     if has_minus(bytes) {
         is_negative(&Numeral::scan(&bytes[1..]))
     } else {
         is_positive(&Numeral::scan(bytes))
     }
+}
+
+/// Whether the text of a number is an integer of 64 bits, or the float nearest to it is finite.
+pub(crate) fn is_number(text: &str) -> bool
+    ensures { result ≡ is_some (number_of text.now) }
+{
+    let bytes = text.as_bytes();
+    is_short(bytes) || is_any_number(bytes)
 }

@@ -5,10 +5,10 @@ ghost use Rattle.json_lines.specs.InputRead.{LinesRead};
 ghost use Rattle.json_lines.specs.Json.{taken_line};
 ghost use Rattle.json_lines.specs.Reading.{cause_of, IsOfSomeLine};
 
+use crate::line::Desk;
 use crate::lines::{CHUNK, InputFault, Lines};
 use crate::taking::{LineCause, TakeJson, take_line};
 use devices::Source;
-use json::Scratch;
 use std::alloc::Global;
 
 /// Why reading stopped: the input, or what a line says.
@@ -74,7 +74,7 @@ pub fn read_lines<R: Source, T: TakeJson>(
         }),
     };
     let mut line = Vec::new(alloc);
-    let mut scratch = Scratch::new(alloc);
+    let mut desk = Desk::new(alloc);
     let mut room = MAX_INPUT;
     for number in 1..u64::MAX {
         let more = match lines.next(reader, room.min(MAX_LINE), &mut line) {
@@ -90,7 +90,7 @@ pub fn read_lines<R: Source, T: TakeJson>(
                 stop: Stop::Input(InputFault::TooLong),
             });
         }
-        if let Err(stop) = take_line(alloc, value, number, &line, &mut scratch) {
+        if let Err(stop) = take_line(value, number, &line, &mut desk) {
             return Err(LineFault { line: number, stop });
         }
         if !more {

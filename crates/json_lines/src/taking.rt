@@ -8,12 +8,10 @@ ghost use Rattle.json_lines.specs.Json.{is_blank, is_blank_byte, taken_line};
 ghost use Rattle.json_lines.specs.Reading.{Refuses};
 ghost use Rattle.json_lines.specs.declared.lines.InputFault.{InputFault};
 
-use crate::line::JsonLine;
+use crate::line::{Desk, JsonLine};
 use crate::lines::InputFault;
 use crate::reading::Stop;
-use json::Scratch;
 use simdutf8::basic::from_utf8;
-use std::alloc::Global;
 
 /// Why a line is refused: by what the input did, or by what the line says.
 pub trait LineCause: Drop {
@@ -68,11 +66,10 @@ pub fn is_blank(line: &[u8]) -> bool
 /// Takes a line without its newline.
 #[tactic(auto, unfolding(crate::specs::Json::json_line))]
 pub(crate) fn take_line<T: TakeJson>(
-    alloc: Global,
     taker: &mut T,
     number: u64,
     line: &[u8],
-    scratch: &mut Scratch,
+    desk: &mut Desk,
 ) -> Result<(), Stop<T::Cause>>
     requires { T.next taker.old ≤ number }
     ensures ok { OnOk result (taken_line T.Cause.not_json T.taken number taker.old line.now ≡ Ok taker.new) }
@@ -85,7 +82,7 @@ pub(crate) fn take_line<T: TakeJson>(
     let Ok(text) = from_utf8(line) else {
         return Err(Stop::Line(T::Cause::not_json()));
     };
-    let line = match JsonLine::read(alloc, text, scratch) {
+    let line = match JsonLine::read_in(text, desk) {
         Ok(Some(line)) => line,
         Ok(None) => return Err(Stop::Line(T::Cause::not_json())),
         Err(_) => return Err(Stop::Input(InputFault::OutOfMemory)),

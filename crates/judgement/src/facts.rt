@@ -127,18 +127,22 @@ fn last_of<F: KnownFact>(facts: &[F], user: u64, places: usize) -> usize
     place
 }
 
-/// Whether a fact stands at a place that its mark names.
-fn is_found<F: KnownFact>(facts: &[F], marks: &Places, set: MarkedSet<'_>, user: u64) -> bool
-    requires { marks.now ≡ map tuple_mark (map fact_tuple (map F.fact facts.now)) }
+/// Whether a fact stands at a place that its mark, which is at hand, names.
+fn is_found<F: KnownFact>(
+    facts: &[F],
+    marks: &Places,
+    mark: u64,
+    set: MarkedSet<'_>,
+    user: u64,
+) -> bool
+    requires marks { marks.now ≡ map tuple_mark (map fact_tuple (map F.fact facts.now)) }
+    requires mark { mark ≡ tuple_mark (fact_tuple (fact_of (set_value set.set) user)) }
     ensures { IsTrue result ↔ Contains (map F.fact facts.now) (fact_of (set_value set.entry.set) user) }
 {
-    let mut place = marks.newest(fact_mark(set, user));
-    while place > 0 {
-        let number = place - 1;
-        if facts[number].is_of_marked(set, user) {
+    for index in marks.with(mark) {
+        if facts[index].is_of_marked(set, user) {
             return true;
         }
-        place = marks.older(number);
     }
     false
 }
@@ -173,6 +177,25 @@ impl Index {
             self.users.push(user)?;
         }
         Ok(())
+    }
+
+    /// Adds a fact behind these. Where it is asked, says whether the fact is one of them: one mark serves both.
+    fn add<F: KnownFact>(
+        &mut self,
+        facts: &[F],
+        fact: &F,
+        by_user: bool,
+        is_asked: bool,
+    ) -> Result<bool, AllocError>
+        requires { self.old.marks ≡ map tuple_mark (map fact_tuple (map F.fact facts.now)) }
+        ensures marks { OnOk result (self.new.marks ≡ self.old.marks ++ tuple_mark (fact_tuple (F.fact fact.now)) ∷ []) }
+        ensures users { OnOk result (by_user ≡ true → self.new.users ≡ self.old.users ++ user_of (F.fact fact.now) ∷ []) }
+        ensures was { IfOk result (λ was. is_asked ≡ true → IsTrue was ↔ Contains (map F.fact facts.now) (F.fact fact.now)) }
+    {
+        let mark = fact.mark();
+        let was = is_asked && is_found(facts, &self.marks, mark, fact.marked_set(), fact.user_id());
+        self.push(mark, by_user, fact.user_id())?;
+        Ok(was)
     }
 }
 
@@ -216,24 +239,27 @@ impl<F: KnownFact> Facts<F> {
         Ok(())
     }
 
-    /// Adds a fact. Where memory runs out, the facts stay as they were.
-    pub(crate) fn add(&mut self, fact: F) -> Result<(), AllocError>
+    /// Adds a fact. Where it is asked, says whether the fact was there before. Where memory runs out, the facts stay as they were.
+    pub(crate) fn add(&mut self, fact: F, is_asked: bool) -> Result<bool, AllocError>
         ensures ok { OnOk result (self.new ≡ self.old ++ F.fact fact ∷ []) }
+        ensures was { IfOk result (λ was. is_asked ≡ true → IsTrue was ↔ Contains self.old (F.fact fact)) }
         ensures err { OnErr result (self.new ≡ self.old) }
     {
         if self.facts.len() >= FEW {
             self.mark()?;
         }
         self.facts.reserve(1)?;
-        if let Some(mut index) = self.index.take() {
-            // where memory is refused, the next fact makes another
-            index.push(fact.mark(), self.by_user, fact.user_id())?;
-            self.index = Some(index);
-        }
-        if self.facts.push(fact).is_err() {
-            unreachable!();
-        }
-        Ok(())
+        let was = match self.index.take() {
+            Some(mut index) => {
+                // where memory is refused, the next fact makes another
+                let was = index.add(&self.facts, &fact, self.by_user, is_asked)?;
+                self.index = Some(index);
+                was
+            }
+            None => is_asked && is_marked_among(&self.facts, fact.marked_set(), fact.user_id()),
+        };
+        self.facts.push_reserved(fact);
+        Ok(was)
     }
 
     /// Whether it is worth while to make the mark of a userset that is asked for.
@@ -261,7 +287,7 @@ impl<F: KnownFact> Facts<F> {
         ensures { IsTrue result ↔ Contains self.now (fact_of (set_value set.entry.set) user) }
     {
         match &self.index {
-            Some(index) => is_found(&self.facts, &index.marks, set, user),
+            Some(index) => is_found(&self.facts, &index.marks, fact_mark(set, user), set, user),
             None => is_marked_among(&self.facts, set, user),
         }
     }

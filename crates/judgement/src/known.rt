@@ -59,7 +59,8 @@ impl<F: KnownFact> Known<F> {
         ensures ok { OnOk result (self.new ≡ record self.old { yes = self.old.yes ++ F.fact fact ∷ [] }) }
         ensures err { OnErr result (self.new ≡ self.old) }
     {
-        self.yes.add(fact)
+        self.yes.add(fact, false)?;
+        Ok(())
     }
 
     /// From now on the fact is known not to hold. Where memory runs out, it is dropped, and what is known stays.
@@ -67,7 +68,17 @@ impl<F: KnownFact> Known<F> {
         ensures ok { OnOk result (self.new ≡ record self.old { no = self.old.no ++ F.fact fact ∷ [] }) }
         ensures err { OnErr result (self.new ≡ self.old) }
     {
-        self.no.add(fact)
+        self.no.add(fact, false)?;
+        Ok(())
+    }
+
+    /// [`Known::add_no`], which says whether the fact was known not to hold before.
+    pub fn deny(&mut self, fact: F) -> Result<bool, AllocError>
+        ensures ok { OnOk result (self.new ≡ record self.old { no = self.old.no ++ F.fact fact ∷ [] }) }
+        ensures was { IfOk result (λ was. IsTrue was ↔ Contains self.old.no (F.fact fact)) }
+        ensures err { OnErr result (self.new ≡ self.old) }
+    {
+        self.no.add(fact, true)
     }
 
     /// Whether it is known that the user is in the userset.

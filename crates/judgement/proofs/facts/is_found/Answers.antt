@@ -1,78 +1,62 @@
-use Rattle.std.proofs.Common.{◌≡◌, ℕ, ◌-◌, suc, length, map, Some, IsTrue, false, nat_eq, arith, ap, ◌∙◌, sym, refl}
-use Rattle.std.specs.Prelude.{slice_get}
+use Rattle.std.proofs.Common.{◌≡◌, ◌∙◌, ℕ, length, map, IsTrue, false, ap, sym, subst, refl}
+use Rattle.tuple_text.specs.Order.{tuple_eq}
 use Rattle.tuple_text.specs.Refs.{set_value}
 use Rattle.tuple_text.specs.Tuples.{fact_of, fact_tuple}
 use Rattle.tuple_text.proofs.ValueLemmas.{fact_eq-same}
-use Rattle.marks.specs.Placed.{last_place}
-use Rattle.marks.proofs.FindLemmas.{find_start, find_within, find_on, find_smaller, found_nowhere}
+use Rattle.marks.specs.Marks.{tuple_mark}
+use Rattle.marks.specs.Placed.{indices_of}
+use Rattle.marks.proofs.LeftLemmas.{AreLeft, left_behind, left_none, tuples_left}
 use Rattle.marks.proofs.PlacedLemmas.{read_item}
 use Rattle.judgement.proofs.MarkedLemmas.{other_tuple, absent_fact, within_kept, tuple_at, fact_there}
 use Rattle.judgement.proofs.facts.is_found.Goals as goal
 
-pub loop-place-init : goal.loop-place-init
-loop-place-init g c =
-    find_start (fact_tuple (fact_of (set_value c.args.set.set) c.args.user)) (map fact_tuple (map g.F.KnownFact.fact c.args.facts.now)) c.args.marks.now c.requires c.newest-place.result
-    (c.newest-place.ensures ∙ ap (λ (m : ℕ). last_place (nat_eq m) c.args.marks.now (length c.args.marks.now)) c.fact_mark.ensures)
+pub loop-index-init : goal.loop-index-init
+loop-index-init g c =
+    let tuple = fact_tuple (fact_of (set_value c.args.set.set) c.args.user) in
+    let tuples = map fact_tuple (map g.F.KnownFact.fact c.args.facts.now) in
+    let all : c.into_iter-index-iterator.result ≡ indices_of (tuple_mark tuple) c.args.marks.now (length c.args.marks.now) =
+    c.into_iter-index-iterator.ensures.into_iter_gives ∙ c.with-index-items.ensures
+    ∙ ap (λ (m : ℕ). indices_of m c.args.marks.now (length c.args.marks.now)) c.requires.mark in
+    subst (AreLeft (λ t. tuple_eq t tuple) tuples) (sym all) (tuples_left tuple tuples c.args.marks.now c.requires.marks)
 
-pub bounds-facts-number : goal.bounds-facts-number
-bounds-facts-number g c =
-    let some = c.loop-place-test.true in
-    let next : c.loop-place.place ≡ suc (c.loop-place.place - 1) = omega (arith, some) in
+pub bounds-facts-index : goal.bounds-facts-index
+bounds-facts-index g c =
+    let tuple = fact_tuple (fact_of (set_value c.args.set.set) c.args.user) in
+    let view = g.F.KnownFact.fact in
+    let left = subst (AreLeft (λ t. tuple_eq t tuple) (map fact_tuple (map view c.args.facts.now))) c.in-Some.ensures.steps c.loop-index.invariant in
+    within_kept view c.args.facts.now c.in-Some.index left.within.0
+
+pub loop-index-preserved : goal.loop-index-preserved
+loop-index-preserved g c =
     let fact = fact_of (set_value c.args.set.set) c.args.user in
     let view = g.F.KnownFact.fact in
     let kept = c.args.facts.now in
-    let within = within_kept view kept (c.loop-place.place - 1) (find_within (fact_tuple fact) (map fact_tuple (map view kept)) c.args.marks.now c.requires c.loop-place.place (c.loop-place.place - 1) next c.loop-place.invariant) in
-    within
-
-pub offset_bounds-facts-number : goal.offset_bounds-facts-number
-offset_bounds-facts-number g c =
-    let some = c.loop-place-test.true in
-    let next : c.loop-place.place ≡ suc (c.loop-place.place - 1) = omega (arith, some) in
-    let fact = fact_of (set_value c.args.set.set) c.args.user in
-    let view = g.F.KnownFact.fact in
-    let kept = c.args.facts.now in
-    let within = within_kept view kept (c.loop-place.place - 1) (find_within (fact_tuple fact) (map fact_tuple (map view kept)) c.args.marks.now c.requires c.loop-place.place (c.loop-place.place - 1) next c.loop-place.invariant) in
-    omega (arith, within)
-
-pub loop-place-smaller : goal.loop-place-smaller
-loop-place-smaller g c =
-    let some = c.loop-place-test.true in
-    let next : c.loop-place.place ≡ suc (c.loop-place.place - 1) = omega (arith, some) in
-    find_smaller (fact_tuple (fact_of (set_value c.args.set.set) c.args.user)) (map fact_tuple (map g.F.KnownFact.fact c.args.facts.now)) c.args.marks.now c.requires c.loop-place.place (c.loop-place.place - 1) next c.loop-place.invariant c.older-place.result c.older-place.ensures
-
-pub loop-place-preserved : goal.loop-place-preserved
-loop-place-preserved g c =
-    let some = c.loop-place-test.true in
-    let next : c.loop-place.place ≡ suc (c.loop-place.place - 1) = omega (arith, some) in
-    let fact = fact_of (set_value c.args.set.set) c.args.user in
-    let view = g.F.KnownFact.fact in
-    let kept = c.args.facts.now in
-    let within = within_kept view kept (c.loop-place.place - 1) (find_within (fact_tuple fact) (map fact_tuple (map view kept)) c.args.marks.now c.requires c.loop-place.place (c.loop-place.place - 1) next c.loop-place.invariant) in
-    let here : slice_get kept (c.loop-place.place - 1) ≡ Some c.index-facts-number.result = read_item kept kept (c.loop-place.place - 1) c.index-facts-number.result (λ i. kept) within c.index-facts-number.is in
-    let found = view c.index-facts-number.result in
-    find_on (fact_tuple fact) (map fact_tuple (map view kept)) c.args.marks.now c.requires c.loop-place.place (c.loop-place.place - 1) next c.loop-place.invariant
-    (fact_tuple found) (tuple_at view kept (c.loop-place.place - 1) c.index-facts-number.result here)
-    (other_tuple fact found (sym c.is_of_marked.ensures ∙ c.if-is_of_marked.false)) c.older-place.result c.older-place.ensures
+    let left = subst (AreLeft (λ t. tuple_eq t (fact_tuple fact)) (map fact_tuple (map view kept))) c.in-Some.ensures.steps c.loop-index.invariant in
+    let within = within_kept view kept c.in-Some.index left.within.0 in
+    let here = read_item kept kept c.in-Some.index c.index-facts-index.result (λ i. kept) within c.index-facts-index.is in
+    let found = view c.index-facts-index.result in
+    left_behind (λ t. tuple_eq t (fact_tuple fact)) (map fact_tuple (map view kept)) c.in-Some.index _ (fact_tuple found)
+    (tuple_at view kept c.in-Some.index c.index-facts-index.result here)
+    (other_tuple fact found (sym c.is_of_marked.ensures ∙ c.if-is_of_marked.false)) left
 
 pub returns-then-is_of_marked : goal.returns-then-is_of_marked
 returns-then-is_of_marked g c =
-    let some = c.loop-place-test.true in
-    let next : c.loop-place.place ≡ suc (c.loop-place.place - 1) = omega (arith, some) in
     let fact = fact_of (set_value c.args.set.set) c.args.user in
     let view = g.F.KnownFact.fact in
     let kept = c.args.facts.now in
-    let within = within_kept view kept (c.loop-place.place - 1) (find_within (fact_tuple fact) (map fact_tuple (map view kept)) c.args.marks.now c.requires c.loop-place.place (c.loop-place.place - 1) next c.loop-place.invariant) in
-    let here : slice_get kept (c.loop-place.place - 1) ≡ Some c.index-facts-number.result = read_item kept kept (c.loop-place.place - 1) c.index-facts-number.result (λ i. kept) within c.index-facts-number.is in
-    let found = view c.index-facts-number.result in
+    let left = subst (AreLeft (λ t. tuple_eq t (fact_tuple fact)) (map fact_tuple (map view kept))) c.in-Some.ensures.steps c.loop-index.invariant in
+    let within = within_kept view kept c.in-Some.index left.within.0 in
+    let here = read_item kept kept c.in-Some.index c.index-facts-index.result (λ i. kept) within c.index-facts-index.is in
+    let found = view c.index-facts-index.result in
     let same = fact_eq-same fact found (sym c.is_of_marked.ensures ∙ c.if-is_of_marked.true) in
-    (λ _. fact_there view kept (c.loop-place.place - 1) c.index-facts-number.result fact here same, λ _. refl)
+    (λ _. fact_there view kept c.in-Some.index c.index-facts-index.result fact here same, λ _. refl)
 
 pub returns : goal.returns
 returns g c =
-    let none = c.loop-place-test.false in
     let fact = fact_of (set_value c.args.set.set) c.args.user in
     let facts = map g.F.KnownFact.fact c.args.facts.now in
-    let absent = found_nowhere (fact_tuple fact) (map fact_tuple facts) c.args.marks.now c.requires c.loop-place.place (let e : c.loop-place.place ≡ 0 = omega (arith, none) in e) c.loop-place.invariant in (
+    let none = subst (AreLeft (λ t. tuple_eq t (fact_tuple fact)) (map fact_tuple facts)) c.in-None.ensures.steps.0 c.loop-index.invariant in
+    let absent = left_none (λ t. tuple_eq t (fact_tuple fact)) (map fact_tuple facts) none in (
       λ t. absurd (let e : IsTrue false = t in cc),
       λ h. absurd (absent_fact facts fact absent h),
     )
