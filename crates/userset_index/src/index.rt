@@ -133,8 +133,8 @@ impl UsersetIndex {
         self.own.alive(set.mark, at)
     }
 
-    /// For each object of a namespace, by its number, of which usersets are stored in a userset at a timestamp, a touch of such a
-    /// userset, and maybe others.
+    /// For each object of a namespace, by its number, of which usersets are stored in a userset at a timestamp, a
+    /// touch of such a userset, and maybe others.
     pub fn through(&self, set: MarkedSet<'_>, namespace: u16, at: u64) -> Alive<'_>
         ensures { result ≡ touches_alive (marks.pair_mark (marks.set_mark (set_value set.entry.set)) namespace) at
             self.now.through (length self.now.through) }

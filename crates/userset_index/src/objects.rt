@@ -1,8 +1,9 @@
 //! Lives of usersets that are stored in others, of which at a time one for each object is enough.
 //!
-//! What is read through a tupleset depends on the objects of what it stores, and not on their relations. Of the lives of one object those
-//! are kept that cover its timestamps, each cut off where another one ends. So a walk meets an object once at a timestamp, however many of
-//! its usersets are stored then, and meets it twice only where it shares its mark with another object.
+//! What is read through a tupleset depends on the objects of what it stores, and not on their relations. Of the lives
+//! of one object those are kept that cover its timestamps, each cut off where another one ends. So a walk meets an
+//! object once at a timestamp, however many of its usersets are stored then, and meets it twice only where it shares
+//! its mark with another object.
 
 ghost use Rattle.std.specs.Prelude.{◌≡◌, ℕ, true, Contains, IfOk, OnOk};
 ghost use Rattle.version_chains.specs.Commits.{changelog};
@@ -21,7 +22,8 @@ use std::alloc::{AllocError, Global};
 use tuple_text::UserRef;
 use version_chains::Chains;
 
-/// Whether two touches are of usersets of one object, stored in one userset. It compares their texts: objects may share a mark.
+/// Whether two touches are of usersets of one object, stored in one userset. It compares their texts: objects may
+/// share a mark.
 fn are_of_one_object(chains: &Chains, one: usize, other: usize) -> bool
     ensures { result ≡ true
         → object_at (changelog chains.now.commits) one ≡ object_at (changelog chains.now.commits) other }
@@ -87,8 +89,8 @@ impl Merged {
     }
 }
 
-/// Lives that cover what these cover, of each object. Where those of an object stand one behind the other in the order of their first
-/// timestamps, no two of them that are kept share a timestamp.
+/// Lives that cover what these cover, of each object. Where those of an object stand one behind the other in the
+/// order of their first timestamps, no two of them that are kept share a timestamp.
 fn thinned(alloc: Global, chains: &Chains, lives: &[Life]) -> Result<Vec<Life>, AllocError>
     ensures covers { IfOk result (λ thinned. (l : Life) (t : ℕ) → Contains lives.now l → is_alive t l ≡ true
         → IsCoveredBy (changelog chains.now.commits) thinned.items l.touch t) }
