@@ -1,8 +1,8 @@
 use Rattle.std.proofs.Common.{rules, ◌≡◌, true, refl}
 use Rattle.rule_reads.specs.Reads.{Fits}
-use Rattle.trace_lines.proofs.Indexing.{kinds_more, pair_fits, admitted}
+use Rattle.edge_checks.proofs.Indexing.{kinds_more, pair_fits, admitted}
 use Rattle.rule_reads.proofs.Fitting.{tuple_unbroken}
-use Rattle.trace_lines.proofs.edge_index.EdgeIndex.admit.Goals as goal
+use Rattle.edge_checks.proofs.edge_index.EdgeIndex.admit.Goals as goal
 
 pub returns-then-is_known-clause-unbroken : goal.returns-then-is_known-clause-unbroken
 returns-then-is_known-clause-unbroken c all =

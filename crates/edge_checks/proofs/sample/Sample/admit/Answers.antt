@@ -1,15 +1,14 @@
-use Rattle.std.proofs.Common.{List, [], ◌∷◌, ◌++◌, ap, subst, sym}
+use Rattle.std.proofs.Common.{List, [], ◌∷◌, ◌++◌, subst, sym}
 use Rattle.std.proofs.lemmas.Result.{IfOk-from_err}
 use Rattle.tuple_text.specs.TupleRefs.{tuple_value}
 use Rattle.tuple_text.specs.Tuples.{TupleValue}
-use Rattle.trace_lines.specs.Traces.{strata_cause}
-use Rattle.trace_lines.specs.Tuples.{Represents}
-use Rattle.trace_lines.proofs.Sampling.{kind_unbroken, left_out}
-use Rattle.trace_lines.proofs.sample.Sample.admit.Goals as goal
+use Rattle.edge_checks.specs.Sampled.{Represents}
+use Rattle.edge_checks.proofs.Sampling.{kind_unbroken, left_out}
+use Rattle.edge_checks.proofs.sample.Sample.admit.Goals as goal
 
 pub returns-then-has-clause-answer : goal.returns-then-has-clause-answer
 returns-then-has-clause-answer c =
-    ap strata_cause (kind_unbroken c.args.rules.now c.args.self.now (tuple_value c.args.tuple) (c.has.ensures.found c.if-has.true) c.requires.unbroken)
+    kind_unbroken c.args.rules.now c.args.self.now (tuple_value c.args.tuple) (c.has.ensures.found c.if-has.true) c.requires.unbroken
 
 pub returns-then-has-clause-taken : goal.returns-then-has-clause-taken
 returns-then-has-clause-taken c =

@@ -14,9 +14,10 @@ use Rattle.strata.specs.Edges.{userset_edges, user_edges, tuple_edges, edges_of_
 use Rattle.strata.proofs.Lists.{Contains-cons_cases, not_in_nil}
 use Rattle.strata.proofs.Walks.{both, edges_joined}
 use Rattle.rewrites.proofs.Names.{and_true, one_name}
-use Rattle.refusals.specs.Refusals.{◌>>=◌}
-use Rattle.trace_lines.specs.Traces.{strata_cause, tuples_checked}
-use Rattle.trace_lines.specs.Tuples.{is_of_relation, is_user_of_kind, is_of_kind, IsSomeOfKind, Represents}
+use Rattle.edge_checks.specs.Faults.{Answers}
+use Rattle.edge_checks.specs.Sampled.{is_of_relation, is_user_of_kind, is_of_kind, IsSomeOfKind, Represents}
+use Rattle.edge_checks.specs.declared.fault.EdgeFault.{EdgeFault}
+use Rattle.edge_checks.specs.declared.fault.EdgeFault.TheVariants.{Broken, OutOfMemory}
 
 pub tuples_joined : (ds : List Declaration) (ts us : List TupleValue)
     → first_broken ds (edges_of_tuples ds (ts ++ us)) ≡ both (first_broken ds (edges_of_tuples ds ts)) (first_broken ds (edges_of_tuples ds us))
@@ -45,11 +46,11 @@ both_ok : (a b : Result (Unit {0}) Edge) → both a b ≡ Ok (tt {0}) → (a ≡
 both_ok (Ok u) b h = (refl, h)
 both_ok (Err e) b h = cc
 
-pub one_unbroken : (ds : List Declaration) (t : TupleValue) → first_broken ds (edges_of_tuples ds (t ∷ [])) ≡ first_broken ds (tuple_edges ds t)
+one_unbroken : (ds : List Declaration) (t : TupleValue) → first_broken ds (edges_of_tuples ds (t ∷ [])) ≡ first_broken ds (tuple_edges ds t)
 one_unbroken ds t = ap (first_broken ds) (append-nil (tuple_edges ds t))
 
 -- where no edge of the tuples is broken, none is of one of them
-pub each_unbroken : (ds : List Declaration) (ts : List TupleValue) (t : TupleValue) → Contains ts t → first_broken ds (edges_of_tuples ds ts) ≡ Ok (tt {0})
+each_unbroken : (ds : List Declaration) (ts : List TupleValue) (t : TupleValue) → Contains ts t → first_broken ds (edges_of_tuples ds ts) ≡ Ok (tt {0})
     → first_broken ds (tuple_edges ds t) ≡ Ok (tt {0})
 each_unbroken ds [] t c h = absurd (not_in_nil t c)
 each_unbroken ds (x ∷ xs) t c h =
@@ -63,39 +64,34 @@ each_unbroken ds (x ∷ xs) t c h =
 
 -- a tuple whose kind is there is as little broken as the sample
 pub kind_unbroken : (ds : List Declaration) (sample : List TupleValue) (t : TupleValue) → IsSomeOfKind t sample
-    → first_broken ds (edges_of_tuples ds sample) ≡ Ok (tt {0}) → first_broken ds (edges_of_tuples ds (t ∷ [])) ≡ Ok (tt {0})
-kind_unbroken ds sample t (u, c, k) h =
-    one_unbroken ds t ∙ ap (first_broken ds) (sym (edges_of_kind ds u t k)) ∙ each_unbroken ds sample u c h
+    → first_broken ds (edges_of_tuples ds sample) ≡ Ok (tt {0}) → first_broken ds (tuple_edges ds t) ≡ Ok (tt {0})
+kind_unbroken ds sample t (u, c, k) h = ap (first_broken ds) (sym (edges_of_kind ds u t k)) ∙ each_unbroken ds sample u c h
 
 -- ---- what a sample stands for
 
 -- a tuple that is never broken before the sample is may be left out
 pub left_out : (sample : List TupleValue) (t : TupleValue)
-    → ((ds : List Declaration) → first_broken ds (edges_of_tuples ds sample) ≡ Ok (tt {0}) → first_broken ds (edges_of_tuples ds (t ∷ [])) ≡ Ok (tt {0}))
+    → ((ds : List Declaration) → first_broken ds (edges_of_tuples ds sample) ≡ Ok (tt {0}) → first_broken ds (tuple_edges ds t) ≡ Ok (tt {0}))
     → Represents sample (sample ++ t ∷ [])
 left_out sample t covered ds =
     by (first_broken ds (edges_of_tuples ds sample)) refl ∙ sym (tuples_joined ds sample (t ∷ []))
   where
     by : (r : Result (Unit {0}) Edge) → first_broken ds (edges_of_tuples ds sample) ≡ r → r ≡ both r (first_broken ds (edges_of_tuples ds (t ∷ [])))
-    by (Ok u) h = sym (covered ds h)
+    by (Ok u) h = sym (one_unbroken ds t ∙ covered ds h)
     by (Err e) h = refl
-
-pub plain_user : (sample : List TupleValue) (t : TupleValue) (n : ℕ) → t.user ≡ Id n → (ds : List Declaration) → first_broken ds (edges_of_tuples ds (t ∷ [])) ≡ Ok (tt {0})
-plain_user sample t n is ds = one_unbroken ds t ∙ ap (λ (u : User). first_broken ds (user_edges ds t.set u)) is
 
 pub represents_then : (a b c : List TupleValue) → Represents a (b ++ c) → (d : List TupleValue) → Represents b d → Represents a (d ++ c)
 represents_then a b c one d two ds = one ds ∙ tuples_joined ds b c ∙ ap (λ r. both r (first_broken ds (edges_of_tuples ds c))) (two ds) ∙ sym (tuples_joined ds d c)
 
 -- ---- checks, tuple by tuple
 
-cause_of_both : (a b : Result (Unit {0}) Edge) → strata_cause (both a b) ≡ (strata_cause a >>= λ u. strata_cause b)
-cause_of_both (Ok u) b = refl
-cause_of_both (Err e) b = refl
-
-pub checked_joined : (ds : List Declaration) (ts us : List TupleValue) → tuples_checked ds (ts ++ us) ≡ (tuples_checked ds ts >>= λ u. tuples_checked ds us)
-checked_joined ds ts us =
-    ap strata_cause (tuples_joined ds ts us)
-    ∙ cause_of_both (first_broken ds (edges_of_tuples ds ts)) (first_broken ds (edges_of_tuples ds us))
+-- what the first of two checks refuses, both refuse
+pub answers_both : (f : EdgeFault) (r : Result (Unit {0}) EdgeFault) (a b : Result (Unit {0}) Edge) → r ≡ Err f → Answers (Err f) a → Answers r (both a b)
+answers_both f r a b is h = subst (λ (x : Result (Unit {0}) EdgeFault). Answers x (both a b)) (sym is) (by f h)
+  where
+    by : (g : EdgeFault) → Answers (Err g) a → Answers (Err g) (both a b)
+    by (Broken e) k = ap (λ (x : Result (Unit {0}) Edge). both x b) k
+    by OutOfMemory k = tt
 
 -- without rules there is no edge
 no_edge : (ts : List TupleValue) → edges_of_tuples [] ts ≡ []
@@ -108,10 +104,6 @@ no_edge (t ∷ ts) = ap (λ es. es ++ edges_of_tuples [] ts) (none t.user) ∙ n
 
 pub unbroken_without_rules : (ts : List TupleValue) → first_broken [] (edges_of_tuples [] ts) ≡ Ok (tt {0})
 unbroken_without_rules ts = ap (first_broken []) (no_edge ts)
-
-pub none_broken : (r : Result (Unit {0}) Edge) → strata_cause r ≡ Ok (tt {0}) → r ≡ Ok (tt {0})
-none_broken (Ok u) h = refl
-none_broken (Err e) h = cc
 
 -- where no edge of the tuples is broken, none is of tuple t among them
 pub unbroken_at : (ds : List Declaration) (ts : List TupleValue) (i : ℕ) (t : TupleValue) → i < length ts → t ≡ get_or ts i t → first_broken ds (edges_of_tuples ds ts) ≡ Ok (tt {0})
@@ -127,12 +119,6 @@ unbroken_at ds (x ∷ xs) (suc i) t lt is h =
 
 -- a walk over the tuples, at tuple t
 module _ (ds : List Declaration) (ts : List TupleValue) (i : ℕ) (t : TupleValue) (lt : i < length ts) (is : t ≡ get_or ts i t) where
-  pub left_step : tuples_checked ds (drop i ts) ≡ (tuples_checked ds (t ∷ []) >>= λ u. tuples_checked ds (drop (i + 1) ts))
-  left_step =
-      ap (tuples_checked ds) (drop-cons ts i t lt ∙ ap (λ (x : TupleValue). x ∷ drop (suc i) ts) (sym is))
-      ∙ checked_joined ds (t ∷ []) (drop (suc i) ts)
-      ∙ ap (λ (n : ℕ). tuples_checked ds (t ∷ []) >>= λ u. tuples_checked ds (drop n ts)) (sym (add-one i))
-
   pub edges_step : first_broken ds (edges_of_tuples ds (drop i ts)) ≡ both (first_broken ds (tuple_edges ds t)) (first_broken ds (edges_of_tuples ds (drop (i + 1) ts)))
   edges_step =
       ap (λ xs. first_broken ds (edges_of_tuples ds xs)) (drop-cons ts i t lt ∙ ap (λ (x : TupleValue). x ∷ drop (suc i) ts) (sym is))
@@ -145,9 +131,9 @@ module _ (ds : List Declaration) (ts : List TupleValue) (i : ℕ) (t : TupleValu
       subst (Represents now) (append_assoc first (take i ts) (t ∷ []) ∙ ap (λ xs. first ++ xs) (sym more)) (represents_then now sample (t ∷ []) new (first ++ take i ts) had)
 
 pub unbroken_step : (ds : List Declaration) (sample now : List TupleValue) (t : TupleValue) → first_broken ds (edges_of_tuples ds sample) ≡ Ok (tt {0})
-    → tuples_checked ds (t ∷ []) ≡ Ok (tt {0}) → Represents now (sample ++ t ∷ []) → first_broken ds (edges_of_tuples ds now) ≡ Ok (tt {0})
+    → first_broken ds (tuple_edges ds t) ≡ Ok (tt {0}) → Represents now (sample ++ t ∷ []) → first_broken ds (edges_of_tuples ds now) ≡ Ok (tt {0})
 unbroken_step ds sample now t was fine new =
-    new ds ∙ tuples_joined ds sample (t ∷ []) ∙ rw (was, none_broken (first_broken ds (edges_of_tuples ds (t ∷ []))) fine) refl
+    new ds ∙ tuples_joined ds sample (t ∷ []) ∙ rw (was, one_unbroken ds t, fine) refl
 
 short_take : (n : ℕ) (xs : List TupleValue) → length (take n xs) ≤ length xs
 short_take zero xs = omega arith

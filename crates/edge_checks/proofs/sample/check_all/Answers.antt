@@ -1,6 +1,6 @@
 use Rattle.std.proofs.Common.{◌∙◌, rules}
-use Rattle.trace_lines.proofs.Sampling.{edges_step, unbroken_at}
-use Rattle.trace_lines.proofs.sample.check_all.Goals as goal
+use Rattle.edge_checks.proofs.Sampling.{edges_step, unbroken_at}
+use Rattle.edge_checks.proofs.sample.check_all.Goals as goal
 
 pub returns-in_err-check_tuple_by : goal.returns-in_err-check_tuple_by
 returns-in_err-check_tuple_by c =

@@ -3,15 +3,14 @@
 ghost use Rattle.std.specs.Prelude.{◌≡◌, ◌≤◌, ◌∷◌, ◌++◌, [], Ok, length, take, true, OnErr, OnOk};
 ghost use Rattle.tuple_text.specs.Refs.{set_value, user_value};
 ghost use Rattle.tuple_text.specs.TupleRefs.{tuple_value, tuple_values};
-ghost use Rattle.strata.specs.Edges.{first_broken, edges_of_tuples};
-ghost use Rattle.trace_lines.specs.Causes.{Gives};
-ghost use Rattle.trace_lines.specs.Declaring.{IsDeclaredOver};
-ghost use Rattle.trace_lines.specs.Indexed.{IsIndex};
-ghost use Rattle.trace_lines.specs.Traces.{tuples_checked};
-ghost use Rattle.trace_lines.specs.Tuples.{is_of_kind, is_of_relation, is_user_of_kind, Represents, IsSomeOfKind};
+ghost use Rattle.strata.specs.Edges.{first_broken, edges_of_tuples, tuple_edges};
+ghost use Rattle.edge_checks.specs.Faults.{Answers};
+ghost use Rattle.edge_checks.specs.Indexed.{IsIndex};
+ghost use Rattle.edge_checks.specs.Sampled.{is_of_kind, is_of_relation, is_user_of_kind, IsSomeOfKind};
+ghost use Rattle.edge_checks.specs.Sampled.{IsDeclaredOver, Represents};
 
-use crate::cause::Cause;
 use crate::edge_index::EdgeIndex;
+use crate::fault::EdgeFault;
 use marks::{MarkedSet, fact_mark};
 use namespaces::{RelNo, Rules};
 use std::alloc::{AllocError, Global};
@@ -20,10 +19,10 @@ use std::marker::Model;
 use strata::{Edge, check_tuple, check_tuple_by, reads_tuplesets};
 use tuple_text::{SetRef, Tuple, TupleRef, UserRef};
 
-/// Of all tuples that were ever added the first of each kind, in order, where a kind is the relations of a tuple's userset and of its user.
-/// Their edges are those of all. Now and then a kind has more than one.
+/// Of all tuples that were ever added the first of each kind, in order, where a kind is the relations of a tuple's
+/// userset and of its user. Their edges are those of all. Now and then a kind has more than one.
 #[derive(Drop)]
-pub(crate) struct Sample {
+pub struct Sample {
     tuples: Vec<Tuple>,
     // where a tuple of a kind stands, by the numbers of its relations; who looks here makes sure that it does
     places: BTreeMap<u64, usize>,
@@ -41,7 +40,7 @@ impl Model for Sample {
 }
 
 /// Whether two usersets are of one relation.
-pub(crate) fn is_of_relation(one: SetRef<'_>, other: SetRef<'_>) -> bool
+pub fn is_of_relation(one: SetRef<'_>, other: SetRef<'_>) -> bool
     ensures { result ≡ is_of_relation (set_value one.entry) (set_value other.entry) }
 {
     one.namespace == other.namespace && one.relation == other.relation
@@ -79,17 +78,22 @@ fn kind_number(rules: &Rules, set: SetRef<'_>, user: SetRef<'_>) -> u64 {
     }
 }
 
-/// Looks for the first broken edge of a tuple that is put behind others. The rules are walked over for that only where the index
-/// does not know.
-fn look(rules: &Rules, index: &mut EdgeIndex, tuples: &[Tuple], tuple: &Tuple) -> Result<(), Cause>
+/// Looks for the first broken edge of a tuple that is put behind others. The rules are walked over for that only where
+/// the index does not know.
+fn look(
+    rules: &Rules,
+    index: &mut EdgeIndex,
+    tuples: &[Tuple],
+    tuple: &Tuple,
+) -> Result<(), EdgeFault>
     requires { IsIndex rules.now index.old tuples.now }
-    ensures answer { Gives (λ u. u) result (tuples_checked rules.now (tuple.now ∷ [])) }
+    ensures answer { Answers result (first_broken rules.now (tuple_edges rules.now tuple.now)) }
     ensures index { OnOk result (IsIndex rules.now index.new (tuples.now ++ tuple.now ∷ [])) }
 {
     if !index.admit(rules, tuples, tuple)? {
         index.give_up();
         if let Err(edge) = check_tuple(rules, tuple) {
-            return Err(Cause::Strata(edge));
+            return Err(EdgeFault::Broken(edge));
         }
     }
     Ok(())
@@ -110,7 +114,7 @@ fn put(
 }
 
 impl Sample {
-    pub(crate) fn new(alloc: Global) -> Sample
+    pub fn new(alloc: Global) -> Sample
         ensures { result ≡ [] }
     {
         Sample {
@@ -120,20 +124,20 @@ impl Sample {
         }
     }
 
-    pub(crate) fn len(&self) -> usize
+    pub fn len(&self) -> usize
         ensures { result ≡ length self.now }
     {
         self.tuples.len()
     }
 
-    pub(crate) fn tuples(&self) -> &[Tuple]
+    pub fn tuples(&self) -> &[Tuple]
         ensures { result.now ≡ self.now }
     {
         &self.tuples
     }
 
     /// Drops all but the first tuples.
-    pub(crate) fn truncate(&mut self, len: usize)
+    pub fn truncate(&mut self, len: usize)
         ensures { self.new ≡ take len self.old }
     {
         self.tuples.truncate(len);
@@ -171,10 +175,10 @@ impl Sample {
         rules: &Rules,
         index: &mut EdgeIndex,
         tuple: TupleRef<'_>,
-    ) -> Result<(), Cause>
+    ) -> Result<(), EdgeFault>
         requires unbroken { first_broken rules.now (edges_of_tuples rules.now self.old) ≡ Ok (tt {0}) }
         requires index { IsIndex rules.now index.old self.old }
-        ensures answer { Gives (λ u. u) result (tuples_checked rules.now (tuple_value tuple.entry ∷ [])) }
+        ensures answer { Answers result (first_broken rules.now (tuple_edges rules.now (tuple_value tuple.entry))) }
         ensures taken { OnOk result (Represents self.new (self.old ++ tuple_value tuple.entry ∷ [])) }
         ensures kept { take (length self.old) self.new ≡ self.old }
         ensures index { OnOk result (IsIndex rules.now index.new self.new) }
@@ -193,15 +197,15 @@ impl Sample {
     }
 
     /// Takes more tuples, or refuses the first of their edges that is broken. The tuples that were there stay in front.
-    pub(crate) fn admit_all(
+    pub fn admit_all(
         &mut self,
         rules: &Rules,
         index: &mut EdgeIndex,
         tuples: &[TupleRef<'_>],
-    ) -> Result<(), Cause>
+    ) -> Result<(), EdgeFault>
         requires unbroken { first_broken rules.now (edges_of_tuples rules.now self.old) ≡ Ok (tt {0}) }
         requires index { IsIndex rules.now index.old self.old }
-        ensures answer { Gives (λ u. u) result (tuples_checked rules.now (tuple_values tuples.now)) }
+        ensures answer { Answers result (first_broken rules.now (edges_of_tuples rules.now (tuple_values tuples.now))) }
         ensures taken { OnOk result (Represents self.new (self.old ++ tuple_values tuples.now)) }
         ensures kept { take (length self.old) self.new ≡ self.old }
         ensures index { OnOk result (IsIndex rules.now index.new self.new) }
@@ -213,7 +217,7 @@ impl Sample {
     }
 
     /// The first of the tuples' edges that the last declaration broke, which is of this namespace.
-    pub(crate) fn check(&self, rules: &Rules, namespace: &str, has_more: bool) -> Result<(), Edge>
+    pub fn check(&self, rules: &Rules, namespace: &str, has_more: bool) -> Result<(), Edge>
         requires { IsDeclaredOver rules.now namespace.now has_more self.now }
         ensures { result ≡ first_broken rules.now (edges_of_tuples rules.now self.now) }
     {

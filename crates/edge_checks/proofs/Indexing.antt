@@ -27,11 +27,11 @@ use Rattle.strata.proofs.Newest.{position_none}
 use Rattle.strata.proofs.Unbroken.{item_least, item_there}
 use Rattle.marks.proofs.PlacedLemmas.{slice_get-front}
 use Rattle.rule_reads.specs.Reads.{stratum_of, relation_named, relation_of_user, pair_mark, mark_of_set, mark_of_user, mark_of_pair, is_from, IsSomeOfPair, AreKinds, tupleset_mark, computed_mark, AreMarked, own, HasRead, AreRead, is_below, FitsOwn, IsLow, FitsThrough, Fits, AllFit, IsLowWhereStored, IsFitting, HasTakenAll, relation_number}
-use Rattle.trace_lines.specs.Indexed.{IsWhole, IsIndex, IsIndexBefore}
+use Rattle.edge_checks.specs.Indexed.{IsWhole, IsIndex, IsIndexBefore}
 use Rattle.rule_reads.specs.declared.kinds.Kinds.{Kinds}
 use Rattle.rule_reads.specs.declared.reads.Reads.{Reads}
 use Rattle.rule_reads.specs.declared.reads.Through.{Through}
-use Rattle.trace_lines.specs.declared.edge_index.EdgeIndex.{EdgeIndex}
+use Rattle.edge_checks.specs.declared.edge_index.EdgeIndex.{EdgeIndex}
 use Rattle.rule_reads.proofs.Chains.{place_in}
 use Rattle.rule_reads.proofs.Fitting.{stratum_of_numbered, named_there}
 use Rattle.rule_reads.proofs.Reading.{mark_in, read_kept}

@@ -1,6 +1,6 @@
 use Rattle.std.proofs.Common.{◌≡◌, drop}
 use Rattle.strata.specs.Edges.{first_broken, edges_of_tuples}
-use Rattle.trace_lines.proofs.sample.check_all.Given as goal
+use Rattle.edge_checks.proofs.sample.check_all.Given as goal
 
 -- what decides are the tuples that are left
 abbrev pub invariant-loop-tuple : goal.invariant-loop-tuple

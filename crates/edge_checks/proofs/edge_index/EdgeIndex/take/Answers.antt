@@ -1,10 +1,10 @@
 use Rattle.std.proofs.Common.{rules, ◌≡◌, sym, true}
 use Rattle.namespaces.specs.Lookup.{namespace_names}
 use Rattle.strata.proofs.LastTuple.{placed}
-use Rattle.trace_lines.proofs.Indexing.{declared_whole}
+use Rattle.edge_checks.proofs.Indexing.{declared_whole}
 use Rattle.rule_reads.proofs.Fitting.{all_unbroken}
 use Rattle.rule_reads.proofs.Reading.{fits_then}
-use Rattle.trace_lines.proofs.edge_index.EdgeIndex.take.Goals as goal
+use Rattle.edge_checks.proofs.edge_index.EdgeIndex.take.Goals as goal
 
 pub take_namespace-requires-clause-named : goal.take_namespace-requires-clause-named
 take_namespace-requires-clause-named c = placed c.args.namespace.now (namespace_names c.args.rules.now) c.in-Some.number (sym c.in-Some.ensures)

@@ -5,7 +5,7 @@ use Rattle.namespaces.specs.Declaration.{Declaration}
 use Rattle.namespaces.specs.Lookup.{relation_count}
 use Rattle.namespaces.specs.WellFormed.{IsWellFormed}
 use Rattle.rule_reads.specs.Reads.{AreKinds, AreMarked, HasRead, AllFit}
-use Rattle.trace_lines.specs.declared.edge_index.EdgeIndex.{EdgeIndex}
+use Rattle.edge_checks.specs.declared.edge_index.EdgeIndex.{EdgeIndex}
 
 -- each place of each rule is read, and each tuple fits
 pub record IsWhole (ds : List Declaration) (index : EdgeIndex) (ts : List TupleValue) : Type 0 where

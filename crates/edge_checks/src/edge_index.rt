@@ -2,22 +2,21 @@
 
 ghost use Rattle.std.specs.Prelude.{◌≡◌, ◌∷◌, ◌++◌, [], Ok, true, false, IfOk, OnOk};
 ghost use Rattle.strata.specs.Edges.{edges_of_tuples, first_broken, tuple_edges};
-ghost use Rattle.trace_lines.specs.Causes.{Gives};
-ghost use Rattle.trace_lines.specs.Declaring.{IsDeclaredOver};
-ghost use Rattle.trace_lines.specs.Indexed.{IsIndex, IsIndexBefore};
-ghost use Rattle.trace_lines.specs.Traces.{tuples_checked};
+ghost use Rattle.edge_checks.specs.Faults.{Answers};
+ghost use Rattle.edge_checks.specs.Indexed.{IsIndex, IsIndexBefore};
+ghost use Rattle.edge_checks.specs.Sampled.{IsDeclaredOver};
 
-use crate::cause::Cause;
+use crate::fault::EdgeFault;
 use crate::sample::Sample;
 use namespaces::Rules;
 use rule_reads::{Kinds, Reads, Scope};
 use std::alloc::{AllocError, Global};
 use tuple_text::Tuple;
 
-/// Of the rules ever declared what they read of tuples' users, and of a sample the kinds of its tuples. Whatever is new, a
-/// rule, a tuple or a relation, is looked at once against the rest that it concerns.
+/// Of the rules ever declared what they read of tuples' users, and of a sample the kinds of its tuples. Whatever is
+/// new, a rule, a tuple or a relation, is looked at once against the rest that it concerns.
 #[derive(Drop)]
-pub(crate) struct EdgeIndex {
+pub struct EdgeIndex {
     reads: Reads,
     kinds: Kinds,
     // until a line is refused
@@ -25,7 +24,7 @@ pub(crate) struct EdgeIndex {
 }
 
 impl EdgeIndex {
-    pub(crate) fn new(alloc: Global) -> EdgeIndex
+    pub fn new(alloc: Global) -> EdgeIndex
         ensures { IsIndex [] result [] }
     {
         EdgeIndex {
@@ -36,7 +35,7 @@ impl EdgeIndex {
     }
 
     /// Leaves it that this is an index. From then on all edges are walked over.
-    pub(crate) fn give_up(&mut self)
+    pub fn give_up(&mut self)
         ensures { self.new.is_whole ≡ false }
     {
         self.is_whole = false;
@@ -67,8 +66,8 @@ impl EdgeIndex {
         Ok(self.reads.own_fits(rules, tuple) && (is_known || self.reads.through_fits(scope, tuple)))
     }
 
-    /// Takes the last declaration, of a namespace of which `known` relations were there before. Answers whether it is known
-    /// that no edge of a tuple is broken.
+    /// Takes the last declaration, of a namespace of which `known` relations were there before. Answers whether it is
+    /// known that no edge of a tuple is broken.
     fn take(
         &mut self,
         rules: &Rules,
@@ -99,7 +98,7 @@ impl EdgeIndex {
     }
 
     /// Takes the last declaration, before which no tuple was added.
-    pub(crate) fn begin(
+    pub fn begin(
         &mut self,
         rules: &Rules,
         sample: &Sample,
@@ -115,19 +114,19 @@ impl EdgeIndex {
         Ok(())
     }
 
-    /// Looks for the first broken edge of a sample after a declaration, and takes that where there is none. The sample is
-    /// walked over only where something does not fit.
-    pub(crate) fn follow(
+    /// Looks for the first broken edge of a sample after a declaration, and takes that where there is none. The sample
+    /// is walked over only where something does not fit.
+    pub fn follow(
         &mut self,
         rules: &Rules,
         sample: &Sample,
         namespace: &str,
         known: usize,
         has_more: bool,
-    ) -> Result<(), Cause>
+    ) -> Result<(), EdgeFault>
         requires over { IsDeclaredOver rules.now namespace.now has_more sample.now }
         requires index { IsIndexBefore rules.now namespace.now known self.old sample.now }
-        ensures answer { Gives (λ u. u) result (tuples_checked rules.now sample.now) }
+        ensures answer { Answers result (first_broken rules.now (edges_of_tuples rules.now sample.now)) }
         ensures index { OnOk result (IsIndex rules.now self.new sample.now) }
     {
         if self.take(rules, sample.tuples(), namespace, known)? {
@@ -136,6 +135,6 @@ impl EdgeIndex {
         self.give_up();
         sample
             .check(rules, namespace, has_more)
-            .map_err(Cause::Strata)
+            .map_err(EdgeFault::Broken)
     }
 }
