@@ -109,14 +109,6 @@ fn are_quiet(
     true
 }
 
-fn copied(alloc: Global, numbers: &[u16]) -> Result<Vec<u16>, AllocError>
-    ensures { IfOk result (λ v. v.items ≡ numbers.now) }
-{
-    let mut copy = Vec::with_capacity(alloc, numbers.len())?;
-    copy.extend_from_slice(numbers)?;
-    Ok(copy)
-}
-
 /// The numbers of the namespaces of which something may matter that is stored in a set. It does not depend on a user.
 pub(crate) fn live_in(
     alloc: Global,
@@ -138,5 +130,5 @@ pub(crate) fn live_in(
     if are_quiet(trace.rules(), at, through, sets, declaring) {
         return Ok(Vec::new(alloc));
     }
-    copied(alloc, declaring)
+    Vec::from_slice(alloc, declaring)
 }

@@ -26,6 +26,6 @@ returns-then-are_quiet c =
 
 pub returns : goal.returns
 returns c =
-    IfOk-weaker c.copied.result _ _
+    IfOk-weaker c.from_slice.result _ _
     (λ v is. rw is (live_declaring c.args.trace.now.declarations c.args.trace.now.commits c.args.at (set_value c.args.set.set)
-    (computed_names c.args.through.now) c.args.declaring.now c.ranges.at.fits c.requires)) c.copied.ensures
+    (computed_names c.args.through.now) c.args.declaring.now c.ranges.at.fits c.requires)) c.from_slice.ensures.items

@@ -1,6 +1,6 @@
 use Rattle.rewrites.specs.Parts.{part_expression, parts_shown}
 use Rattle.wide_rules.specs.Asked.{AreCovers}
-use Rattle.wide_rules.proofs.covers.checked.Given as goal
+use Rattle.wide_rules.proofs.covers.check_covers.Given as goal
 
 -- those so far are of covers
 abbrev pub invariant-loop-number : goal.invariant-loop-number

@@ -1,9 +1,9 @@
-use Rattle.std.proofs.Common.{◌≡◌, ◌∙◌, ◌+◌, length, sym, subst, ap, arith}
+use Rattle.std.proofs.Common.{sym, subst, arith}
 use Rattle.rewrites.specs.Parts.{part_at, parts_shown}
 use Rattle.marks.proofs.PlacedLemmas.{length-more}
 use Rattle.wide_rules.specs.Asked.{AreCovers}
 use Rattle.wide_rules.proofs.CoverLemmas.{covers_by_part_more}
-use Rattle.wide_rules.proofs.covers.each_checked.Goals as goal
+use Rattle.wide_rules.proofs.covers.check_each.Goals as goal
 
 pub loop-k-preserved : goal.loop-k-preserved
 loop-k-preserved c =

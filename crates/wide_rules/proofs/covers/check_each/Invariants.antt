@@ -1,7 +1,7 @@
 use Rattle.std.proofs.Common.{◌≡◌, length}
 use Rattle.rewrites.specs.Parts.{parts_shown}
 use Rattle.wide_rules.specs.Asked.{AreCoversByPart}
-use Rattle.wide_rules.proofs.covers.each_checked.Given as goal
+use Rattle.wide_rules.proofs.covers.check_each.Given as goal
 
 -- so it is of the parts so far
 abbrev pub invariant-loop-k : goal.invariant-loop-k
