@@ -40,13 +40,10 @@ fn find(facts: &[Fact], marks: &Places, set: MarkedSet<'_>, user: u64) -> Option
     ensures there { IfSome result (λ i. slice_get facts.now i ≡ Some (fact_of (set_value set.entry.set) user)) }
     ensures absent { result ≡ None → ¬ Contains facts.now (fact_of (set_value set.entry.set) user) }
 {
-    let mut place = marks.newest(fact_mark(set, user));
-    while place > 0 {
-        let number = place - 1;
+    for number in marks.with(fact_mark(set, user)) {
         if facts[number].is_of_marked(set, user) {
             return Some(number);
         }
-        place = marks.older(number);
     }
     None
 }
@@ -69,9 +66,7 @@ impl Seen {
         self.facts.reserve(1)?;
         self.marks
             .push(fact_mark(MarkedSet::of(fact.set()), fact.user()))?;
-        if self.facts.push(fact).is_err() {
-            unreachable!();
-        }
+        self.facts.push_reserved(fact);
         Ok(())
     }
 

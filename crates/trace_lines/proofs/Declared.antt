@@ -17,9 +17,10 @@ use Rattle.namespaces.proofs.Growth.{passed}
 use Rattle.refusals.specs.Refusals.{◌>>=◌}
 use Rattle.json_lines.specs.Fields.{text_at}
 use Rattle.strata.specs.Edges.{first_broken, edges_of_tuples}
-use Rattle.trace_lines.specs.Declaring.{AreUnbroken, IsDeclaredLast, IsDeclaredOver}
-use Rattle.trace_lines.specs.Indexed.{IsIndex, IsIndexBefore}
-use Rattle.trace_lines.specs.declared.edge_index.EdgeIndex.{EdgeIndex}
+use Rattle.edge_checks.specs.Sampled.{IsDeclaredOver}
+use Rattle.trace_lines.specs.Declaring.{AreUnbroken, IsDeclaredLast}
+use Rattle.edge_checks.specs.Indexed.{IsIndex, IsIndexBefore}
+use Rattle.edge_checks.specs.declared.edge_index.EdgeIndex.{EdgeIndex}
 
 step : {A B : Type 0} (r : Result A RulesFault) (f : A → Result B RulesFault) (y : B) → (r >>= f) ≡ Ok y → (x : A) × (r ≡ Ok x) × (f x ≡ Ok y)
 step (Ok x) f y h = (x, refl, h)

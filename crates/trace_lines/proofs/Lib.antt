@@ -1,7 +1,6 @@
 pub mod Answers
 pub mod Declared
 pub mod FrontLemmas
-pub mod Indexing
 pub mod IssuedVersions
 pub mod IssuerWalk
 pub mod Keeping
@@ -11,6 +10,6 @@ pub mod OfBytes
 pub mod Orderly
 pub mod Placing
 pub mod Recording
+pub mod RefusedEdges
 pub mod RisingLines
-pub mod Sampling
 pub mod TraceTold

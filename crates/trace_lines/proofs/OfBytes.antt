@@ -31,7 +31,8 @@ use Rattle.trace_lines.specs.Values.{EntryValue, TraceValue, empty_trace, entry_
 use Rattle.trace_lines.specs.Versions.{is_repeated}
 use Rattle.trace_lines.specs.Traces.{is_begun, rules_checked, tuples_checked, late_or, with_namespace, namespace_line, changes_of, append_cause, commit_checked, with_touches, with_commit, commit_of, empty_commit, change_line, declared_from, declaration_line, are_declared, entry_of, is_declared, recorded, with_entry, entry_line, of_kind, value_line, faulted, trace_of}
 use Rattle.trace_lines.specs.Declaring.{changed_rules}
-use Rattle.trace_lines.specs.Tuples.{Represents, IsOrderly}
+use Rattle.edge_checks.specs.Sampled.{Represents}
+use Rattle.trace_lines.specs.Tuples.{IsOrderly}
 use Rattle.trace_lines.specs.declared.entry.EntryKind.{EntryKind}
 use Rattle.trace_lines.specs.declared.entry.EntryKind.TheVariants.{Check, Content}
 use Rattle.trace_lines.specs.declared.cause.Cause.{Cause}

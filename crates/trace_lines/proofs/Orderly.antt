@@ -30,11 +30,12 @@ use Rattle.trace_lines.specs.Causes.{Gives, namespace_cause}
 use Rattle.trace_lines.specs.Values.{TraceValue}
 use Rattle.trace_lines.specs.Traces.{strata_cause, rules_checked, tuples_checked, late_or, with_namespace, changes_of, append_cause, commit_checked, with_touches, with_commit, empty_commit, change_line}
 use Rattle.trace_lines.specs.Declaring.{checked, changed_rules, rules_changed, refused_late}
-use Rattle.trace_lines.specs.Tuples.{Represents, IsOrderly}
+use Rattle.edge_checks.specs.Sampled.{Represents}
+use Rattle.trace_lines.specs.Tuples.{IsOrderly}
 use Rattle.trace_lines.specs.declared.cause.Cause.{Cause}
 use Rattle.trace_lines.specs.declared.cause.Cause.TheVariants as causes
 use Rattle.trace_lines.proofs.Answers.{made}
-use Rattle.trace_lines.proofs.Sampling.{none_broken, tuples_joined, represents_then, unbroken_without_rules}
+use Rattle.edge_checks.proofs.Sampling.{tuples_joined, represents_then, unbroken_without_rules}
 
 pub orderly_empty : IsOrderly [] [] []
 orderly_empty = record {
@@ -64,6 +65,10 @@ valid_strata ds commits sample is at =
     (λ t c. added-stored commits at t ((store_at-iff commits at t).0 c))
 
 -- ---- commits
+
+none_broken : (r : Result (Unit {0}) Edge) → strata_cause r ≡ Ok (tt {0}) → r ≡ Ok (tt {0})
+none_broken (Ok u) h = refl
+none_broken (Err e) h = cc
 
 pub last_pushed : (commits : List Commit) (c : Commit) → last_at (commits ++ c ∷ []) ≡ Some c.at
 last_pushed commits c =

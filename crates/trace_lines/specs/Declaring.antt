@@ -1,13 +1,11 @@
 -- The rules after a change, over what was added so far. No public clause cites this module.
-use Rattle.std.specs.Prelude.{◌≡◌, ℕ, Bool, List, [], ◌∷◌, ◌++◌, Some, Result, Ok, Err, codes}
+use Rattle.std.specs.Prelude.{◌≡◌, ℕ, List, [], ◌∷◌, ◌++◌, Some, Result, Ok, Err, codes}
 use Rattle.serde_json.specs.Data.{Data}
 use Rattle.tuple_text.specs.Tuples.{TupleValue}
 use Rattle.namespaces.specs.Declaration.{Declaration}
-use Rattle.namespaces.specs.WellFormed.{IsWellFormed}
 use Rattle.namespaces.specs.Changing.{rules_change}
 use Rattle.json_lines.specs.Fields.{text_at}
-use Rattle.strata.specs.Changes.{IsDeclaredAgain}
-use Rattle.strata.specs.Edges.{first_broken, rule_edges, edges_of_tuples}
+use Rattle.strata.specs.Edges.{first_broken, rule_edges}
 use Rattle.version_chains.specs.Commits.{added}
 use Rattle.version_chains.specs.declared.fault.AppendFault.TheVariants.{NotLater}
 use Rattle.refusals.specs.Refusals.{◌>>=◌}
@@ -28,13 +26,6 @@ pub record IsDeclaredLast (ds : List Declaration) (d : Data) : Type 0 where
   pub are : ds ≡ before ++ last ∷ []
   pub named : text_at (codes "name") d ≡ Some last.name
   pub unbroken : AreUnbroken before
-
--- one declaration was made, of a namespace, and before it no edge of the tuples was broken
-pub record IsDeclaredOver (ds : List Declaration) (namespace : List ℕ) (has_more : Bool) (ts : List TupleValue) : Type 0 where
-  pub well_formed : IsWellFormed ds
-  pub before : List Declaration
-  pub again : IsDeclaredAgain before ds namespace has_more
-  pub unbroken : first_broken before (edges_of_tuples before ts) ≡ Ok (tt {0})
 
 abbrev pub checked : List TupleValue → List Declaration → Result (List Declaration) Cause
 checked ts ds = rules_checked ds >>= λ u. tuples_checked ds ts >>= λ v. Ok ds

@@ -1,6 +1,6 @@
 pub mod Causes
 pub mod Declaring
-pub mod Indexed
+pub mod EdgeCauses
 pub mod Issued
 pub mod Kept
 pub mod LineCode

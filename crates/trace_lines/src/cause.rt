@@ -1,8 +1,10 @@
 //! Why a trace is refused.
 
 ghost use Rattle.std.specs.Prelude.{◌≡◌};
+ghost use Rattle.trace_lines.specs.EdgeCauses.{edge_cause};
 ghost use Rattle.trace_lines.specs.declared.cause.Cause.TheVariants.{OutOfMemory};
 
+use edge_checks::EdgeFault;
 use json_lines::{InputFault, LineCause};
 use namespaces::RulesFault;
 use std::alloc::{AllocError, AllocFailed};
@@ -60,6 +62,17 @@ impl From<AllocError> for Cause {
 
     fn from(_: AllocError) -> Cause {
         Cause::OutOfMemory
+    }
+}
+
+impl From<EdgeFault> for Cause {
+    ghost from_gives = { λ fault cause. cause ≡ edge_cause fault };
+
+    fn from(fault: EdgeFault) -> Cause {
+        match fault {
+            EdgeFault::Broken(edge) => Cause::Strata(edge),
+            EdgeFault::OutOfMemory => Cause::OutOfMemory,
+        }
     }
 }
 

@@ -6,13 +6,12 @@ ghost use Rattle.json_lines.specs.Fields.{text_at};
 ghost use Rattle.namespaces.specs.Changing.{IsLater};
 ghost use Rattle.strata.specs.Edges.{first_broken, edges_of_tuples};
 ghost use Rattle.trace_lines.specs.Causes.{Gives, Fails, namespace_cause};
-ghost use Rattle.trace_lines.specs.Indexed.{IsIndex};
+ghost use Rattle.edge_checks.specs.Indexed.{IsIndex};
 ghost use Rattle.trace_lines.specs.Declaring.{AreUnbroken, IsDeclaredLast, checked, changed_rules, refused_late};
 ghost use Rattle.trace_lines.specs.Traces.{with_namespace, rules_checked};
 
 use crate::cause::Cause;
-use crate::edge_index::EdgeIndex;
-use crate::sample::Sample;
+use edge_checks::{EdgeIndex, Sample};
 use namespaces::{Rules, RulesFault};
 use serde_json::Value;
 use std::alloc::Global;
@@ -120,7 +119,8 @@ fn make_change(
     }
     check(rules, value)?;
     let has_more = rules.relation_count(namespace) != known;
-    index.follow(rules, sample, namespace, known, has_more)
+    index.follow(rules, sample, namespace, known, has_more)?;
+    Ok(())
 }
 
 /// Declares a namespace, or gives one a new list of relations, in force from a timestamp on.

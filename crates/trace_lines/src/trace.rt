@@ -8,7 +8,7 @@ ghost use Rattle.json_lines.specs.Data.{value_data, line_data};
 ghost use Rattle.tuple_text.specs.Refs.{set_value};
 ghost use Rattle.tuple_text.specs.TupleRefs.{tuple_values};
 ghost use Rattle.trace_lines.specs.Causes.{Gives};
-ghost use Rattle.trace_lines.specs.Indexed.{IsIndex};
+ghost use Rattle.edge_checks.specs.Indexed.{IsIndex};
 ghost use Rattle.trace_lines.specs.LineValues.{commits, declares, put_line, records};
 ghost use Rattle.trace_lines.specs.LineViews.{owned_value};
 ghost use Rattle.trace_lines.specs.Values.{empty_trace, entry_value, entry_lines, next_line};
@@ -22,7 +22,7 @@ ghost use Rattle.version_chains.specs.declared.fault.AppendFault.TheVariants.{No
 ghost use Rattle.namespaces.specs.Lookup.{rule_at};
 ghost use Rattle.strata.specs.Edges.{first_broken, edges_of_tuples};
 ghost use Rattle.strata.specs.Strata.{HasValidStrata};
-ghost use Rattle.trace_lines.specs.Tuples.{Represents};
+ghost use Rattle.edge_checks.specs.Sampled.{Represents};
 ghost use Rattle.trace_lines.specs.Declaring.{rules_changed};
 ghost use Rattle.namespaces.specs.Changing.{IsLater};
 ghost use Rattle.std.specs.List.{list_all};
@@ -33,12 +33,11 @@ use crate::cause::Cause;
 use crate::checks::entry_of;
 use crate::commits::{OwnedCommit, commit_of, tuple_refs};
 use crate::declaring::{change, declare, late_change};
-use crate::edge_index::EdgeIndex;
 use crate::entry::{Entry, EntryKind};
 use crate::recorded::Recorded;
-use crate::sample::{Sample, is_of_relation};
 use crate::told::{Said, TraceLine};
 use crate::versions::{Versions, version_of};
+use edge_checks::{EdgeIndex, Sample, is_of_relation};
 use json::Scratch;
 use json_lines::fields::{optional_number_at, text_at};
 use json_lines::{JsonLine, JsonRef, TakeJson};
@@ -76,7 +75,7 @@ impl Model for Trace {
 
     ghost coded = { trace_code };
 
-    ghost use Rattle.trace_lines.specs.Indexed.{IsIndex};
+    ghost use Rattle.edge_checks.specs.Indexed.{IsIndex};
     ghost use Rattle.trace_lines.specs.Kept.{IsKept};
     ghost use Rattle.trace_lines.specs.Recorded.{shown, contents};
     ghost use Rattle.trace_lines.specs.Tuples.{IsOrderly};
@@ -393,9 +392,7 @@ impl Trace {
                 return Err(cause);
             }
         }
-        if self.commit_lines.push(line).is_err() {
-            unreachable!();
-        }
+        self.commit_lines.push_reserved(line);
         Ok(())
     }
 
@@ -475,9 +472,7 @@ impl Trace {
         }
         self.recorded.reserve(1)?;
         self.versions.push(version, self.recorded.len())?;
-        if self.recorded.push(Recorded::new(entry, None)).is_err() {
-            unreachable!();
-        }
+        self.recorded.push_reserved(Recorded::new(entry, None));
         Ok(())
     }
 

@@ -62,14 +62,11 @@ impl Versions {
         requires { AreIssued self.now (shown recorded.now) }
         ensures { result ≡ issuer (shown recorded.now) (version_value version.entry) }
     {
-        let mut place = self.marks.newest(version.mark);
-        while place > 0 {
-            let index = place - 1;
+        for index in self.marks.with(version.mark) {
             let number = self.entries[index];
             if is_version(version, &recorded[number].entry) {
                 return Some(number);
             }
-            place = self.marks.older(index);
         }
         None
     }
@@ -83,9 +80,7 @@ impl Versions {
     {
         self.entries.reserve(1)?;
         self.marks.push(version.mark)?;
-        if self.entries.push(number).is_err() {
-            unreachable!();
-        }
+        self.entries.push_reserved(number);
         Ok(())
     }
 }

@@ -19,8 +19,9 @@ use std::marker::Model;
 
 /// A rule that many facts are asked for, one after the other. Contracts see its expression.
 ///
-/// Each part is asked for once for a fact, where no cover answers for it, first those that were asked for facts before, in their order, as far as the answers are those of
-/// one of them. Where all of its answers are, the rule's answer is that fact's, and nothing else is asked.
+/// Each part is asked for once for a fact, where no cover answers for it, first those that were asked for facts before,
+/// in their order, as far as the answers are those of one of them. Where all of its answers are, the rule's answer is
+/// that fact's, and nothing else is asked.
 #[derive(Drop)]
 pub struct AskedRule<'r> {
     rule: &'r PartedRule,

@@ -164,21 +164,21 @@ impl Covers {
 }
 
 /// Covers of the parts of a rule, as they were put together.
-fn drafted(alloc: Global, parts: &[Part]) -> Result<Covers, AllocError> {
-    let mut drafted = Covers {
+fn unchecked_covers(alloc: Global, parts: &[Part]) -> Result<Covers, AllocError> {
+    let mut unchecked = Covers {
         covers: Vec::new(alloc),
         by_part: Vec::with_capacity(alloc, parts.len())?,
     };
     for _ in 0..parts.len() {
-        drafted.by_part.push(Vec::new(alloc))?;
+        unchecked.by_part.push(Vec::new(alloc))?;
     }
     let groups = groups_of(alloc, parts)?;
     for k in 0..groups.len() {
         if let Some((tupleset, numbers)) = groups.get_index(k) {
-            drafted.add_group(alloc, tupleset, parts, numbers)?;
+            unchecked.add_group(alloc, tupleset, parts, numbers)?;
         }
     }
-    Ok(drafted)
+    Ok(unchecked)
 }
 
 /// Whether all relations that are read through one tupleset are read through another.
@@ -234,16 +234,16 @@ fn is_cover_at(covers: &[Part], number: usize, part: &Part) -> bool
 }
 
 /// Those of some numbers that are of covers of a part: all of them.
-fn checked(
+fn check_covers(
     alloc: Global,
     covers: &[Part],
     part: &Part,
-    drafted: &[usize],
+    unchecked: &[usize],
 ) -> Result<Vec<usize>, AllocError>
     ensures { IfOk result (λ v. AreCovers (parts_shown covers.now) (part_expression part.now) v.items) }
 {
-    let mut numbers = Vec::with_capacity(alloc, drafted.len())?;
-    for number in drafted {
+    let mut numbers = Vec::with_capacity(alloc, unchecked.len())?;
+    for number in unchecked {
         if is_cover_at(covers, *number, part) {
             numbers.push(*number)?;
         }
@@ -252,11 +252,11 @@ fn checked(
 }
 
 /// The same of the part of a number.
-fn checked_at(
+fn check_covers_at(
     alloc: Global,
     covers: &[Part],
     parts: &[Part],
-    drafted: &[Vec<usize>],
+    unchecked: &[Vec<usize>],
     k: usize,
 ) -> Result<Vec<usize>, AllocError>
     ensures { IfOk result (λ v. AreCovers (parts_shown covers.now) (part_at (parts_shown parts.now) k) v.items) }
@@ -264,24 +264,24 @@ fn checked_at(
     let Some(part) = parts.get(k) else {
         return Ok(Vec::new(alloc));
     };
-    let Some(numbers) = drafted.get(k) else {
+    let Some(numbers) = unchecked.get(k) else {
         return Ok(Vec::new(alloc));
     };
-    checked(alloc, covers, part, numbers)
+    check_covers(alloc, covers, part, numbers)
 }
 
 /// The same of each part.
-fn each_checked(
+fn check_each(
     alloc: Global,
     covers: &[Part],
     parts: &[Part],
-    drafted: &[Vec<usize>],
+    unchecked: &[Vec<usize>],
 ) -> Result<Vec<Vec<usize>>, AllocError>
     ensures { IfOk result (λ v. AreCoversByPart (record { parts = parts_shown parts.now; covers = parts_shown covers.now }) v.items) }
 {
     let mut each = Vec::with_capacity(alloc, parts.len())?;
     for k in 0..parts.len() {
-        let numbers = checked_at(alloc, covers, parts, drafted, k)?;
+        let numbers = check_covers_at(alloc, covers, parts, unchecked, k)?;
         each.push(numbers)?;
     }
     Ok(each)
@@ -291,7 +291,7 @@ fn each_checked(
 pub(crate) fn covers_of(alloc: Global, parts: &[Part]) -> Result<Covers, AllocError>
     ensures { IfOk result (λ c. AreCoversByPart (record { parts = parts_shown parts.now; covers = parts_shown c.covers.items }) c.by_part.items) }
 {
-    let Covers { covers, by_part } = drafted(alloc, parts)?;
-    let by_part = each_checked(alloc, &covers, parts, &by_part)?;
+    let Covers { covers, by_part } = unchecked_covers(alloc, parts)?;
+    let by_part = check_each(alloc, &covers, parts, &by_part)?;
     Ok(Covers { covers, by_part })
 }

@@ -34,14 +34,6 @@ pub(crate) struct Kept {
     live: Vec<u16>,
 }
 
-fn copied(alloc: Global, text: &str) -> Result<String, AllocError>
-    ensures { IfOk result (λ s. string_bytes s ≡ text.now) }
-{
-    let mut copy = String::new(alloc);
-    copy.push_str(text)?;
-    Ok(copy)
-}
-
 /// Whether it is of the object of a userset, at a timestamp.
 fn is_of(kept: &Kept, set: SetRef<'_>, at: u64) -> bool
     ensures { result ≡ true → (kept.now.at ≡ at) × (string_bytes kept.now.namespace ≡ set.entry.namespace.now)
@@ -68,8 +60,8 @@ fn kept_of(
     Ok(Kept {
         declaring,
         numbers,
-        namespace: copied(alloc, set.namespace)?,
-        id: copied(alloc, set.id)?,
+        namespace: String::from_str(alloc, set.namespace)?,
+        id: String::from_str(alloc, set.id)?,
         at: snapshot.at,
         live,
     })

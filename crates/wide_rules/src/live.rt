@@ -113,14 +113,6 @@ fn are_quiet(
     true
 }
 
-fn copied(alloc: Global, numbers: &[u16]) -> Result<Vec<u16>, AllocError>
-    ensures { IfOk result (λ v. v.items ≡ numbers.now) }
-{
-    let mut copy = Vec::with_capacity(alloc, numbers.len())?;
-    copy.extend_from_slice(numbers)?;
-    Ok(copy)
-}
-
 /// The numbers of the namespaces of which something may matter that is stored in a set. It does not depend on a user.
 pub(crate) fn live_in(
     alloc: Global,
@@ -142,5 +134,5 @@ pub(crate) fn live_in(
     if are_quiet(snapshot, through, sets, declaring) {
         return Ok(Vec::new(alloc));
     }
-    copied(alloc, declaring)
+    Vec::from_slice(alloc, declaring)
 }

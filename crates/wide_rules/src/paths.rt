@@ -1,6 +1,6 @@
 //! What was asked for facts before, and what followed.
 
-ghost use Rattle.std.specs.Prelude.{◌≡◌, [], IfOk, IfSome};
+ghost use Rattle.std.specs.Prelude.{◌≡◌, [], IfSome};
 ghost use Rattle.rewrites.specs.Expression.{Expression};
 ghost use Rattle.wide_rules.specs.Asked.{AreRightPaths, Follows, Questions};
 
@@ -71,14 +71,6 @@ impl Model for Paths {
     ghost Value = { List Path };
 
     ghost view = { λ s. s.paths.items };
-}
-
-fn copied(alloc: Global, asked: &[Asked]) -> Result<Vec<Asked>, AllocError>
-    ensures { IfOk result (λ v. v.items ≡ asked.now) }
-{
-    let mut copy = Vec::with_capacity(alloc, asked.len())?;
-    copy.extend_from_slice(asked)?;
-    Ok(copy)
 }
 
 impl Paths {
@@ -175,7 +167,7 @@ impl Paths {
             return Ok(());
         }
         let number = self.paths.len();
-        let copy = copied(self.alloc, asked)?;
+        let copy = Vec::from_slice(self.alloc, asked)?;
         self.paths.push(Path {
             asked: copy,
             is_given,

@@ -1,6 +1,7 @@
 use Rattle.std.proofs.Common.{◌∙◌, ap, Bor, ℕ, List, [], Option, unwrap_or}
 use Rattle.serde_json.specs.View.{view}
 use Rattle.trace_lines.proofs.Declared.{after_change, change_made, over_change, index_before, same_count, shown_or}
+use Rattle.trace_lines.proofs.RefusedEdges.{edges_refuse}
 use Rattle.trace_lines.proofs.declaring.make_change.Goals as goal
 
 pub check-requires : goal.check-requires
@@ -22,3 +23,8 @@ follow-requires-clause-index c =
     (change_made c.args.rules.now c.change.new.self c.args.at (view c.args.value.now) c.in-Ok.ensures.exact) c.relation_count.ensures.well_formed
     (ap text c.unwrap_or-namespace.ensures ∙ shown_or text c.text_at.result _ ∙ ap (λ (o : Option (List ℕ)). unwrap_or o []) c.text_at.ensures)
     c.relation_count-known.ensures.value c.requires.index
+
+pub returns-in_err-follow-clause-answer : goal.returns-in_err-follow-clause-answer
+returns-in_err-follow-clause-answer c =
+    rw (c.in-Ok.ensures.exact, ← c.in_ok-check.ensures)
+    (edges_refuse _ c.from_residual-in_err-follow.result _ _ _ c.from_residual-in_err-follow.ensures.1 c.in_err-follow.ensures.answer)

@@ -20,6 +20,6 @@ returns-then-are_quiet c =
 
 pub returns : goal.returns
 returns c =
-    IfOk-weaker c.copied.result _ _
+    IfOk-weaker c.from_slice.result _ _
     (λ v is. rw is (live_declaring c.args.snapshot.now (set_value c.args.set.set)
-    (computed_names c.args.through.now) c.args.declaring.now c.fits.ensures c.requires)) c.copied.ensures
+    (computed_names c.args.through.now) c.args.declaring.now c.fits.ensures c.requires)) c.from_slice.ensures.items

@@ -15,7 +15,7 @@ pub invariant_of-self-2 : goal.invariant_of-self-2
 invariant_of-self-2 c =
     let room = subst (λ (t : TraceValue). next_line t ≤ c.args.line) (sym c.self.view_is) c.requires in
     let commit : Commit = record { at = c.args.at; adds = tuple_values c.args.adds.now; removes = tuple_values c.args.removes.now } in
-    let lines : c.push.new.self.items ≡ c.self.inside.commit_lines.items ++ c.args.line ∷ [] = rw c.in_ok-reserve.ensures.items at (rw c.if-is_err.ensures.negation at c.push.ensures.items) in
+    let lines : c.push_reserved.new.self.items ≡ c.self.inside.commit_lines.items ++ c.args.line ∷ [] = rw c.in_ok-reserve.ensures.items at c.push_reserved.ensures.items in
     let fine = commit_ok c.self.inside.rules c.self.inside.chains commit c.in-Ok.ensures.answer in
     let accepted : append_fault (record { limit = 2 ^ 32 - 1; commits = c.self.inside.chains.commits }) commit.at commit.adds commit.removes ≡ None =
     subst (λ (n : ℕ). append_fault (record { limit = n; commits = c.self.inside.chains.commits }) commit.at commit.adds commit.removes ≡ None) c.self.invariant.0 fine.1 in

@@ -13,11 +13,11 @@ invariant_of-self-2 c =
     let room = subst (λ (t : TraceValue). next_line t ≤ c.args.entry.line) (sym c.self.view_is) c.requires.line in
     let before = subst (λ (t : TraceValue). c.args.entry.before ≡ length t.commit_lines) (sym c.self.view_is) c.requires.before in
     let new = ap (λ (xs : List Recorded). issuer (shown xs) (version_value c.in-Some.version)) (sym c.deref.ensures.value) ∙ sym c.issuer.ensures ∙ not_there _ (sym c.is_some.ensures ∙ c.if-is_some.false) in
-    let pushed = rw c.in_ok-reserve.ensures.items at (rw c.if-is_err.ensures.negation at c.push-3.ensures.items) in
+    let pushed = rw c.in_ok-reserve.ensures.items at c.push_reserved.ensures.items in
     let place = c.len.ensures ∙ c.reserve.new.self.ok.0 ∙ ap length c.in_ok-reserve.ensures.items in
     let entries = rw place at c.in_ok-push.ensures.entries in (
       c.self.invariant.0,
-      kept_content _ _ c.self.inside.recorded.items _ c.self.invariant.1 c.new.result c.push-3.new.self.items pushed (rw c.new.ensures.entry room) (rw c.new.ensures.entry before) (version_value c.in-Some.version) c.push-2.new.self (rw c.new.ensures.entry c.requires.kind) (rw c.new.ensures.entry (sym c.in-Some.ensures)) c.new.ensures.content new entries c.in_ok-push.ensures.marks,
+      kept_content _ _ c.self.inside.recorded.items _ c.self.invariant.1 c.new.result c.push_reserved.new.self.items pushed (rw c.new.ensures.entry room) (rw c.new.ensures.entry before) (version_value c.in-Some.version) c.push-2.new.self (rw c.new.ensures.entry c.requires.kind) (rw c.new.ensures.entry (sym c.in-Some.ensures)) c.new.ensures.content new entries c.in_ok-push.ensures.marks,
       c.self.invariant.2,
       c.self.invariant.3,
       c.self.invariant.4,

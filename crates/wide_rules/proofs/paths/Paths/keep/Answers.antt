@@ -7,4 +7,4 @@ pub returns : goal.returns
 returns c = λ q e right follows.
     let path : Path = record { asked = c.in_ok-copy.copy; is_given = c.args.is_given; answer = c.args.answer } in
     let is : c.lead.new.self ≡ c.args.self.now ++ path ∷ [] = rw (c.lead.ensures, c.in_ok-push.ensures.items, c.self.view_is) refl in
-    rw is (one_path_more q e c.args.self.now path right (rw c.in_ok-copy.ensures follows))
+    rw is (one_path_more q e c.args.self.now path right (rw c.in_ok-copy.ensures.items follows))
