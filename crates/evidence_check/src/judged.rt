@@ -200,10 +200,9 @@ fn deny<'a>(
         AreFresh before known.old.no (map marked_fact fresh.old.items) →
         AreFresh before known.new.no (map marked_fact fresh.new.items)) }
 {
-    if !known.no_marked(fact.set, fact.user) {
+    if !known.deny(fact)? {
         fresh.push(fact)?;
     }
-    known.add_no(fact)?;
     Ok(())
 }
 

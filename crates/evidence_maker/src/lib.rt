@@ -22,8 +22,8 @@ pub mod laws;
 mod layers;
 mod like;
 mod maker;
+mod needed;
 mod settle;
-mod slice;
 
 pub use fault::MakeFault;
 pub use goal_cone::{MAX_LINKS, MAX_USERSETS};

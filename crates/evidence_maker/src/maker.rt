@@ -15,8 +15,8 @@ ghost use Rattle.evidence_maker.specs.Made.{Settles, Fits, IsRecord, IsOneStep, 
 
 use crate::fault::MakeFault;
 use crate::like::{Found, made_like};
+use crate::needed::needed_steps;
 use crate::settle::settle;
-use crate::slice::slice;
 use evidence_check::{Judged, Step, Steps, has_too_many, judge_steps};
 use goal_cone::explore;
 use goal_gates::Gates;
@@ -116,7 +116,7 @@ pub fn make_after(
     let cone = explore(alloc, &snapshot, &entry.goal)?;
     let mut gates = Gates::of(alloc, &snapshot, &cone)?;
     let steps = settle(alloc, trace, entry.snapshot, &cone, &mut gates)?;
-    let short = slice(alloc, &mut gates, &steps)?;
+    let short = needed_steps(alloc, &mut gates, &steps)?;
     if is_record(trace, entry, &short)? {
         return Ok(short);
     }

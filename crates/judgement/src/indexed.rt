@@ -17,12 +17,10 @@ use crate::fact::KnownFact;
 use crate::known::Known;
 use crate::stored::is_out;
 use marks::MarkedSet;
+use namespaces::MAX_NUMBER;
 use snapshots::Snapshot;
 use tuple_text::{SetRef, UserRef};
 use userset_index::{Alive, UsersetIndex};
-
-/// How many namespaces there may be.
-pub const MOST_NAMESPACES: u16 = 256;
 
 /// Whether a touch of the changelog is not of a userset that is stored in a set and has a target that may hold a user.
 fn is_touch_out<F: KnownFact>(
@@ -124,7 +122,7 @@ fn are_out_through<F: KnownFact>(
         (Some relation.now) user → IsTrue result }
 {
     let stored = stored_in(snapshot, set);
-    for before in 0..MOST_NAMESPACES {
+    for before in 0..MAX_NUMBER {
         let number = before + 1;
         if let Some(namespace) = snapshot.timeline.rules().namespace(number) {
             if !is_absent(stored, number)

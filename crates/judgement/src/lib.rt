@@ -30,7 +30,7 @@ mod table;
 pub use absent::{is_absent, stored_in};
 pub use fact::{KnownFact, MarkedFact};
 pub use facts::SetsOfUser;
-pub use indexed::{MOST_NAMESPACES, are_out};
+pub use indexed::are_out;
 pub use known::Known;
 pub use stored::{is_barred, is_led, is_out, under};
 pub use table::{established, refuted};

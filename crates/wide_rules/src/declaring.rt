@@ -6,8 +6,7 @@ ghost use Rattle.rewrites.specs.Parts.{computed_names};
 ghost use Rattle.userset_index.specs.Numbers.{Has};
 ghost use Rattle.wide_rules.specs.Declaring.{AreDeclaring, DeclaresNone};
 
-use judgement::MOST_NAMESPACES;
-use namespaces::Rules;
+use namespaces::{MAX_NUMBER, Rules};
 use rewrites::Through;
 use std::alloc::{AllocError, Global};
 use tuple_text::SetRef;
@@ -81,7 +80,7 @@ pub(crate) fn declaring(
     ensures { IfOk result (λ numbers. AreDeclaring rules.now (computed_names through.now) numbers.items) }
 {
     let mut numbers = Vec::new(alloc);
-    for before in 0..MOST_NAMESPACES {
+    for before in 0..MAX_NUMBER {
         let number = before + 1;
         if let Some(namespace) = rules.namespace(number) {
             if declares_ever(rules, through, namespace) {

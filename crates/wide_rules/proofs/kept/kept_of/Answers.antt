@@ -11,8 +11,8 @@ returns c =
     let t = c.args.through.now in
     let wanted = with_relation (set_value c.args.set) (string_bytes t.tupleset) in
     let set : set_value c.of-tupleset.result.set ≡ wanted = search rules in
-    let same : record { namespace = string_bytes c.in_ok-copied.field-0; id = string_bytes c.in_ok-copied-2.field-0; relation = string_bytes t.tupleset } ≡ wanted =
-    rw (c.in_ok-copied.ensures, c.in_ok-copied-2.ensures) refl in (
+    let same : record { namespace = string_bytes c.in_ok-from_str.field-0; id = string_bytes c.in_ok-from_str-2.field-0; relation = string_bytes t.tupleset } ≡ wanted =
+    rw (c.in_ok-from_str.ensures, c.in_ok-from_str-2.ensures) refl in (
       record {
         declaring = c.requires;
         numbers = rw c.deref-2.ensures.value at c.numbers_of-numbers.ensures;

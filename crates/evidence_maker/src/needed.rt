@@ -23,7 +23,7 @@ fn kept_of(
 }
 
 /// The steps in their order, of the facts alone on which the goal leans.
-pub(crate) fn slice(
+pub(crate) fn needed_steps(
     alloc: Global,
     gates: &mut Gates<'_>,
     steps: &[Step],
