@@ -18,7 +18,7 @@ use Rattle.namespaces.specs.contracts.rules.Rules as rules
 use Rattle.userset_index.specs.contracts.spans.Spans as spans
 use Rattle.userset_index.specs.contracts.moments.Times as times
 use Rattle.userset_index.specs.contracts.index.UsersetIndex as usersets
-use Rattle.trace_lines.specs.contracts.sample.Sample as sample
+use Rattle.edge_checks.specs.contracts.sample.Sample as sample
 use Rattle.trace_lines.specs.contracts.trace.Trace as trace
 
 tuple_sync : IsSync tuple.the_row
