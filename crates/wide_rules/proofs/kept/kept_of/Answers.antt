@@ -12,7 +12,7 @@ returns c =
     let wanted = with_relation (set_value c.args.set) (string_bytes t.tupleset) in
     let set : set_value c.of-tupleset.result.set ≡ wanted = search rules in
     let same : record { namespace = string_bytes c.in_ok-from_str.field-0; id = string_bytes c.in_ok-from_str-2.field-0; relation = string_bytes t.tupleset } ≡ wanted =
-    rw (c.in_ok-from_str.ensures, c.in_ok-from_str-2.ensures) refl in (
+    rw (c.in_ok-from_str.ensures.ok, c.in_ok-from_str-2.ensures.ok) refl in (
       record {
         declaring = c.requires;
         numbers = rw c.deref-2.ensures.value at c.numbers_of-numbers.ensures;
