@@ -200,7 +200,8 @@ fn deny<'a>(
         AreFresh before known.old.no (map marked_fact fresh.old.items) →
         AreFresh before known.new.no (map marked_fact fresh.new.items)) }
 {
-    if !known.deny(fact)? {
+    let was_denied = known.deny(fact)?;
+    if !was_denied {
         fresh.push(fact)?;
     }
     Ok(())
