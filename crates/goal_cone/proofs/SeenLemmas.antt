@@ -84,15 +84,20 @@ module _ (rules : Lookup) where
       each p (inl c) = ((first.each p c).0, inl (first.each p c).1)
       each p (inr c) = ((second.each p c).0, inr (second.each p c).1)
 
-  pub sees_as : (T S : FactValue → Type 0) → ((p : FactValue) → T p → S p) → ((p : FactValue) → S p → T p) → (old new : List FactValue)
+  -- what meets S is undeclared or meets T, and what meets T meets S
+  sees_declared : (T S : FactValue → Type 0) → ((p : FactValue) → T p → S p) → ((p : FactValue) → S p → IsUndeclared rules p.set ⊎ T p) → (old new : List FactValue)
       → Sees rules T old new → Sees rules S old new
-  sees_as T S there back old new h = record {
-    met = λ p s. h.met p (back p s);
+  sees_declared T S there back old new h = record {
+    met = λ p s. elim (back p s) [ inl none ↦ inl none | inr t ↦ h.met p t ];
     more = h.more;
     split = h.split;
     each = λ p c. ((h.each p c).0, there p (h.each p c).1);
     distinct = h.distinct;
   }
+
+  pub sees_as : (T S : FactValue → Type 0) → ((p : FactValue) → T p → S p) → ((p : FactValue) → S p → T p) → (old new : List FactValue)
+      → Sees rules T old new → Sees rules S old new
+  sees_as T S there back old new h = sees_declared T S there (λ p s. inr (back p s)) old new h
 
 module _ (most_facts most_links : ℕ) (rules : Lookup) (store : List TupleValue) where
   -- a fact that has no text, or one too many
@@ -181,6 +186,11 @@ pub ok_as : {E : Type 0} (rules : Lookup) (T S : FactValue → Type 0) → ((p :
     (r : Result (Unit {0}) E) → OnOk r (Sees rules T old new) → OnOk r (Sees rules S old new)
 ok_as {E} rules T S there back old new (Ok u) h = sees_as rules T S there back old new h
 ok_as {E} rules T S there back old new (Err e) h = tt
+
+pub ok_declared : {E : Type 0} (rules : Lookup) (T S : FactValue → Type 0) → ((p : FactValue) → T p → S p) → ((p : FactValue) → S p → IsUndeclared rules p.set ⊎ T p)
+    → (old new : List FactValue) (r : Result (Unit {0}) E) → OnOk r (Sees rules T old new) → OnOk r (Sees rules S old new)
+ok_declared {E} rules T S there back old new (Ok u) h = sees_declared rules T S there back old new h
+ok_declared {E} rules T S there back old new (Err e) h = tt
 
 pub ok_more : {E : Type 0} (r : Result (Unit {0}) E) (had room few many : ℕ) → few ≤ many → OnOk r (had ≤ room + few) → OnOk r (had ≤ room + many)
 ok_more {E} (Ok u) had room few many le h = omega (arith, h)

@@ -1,17 +1,19 @@
 -- The usersets that are stored in a set, as a pass over them sees them.
-use Rattle.std.proofs.Common.{◌≡◌, ℕ, ◌≤◌, Bool, true, false, List, [], ◌∷◌, length, Option, None, Some, ◌⊎◌, inl, inr, sym, ◌∙◌, subst}
+use Rattle.std.proofs.Common.{◌≡◌, ℕ, ◌≤◌, Bool, true, false, List, [], ◌∷◌, length, Option, None, Some, ◌⊎◌, inl, inr, sym, ◌∙◌, ap, subst}
 use Rattle.std.specs.Prelude.{Contains}
-use Rattle.std.specs.List.{IsDistinct, list_any, cons_option}
+use Rattle.std.specs.List.{IsDistinct, cons_option}
 use Rattle.std.proofs.lemmas.List.Elements.{All-contains, All-from_recursion}
-use Rattle.std.proofs.lemmas.Map.Views.{Contains-from_any, list_any-from_Contains}
-use Rattle.tuple_text.specs.OrderLaws.{set_equiv}
 use Rattle.tuple_text.specs.Sets.{SetValue, set_eq}
 use Rattle.tuple_text.specs.Tuples.{TupleValue, FactValue, fact_of, tuple_of}
 use Rattle.tuple_text.specs.declared.users.User.TheVariants.{Set}
-use Rattle.tuple_text.proofs.ValueLemmas.{set_eq-same, set_eq-itself}
+use Rattle.tuple_text.proofs.ValueLemmas.{set_eq-itself}
 use Rattle.strata.proofs.Lists.{Contains-cons_cases, Contains-here, Contains-there, not_in_nil}
-use Rattle.version_chains.specs.Commits.{Commit, is_stored, store_at}
-use Rattle.version_chains.proofs.StoreLemmas.{store_at-iff}
+use Rattle.namespaces.specs.Lookup.{rule_of}
+use Rattle.snapshots.specs.Leading.{AreLeading}
+use Rattle.snapshots.specs.Snapshots.{rules_in, tuples_in}
+use Rattle.snapshots.specs.declared.snapshot.Snapshot.{Snapshot}
+use Rattle.judgement.specs.Decided.{dec_undeclared}
+use Rattle.judgement.specs.Judgement.{IsUndeclared}
 use Rattle.judgement.specs.Passes.{target}
 use Rattle.goal_cone.specs.Bounds.{if_set, stored_sets}
 use Rattle.goal_cone.specs.Cone.{AreDistinct}
@@ -59,19 +61,18 @@ stored_there (t ∷ ts) s g c = by_cases (stored_there ts s g) (Contains-cons_ca
     by_cases further (inl e) = subst (λ (u : TupleValue). Contains (stored_sets (u ∷ ts) s) g) (sym e) (first (set_eq s s) (set_eq-itself s))
     by_cases further (inr d) = later_there (if_set (set_eq s t.set) t.user) (stored_sets ts s) g (further d)
 
-module _ (commits : List Commit) (at : ℕ) (set : SetValue) (gs : List SetValue)
-    (has : (g : SetValue) → list_any (set_eq g) gs ≡ is_stored commits at (tuple_of set (Set g))) where
-  stored : (g : SetValue) → Contains gs g → Contains (store_at commits at) (tuple_of set (Set g))
-  stored g c = (store_at-iff commits at (tuple_of set (Set g))).1 (sym (has g) ∙ list_any-from_Contains set_equiv g gs c)
+module _ (s : Snapshot) (set : SetValue) (relation : Option (List ℕ)) (gs : List SetValue) (leading : AreLeading s set relation gs) where
+  pub given_among : (user : ℕ) (p : FactValue) → AmongTargets relation user gs p → IsGiven (tuples_in s) set relation user p
+  given_among user p h = let t = among_given relation user gs p h in (t.0, leading.stored t.0 t.1, t.2)
 
-  there : (g : SetValue) → Contains (store_at commits at) (tuple_of set (Set g)) → Contains gs g
-  there g c = Contains-from_any set_eq-same g gs (has g ∙ (store_at-iff commits at (tuple_of set (Set g))).0 c)
+  pub among_if_given : (user : ℕ) (p : FactValue) → IsGiven (tuples_in s) set relation user p → IsUndeclared (rules_in s) p.set ⊎ AmongTargets relation user gs p
+  among_if_given user p h = by_rule (dec_undeclared (rule_of (rules_in s) (target h.0 relation)))
+    where
+      by_rule : Dec (rule_of (rules_in s) (target h.0 relation) ≡ None) → IsUndeclared (rules_in s) p.set ⊎ AmongTargets relation user gs p
+      by_rule (yes none) = inl (subst (λ (f : FactValue). IsUndeclared (rules_in s) f.set) h.2 none)
+      by_rule (no declared) =
+          let w = leading.leads h.0 h.1 declared in
+          inr (among_from relation user gs p w.0 w.1 (ap (λ (g : SetValue). fact_of g user) w.2 ∙ h.2))
 
-  pub given_among : (relation : Option (List ℕ)) (user : ℕ) (p : FactValue) → AmongTargets relation user gs p → IsGiven (store_at commits at) set relation user p
-  given_among relation user p h = let t = among_given relation user gs p h in (t.0, stored t.0 t.1, t.2)
-
-  pub among_if_given : (relation : Option (List ℕ)) (user : ℕ) (p : FactValue) → IsGiven (store_at commits at) set relation user p → AmongTargets relation user gs p
-  among_if_given relation user p h = among_from relation user gs p h.0 (there h.0 h.1) h.2
-
-  pub no_more : IsDistinct set_eq gs → length gs ≤ length (stored_sets (store_at commits at) set)
-  no_more d = no_longer gs (stored_sets (store_at commits at) set) (are_distinct gs d) (λ g c. stored_there (store_at commits at) set g (stored g c))
+  pub no_more : length gs ≤ length (stored_sets (tuples_in s) set)
+  no_more = no_longer gs (stored_sets (tuples_in s) set) (are_distinct gs leading.distinct) (λ g c. stored_there (tuples_in s) set g (leading.stored g c))

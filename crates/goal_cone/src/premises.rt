@@ -1,6 +1,6 @@
 //! The premises of one fact, as its rule names them.
 
-ghost use Rattle.std.specs.Prelude.{◌≡◌, ◌+◌, ◌<◌, ◌≤◌, ◌⊎◌, OnOk, Err, false, length, option_map};
+ghost use Rattle.std.specs.Prelude.{◌≡◌, ◌+◌, ◌<◌, ◌≤◌, ◌⊎◌, OnOk, Err, false, length, map, option_map};
 ghost use Rattle.tuple_text.specs.Faults.{is_memory};
 ghost use Rattle.tuple_text.specs.Refs.{set_value};
 ghost use Rattle.tuple_text.specs.Tuples.{fact_of};
@@ -22,7 +22,6 @@ use rewrites::Rewrite;
 use snapshots::Snapshot;
 use std::alloc::Global;
 use tuple_text::{Fact, SetRef, TupleFault};
-use version_chains::Usersets;
 
 /// How many facts a cone may have.
 pub const MAX_USERSETS: usize = 131072;
@@ -83,22 +82,23 @@ fn see_each(
     snapshot: &Snapshot<'_>,
     relation: Option<&str>,
     user: u64,
-    sets: Usersets<'_>,
+    sets: Vec<SetRef<'_>>,
     seen: &mut Seen,
     room: &mut usize,
 ) -> Result<(), ConeFault>
-    ensures seen { OnOk result (Sees (rules_in snapshot.now) (AmongTargets (option_map (λ s. s.now) relation.entry) user sets.entry) seen.old seen.new) }
-    ensures links { OnOk result (room.old ≤ room.new + length sets.entry) }
-    ensures stuck { result ≡ Err ConeFault.Outgrown → (room.old < length sets.entry)
+    ensures seen { OnOk result (Sees (rules_in snapshot.now)
+        (AmongTargets (option_map (λ s. s.now) relation.entry) user (map set_value sets.entry.items)) seen.old seen.new) }
+    ensures links { OnOk result (room.old ≤ room.new + length (map set_value sets.entry.items)) }
+    ensures stuck { result ≡ Err ConeFault.Outgrown → (room.old < length (map set_value sets.entry.items))
         ⊎ IsStuck MAX_USERSETS MAX_LINKS (rules_in snapshot.now) (tuples_in snapshot.now)
-        (AmongTargets (option_map (λ s. s.now) relation.entry) user sets.entry) seen.old }
+        (AmongTargets (option_map (λ s. s.now) relation.entry) user (map set_value sets.entry.items)) seen.old }
 {
     for set in sets {
         if *room == 0 {
             return Err(ConeFault::Outgrown);
         }
         *room -= 1;
-        see(alloc, snapshot, target(set.set, relation), user, seen)?;
+        see(alloc, snapshot, target(set, relation), user, seen)?;
     }
     Ok(())
 }
@@ -120,7 +120,7 @@ fn see_stored(
         ⊎ IsStuck MAX_USERSETS MAX_LINKS (rules_in snapshot.now) (tuples_in snapshot.now)
         (IsGiven (tuples_in snapshot.now) (set_value set.entry) (option_map (λ s. s.now) relation.entry) user) seen.old }
 {
-    let sets = snapshot.usersets(MarkedSet::of(set));
+    let sets = snapshot.leading(alloc, MarkedSet::of(set), relation)?;
     see_each(alloc, snapshot, relation, user, sets, seen, room)
 }
 

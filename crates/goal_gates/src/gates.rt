@@ -14,7 +14,6 @@ use snapshots::Snapshot;
 use std::alloc::{AllocError, Global};
 use std::collections::VecDeque;
 use tuple_text::{Fact, SetRef};
-use version_chains::Usersets;
 
 /// What a gate waits for, of those that feed it.
 #[derive(Clone, Copy, Drop)]
@@ -360,11 +359,11 @@ impl<'t> Gates<'t> {
         relation: Option<&str>,
     ) -> Result<(), AllocError> {
         let snapshot = self.snapshot;
-        let sets: Usersets<'_> = snapshot.usersets(MarkedSet::of(set));
+        let sets = snapshot.leading(*self.gates.allocator(), MarkedSet::of(set), relation)?;
         for set in sets {
             let set = SetRef {
-                relation: relation.unwrap_or(set.set.relation),
-                ..set.set
+                relation: relation.unwrap_or(set.relation),
+                ..set
             };
             self.add_premise(site, set)?;
         }

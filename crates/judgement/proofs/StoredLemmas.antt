@@ -1,5 +1,5 @@
 -- Of which namespaces something is stored in a userset, by the index.
-use Rattle.std.proofs.Common.{◌≡◌, ◌<◌, ◌^◌, ℕ, None, Some, ap}
+use Rattle.std.proofs.Common.{◌<◌, ◌^◌, None, Some, ap}
 use Rattle.std.specs.Prelude.{IfSome, Option}
 use Rattle.tuple_text.specs.Sets.{SetValue}
 use Rattle.tuple_text.specs.Tuples.{TupleValue, tuple_of}

@@ -4,19 +4,15 @@ use Rattle.tuple_text.specs.Sets.{SetValue}
 use Rattle.tuple_text.specs.Tuples.{TupleValue, fact_of, tuple_of}
 use Rattle.tuple_text.specs.declared.users.User.TheVariants.{Set}
 use Rattle.namespaces.specs.Lookup.{Lookup, namespace_numbered}
-use Rattle.strata.specs.Meaning.{with_relation, IsStored}
+use Rattle.strata.specs.Meaning.{IsStored}
 use Rattle.version_chains.specs.Commits.{Touch, changelog}
 use Rattle.marks.specs.Marks.{pair_mark, set_mark}
 use Rattle.userset_index.specs.Lives.{touches_alive}
 use Rattle.userset_index.specs.declared.life.Life.{Life}
+pub use Rattle.snapshots.specs.Leading.{target}
 use Rattle.snapshots.specs.Snapshots.{rules_in, tuples_in}
 use Rattle.snapshots.specs.declared.snapshot.Snapshot.{Snapshot}
 use Rattle.judgement.specs.Judgement.{KnownValue, IsOut}
-
--- the userset whose members are asked for: a stored one itself, or its object under a relation
-abbrev pub target : SetValue → Option (List ℕ) → SetValue
-target g None = g
-target g (Some c) = with_relation g c
 
 -- a userset whose target is known to hold the user id
 abbrev pub GivesId : KnownValue → Option (List ℕ) → ℕ → SetValue → Type 0

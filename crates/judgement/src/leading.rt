@@ -1,6 +1,6 @@
 //! Whether a fact holds through a userset that is stored in a crowded one.
 
-ghost use Rattle.std.specs.Prelude.{◌≡◌, ◌↔◌, ◌&&◌, ◌⊎◌, IsTrue, true, false, All, option_map};
+ghost use Rattle.std.specs.Prelude.{◌≡◌, ◌↔◌, ◌&&◌, ◌⊎◌, IsTrue, true, false, All, None, IfSome, option_map};
 ghost use Rattle.tuple_text.specs.Refs.{set_value};
 ghost use Rattle.snapshots.specs.Snapshots.{tuples_in};
 ghost use Rattle.marks.specs.Marks.{set_mark};
@@ -93,6 +93,41 @@ fn is_target_stored(
     }
 }
 
+/// For how many usersets of which a user is known it is asked first whether they are stored. What is stored is gone over only then,
+/// since a step there passes over all that is dead.
+const FIRST: usize = 64;
+
+/// Whether one of some usersets is the target of what is stored in a crowded set. `None` where that does not show of the first few, which
+/// are given by then.
+fn is_first_stored<F: KnownFact>(
+    snapshot: &Snapshot<'_>,
+    index: &UsersetIndex,
+    set: MarkedSet<'_>,
+    relation: Option<&str>,
+    targets: &mut SetsOfUser<'_, F>,
+) -> Option<bool>
+    requires index { IsUsersetIndex snapshot.now.timeline.declarations snapshot.now.timeline.commits index.now }
+    requires crowded { (index.now.is_whole && is_crowded index.now.crowds (set_mark (set_value set.set))) ≡ true }
+    ensures some { IfSome result (λ b. IsTrue b ↔ SomeSet (IsTargetStored (tuples_in snapshot.now) (set_value set.entry.set)
+        (option_map (λ s. s.now) relation.entry)) targets.old) }
+    ensures none { result ≡ None → (SomeSet (IsTargetStored (tuples_in snapshot.now) (set_value set.entry.set)
+        (option_map (λ s. s.now) relation.entry)) targets.new
+        ↔ SomeSet (IsTargetStored (tuples_in snapshot.now) (set_value set.entry.set)
+        (option_map (λ s. s.now) relation.entry)) targets.old) }
+{
+    for _ in 0..FIRST {
+        match targets.next() {
+            Some(target) => {
+                if is_target_stored(snapshot, index, set, relation, target) {
+                    return Some(true);
+                }
+            }
+            None => return Some(false),
+        }
+    }
+    None
+}
+
 /// Whether one of some usersets has a target that is known to hold a user, or one of some others is the target of what is stored in a
 /// crowded set. It goes over both lists side by side, so it takes no more steps than the shorter has items.
 fn leads_either<F: KnownFact>(
@@ -145,15 +180,10 @@ pub(crate) fn is_led_by_index<F: KnownFact>(
     ensures { IsTrue result
         ↔ IsLed (tuples_in snapshot.now) known.now (set_value set.entry.set) (option_map (λ s. s.now) relation.entry) user }
 {
+    let mut targets = known.sets_of(user);
+    if let Some(is_led) = is_first_stored(snapshot, index, set, relation, &mut targets) {
+        return is_led;
+    }
     let stored = snapshot.usersets(set);
-    leads_either(
-        snapshot,
-        index,
-        known,
-        set,
-        relation,
-        user,
-        stored,
-        known.sets_of(user),
-    )
+    leads_either(snapshot, index, known, set, relation, user, stored, targets)
 }

@@ -1,3 +1,4 @@
 pub mod Codes
+pub mod Leading
 pub mod Snapshots
 pub mod Timelines

@@ -11,6 +11,7 @@
 //! ```
 #![tactic(auto)]
 
+mod leading;
 mod snapshot;
 mod timeline;
 

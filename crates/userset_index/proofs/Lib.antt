@@ -1,6 +1,7 @@
 pub mod BuildLemmas
 pub mod CallerLemmas
 pub mod EndLemmas
+pub mod ExactLemmas
 pub mod MomentLemmas
 pub mod NumberLemmas
 pub mod ObjectLemmas

@@ -13,8 +13,8 @@ use Rattle.namespaces.specs.Lookup.{namespace_names, place_of}
 use Rattle.version_chains.specs.Commits.{Touch}
 use Rattle.marks.specs.Marks.{pair_mark, set_mark}
 use Rattle.marks.proofs.PlacedLemmas.{and-left, and-right}
-use Rattle.userset_index.specs.Building.{AreTimely, IsTimely, IsWithin, kept}
-use Rattle.userset_index.specs.Index.{Holds, HoldsThrough, IsFound, IsFoundThrough, IsLastTouch, object_mark}
+use Rattle.userset_index.specs.Building.{IsWithin, kept}
+use Rattle.userset_index.specs.Index.{AreTimely, Holds, HoldsThrough, IsFound, IsFoundThrough, IsLastTouch, IsTimely, object_mark}
 use Rattle.userset_index.specs.Lives.{is_alive}
 use Rattle.userset_index.specs.Objects.{AreNumbered, IsCoveredBy, object_at, object_of}
 use Rattle.userset_index.specs.declared.life.Life.{Life}

@@ -6,7 +6,7 @@ use Rattle.namespaces.specs.Declaration.{Declaration}
 use Rattle.namespaces.specs.Lookup.{rule_at, rule_of}
 use Rattle.version_chains.specs.Commits.{Touch}
 use Rattle.marks.specs.Marks.{set_mark}
-use Rattle.userset_index.specs.Index.{IsFound, IsLastTouch, IsMark, is_crowded}
+use Rattle.userset_index.specs.Index.{AreOnce, IsFound, IsLastTouch, IsMark, is_crowded}
 use Rattle.userset_index.specs.Lives.{is_alive}
 use Rattle.userset_index.specs.declared.life.Life.{Life}
 use Rattle.userset_index.specs.declared.life.Way.{Way}
@@ -65,12 +65,15 @@ pub record IsWithin (i : ℕ) (x : Touch) (end : ℕ) (l : Life) : Type 0 where
   pub since : x.at ≤ l.from
   pub until : l.until ≤ end
 
--- at each timestamp of a life its touch is the last of its tuple
-abbrev pub IsTimely : List Touch → Life → Type 0
-IsTimely touches l = (at : ℕ) → is_alive at l ≡ true → (x : Touch) × IsLastTouch touches at l.touch x
+-- the lives are of touches among the first so many, no two of one
+pub record AreOfFirst (n : ℕ) (lives : List Life) : Type 0 where
+  pub once : AreOnce lives
+  pub before : (l : Life) → Contains lives l → l.touch < n
 
-abbrev pub AreTimely : List Touch → List Life → Type 0
-AreTimely touches lives = (l : Life) → Contains lives l → IsTimely touches l
+-- lives of the touches of some of the first so many lives, no two of one
+pub record AreMadeOf (lives : List Life) (n : ℕ) (made : List Life) : Type 0 where
+  pub once : AreOnce made
+  pub of : (m : Life) → Contains made m → (k : ℕ) × (l : Life) × (k < n) × (slice_get lives k ≡ Some l) × (m.touch ≡ l.touch)
 
 -- with a life behind the others, if there is one
 abbrev pub kept : List Life → Option Life → List Life

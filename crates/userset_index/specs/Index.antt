@@ -1,5 +1,6 @@
 -- What an index finds: the touches that make a userset stored in another at a timestamp.
-use Rattle.std.specs.Prelude.{◌≡◌, ◌≤◌, ◌<◌, ◌/◌, ◌^◌, ℕ, Bool, true, List, [], None, Some, slice_get, nat_lt, Contains}
+use Rattle.std.specs.Prelude.{◌≡◌, ◌≤◌, ◌<◌, ◌/◌, ◌^◌, ℕ, Bool, true, List, [], None, Some, slice_get, nat_eq, nat_lt, Contains}
+use Rattle.std.specs.List.{IsDistinct}
 use Rattle.tuple_text.specs.Sets.{SetValue}
 use Rattle.tuple_text.specs.Tuples.{tuple_of}
 use Rattle.tuple_text.specs.declared.users.User.TheVariants.{Set}
@@ -47,6 +48,25 @@ pub record IsLastTouch (touches : List Touch) (at i : ℕ) (x : Touch) : Type 0 
   pub until : x.at ≤ at
   pub adds : x.live ≡ true
   pub last : (j : ℕ) (y : Touch) → i < j → slice_get touches j ≡ Some y → y.tuple ≡ x.tuple → at < y.at
+
+-- at each timestamp of a life its touch is the last of its tuple
+abbrev pub IsTimely : List Touch → Life → Type 0
+IsTimely touches l = (at : ℕ) → is_alive at l ≡ true → (x : Touch) × IsLastTouch touches at l.touch x
+
+abbrev pub AreTimely : List Touch → List Life → Type 0
+AreTimely touches lives = (l : Life) → Contains lives l → IsTimely touches l
+
+abbrev pub is_of_same : Life → Life → Bool
+is_of_same k l = nat_eq k.touch l.touch
+
+-- no touch has two lives
+abbrev pub AreOnce : List Life → Type 0
+AreOnce lives = IsDistinct is_of_same lives
+
+-- what is found at a timestamp is stored then, and found once
+pub record AreExact (touches : List Touch) (lives : List Life) : Type 0 where
+  pub timely : AreTimely touches lives
+  pub once : AreOnce lives
 
 -- one of the lives with the mark is of the touch and holds the timestamp
 pub record IsFound (lives : List Life) (mark at touch : ℕ) : Type 0 where
@@ -114,7 +134,9 @@ HaveMoments ds touches lives numbers =
 
 pub record IsWhole (ds : List Declaration) (commits : List Commit) (v : IndexValue) : Type 0 where
   pub own : Holds ds Own (changelog commits) v.crowds v.own
+  pub own_exact : AreExact (changelog commits) v.own
   pub through : HoldsThrough ds (changelog commits) v.crowds v.through
+  pub through_exact : AreExact (changelog commits) v.through
   pub objects : Holds ds Object (changelog commits) v.crowds v.objects
   pub timed : v.is_timed ≡ true → HaveMoments ds (changelog commits) v.moments v.numbers
 

@@ -8,9 +8,9 @@ ghost use Rattle.namespaces.specs.Lookup.{rule_at, rule_of};
 ghost use Rattle.version_chains.specs.Commits.{changelog};
 ghost use Rattle.marks.specs.Marks.{set_mark};
 ghost use Rattle.version_chains.specs.Touches.{touch_value};
-ghost use Rattle.userset_index.specs.Building.{AreEnds, AreRising, AreTimely, IsUndeclaredBelow, IsKeyOf, IsLifeOf, IsNeverDeclared, IsWithin, kept};
+ghost use Rattle.userset_index.specs.Building.{AreEnds, AreRising, IsUndeclaredBelow, IsKeyOf, IsLifeOf, IsNeverDeclared, IsWithin, kept};
+ghost use Rattle.userset_index.specs.Index.{AreExact, Holds};
 ghost use Rattle.userset_index.specs.Index as spec;
-ghost use Rattle.userset_index.specs.Index.{Holds};
 
 use crate::life::{Life, Way};
 use crate::spans::Spans;
@@ -193,7 +193,7 @@ pub(crate) fn lives_of(
 ) -> Result<Vec<Life>, AllocError>
     requires { AreEnds (changelog chains.now.commits) ends.now }
     ensures holds { IfOk result (λ lives. Holds rules.now way (changelog chains.now.commits) crowds.now lives.items) }
-    ensures timely { IfOk result (λ lives. AreTimely (changelog chains.now.commits) lives.items) }
+    ensures exact { IfOk result (λ lives. AreExact (changelog chains.now.commits) lives.items) }
 {
     let mut lives = Vec::new(alloc);
     for index in 0..ends.len() {
@@ -217,7 +217,8 @@ pub(crate) fn linked_lives(
     ends: &[u64],
 ) -> Result<Spans, AllocError>
     requires { AreEnds (changelog chains.now.commits) ends.now }
-    ensures { IfOk result (λ lives. Holds rules.now way (changelog chains.now.commits) crowds.now lives) }
+    ensures holds { IfOk result (λ lives. Holds rules.now way (changelog chains.now.commits) crowds.now lives) }
+    ensures exact { IfOk result (λ lives. AreExact (changelog chains.now.commits) lives) }
 {
     let mut lives = lives_of(alloc, way, chains, rules, crowds, ends)?;
     lives.sort_unstable_by_key(|life| life.from);

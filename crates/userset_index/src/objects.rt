@@ -5,12 +5,12 @@
 //! object once at a timestamp, however many of its usersets are stored then, and meets it twice only where it shares
 //! its mark with another object.
 
-ghost use Rattle.std.specs.Prelude.{◌≡◌, ℕ, true, Contains, IfOk, OnOk};
+ghost use Rattle.std.specs.Prelude.{◌≡◌, ℕ, true, Contains, IfOk, IfSome, OnOk};
 ghost use Rattle.version_chains.specs.Commits.{changelog};
-ghost use Rattle.userset_index.specs.Building.{AreEnds, AreTimely, IsTimely};
-ghost use Rattle.userset_index.specs.Index.{HoldsThrough};
+ghost use Rattle.userset_index.specs.Building.{AreEnds};
+ghost use Rattle.userset_index.specs.Index.{AreExact, AreTimely, HoldsThrough, IsTimely};
 ghost use Rattle.userset_index.specs.Lives.{is_alive};
-ghost use Rattle.userset_index.specs.Objects.{AreNumbered, IsCover, IsCoveredBy, IsNumbered, object_at};
+ghost use Rattle.userset_index.specs.Objects.{AreNumbered, IsCover, IsCoveredBy, IsNumbered, IsSameLife, KeepsOf, object_at};
 ghost use Rattle.userset_index.specs.declared.life.Life.{Life};
 
 use crate::build::{keep, lives_of};
@@ -72,6 +72,7 @@ impl Merged {
             → IsCover (changelog chains.now.commits) self.new) }
         ensures timely { OnOk result (AreTimely (changelog chains.now.commits) self.old.lives.items
             → IsTimely (changelog chains.now.commits) life → AreTimely (changelog chains.now.commits) self.new.lives.items) }
+        ensures more { OnOk result (KeepsOf life self.old.lives.items self.new.lives.items) }
     {
         if !self.reaches(chains, life) {
             self.lives.push(life)?;
@@ -94,8 +95,8 @@ impl Merged {
 fn thinned(alloc: Global, chains: &Chains, lives: &[Life]) -> Result<Vec<Life>, AllocError>
     ensures covers { IfOk result (λ thinned. (l : Life) (t : ℕ) → Contains lives.now l → is_alive t l ≡ true
         → IsCoveredBy (changelog chains.now.commits) thinned.items l.touch t) }
-    ensures timely { IfOk result (λ thinned. AreTimely (changelog chains.now.commits) lives.now
-        → AreTimely (changelog chains.now.commits) thinned.items) }
+    ensures exact { IfOk result (λ thinned. AreExact (changelog chains.now.commits) lives.now
+        → AreExact (changelog chains.now.commits) thinned.items) }
 {
     let mut merged = Merged {
         lives: Vec::new(alloc),
@@ -114,7 +115,8 @@ fn thinned(alloc: Global, chains: &Chains, lives: &[Life]) -> Result<Vec<Life>, 
 
 /// A life, to be looked for through a userset by the number of a namespace. `None` where nobody declares that.
 fn numbered(chains: &Chains, rules: &Rules, life: Life) -> Option<Life>
-    ensures { IsNumbered rules.now (changelog chains.now.commits) life result }
+    ensures numbered { IsNumbered rules.now (changelog chains.now.commits) life result }
+    ensures same { IfSome result (IsSameLife life) }
 {
     let touch = chains.touch(life.touch)?;
     let UserRef::Set(user) = touch.user.user else {
@@ -134,7 +136,9 @@ fn all_numbered(
     rules: &Rules,
     lives: &[Life],
 ) -> Result<Vec<Life>, AllocError>
-    ensures { IfOk result (λ numbered. AreNumbered rules.now (changelog chains.now.commits) lives.now numbered.items) }
+    ensures numbered { IfOk result (λ all. AreNumbered rules.now (changelog chains.now.commits) lives.now all.items) }
+    ensures exact { IfOk result (λ all. AreExact (changelog chains.now.commits) lives.now
+        → AreExact (changelog chains.now.commits) all.items) }
 {
     let mut all = Vec::with_capacity(alloc, lives.len())?;
     for life in lives {
@@ -152,7 +156,8 @@ fn lives_through(
     ends: &[u64],
 ) -> Result<Vec<Life>, AllocError>
     requires { AreEnds (changelog chains.now.commits) ends.now }
-    ensures { IfOk result (λ lives. HoldsThrough rules.now (changelog chains.now.commits) crowds.now lives.items) }
+    ensures holds { IfOk result (λ lives. HoldsThrough rules.now (changelog chains.now.commits) crowds.now lives.items) }
+    ensures exact { IfOk result (λ lives. AreExact (changelog chains.now.commits) lives.items) }
 {
     let mut lives = lives_of(alloc, Way::Object, chains, rules, crowds, ends)?;
     lives.sort_unstable_by_key(|life| (life.mark, life.from));
@@ -169,7 +174,8 @@ pub(crate) fn linked_through(
     ends: &[u64],
 ) -> Result<Spans, AllocError>
     requires { AreEnds (changelog chains.now.commits) ends.now }
-    ensures { IfOk result (λ lives. HoldsThrough rules.now (changelog chains.now.commits) crowds.now lives) }
+    ensures holds { IfOk result (λ lives. HoldsThrough rules.now (changelog chains.now.commits) crowds.now lives) }
+    ensures exact { IfOk result (λ lives. AreExact (changelog chains.now.commits) lives) }
 {
     let mut lives = lives_through(alloc, chains, rules, crowds, ends)?;
     lives.sort_unstable_by_key(|life| life.from);

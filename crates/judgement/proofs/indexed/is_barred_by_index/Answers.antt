@@ -1,4 +1,4 @@
-use Rattle.std.proofs.Common.{◌≡◌, ℕ, List, Option, None, Some, ap, subst, sym, arith}
+use Rattle.std.proofs.Common.{◌≡◌, ℕ, List, Option, None, Some, ap, subst, sym}
 use Rattle.std.specs.Prelude.{All, option_map}
 use Rattle.tuple_text.specs.Refs.{set_value}
 use Rattle.snapshots.specs.Snapshots.{rules_in, tuples_in}

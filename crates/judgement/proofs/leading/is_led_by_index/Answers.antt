@@ -1,5 +1,6 @@
-use Rattle.std.proofs.Common.{◌≡◌, List, ◌↔◌, sym, subst}
+use Rattle.std.proofs.Common.{List, ◌↔◌, sym, subst}
 use Rattle.std.specs.Prelude.{option_map}
+use Rattle.std.proofs.lemmas.Option.{MatchOption-at_some}
 use Rattle.tuple_text.specs.Refs.{set_value}
 use Rattle.tuple_text.specs.Sets.{SetValue}
 use Rattle.snapshots.specs.Snapshots.{tuples_in}
@@ -8,6 +9,17 @@ use Rattle.judgement.proofs.LedLemmas.{led_by_either, led_by_targets}
 use Rattle.judgement.proofs.PassLemmas.{led_by_sets}
 use Rattle.judgement.proofs.leading.is_led_by_index.Goals as goal
 
+pub returns-in-Some : goal.returns-in-Some
+returns-in-Some g c =
+    let s = c.args.snapshot.now in
+    let set = set_value c.args.set.set in
+    let relation = option_map (λ s. s.now) c.args.relation in
+    let led = IsLed (tuples_in s) c.args.known.now set relation c.args.user in
+    let by_targets = subst (λ (ts : List SetValue). SomeSet (IsTargetStored (tuples_in s) set relation) ts ↔ led) (sym c.sets_of-targets.ensures)
+    (led_by_targets (tuples_in s) c.args.known.now set relation c.args.user) in
+    let said = MatchOption-at_some _ _ _ c.in-Some.is c.is_first_stored.ensures.some in
+    (λ h. by_targets.0 (said.0 h), λ h. said.1 (by_targets.1 h))
+
 pub returns : goal.returns
 returns g c =
     let s = c.args.snapshot.now in
@@ -15,7 +27,10 @@ returns g c =
     let relation = option_map (λ s. s.now) c.args.relation in
     let led = IsLed (tuples_in s) c.args.known.now set relation c.args.user in
     let by_sets = led_by_sets s.timeline.commits s.at set c.usersets-stored.result c.usersets-stored.ensures.stored c.args.known.now relation c.args.user in
-    let by_targets = subst (λ (ts : List SetValue). SomeSet (IsTargetStored (tuples_in s) set relation) ts ↔ led) (sym c.sets_of.ensures)
+    let by_targets = subst (λ (ts : List SetValue). SomeSet (IsTargetStored (tuples_in s) set relation) ts ↔ led) (sym c.sets_of-targets.ensures)
     (led_by_targets (tuples_in s) c.args.known.now set relation c.args.user) in
-    led_by_either (SomeSet (GivesId c.args.known.now relation c.args.user) c.usersets-stored.result) (SomeSet (IsTargetStored (tuples_in s) set relation) c.sets_of.result) led
-    c.leads_either.result by_sets by_targets c.leads_either.ensures.leads c.leads_either.ensures.none
+    let left = c.is_first_stored.ensures.none c.in_default.is in
+    let by_left : SomeSet (IsTargetStored (tuples_in s) set relation) c.is_first_stored.new.targets ↔ led =
+    (λ h. by_targets.0 (left.0 h), λ h. left.1 (by_targets.1 h)) in
+    led_by_either (SomeSet (GivesId c.args.known.now relation c.args.user) c.usersets-stored.result) (SomeSet (IsTargetStored (tuples_in s) set relation) c.is_first_stored.new.targets) led
+    c.leads_either.result by_sets by_left c.leads_either.ensures.leads c.leads_either.ensures.none

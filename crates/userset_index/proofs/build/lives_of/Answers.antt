@@ -1,15 +1,22 @@
 use Rattle.std.proofs.lemmas.Option.{MatchOption-at_some, slice_get_within}
-use Rattle.std.proofs.Common.{◌≡◌, ℕ, ◌<◌, ◌+◌, ◌∙◌, List, None, Some, ap, subst, sym, arith, rules}
-use Rattle.std.specs.Prelude.{slice_get, option_map}
+use Rattle.std.proofs.Common.{[], ◌≡◌, ℕ, ◌<◌, ◌+◌, ◌∙◌, List, Option, None, Some, ap, subst, sym, arith, rules}
+use Rattle.std.specs.Prelude.{IfSome, slice_get, option_map}
 use Rattle.version_chains.specs.Commits.{Touch, changelog}
 use Rattle.version_chains.specs.Touches.{touch_value}
 use Rattle.marks.proofs.PlacedLemmas.{read_item}
-use Rattle.userset_index.specs.Building.{AreTimely, HoldsFirst, kept}
+use Rattle.userset_index.specs.Building.{AreOfFirst, HoldsFirst, IsWithin, kept}
+use Rattle.userset_index.specs.Index.{AreTimely}
 use Rattle.userset_index.specs.declared.life.Life.{Life}
 use Rattle.userset_index.proofs.BuildLemmas.{holds_all, holds_next, holds_past}
+use Rattle.userset_index.proofs.ExactLemmas.{of_first_next, of_first_none}
 use Rattle.userset_index.proofs.ObjectLemmas.{timely_kept, timely_within}
 use Rattle.userset_index.proofs.build.lives_of.Goals.{in-Some+in_ok-keep, in_default}
 use Rattle.userset_index.proofs.build.lives_of.Goals as goal
+
+pub loop-index-init : goal.loop-index-init
+loop-index-init c =
+    let none : c.new-lives.result.items ≡ [] = search rules in
+    record { holds = search rules; timely = search rules; once = subst (AreOfFirst 0) (sym none) of_first_none }
 
 pub loop-index-preserved : goal.loop-index-preserved
 loop-index-preserved c =
@@ -32,6 +39,8 @@ loop-index-preserved c =
             timely = subst (AreTimely touches) (sym more)
                 (timely_kept touches lives w.life_of.result c.loop-index.invariant.timely
                 (λ l is. timely_within touches n _ x l here (MatchOption-at_some _ _ l is w.life_of.ensures.within) later));
+            once = subst (AreOfFirst (n + 1)) (sym more)
+                (of_first_next n lives w.life_of.result c.loop-index.invariant.once (of_touch n x _ w.life_of.result w.life_of.ensures.within));
           }
       | in_default w ↦
           let nothing : c.touch.result ≡ None = search rules in
@@ -41,8 +50,13 @@ loop-index-preserved c =
             holds = subst (λ (ls : List Life). HoldsFirst (n + 1) ds c.args.way touches c.args.crowds.now ls) (sym same)
                 (holds_past ds c.args.way touches c.args.crowds.now lives n c.loop-index.invariant.holds none);
             timely = subst (AreTimely touches) (sym same) c.loop-index.invariant.timely;
+            once = subst (AreOfFirst (n + 1)) (sym same) (of_first_next n lives None c.loop-index.invariant.once tt);
           }
     ]
+  where
+    of_touch : (i : ℕ) (x : Touch) (end : ℕ) (o : Option Life) → IfSome o (IsWithin i x end) → IfSome o (λ l. l.touch ≡ i)
+    of_touch i x end None is = tt
+    of_touch i x end (Some l) is = is.of
 
 pub returns-clause-holds : goal.returns-clause-holds
 returns-clause-holds c =
@@ -50,3 +64,6 @@ returns-clause-holds c =
     let past = c.loop-index-test.false in
     holds_all c.args.rules.now c.args.way (changelog c.args.chains.now.commits) c.args.crowds.now c.loop-index.lives.items c.loop-index.index c.loop-index.invariant.holds
     (omega (arith, all, past))
+
+pub returns-clause-exact : goal.returns-clause-exact
+returns-clause-exact c = record { timely = c.loop-index.invariant.timely; once = c.loop-index.invariant.once.once }

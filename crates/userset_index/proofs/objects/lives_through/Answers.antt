@@ -1,13 +1,14 @@
 use Rattle.std.proofs.Common.{◌≡◌, List, subst, rules}
 use Rattle.std.specs.Prelude.{IsPermutation}
-use Rattle.std.proofs.lemmas.List.Sorted.{IsPermutation-sym}
 use Rattle.std.proofs.lemmas.Result.{IfOk-weaker}
 use Rattle.version_chains.specs.Commits.{changelog}
+use Rattle.userset_index.specs.Index.{AreExact}
 use Rattle.userset_index.specs.Objects.{AreNumbered}
 use Rattle.userset_index.specs.declared.life.Life.{Life}
 use Rattle.userset_index.specs.declared.life.Way.TheVariants.{Object}
 use Rattle.userset_index.proofs.BuildLemmas.{holds_permuted}
-use Rattle.userset_index.proofs.ObjectLemmas.{through_by_objects, timely_permuted}
+use Rattle.userset_index.proofs.ExactLemmas.{exact_permuted}
+use Rattle.userset_index.proofs.ObjectLemmas.{through_by_objects}
 use Rattle.userset_index.proofs.objects.lives_through.Goals as goal
 
 pub returns : goal.returns
@@ -20,8 +21,12 @@ returns c =
     let moved : IsPermutation lives sorted = search rules in
     let kept = c.in_ok-kept.kept.items in
     let read : c.deref-2.result.now ≡ kept = search rules in
-    IfOk-weaker c.all_numbered.result _ _
-    (λ numbered all.
-    through_by_objects ds touches crowds sorted kept numbered.items (holds_permuted ds Object touches crowds lives sorted moved c.in_ok-lives.ensures.holds) c.in_ok-kept.ensures.covers
-    (c.in_ok-kept.ensures.timely (timely_permuted touches lives sorted (IsPermutation-sym lives sorted moved) c.in_ok-lives.ensures.timely))
-    (subst (λ (ls : List Life). AreNumbered ds touches ls numbered.items) read all)) c.all_numbered.ensures
+    let exact = c.in_ok-kept.ensures.exact (exact_permuted touches lives sorted moved c.in_ok-lives.ensures.exact) in
+    record {
+      holds = IfOk-weaker c.all_numbered.result _ _
+          (λ numbered all.
+          through_by_objects ds touches crowds sorted kept numbered.items (holds_permuted ds Object touches crowds lives sorted moved c.in_ok-lives.ensures.holds) c.in_ok-kept.ensures.covers
+          exact.timely (subst (λ (ls : List Life). AreNumbered ds touches ls numbered.items) read all)) c.all_numbered.ensures.numbered;
+      exact = IfOk-weaker c.all_numbered.result _ _
+          (λ numbered all. subst (λ (ls : List Life). AreExact touches ls → AreExact touches numbered.items) read all exact) c.all_numbered.ensures.exact;
+    }

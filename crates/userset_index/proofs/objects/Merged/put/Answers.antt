@@ -1,6 +1,6 @@
-use Rattle.std.proofs.Common.{◌+◌, ◌≤◌, List, refl, subst, sym, arith}
+use Rattle.std.proofs.Common.{◌+◌, ◌≤◌, None, Some, List, refl, subst, sym, arith}
 use Rattle.version_chains.specs.Commits.{changelog}
-use Rattle.userset_index.specs.Building.{AreTimely}
+use Rattle.userset_index.specs.Index.{AreTimely}
 use Rattle.userset_index.specs.Objects.{IsCoveredBy}
 use Rattle.userset_index.specs.declared.life.Life.{Life}
 use Rattle.userset_index.proofs.ObjectLemmas.{cover_by_rest, covered_by_rest, covered_inside, timely_more, timely_shorter, alive_until}
@@ -41,3 +41,12 @@ returns-else-self-life-clause-new c covered t alive =
     let until = c.if-self-life.false in
     covered_inside (changelog c.args.chains.now.commits) c.args.self.now.lives.items c.args.self.now.cover c.args.life (c.reaches.ensures.object c.if-not-reaches.false)
     (c.reaches.ensures.since c.if-not-reaches.false) covered t alive (omega (arith, inside, until))
+
+pub returns-then-not-reaches-clause-more : goal.returns-then-not-reaches-clause-more
+returns-then-not-reaches-clause-more c = record { more = Some c.args.life; new_is = c.in_ok-push.ensures.items; of = refl }
+
+pub returns-in_ok-push-2-clause-more : goal.returns-in_ok-push-2-clause-more
+returns-in_ok-push-2-clause-more c = record { more = Some (record c.args.life { from = c.args.self.now.cover.until + 1 }); new_is = c.in_ok-push-2.ensures.items; of = refl }
+
+pub returns-else-self-life-clause-more : goal.returns-else-self-life-clause-more
+returns-else-self-life-clause-more c = record { more = None; new_is = refl; of = tt }
