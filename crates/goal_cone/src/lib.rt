@@ -7,8 +7,8 @@
 //! Callers may rely on this: [`explore`] answers the cone, each fact once, and refuses only a goal for which every such list of
 //! facts has more than [`MAX_USERSETS`] facts or reads more than [`MAX_LINKS`] stored usersets.
 //!
-//! What a call costs is no promise. It recurs over rules alone, never over facts; its memory is that of the cone, and a look-up among
-//! facts goes by their marks.
+//! What a call costs is no promise. It recurs over rules alone, never over facts; its memory is that of the cone, a look-up among
+//! facts goes by their marks, and of usersets it goes over those that are stored and declared then.
 //!
 //! ```text
 //! let cone = explore(alloc, &snapshot, &entry.goal)?;

@@ -3,7 +3,8 @@
 //! A [`Timeline`] lends the rules, the store of tuples and an index of the usersets in it, at every timestamp; a [`Snapshot`] is that at
 //! one. Contracts see a timeline as its declarations and its commits. What they ask of a snapshot are `rules_in` and `tuples_in`.
 //!
-//! Callers may rely on this: what a timeline lends has the values that it was made of, and its index is one of these.
+//! Callers may rely on this: what a timeline lends has the values that it was made of, and its index is one of these. What
+//! [`Snapshot::leading`] gives of a userset is stored there, each once, and leads to all of its declared premises (`AreLeading`).
 //!
 //! ```text
 //! let snapshot = Timeline::new(&rules, &chains, &usersets).at(entry.snapshot);

@@ -10,9 +10,10 @@
 //! Callers may rely on this: of a userset that is crowded the index gives each userset that is stored in it and
 //! declared at a timestamp ([`UsersetIndex::own`]), of an object each that is stored in it
 //! ([`UsersetIndex::of_object`]), and of a namespace one of each object of which some are stored in it
-//! ([`UsersetIndex::through`]), as touches of the changelog. It may give more; who asks looks whether a touch's tuple
-//! is stored. Of any userset it says of which namespaces usersets are stored there, and maybe of others
-//! ([`UsersetIndex::namespaces`]), in a trace that has a rule which may ask for many.
+//! ([`UsersetIndex::through`]), as touches of the changelog. It may give others, since usersets may share a mark: who asks
+//! looks of which userset a touch is. What `own` and `through` give is stored then, and comes once (`AreExact`). Of any
+//! userset it says of which namespaces usersets are stored there, and maybe of others ([`UsersetIndex::namespaces`]), in
+//! a trace that has a rule which may ask for many.
 //!
 //! ```text
 //! let index = UsersetIndex::of(alloc, &chains, &rules)?;
