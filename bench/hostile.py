@@ -21,7 +21,9 @@ KIND is one of
   ghosts         as `records`, where each userset has a relation and a namespace of its own, which nobody declares
   dead           as `stored`, where the usersets are declared and were removed again
   late           the same, where they stand and are declared behind the snapshot that is asked for
-  churned        usersets that are added and removed again, and a record of one fact at each snapshot, in random order
+  churned        usersets that are added and removed again, and a record of two facts at each snapshot, in random order
+  churned_through  the same through a tupleset
+  churned_led    the same, and a user who is known to be in a group that is not stored there, and is let in as an owner
   parents        as `stored`, through a tupleset
   lacking        the same, where the users' namespace is declared and lacks the relation
   led            usersets that are not declared, stored behind a group that is, and facts that hold through that group
@@ -332,18 +334,46 @@ def late(size):
     return given
 
 
-def churned(size):
-    given = grouped(size)
+def churn(given, stored, size):
+    """Usersets of which each is removed as the next one is added; how many."""
     k = 0
-    while given.bytes < size // 2:
-        given.commit([f"doc:a#viewer@group:{k}#member"], [f"doc:a#viewer@group:{k - 1}#member"] if k else [])
+    while given.bytes < size:
+        given.commit([stored % k], [stored % (k - 1)] if k else [])
         k += 1
+    return k
+
+
+def churned_in(given, stored, member):
+    """Such usersets, and records of two facts at a snapshot each, in random order: of what is stored then nobody is a member."""
+    before = given.at
+    k = churn(given, stored, given.size // 2)
     order = random.Random(7)
     user = 0
     while not given.is_full():
         at = order.randrange(1, k + 1)
-        refused(given, [f"doc:a#viewer@{user}", f"group:{at - 1}#member@{user}"], at)
+        refused(given, [f"doc:a#viewer@{user}", f"{member % (at - 1)}@{user}"], before + at)
         user += 1
+    return given
+
+
+def churned(size):
+    return churned_in(grouped(size), "doc:a#viewer@group:%d#member", "group:%d#member")
+
+
+def churned_through(size):
+    return churned_in(parented(size, [{"name": "folder", "relations": [relation("viewer")]}]), "doc:a#parent@folder:%d#...", "folder:%d#viewer")
+
+
+def churned_led(size):
+    """A user of a group that is not stored there, who is let in as an owner."""
+    rule = {"union": [THIS, {"computed": "owner"}]}
+    given = Input(size, [{"name": "doc", "relations": [relation("owner"), relation("viewer", rule)]}, {"name": "group", "relations": [relation("member")]}])
+    given.commit(["doc:a#owner@1", "group:own#member@1"])
+    k = churn(given, "doc:a#viewer@group:%d#member", size // 2)
+    order = random.Random(7)
+    while not given.is_full():
+        steps = [{"yes": fact} for fact in ("group:own#member@1", "doc:a#owner@1", "doc:a#viewer@1")]
+        given.check("doc:a#viewer@1", True, steps, order.randrange(2, k + 2))
     return given
 
 
@@ -808,6 +838,8 @@ KINDS = {
     "dead": dead,
     "late": late,
     "churned": churned,
+    "churned_through": churned_through,
+    "churned_led": churned_led,
     "parents": parents,
     "lacking": lacking,
     "led": led,

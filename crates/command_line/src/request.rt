@@ -1,9 +1,9 @@
 //! Requests, and the words that ask for them.
 
-ghost use Rattle.std.specs.Prelude.{◌≡◌, [], ◌∷◌, Ok, Some, None, true, false, not, is_some, List, Option, IfOk, IfErr, IfSome, codes, map, slice_get, string_bytes, option_map};
+ghost use Rattle.std.specs.Prelude.{◌≡◌, ℕ, [], ◌∷◌, Ok, Some, None, true, false, not, is_some, List, Option, IfOk, IfErr, IfSome, codes, map, slice_get, string_bytes, option_map};
 ghost use Rattle.clap.specs.Words.{Row, Text, rows_of, found_of, first_of, one_of, subcommand_of, subcommand_rows_of, takes, kind_of, FailsBy, fault_of};
 ghost use Rattle.command_line.specs.Commands as spec;
-ghost use Rattle.command_line.specs.Asked.{IsAuditFound, IsMakeFound, IsHistoryFound, asked_by, asked_in, command_of, is_plain_word, audits, makes, tells};
+ghost use Rattle.command_line.specs.Asked.{IsAskedBy, IsAuditFound, IsFlagIn, IsFoundBehind, IsFoundIn, IsHistoryFound, IsMakeFound, IsNumberIn, asked_by, asked_in, command_of, is_plain_word, audits, makes, tells};
 ghost use Rattle.command_line.specs.declared.request.Answer.TheVariants.{Asks};
 ghost use Rattle.command_line.specs.declared.request.Request.TheVariants.{Joined};
 
@@ -68,6 +68,7 @@ fn text<'a>(matches: &ArgMatches<'a>, id: &str) -> Option<&'a str>
 fn number(matches: &ArgMatches, id: &str) -> Option<u64>
     ensures one { one_of id.now (rows_of (found_of matches.now)) ≡ Some (codes "1") → result ≡ Some 1 }
     ensures slice { one_of id.now (rows_of (found_of matches.now)) ≡ Some (codes "64") → result ≡ Some 64 }
+    ensures given { IfSome result (IsNumberIn (rows_of (found_of matches.now)) id.now) }
 {
     matches.get_one::<u64>(id)
 }
@@ -76,6 +77,7 @@ fn number(matches: &ArgMatches, id: &str) -> Option<u64>
 fn has(matches: &ArgMatches, id: &str) -> bool
     ensures yes { one_of id.now (rows_of (found_of matches.now)) ≡ Some (codes "true") → result ≡ true }
     ensures no { one_of id.now (rows_of (found_of matches.now)) ≡ Some (codes "false") → result ≡ false }
+    ensures given { IsFlagIn (rows_of (found_of matches.now)) id.now result }
 {
     matches.get_flag(id)
 }
@@ -92,6 +94,8 @@ fn ask_for_audit<'a>(
     ensures asked { (t : Text) → option_map (λ s. s.now) trace.entry ≡ Some t → make ≡ not (is_some evidence.entry) → workers ≡ Some 1 → slice ≡ Some 64 → early ≡ false
         → option_map asked_by result ≡ Some (audits t (option_map (λ s. s.now) evidence.entry) 1 64 false) }
     ensures named { IfSome result (λ r. command_of (asked_by r) ≡ Some (codes "audit")) }
+    ensures given { IfSome result (λ r. (t : Text) × (w : ℕ) × (n : ℕ) × (option_map (λ s. s.now) trace.entry ≡ Some t)
+        × (workers ≡ Some w) × (slice ≡ Some n) × (asked_by r ≡ audits t (option_map (λ s. s.now) evidence.entry) w n early)) }
 {
     if evidence.is_some() == make {
         return None;
@@ -117,6 +121,7 @@ fn audit_of<'a>(matches: &ArgMatches<'a>) -> Option<Request<'a>>
     ensures asked { (t : Text) (e : Option Text) → IsAuditFound (rows_of (found_of matches.now)) t e
         → option_map asked_by result ≡ Some (audits t e 1 64 false) }
     ensures named { IfSome result (λ r. command_of (asked_by r) ≡ Some (codes "audit")) }
+    ensures given { IfSome result (λ r. IsFoundIn (rows_of (found_of matches.now)) (asked_by r)) }
 {
     let trace = text(matches, "TRACE");
     let evidence = text(matches, "EVIDENCE");
@@ -131,6 +136,7 @@ fn make_of<'a>(matches: &ArgMatches<'a>) -> Option<Request<'a>>
     ensures asked { (t : Text) → IsMakeFound (rows_of (found_of matches.now)) t
         → option_map asked_by result ≡ Some (makes t false) }
     ensures named { IfSome result (λ r. command_of (asked_by r) ≡ Some (codes "make")) }
+    ensures given { IfSome result (λ r. IsFoundIn (rows_of (found_of matches.now)) (asked_by r)) }
 {
     let list = has(matches, "list");
     match text(matches, "TRACE") {
@@ -143,6 +149,7 @@ fn history_of<'a>(matches: &ArgMatches<'a>) -> Option<Request<'a>>
     ensures asked { (t u : Text) → IsHistoryFound (rows_of (found_of matches.now)) t u
         → option_map asked_by result ≡ Some (tells t u) }
     ensures named { IfSome result (λ r. command_of (asked_by r) ≡ Some (codes "history")) }
+    ensures given { IfSome result (λ r. IsFoundIn (rows_of (found_of matches.now)) (asked_by r)) }
 {
     let trace = text(matches, "TRACE");
     let tuple = text(matches, "TUPLE");
@@ -161,6 +168,7 @@ fn request_of<'a>(matches: &ArgMatches<'a>) -> Option<Request<'a>>
         → option_map asked_by result ≡ Some (tells t u) }
     ensures named { IfSome result (λ r. option_map (λ p. p.0) (subcommand_rows_of matches.now) ≡ command_of (asked_by r)) }
     ensures some { IfSome result (λ r. is_some (command_of (asked_by r)) ≡ true) }
+    ensures given { IfSome result (λ r. IsFoundBehind (subcommand_rows_of matches.now) (asked_by r)) }
 {
     match matches.subcommand()? {
         ("audit", found) => audit_of(found),
@@ -206,6 +214,8 @@ pub fn read_words<'a>(alloc: Global, words: &'a [String]) -> Result<Answer<'a>, 
     ensures none { words.now ≡ [] → result ≡ Ok (Asks Joined) }
     // What is asked for is what the first word names, and the audit of joined input where there is none.
     ensures first { IfOk result (λ a. IfSome (asked_in a) (λ r. slice_get (map string_bytes words.now) 0 ≡ command_of r)) }
+    // It is what clap finds in the words: their paths, tuple and numbers.
+    ensures asked { IfOk result (λ a. IfSome (asked_in a) (IsAskedBy (map string_bytes words.now))) }
     ensures audit { (t e : Text) → map string_bytes words.now ≡ codes "audit" ∷ t ∷ e ∷ [] → is_plain_word t ≡ true → is_plain_word e ≡ true
         → IfOk result (λ a. asked_in a ≡ Some (audits t (Some e) 1 64 false)) }
     ensures audit_made { (t : Text) → map string_bytes words.now ≡ codes "audit" ∷ t ∷ codes "--make" ∷ [] → is_plain_word t ≡ true
