@@ -1,22 +1,18 @@
 -- What follows for a rule from what was asked of its parts.
-use Rattle.std.proofs.Common.{◌≡◌, ℕ, Bool, true, false, not, ◌||◌, ◌&&◌, IsTrue, ◌↔◌, List, [], ◌∷◌, ◌++◌, refl, sym, ◌∙◌, ap, subst, inl, inr, arith, true≢false}
+use Rattle.std.proofs.Common.{◌≡◌, Bool, true, false, not, ◌||◌, ◌&&◌, IsTrue, ◌↔◌, List, [], ◌∷◌, ◌++◌, refl, sym, ◌∙◌, ap, subst, inl, inr, arith, true≢false}
 use mathlib.Core.Bool.{beq}
 use Rattle.std.proofs.lemmas.List.Elements.{Contains-append_left, Contains-append_right, Contains-append_cases}
 use Rattle.std.specs.Prelude.{Contains}
-use Rattle.tuple_text.specs.Tuples.{FactValue}
 use Rattle.rewrites.specs.Alike.{Leaves}
-use Rattle.rewrites.specs.Expression.{Expression, union, inter, minus}
-use Rattle.namespaces.specs.Lookup.{rule_at}
+use Rattle.rewrites.specs.Expression.{Expression, union, minus}
 use Rattle.rewrites.specs.View.{children}
-use Rattle.version_chains.specs.Commits.{store_at}
 use Rattle.strata.proofs.Lists.{Contains-cons_cases}
-use Rattle.snapshots.specs.Snapshots.{rules_in, tuples_in}
-use Rattle.snapshots.specs.declared.snapshot.Snapshot.{Snapshot}
-use Rattle.wide_rules.specs.Asked.{Questions, asked_at, does, Does, Agrees, AreRight, Follows, AreRightPaths, AsksMore, Tells, joined_of}
-use Rattle.judgement.specs.Judgement.{KnownValue}
+use Rattle.wide_rules.specs.Asked.{Questions, asked_at, does, Agrees, Follows, AreRightPaths, AsksMore, IsCoveredBy, joined_of}
+use Rattle.wide_rules.specs.AskedFact.{AreRight, DoesFor, Tells, asked_fact, rules_over, tuples_over}
 use Rattle.wide_rules.specs.declared.answers.Asked.{Asked}
+use Rattle.wide_rules.specs.declared.fact.AskedFact.{AskedFact}
 use Rattle.wide_rules.specs.declared.paths.Path.{Path}
-use Rattle.wide_rules.proofs.AlikeLemmas.{by_known, given_then, barred_then, then_given, then_barred}
+use Rattle.wide_rules.proofs.AlikeLemmas.{by_known, given_is, barred_is}
 
 pub same_beq : (a b : Bool) → beq a b ≡ true → a ≡ b
 same_beq true true h = refl
@@ -33,6 +29,12 @@ other_beq false false h e = true≢false h
 pub not_false : (a : Bool) → not a ≡ false → a ≡ true
 not_false true h = refl
 not_false false h = absurd (true≢false h)
+
+pub is_other : (d g : Bool) → not (beq d g) ≡ true → d ≡ not g
+is_other true true h = absurd (true≢false (sym h))
+is_other true false h = refl
+is_other false true h = refl
+is_other false false h = absurd (true≢false (sym h))
 
 only_one : {X : Type 0} (a b : X) → Contains (a ∷ []) b → a ≡ b
 only_one a b there = elim (Contains-cons_cases a [] b there) [ inl is ↦ is | inr none ↦ absurd (omega (arith, none.1)) ]
@@ -99,144 +101,125 @@ pub union_joins : (g : Bool) (es : List Expression) → joined_of g g es ≡ uni
 union_joins true es = refl
 union_joins false es = refl
 
-pub inter_joins : (g : Bool) (es : List Expression) → joined_of (not g) g es ≡ inter (children es)
-inter_joins true es = refl
-inter_joins false es = refl
-
-module _ (s : Snapshot) (known : KnownValue) (f : FactValue) where
+module _ {F : Type 0} (a : AskedFact F) where
   abbrev leaves : Leaves
-  leaves = by_known (rules_in s) (tuples_in s) known f
+  leaves = by_known (rules_over a) (tuples_over a) a.known.now (asked_fact a)
 
   -- ---- what the leaves do by what is known
 
-  does_then : (g : Bool) (e : Expression) → does leaves g e ≡ true → Does s known f g e
-  does_then true e h = given_then (rules_in s) (tuples_in s) known f e h
-  does_then false e h = barred_then (rules_in s) (tuples_in s) known f e h
+  does_is : (g : Bool) (e : Expression) → ((does leaves g e ≡ true) ↔ DoesFor a g e)
+  does_is true e = given_is (rules_over a) (tuples_over a) a.known.now (asked_fact a) e
+  does_is false e = barred_is (rules_over a) (tuples_over a) a.known.now (asked_fact a) e
 
-  then_does : (g : Bool) (e : Expression) → Does s known f g e → does leaves g e ≡ true
-  then_does true e h = then_given (rules_in s) (tuples_in s) known f e h
-  then_does false e h = then_barred (rules_in s) (tuples_in s) known f e h
-
-  answer_is : (g : Bool) (e : Expression) (b answer : Bool) → does leaves g e ≡ b → (IsTrue answer ↔ Does s known f g e) → b ≡ answer
+  answer_is : (g : Bool) (e : Expression) (b answer : Bool) → does leaves g e ≡ b → (IsTrue answer ↔ DoesFor a g e) → b ≡ answer
   answer_is g e true true is h = refl
-  answer_is g e true false is h = sym (h.1 (does_then g e is))
-  answer_is g e false true is h = sym is ∙ then_does g e (h.0 refl)
+  answer_is g e true false is h = sym (h.1 ((does_is g e).0 is))
+  answer_is g e false true is h = sym is ∙ (does_is g e).1 (h.0 refl)
   answer_is g e false false is h = refl
 
   -- where each answer is right, so is one that follows
-  pub right_then : (q : Questions) (asked : List Asked) (g : Bool) (e : Expression) (r : Bool) → AreRight s known f q asked
-      → Follows q asked g e r → (IsTrue r ↔ Does s known f g e)
+  pub right_then : (q : Questions) (asked : List Asked) (g : Bool) (e : Expression) (r : Bool) → AreRight a q asked
+      → Follows q asked g e r → (IsTrue r ↔ DoesFor a g e)
   right_then q asked g e r right follows =
       let is : does leaves g e ≡ r =
-      follows leaves (λ a there. answer_is a.is_given (asked_at q a.is_cover a.part) (does leaves a.is_given (asked_at q a.is_cover a.part)) a.answer refl (right a there)) in
-      (λ t. does_then g e (is ∙ t), λ d. sym is ∙ then_does g e d)
+      follows leaves
+      (λ o there. answer_is o.is_given (asked_at q o.is_cover o.part) (does leaves o.is_given (asked_at q o.is_cover o.part)) o.answer refl (right o there)) in
+      (λ t. (does_is g e).0 (is ∙ t), λ d. sym is ∙ (does_is g e).1 d)
 
   -- ---- one question
 
-  pub tells_found : (q : Questions) (asked : List Asked) (a : Asked) → Contains asked a
-      → Tells s known f q asked asked a.is_given (asked_at q a.is_cover a.part) a.answer
-  tells_found q asked a there = record {
-    more = λ b c. c;
-    right = λ r. r;
-    follows = λ l agrees. agrees a there;
-  }
-
-  one_more : (q : Questions) (old : List Asked) (a : Asked) → (IsTrue a.answer ↔ Does s known f a.is_given (asked_at q a.is_cover a.part))
-      → AreRight s known f q old → AreRight s known f q (old ++ a ∷ [])
-  one_more q old a is right b there =
-      elim (Contains-append_cases old (a ∷ []) b there) [
+  one_more : (q : Questions) (old : List Asked) (o : Asked) → (IsTrue o.answer ↔ DoesFor a o.is_given (asked_at q o.is_cover o.part))
+      → AreRight a q old → AreRight a q (old ++ o ∷ [])
+  one_more q old o is right b there =
+      elim (Contains-append_cases old (o ∷ []) b there) [
         | inl before ↦ right b before
-        | inr last ↦ subst (λ (x : Asked). IsTrue x.answer ↔ Does s known f x.is_given (asked_at q x.is_cover x.part)) (only_one a b last) is
+        | inr last ↦ subst (λ (x : Asked). IsTrue x.answer ↔ DoesFor a x.is_given (asked_at q x.is_cover x.part)) (only_one o b last) is
       ]
 
-  pub tells_noted : (q : Questions) (old : List Asked) (a : Asked) → (IsTrue a.answer ↔ Does s known f a.is_given (asked_at q a.is_cover a.part))
-      → Tells s known f q old (old ++ a ∷ []) a.is_given (asked_at q a.is_cover a.part) a.answer
-  tells_noted q old a is = record {
-    more = λ b c. Contains-append_left old (a ∷ []) b c;
-    right = one_more q old a is;
-    follows = λ l agrees. agrees a (Contains-append_right old (a ∷ []) a (0, omega arith, refl));
+  pub tells_noted : (q : Questions) (old : List Asked) (o : Asked) → (IsTrue o.answer ↔ DoesFor a o.is_given (asked_at q o.is_cover o.part))
+      → Tells a q o.is_given (asked_at q o.is_cover o.part) old (old ++ o ∷ []) o.answer
+  tells_noted q old o is = record {
+    more = λ b c. Contains-append_left old (o ∷ []) b c;
+    right = one_more q old o is;
+    follows = λ l agrees. agrees o (Contains-append_right old (o ∷ []) o (0, omega arith, refl));
   }
 
-  -- nothing more is asked where what was asked decides
-  pub tells_at_once : (q : Questions) (asked : List Asked) (g : Bool) (e : Expression) (r : Bool) → Follows q asked g e r
-      → Tells s known f q asked asked g e r
-  tells_at_once q asked g e r follows = record { more = λ b c. c; right = λ h. h; follows = follows }
+  pub none_right : (q : Questions) (asked : List Asked) → asked ≡ [] → AreRight a q asked
+  none_right q asked none = rw none (λ o there. absurd (omega (arith, there.1)))
+
+  -- what was asked before that stays right
+  pub tells_after : (q : Questions) (g : Bool) (e : Expression) (old now new : List Asked) (r : Bool) → AsksMore old now
+      → (AreRight a q old → AreRight a q now) → Tells a q g e now new r → Tells a q g e old new r
+  tells_after q g e old now new r more right tells = record {
+    more = λ o there. tells.more o (more o there);
+    right = λ before. tells.right (right before);
+    follows = tells.follows;
+  }
+
+  -- a part whose cover has no answer that helps
+  pub tells_covered : (q : Questions) (g : Bool) (e cover : Expression) (old new : List Asked) (d : Bool) → IsCoveredBy e cover
+      → Tells a q g cover old new d → d ≡ not g → Tells a q g e old new (not g)
+  tells_covered q g e cover old new d covered tells other = record {
+    more = tells.more;
+    right = tells.right;
+    follows = λ l agrees. covered l g (tells.follows l agrees ∙ other);
+  }
+
+  pub tells_as : (q : Questions) (g : Bool) (e e' : Expression) (old new : List Asked) (r : Bool) → e ≡ e'
+      → Tells a q g e' old new r → Tells a q g e old new r
+  tells_as q g e e' old new r is tells = rw is tells
 
   -- ---- nodes, one after the other: what is left decides
 
-  pub record IsLeft (q : Questions) (old new : List Asked) (g : Bool) (whole left : Expression) : Type 0 where
+  pub record IsLeft (q : Questions) (g : Bool) (whole left : Expression) (old new : List Asked) : Type 0 where
     pub more : AsksMore old new
-    pub right : AreRight s known f q old → AreRight s known f q new
+    pub right : AreRight a q old → AreRight a q new
     pub same : (l : Leaves) → Agrees l q new → does l g whole ≡ does l g left
 
-  pub left_first : (q : Questions) (asked : List Asked) (g : Bool) (whole : Expression) → IsLeft q asked asked g whole whole
-  left_first q asked g whole = record { more = λ b c. c; right = λ r. r; same = λ l agrees. refl }
+  left_told : (q : Questions) (stop g : Bool) (whole e : Expression) (es : List Expression) (old now new : List Asked) (d : Bool)
+      → IsLeft q g whole (joined_of stop g (e ∷ es)) old now → Tells a q g e now new d → (l : Leaves) → Agrees l q new
+      → does l g whole ≡ joined_does stop d (does l g (joined_of stop g es))
+  left_told q stop g whole e es old now new d left tells l agrees =
+      left.same l (λ o there. agrees o (tells.more o there))
+      ∙ joined_step l stop g e es
+      ∙ ap (λ x. joined_does stop x (does l g (joined_of stop g es))) (tells.follows l agrees)
 
-  pub left_step : (q : Questions) (old now new : List Asked) (stop g : Bool) (whole e : Expression) (es : List Expression) (d : Bool)
-      → IsLeft q old now g whole (joined_of stop g (e ∷ es)) → Tells s known f q now new g e d → ¬ (d ≡ stop)
-      → IsLeft q old new g whole (joined_of stop g es)
-  left_step q old now new stop g whole e es d left tells other = record {
-    more = λ b c. tells.more b (left.more b c);
-    right = λ r. tells.right (left.right r);
+  pub left_step : (q : Questions) (stop g : Bool) (whole e : Expression) (es : List Expression) (old now new : List Asked) (d : Bool)
+      → IsLeft q g whole (joined_of stop g (e ∷ es)) old now → Tells a q g e now new d → ¬ (d ≡ stop)
+      → IsLeft q g whole (joined_of stop g es) old new
+  left_step q stop g whole e es old now new d left tells other = record {
+    more = λ o there. tells.more o (left.more o there);
+    right = λ before. tells.right (left.right before);
     same = λ l agrees.
-        left.same l (λ a there. agrees a (tells.more a there))
-        ∙ joined_step l stop g e es
-        ∙ goes_on stop (does l g e) (does l g (joined_of stop g es)) (subst (λ x. ¬ (x ≡ stop)) (sym (tells.follows l agrees)) other);
+        left_told q stop g whole e es old now new d left tells l agrees ∙ goes_on stop d (does l g (joined_of stop g es)) other;
   }
 
-  pub left_stops : (q : Questions) (old now new : List Asked) (stop g : Bool) (whole e : Expression) (es : List Expression) (d : Bool)
-      → IsLeft q old now g whole (joined_of stop g (e ∷ es)) → Tells s known f q now new g e d → d ≡ stop
-      → Tells s known f q old new g whole stop
-  left_stops q old now new stop g whole e es d left tells is = record {
-    more = λ b c. tells.more b (left.more b c);
-    right = λ r. tells.right (left.right r);
-    follows = λ l agrees.
-        left.same l (λ a there. agrees a (tells.more a there))
-        ∙ joined_step l stop g e es
-        ∙ subst (λ x. joined_does stop x (does l g (joined_of stop g es)) ≡ stop) (sym (tells.follows l agrees ∙ is))
-        (stops stop (does l g (joined_of stop g es)));
-  }
-
-  pub left_ends : (q : Questions) (old new : List Asked) (stop g : Bool) (whole : Expression)
-      → IsLeft q old new g whole (joined_of stop g []) → Tells s known f q old new g whole (not stop)
-  left_ends q old new stop g whole left = record {
-    more = left.more;
-    right = left.right;
-    follows = λ l agrees. left.same l agrees ∙ joined_none l stop g;
-  }
-
-  pub tells_as : (q : Questions) (old new : List Asked) (g : Bool) (e e' : Expression) (r : Bool) → e ≡ e'
-      → Tells s known f q old new g e' r → Tells s known f q old new g e r
-  tells_as q old new g e e' r is tells = rw is tells
+  pub left_stops : (q : Questions) (stop g : Bool) (whole e : Expression) (es : List Expression) (old now new : List Asked) (d : Bool)
+      → IsLeft q g whole (joined_of stop g (e ∷ es)) old now → Tells a q g e now new d → d ≡ stop → Tells a q g whole old new stop
+  left_stops q stop g whole e es old now new d left tells is =
+      let told = tells_after q g e old now new d left.more left.right tells in
+      record {
+        more = told.more;
+        right = told.right;
+        follows = λ l agrees.
+            left_told q stop g whole e es old now new d left tells l agrees
+            ∙ ap (λ x. joined_does stop x (does l g (joined_of stop g es))) is
+            ∙ stops stop (does l g (joined_of stop g es));
+      }
 
   -- ---- a difference
 
-  minus_stops : (l : Leaves) (g : Bool) (a b : Expression) (d : Bool) → does l g a ≡ d → ¬ (d ≡ g) → does l g (minus a b) ≡ d
-  minus_stops l true a b true is other = absurd (other refl)
-  minus_stops l true a b false is other = rw is refl
-  minus_stops l false a b true is other = rw is refl
-  minus_stops l false a b false is other = absurd (other refl)
+  minus_goes_on : (l : Leaves) (g : Bool) (x y : Expression) (d : Bool) → does l g x ≡ d → d ≡ g → does l g (minus x y) ≡ does l (not g) y
+  minus_goes_on l true x y true is same = rw is refl
+  minus_goes_on l true x y false is same = cc
+  minus_goes_on l false x y true is same = cc
+  minus_goes_on l false x y false is same = rw is refl
 
-  minus_goes_on : (l : Leaves) (g : Bool) (a b : Expression) (d : Bool) → does l g a ≡ d → d ≡ g → does l g (minus a b) ≡ does l (not g) b
-  minus_goes_on l true a b true is same = rw is refl
-  minus_goes_on l true a b false is same = cc
-  minus_goes_on l false a b true is same = cc
-  minus_goes_on l false a b false is same = rw is refl
-
-  pub tells_minus_at_once : (q : Questions) (old new : List Asked) (g : Bool) (a b : Expression) (d : Bool)
-      → Tells s known f q old new g a d → ¬ (d ≡ g) → Tells s known f q old new g (minus a b) d
-  tells_minus_at_once q old new g a b d tells other = record {
-    more = tells.more;
-    right = tells.right;
-    follows = λ l agrees. minus_stops l g a b d (tells.follows l agrees) other;
-  }
-
-  pub tells_minus : (q : Questions) (old now new : List Asked) (g : Bool) (a b : Expression) (d r : Bool)
-      → Tells s known f q old now g a d → d ≡ g → Tells s known f q now new (not g) b r
-      → Tells s known f q old new g (minus a b) r
-  tells_minus q old now new g a b d r first same second = record {
-    more = λ x c. second.more x (first.more x c);
-    right = λ h. second.right (first.right h);
+  pub tells_minus : (q : Questions) (g : Bool) (x y : Expression) (old now new : List Asked) (d r : Bool)
+      → Tells a q g x old now d → d ≡ g → Tells a q (not g) y now new r → Tells a q g (minus x y) old new r
+  tells_minus q g x y old now new d r first same second = record {
+    more = λ o there. second.more o (first.more o there);
+    right = λ before. second.right (first.right before);
     follows = λ l agrees.
-        minus_goes_on l g a b d (first.follows l (λ x there. agrees x (second.more x there))) same ∙ second.follows l agrees;
+        minus_goes_on l g x y d (first.follows l (λ o there. agrees o (second.more o there))) same ∙ second.follows l agrees;
   }

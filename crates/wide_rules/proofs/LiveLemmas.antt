@@ -2,7 +2,7 @@
 use Rattle.std.proofs.Common.{◌≡◌, ◌≤◌, ◌<◌, ◌^◌, ℕ, suc, List, [], None, Some, length, ap, sym, ◌∙◌, subst, inl, arith}
 use Rattle.std.specs.Prelude.{Contains, IfSome, IsSomeAnd, Option, slice_get}
 use Rattle.tuple_text.specs.Sets.{SetValue}
-use Rattle.tuple_text.specs.Tuples.{TupleValue, fact_of, tuple_of}
+use Rattle.tuple_text.specs.Tuples.{fact_of}
 use Rattle.tuple_text.specs.declared.users.User.TheVariants.{Set}
 use Rattle.namespaces.specs.Declaration.{Declaration}
 use Rattle.namespaces.specs.Lookup.{namespace_names, namespace_numbered, place_of, rule_at}

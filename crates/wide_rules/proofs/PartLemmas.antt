@@ -9,12 +9,10 @@ use Rattle.rewrites.specs.Parts.{part_at, part_expression, parts_shown}
 use Rattle.rewrites.specs.declared.parts.Part.{Part}
 use Rattle.rewrites.specs.declared.parts.Through.{Through}
 use Rattle.marks.proofs.PlacedLemmas.{length-set, slice_get-set}
-use Rattle.tuple_text.specs.Tuples.{FactValue}
 use Rattle.snapshots.specs.Timelines.{TimelineValue}
-use Rattle.snapshots.specs.declared.snapshot.Snapshot.{Snapshot}
-use Rattle.wide_rules.specs.Asked.{Does}
+use Rattle.wide_rules.specs.AskedFact.{DoesFor}
 use Rattle.wide_rules.specs.Declaring.{AreKeptByPart, MayBeKept}
-use Rattle.judgement.specs.Judgement.{KnownValue}
+use Rattle.wide_rules.specs.declared.fact.AskedFact.{AskedFact}
 use Rattle.wide_rules.specs.declared.kept.Kept.{Kept}
 
 pub part_there : (ps : List Part) (n : ℕ) (p : Part) → slice_get ps n ≡ Some p → part_at (parts_shown ps) n ≡ part_expression p
@@ -47,6 +45,6 @@ one_kept timeline parts kept n through one are at is = record {
 }
 
 -- a union of nothing gives nothing, and rules out each fact
-pub none_does : (s : Snapshot) (known : KnownValue) (f : FactValue) (g : Bool) → (IsTrue (not g) ↔ Does s known f g (union no_child))
-none_does s known f true = (λ h. absurd cc, λ h. absurd h)
-none_does s known f false = (λ h. tt, λ h. refl)
+pub none_does : {F : Type 0} (a : AskedFact F) (g : Bool) → (IsTrue (not g) ↔ DoesFor a g (union no_child))
+none_does a true = (λ h. absurd cc, λ h. absurd h)
+none_does a false = (λ h. tt, λ h. refl)

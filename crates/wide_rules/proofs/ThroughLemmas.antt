@@ -1,5 +1,5 @@
 -- What is read through one tupleset.
-use Rattle.std.proofs.Common.{◌≡◌, ℕ, zero, suc, List, [], ◌∷◌, None, Some, ◌↔◌, refl, inl, inr, map, arith, String, Global}
+use Rattle.std.proofs.Common.{◌≡◌, ℕ, zero, suc, List, [], ◌∷◌, None, Some, ◌↔◌, true, false, refl, inl, inr, map, arith, String, Global}
 use Rattle.std.specs.Prelude.{Contains, string_bytes}
 use Rattle.tuple_text.specs.Sets.{SetValue}
 use Rattle.tuple_text.specs.Tuples.{TupleValue, FactValue}
@@ -12,8 +12,10 @@ use Rattle.rewrites.specs.View.{children}
 use Rattle.rewrites.specs.declared.parts.Through.{Through}
 use Rattle.strata.specs.Meaning.{with_relation}
 use Rattle.judgement.specs.Decided.{dec_undeclared}
-use Rattle.judgement.specs.Judgement.{KnownValue, Established, SomeEstablished, Refuted, EachRefuted}
+use Rattle.judgement.specs.Judgement.{KnownValue, SomeEstablished, EachRefuted}
 use Rattle.judgement.specs.Passes.{AreBarred, BarsId, BarsNames, IsLedByName, IsLed, target}
+use Rattle.wide_rules.specs.AskedFact.{DoesFor, asked_fact, asked_set, rules_over, tuples_over}
+use Rattle.wide_rules.specs.declared.fact.AskedFact.{AskedFact}
 
 -- ---- the relations of a userset's namespace are enough to look at
 
@@ -62,18 +64,17 @@ module _ (rules : Lookup) (store : List TupleValue) (known : KnownValue) (f : Fa
     barred_each es (λ c there. h c (suc there.0, omega (arith, there.1), there.2)),
   )
 
-pub through_led : (rules : Lookup) (store : List TupleValue) (known : KnownValue) (f : FactValue) (t : Through)
-    → IsLedByName store known (with_relation f.set (string_bytes t.tupleset)) (computed_names t) f.user
-    ↔ Established rules store known f (through_expression t)
-through_led rules store known f t = (
-  λ l. led_some rules store known f (string_bytes t.tupleset) t.computed.entries l.0 l.1 l.2,
-  λ e. some_led rules store known f (string_bytes t.tupleset) t.computed.entries e,
-)
+-- a fact is asked for by what is stored in the tupleset of its object
+module _ {F : Type 0} (a : AskedFact F) (t : Through) (set : SetValue)
+    (is : set ≡ with_relation (asked_set a) (string_bytes t.tupleset)) where
+  pub through_led : IsLedByName (tuples_over a) a.known.now set (computed_names t) a.user ↔ DoesFor a true (through_expression t)
+  through_led = rw is (
+    λ l. led_some (rules_over a) (tuples_over a) a.known.now (asked_fact a) (string_bytes t.tupleset) t.computed.entries l.0 l.1 l.2,
+    λ e. some_led (rules_over a) (tuples_over a) a.known.now (asked_fact a) (string_bytes t.tupleset) t.computed.entries e,
+  )
 
-pub through_barred : (rules : Lookup) (store : List TupleValue) (known : KnownValue) (f : FactValue) (t : Through)
-    → AreBarred rules store known (with_relation f.set (string_bytes t.tupleset)) (computed_names t) f.user
-    ↔ Refuted rules store known f (through_expression t)
-through_barred rules store known f t = (
-  λ b. barred_each rules store known f (string_bytes t.tupleset) t.computed.entries b,
-  λ r. each_barred rules store known f (string_bytes t.tupleset) t.computed.entries r,
-)
+  pub through_barred : AreBarred (rules_over a) (tuples_over a) a.known.now set (computed_names t) a.user ↔ DoesFor a false (through_expression t)
+  through_barred = rw is (
+    λ b. barred_each (rules_over a) (tuples_over a) a.known.now (asked_fact a) (string_bytes t.tupleset) t.computed.entries b,
+    λ r. each_barred (rules_over a) (tuples_over a) a.known.now (asked_fact a) (string_bytes t.tupleset) t.computed.entries r,
+  )

@@ -1,5 +1,5 @@
 -- What was asked of the parts of a rule, and what follows for the rule.
-use Rattle.std.specs.Prelude.{◌≡◌, ℕ, Bool, true, false, not, if◌then◌else◌, ◌↔◌, IsTrue, List, Option, Some, slice_get, Contains}
+use Rattle.std.specs.Prelude.{◌≡◌, ℕ, Bool, true, false, not, if◌then◌else◌, List, Some, slice_get, Contains}
 use Rattle.std.specs.declared.alloc.Global.{Global}
 use Rattle.std.specs.declared.vec.Vec.{Vec}
 use Rattle.tuple_text.specs.Tuples.{FactValue}
@@ -47,11 +47,6 @@ asked_at q is_cover part = part_at (if is_cover then q.covers else q.parts) part
 abbrev pub Agrees : Leaves → Questions → List Asked → Type 0
 Agrees l q asked = (a : Asked) → Contains asked a → does l a.is_given (asked_at q a.is_cover a.part) ≡ a.answer
 
--- each answer is right, of a fact and by what is known
-abbrev pub AreRight : Snapshot → KnownValue → FactValue → Questions → List Asked → Type 0
-AreRight s known f q asked =
-    (a : Asked) → Contains asked a → (IsTrue a.answer ↔ Does s known f a.is_given (asked_at q a.is_cover a.part))
-
 -- an answer follows for an expression from what was asked, whatever else its leaves do
 abbrev pub Follows : Questions → List Asked → Bool → Expression → Bool → Type 0
 Follows q asked is_given e answer = (l : Leaves) → Agrees l q asked → does l is_given e ≡ answer
@@ -63,12 +58,6 @@ AsksMore old new = (a : Asked) → Contains old a → Contains new a
 -- the answer of a path follows from what was asked on it
 abbrev pub AreRightPaths : Questions → Expression → List Path → Type 0
 AreRightPaths q e paths = (p : Path) → Contains paths p → Follows q p.asked.items p.is_given e p.answer
-
--- more was asked, each answer is right, and an answer follows for an expression
-pub record Tells (s : Snapshot) (known : KnownValue) (f : FactValue) (q : Questions) (old new : List Asked) (is_given : Bool) (e : Expression) (answer : Bool) : Type 0 where
-  pub more : AsksMore old new
-  pub right : AreRight s known f q old → AreRight s known f q new
-  pub follows : Follows q new is_given e answer
 
 -- an expression that gives a fact, or rules it out, where some of others does (`stop` is true), or where each of them does
 abbrev pub joined_of : Bool → Bool → List Expression → Expression

@@ -1,3 +1,4 @@
 pub mod Asked
 pub mod AskedCode
+pub mod AskedFact
 pub mod Declaring

@@ -5,10 +5,12 @@ ghost use Rattle.tuple_text.specs.Refs.{set_value};
 ghost use Rattle.tuple_text.specs.Tuples.{fact_of};
 ghost use Rattle.rewrites.specs.Parts.{rule_shown};
 ghost use Rattle.snapshots.specs.Snapshots.{snapshot_at};
-ghost use Rattle.wide_rules.specs.Asked.{AreRight, Does};
+ghost use Rattle.wide_rules.specs.Asked.{Does};
+ghost use Rattle.wide_rules.specs.AskedFact.{AreRight, DoesFor};
 
 use crate::answers::Answers;
 use crate::asking::{Parts, node_does};
+use crate::fact::AskedFact;
 use crate::paths::{Paths, Reached};
 use judgement::{Known, KnownFact};
 use marks::MarkedSet;
@@ -71,23 +73,20 @@ fn places_below(node: &Node) -> usize {
 fn ask_again<F: KnownFact>(
     paths: &Paths,
     parts: &mut Parts<'_>,
+    fact: &AskedFact<'_, F>,
     is_given: bool,
-    set: MarkedSet<'_>,
-    user: u64,
-    at: u64,
-    known: &Known<F>,
     answers: &mut Answers,
 ) -> Result<Reached, AllocError>
+    requires { fact.now.snapshot.now.timeline ≡ parts.old.timeline }
     ensures same { parts.new ≡ parts.old }
-    ensures right { IfOk result (λ _. AreRight (snapshot_at parts.old.timeline at) known.now (fact_of (set_value set.entry.set) user) parts.old.questions answers.old
-        → AreRight (snapshot_at parts.old.timeline at) known.now (fact_of (set_value set.entry.set) user) parts.old.questions answers.new) }
+    ensures right { IfOk result (λ _. AreRight fact.now parts.old.questions answers.old → AreRight fact.now parts.old.questions answers.new) }
 {
     let mut reached = paths.first(is_given);
     for _ in 0..paths.most() {
         let Some((part, is_cover, gives)) = paths.question(reached) else {
             return Ok(reached);
         };
-        let answer = parts.ask_once(part, is_cover, gives, set, user, at, known, answers)?;
+        let answer = parts.ask_once(fact, part, is_cover, gives, answers)?;
         reached = paths.after(reached, answer);
     }
     Ok(reached)
@@ -112,6 +111,30 @@ impl<'r> AskedRule<'r> {
         })
     }
 
+    /// Whether the rule gives a fact, or whether it rules the fact out.
+    fn does_for<F: KnownFact>(
+        &mut self,
+        fact: &AskedFact<'_, F>,
+        is_given: bool,
+    ) -> Result<bool, AllocError>
+        requires { fact.now.snapshot.now.timeline ≡ self.old.timeline }
+        ensures rule { self.new ≡ self.old }
+        ensures does { IfOk result (λ r. IsTrue r ↔ DoesFor fact.now is_given self.old.expression) }
+    {
+        self.answers.clear();
+        let parts = &mut self.parts;
+        let answers = &mut self.answers;
+        let reached = ask_again(&self.paths, parts, fact, is_given, answers)?;
+        if let Some(answer) = self.paths.answer(reached, is_given, answers) {
+            return Ok(answer);
+        }
+        let depth = answers.as_slice().len();
+        let answer = node_does(parts, fact, &self.rule.top, is_given, answers)?;
+        self.paths
+            .keep(reached, depth, answers.as_slice(), is_given, answer)?;
+        Ok(answer)
+    }
+
     /// Whether what is known gives by the rule that a user is in a userset, or whether it rules that out, over the tuples that are stored
     /// at a timestamp.
     pub fn does<F: KnownFact>(
@@ -126,18 +149,13 @@ impl<'r> AskedRule<'r> {
         ensures does { IfOk result (λ r. IsTrue r
             ↔ Does (snapshot_at self.old.timeline at) known.now (fact_of (set_value set.entry.set) user) is_given self.old.expression) }
     {
-        self.answers.clear();
-        let parts = &mut self.parts;
-        let answers = &mut self.answers;
-        let reached = ask_again(&self.paths, parts, is_given, set, user, at, known, answers)?;
-        if let Some(answer) = self.paths.answer(reached, is_given, answers) {
-            return Ok(answer);
-        }
-        let depth = answers.as_slice().len();
-        let top = &self.rule.top;
-        let answer = node_does(parts, top, is_given, set, user, at, known, answers)?;
-        self.paths
-            .keep(reached, depth, answers.as_slice(), is_given, answer)?;
-        Ok(answer)
+        let snapshot = self.parts.at(at);
+        let fact = AskedFact {
+            snapshot: &snapshot,
+            known,
+            set,
+            user,
+        };
+        self.does_for(&fact, is_given)
     }
 }

@@ -1,21 +1,20 @@
 //! Rules that are judged by their parts, each of which is asked for once for a fact.
 
-ghost use Rattle.std.specs.Prelude.{◌≡◌, ◌↔◌, IsTrue, true, not, IfOk, IfSome};
-ghost use Rattle.tuple_text.specs.Refs.{set_value};
-ghost use Rattle.tuple_text.specs.Tuples.{fact_of};
+ghost use Rattle.std.specs.Prelude.{◌≡◌, ◌↔◌, IsTrue, not, IfOk, IfSome};
 ghost use Rattle.rewrites.specs.Parts.{part_at, parts_shown, node_expression, nodes_shown};
 ghost use Rattle.rewrites.specs.View.{expression_of};
 ghost use Rattle.snapshots.specs.Snapshots.{snapshot_at};
 ghost use Rattle.snapshots.specs.Timelines.{TimelineValue};
-ghost use Rattle.wide_rules.specs.Asked.{AreRight, AsksMore, Does, Follows, IsCoveredBy, Questions, Tells, asked_at, joined_of};
+ghost use Rattle.wide_rules.specs.Asked.{Follows, IsCoveredBy, Questions, asked_at, joined_of};
+ghost use Rattle.wide_rules.specs.AskedFact.{DoesFor, Tells};
 ghost use Rattle.wide_rules.specs.Declaring.{AreKeptByPart};
 
 use crate::answers::{Answers, Asked};
 use crate::covers::{Covers, MOST_COVERS, covers_of};
+use crate::fact::AskedFact;
 use crate::kept::{Kept, through_bars};
 use crate::through::through_gives;
-use judgement::{Known, KnownFact, established, refuted};
-use marks::MarkedSet;
+use judgement::{KnownFact, established, refuted};
 use rewrites::{Node, Part, Rewrite};
 use snapshots::{Snapshot, Timeline};
 use std::alloc::{AllocError, Global};
@@ -55,20 +54,13 @@ impl<'r> Model for Parts<'r> {
 }
 
 /// Whether a part without children gives a fact, or whether it rules the fact out.
-fn leaf_does<F: KnownFact>(
-    leaf: &Rewrite,
-    is_given: bool,
-    set: MarkedSet<'_>,
-    user: u64,
-    snapshot: &Snapshot<'_>,
-    known: &Known<F>,
-) -> bool
-    ensures { IsTrue result ↔ Does snapshot.now known.now (fact_of (set_value set.entry.set) user) is_given (expression_of leaf.now) }
+fn leaf_does<F: KnownFact>(leaf: &Rewrite, fact: &AskedFact<'_, F>, is_given: bool) -> bool
+    ensures { IsTrue result ↔ DoesFor fact.now is_given (expression_of leaf.now) }
 {
     if is_given {
-        established(leaf, set, user, snapshot, known)
+        established(leaf, fact.set, fact.user, fact.snapshot, fact.known)
     } else {
-        refuted(leaf, set, user, snapshot, known)
+        refuted(leaf, fact.set, fact.user, fact.snapshot, fact.known)
     }
 }
 
@@ -85,27 +77,23 @@ fn nothing_kept(alloc: Global, parts: &[Part]) -> Result<Vec<Option<Box<Kept>>>,
 /// Whether the part of a number gives a fact, or whether it rules the fact out. Where there is no such part, it is as a union of nothing.
 fn part_does<F: KnownFact>(
     alloc: Global,
-    snapshot: &Snapshot<'_>,
     parts: &[Part],
     kept: &mut Vec<Option<Box<Kept>>>,
     part: usize,
+    fact: &AskedFact<'_, F>,
     is_given: bool,
-    set: MarkedSet<'_>,
-    user: u64,
-    known: &Known<F>,
 ) -> Result<bool, AllocError>
-    requires { AreKeptByPart snapshot.now.timeline parts.now kept.old.items }
-    ensures kept { AreKeptByPart snapshot.now.timeline parts.now kept.new.items }
-    ensures does { IfOk result (λ r. IsTrue r
-        ↔ Does snapshot.now known.now (fact_of (set_value set.entry.set) user) is_given (part_at (parts_shown parts.now) part)) }
+    requires { AreKeptByPart fact.now.snapshot.now.timeline parts.now kept.old.items }
+    ensures kept { AreKeptByPart fact.now.snapshot.now.timeline parts.now kept.new.items }
+    ensures does { IfOk result (λ r. IsTrue r ↔ DoesFor fact.now is_given (part_at (parts_shown parts.now) part)) }
 {
     match parts.get(part) {
-        Some(Part::Leaf(leaf)) => Ok(leaf_does(leaf, is_given, set, user, snapshot, known)),
+        Some(Part::Leaf(leaf)) => Ok(leaf_does(leaf, fact, is_given)),
         Some(Part::Through(through)) => {
             if is_given {
-                return Ok(through_gives(through, set, user, snapshot, known));
+                return Ok(through_gives(through, fact));
             }
-            through_bars(alloc, through, set, user, snapshot, known, &mut kept[part])
+            through_bars(alloc, through, fact, &mut kept[part])
         }
         None => Ok(!is_given),
     }
@@ -137,6 +125,13 @@ impl<'r> Parts<'r> {
         self.covers.covers.len()
     }
 
+    /// What is declared and stored at a timestamp.
+    pub(crate) fn at(&self, at: u64) -> Snapshot<'r>
+        ensures { result ≡ snapshot_at self.now.timeline at }
+    {
+        self.timeline.at(at)
+    }
+
     /// One of the covers of a part, from the widest on.
     fn cover(&self, part: usize, k: usize) -> Option<usize>
         ensures { IfSome result (λ cover. IsCoveredBy (part_at self.now.questions.parts part) (part_at self.now.questions.covers cover)) }
@@ -149,51 +144,41 @@ impl<'r> Parts<'r> {
         &mut self,
         part: usize,
         is_cover: bool,
+        fact: &AskedFact<'_, F>,
         is_given: bool,
-        set: MarkedSet<'_>,
-        user: u64,
-        at: u64,
-        known: &Known<F>,
     ) -> Result<bool, AllocError>
+        requires { fact.now.snapshot.now.timeline ≡ self.old.timeline }
         ensures same { self.new ≡ self.old }
-        ensures does { IfOk result (λ r. IsTrue r
-            ↔ Does (snapshot_at self.old.timeline at) known.now (fact_of (set_value set.entry.set) user) is_given (asked_at self.old.questions is_cover part)) }
+        ensures does { IfOk result (λ r. IsTrue r ↔ DoesFor fact.now is_given (asked_at self.old.questions is_cover part)) }
     {
         let alloc = self.alloc;
-        let snapshot = self.timeline.at(at);
         if is_cover {
             let covers = &self.covers.covers;
             let kept = &mut self.covers_kept;
-            return part_does(
-                alloc, &snapshot, covers, kept, part, is_given, set, user, known,
-            );
+            return part_does(alloc, covers, kept, part, fact, is_given);
         }
         let kept = &mut self.kept;
-        part_does(
-            alloc, &snapshot, self.parts, kept, part, is_given, set, user, known,
-        )
+        part_does(alloc, self.parts, kept, part, fact, is_given)
     }
 
     /// The same, asked for once.
     pub(crate) fn ask_once<F: KnownFact>(
         &mut self,
+        fact: &AskedFact<'_, F>,
         part: usize,
         is_cover: bool,
         is_given: bool,
-        set: MarkedSet<'_>,
-        user: u64,
-        at: u64,
-        known: &Known<F>,
         answers: &mut Answers,
     ) -> Result<bool, AllocError>
+        requires { fact.now.snapshot.now.timeline ≡ self.old.timeline }
         ensures same { self.new ≡ self.old }
-        ensures tells { IfOk result (λ r. Tells (snapshot_at self.old.timeline at) known.now (fact_of (set_value set.entry.set) user) self.old.questions
-            answers.old answers.new is_given (asked_at self.old.questions is_cover part) r) }
+        ensures tells { IfOk result (Tells fact.now self.old.questions is_given (asked_at self.old.questions is_cover part)
+            answers.old answers.new) }
     {
         if let Some(answer) = answers.find(part, is_cover, is_given) {
             return Ok(answer);
         }
-        let answer = self.does(part, is_cover, is_given, set, user, at, known)?;
+        let answer = self.does(part, is_cover, fact, is_given)?;
         answers.note(Asked {
             part,
             is_cover,
@@ -204,55 +189,30 @@ impl<'r> Parts<'r> {
     }
 }
 
-/// Whether a cover of a part shows that the part does not give a fact, or that it rules the fact out. Each cover is asked for once.
-fn is_covered<F: KnownFact>(
+/// Whether the part of a number gives a fact, or whether it rules the fact out, asked for once, and only where no cover answers for it: where
+/// a cover does not give the fact, or does not rule it out, neither does the part. Each cover is asked for once.
+fn ask<F: KnownFact>(
     parts: &mut Parts<'_>,
+    fact: &AskedFact<'_, F>,
     part: usize,
     is_given: bool,
-    set: MarkedSet<'_>,
-    user: u64,
-    at: u64,
-    known: &Known<F>,
     answers: &mut Answers,
 ) -> Result<bool, AllocError>
+    requires { fact.now.snapshot.now.timeline ≡ parts.old.timeline }
     ensures same { parts.new ≡ parts.old }
-    ensures more { IfOk result (λ _. AsksMore answers.old answers.new) }
-    ensures right { IfOk result (λ _. AreRight (snapshot_at parts.old.timeline at) known.now (fact_of (set_value set.entry.set) user) parts.old.questions answers.old
-        → AreRight (snapshot_at parts.old.timeline at) known.now (fact_of (set_value set.entry.set) user) parts.old.questions answers.new) }
-    ensures covered { IfOk result (λ r. r ≡ true
-        → Follows parts.old.questions answers.new is_given (part_at parts.old.questions.parts part) (not is_given)) }
+    ensures tells { IfOk result (Tells fact.now parts.old.questions is_given (part_at parts.old.questions.parts part)
+        answers.old answers.new) }
 {
     for k in 0..MOST_COVERS {
         let Some(cover) = parts.cover(part, k) else {
             break;
         };
-        let does = parts.ask_once(cover, true, is_given, set, user, at, known, answers)?;
+        let does = parts.ask_once(fact, cover, true, is_given, answers)?;
         if does != is_given {
-            return Ok(true);
+            return Ok(!is_given);
         }
     }
-    Ok(false)
-}
-
-/// Whether the part of a number gives a fact, or whether it rules the fact out, asked for once, and only where no cover answers for it.
-fn ask<F: KnownFact>(
-    parts: &mut Parts<'_>,
-    part: usize,
-    is_given: bool,
-    set: MarkedSet<'_>,
-    user: u64,
-    at: u64,
-    known: &Known<F>,
-    answers: &mut Answers,
-) -> Result<bool, AllocError>
-    ensures same { parts.new ≡ parts.old }
-    ensures tells { IfOk result (λ r. Tells (snapshot_at parts.old.timeline at) known.now (fact_of (set_value set.entry.set) user) parts.old.questions
-        answers.old answers.new is_given (part_at parts.old.questions.parts part) r) }
-{
-    if is_covered(parts, part, is_given, set, user, at, known, answers)? {
-        return Ok(!is_given);
-    }
-    parts.ask_once(part, false, is_given, set, user, at, known, answers)
+    parts.ask_once(fact, part, false, is_given, answers)
 }
 
 /// Whether one of the nodes is a part that was asked for, and its answer is the one that decides.
@@ -277,24 +237,22 @@ fn is_decided(nodes: &Vec<Node>, stop: bool, is_given: bool, answers: &Answers) 
 #[cycle(node)]
 fn nodes_do<F: KnownFact>(
     parts: &mut Parts<'_>,
+    fact: &AskedFact<'_, F>,
     nodes: &Vec<Node>,
     stop: bool,
     is_given: bool,
-    set: MarkedSet<'_>,
-    user: u64,
-    at: u64,
-    known: &Known<F>,
     answers: &mut Answers,
 ) -> Result<bool, AllocError>
+    requires { fact.now.snapshot.now.timeline ≡ parts.old.timeline }
     ensures same { parts.new ≡ parts.old }
-    ensures tells { IfOk result (λ r. Tells (snapshot_at parts.old.timeline at) known.now (fact_of (set_value set.entry.set) user) parts.old.questions
-        answers.old answers.new is_given (joined_of stop is_given (nodes_shown parts.old.questions.parts nodes.now.items)) r) }
+    ensures tells { IfOk result (Tells fact.now parts.old.questions is_given
+        (joined_of stop is_given (nodes_shown parts.old.questions.parts nodes.now.items)) answers.old answers.new) }
 {
     if is_decided(nodes, stop, is_given, answers) {
         return Ok(stop);
     }
     for node in nodes {
-        let does = node_does(parts, node, is_given, set, user, at, known, answers)?;
+        let does = node_does(parts, fact, node, is_given, answers)?;
         if does == stop {
             return Ok(stop);
         }
@@ -306,32 +264,26 @@ fn nodes_do<F: KnownFact>(
 #[cycle(node)]
 pub(crate) fn node_does<F: KnownFact>(
     parts: &mut Parts<'_>,
+    fact: &AskedFact<'_, F>,
     node: &Node,
     is_given: bool,
-    set: MarkedSet<'_>,
-    user: u64,
-    at: u64,
-    known: &Known<F>,
     answers: &mut Answers,
 ) -> Result<bool, AllocError>
+    requires { fact.now.snapshot.now.timeline ≡ parts.old.timeline }
     ensures same { parts.new ≡ parts.old }
-    ensures tells { IfOk result (λ r. Tells (snapshot_at parts.old.timeline at) known.now (fact_of (set_value set.entry.set) user) parts.old.questions
-        answers.old answers.new is_given (node_expression parts.old.questions.parts node.now) r) }
+    ensures tells { IfOk result (Tells fact.now parts.old.questions is_given (node_expression parts.old.questions.parts node.now)
+        answers.old answers.new) }
 {
     match node {
-        Node::Part(part) => ask(parts, *part, is_given, set, user, at, known, answers),
-        Node::Union(nodes) => nodes_do(
-            parts, nodes, is_given, is_given, set, user, at, known, answers,
-        ),
-        Node::Inter(nodes) => nodes_do(
-            parts, nodes, !is_given, is_given, set, user, at, known, answers,
-        ),
+        Node::Part(part) => ask(parts, fact, *part, is_given, answers),
+        Node::Union(nodes) => nodes_do(parts, fact, nodes, is_given, is_given, answers),
+        Node::Inter(nodes) => nodes_do(parts, fact, nodes, !is_given, is_given, answers),
         Node::Minus(base, subtract) => {
-            let does = node_does(parts, base, is_given, set, user, at, known, answers)?;
+            let does = node_does(parts, fact, base, is_given, answers)?;
             if does != is_given {
                 return Ok(does);
             }
-            node_does(parts, subtract, !is_given, set, user, at, known, answers)
+            node_does(parts, fact, subtract, !is_given, answers)
         }
     }
 }

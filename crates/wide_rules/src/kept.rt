@@ -1,19 +1,17 @@
 //! What is kept of a part that reads through a tupleset, for the facts behind.
 
-ghost use Rattle.std.specs.Prelude.{◌≡◌, ◌↔◌, [], IsTrue, true, string_bytes, IfOk};
+ghost use Rattle.std.specs.Prelude.{◌≡◌, ◌↔◌, [], IsTrue, true, false, string_bytes, IfOk};
 ghost use Rattle.tuple_text.specs.Refs.{set_value};
-ghost use Rattle.tuple_text.specs.Tuples.{fact_of};
 ghost use Rattle.rewrites.specs.Parts.{computed_names, through_expression};
 ghost use Rattle.strata.specs.Meaning.{with_relation};
-ghost use Rattle.snapshots.specs.Snapshots.{rules_in, tuples_in};
+ghost use Rattle.wide_rules.specs.AskedFact.{DoesFor, IsBarredBy, asked_set};
 ghost use Rattle.wide_rules.specs.Declaring.{AreDeclaring, AreLive, IsKept, MayBeKept, kept_set};
-ghost use Rattle.judgement.specs.Judgement.{Refuted};
-ghost use Rattle.judgement.specs.Passes.{AreBarred};
 
 use crate::declaring::{declaring, numbers_of};
+use crate::fact::AskedFact;
 use crate::live::live_in;
-use crate::through::are_barred;
-use judgement::{Known, KnownFact, stored_in, under};
+use crate::through::{are_barred, tupleset_of};
+use judgement::{KnownFact, stored_in};
 use marks::MarkedSet;
 use rewrites::Through;
 use snapshots::Snapshot;
@@ -54,7 +52,7 @@ fn kept_of(
     ensures { IfOk result (λ k. IsKept snapshot.now.timeline through.now k × (k.at ≡ snapshot.now.at)
         × (kept_set k through.now ≡ with_relation (set_value set.entry) (string_bytes through.now.tupleset))) }
 {
-    let tupleset = MarkedSet::of(under(set, through.tupleset.as_str()));
+    let tupleset = tupleset_of(set, through);
     let live = live_in(alloc, snapshot, through, tupleset, &declaring)?;
     let numbers = numbers_of(&declaring);
     Ok(Kept {
@@ -94,31 +92,14 @@ fn kept_after(
     kept_of(alloc, snapshot, through, set, declaring)
 }
 
-/// Whether all that is read through a tupleset rules a fact out, where what is kept is of that tupleset.
-fn bars<F: KnownFact>(
-    snapshot: &Snapshot<'_>,
-    known: &Known<F>,
-    through: &Through,
-    tupleset: MarkedSet<'_>,
-    user: u64,
-    kept: &Kept,
-) -> bool
-    requires kept { IsKept snapshot.now.timeline through.now kept.now }
-    requires at { kept.now.at ≡ snapshot.now.at }
-    requires set { kept_set kept.now through.now ≡ set_value tupleset.set }
-    ensures { IsTrue result
-        ↔ AreBarred (rules_in snapshot.now) (tuples_in snapshot.now) known.now (set_value tupleset.entry.set)
-        (computed_names through.now) user }
+/// Whether no userset that is stored in a tupleset may have the user, where what is kept is of that tupleset.
+fn bars<F: KnownFact>(fact: &AskedFact<'_, F>, through: &Through, kept: &Kept) -> bool
+    requires kept { IsKept fact.now.snapshot.now.timeline through.now kept.now }
+    requires at { kept.now.at ≡ fact.now.snapshot.now.at }
+    requires set { kept_set kept.now through.now ≡ asked_set fact.now }
+    ensures { IsTrue result ↔ IsBarredBy fact.now (computed_names through.now) }
 {
-    are_barred(
-        snapshot,
-        known,
-        through,
-        tupleset,
-        user,
-        &kept.declaring,
-        &kept.live,
-    )
+    are_barred(fact, through, &kept.declaring, &kept.live)
 }
 
 /// Whether it is known at one look that nothing matters that is stored in a tupleset, of whatever object.
@@ -142,29 +123,26 @@ fn is_quiet(
 pub(crate) fn through_bars<F: KnownFact>(
     alloc: Global,
     through: &Through,
-    set: MarkedSet<'_>,
-    user: u64,
-    snapshot: &Snapshot<'_>,
-    known: &Known<F>,
+    fact: &AskedFact<'_, F>,
     kept: &mut Option<Box<Kept>>,
 ) -> Result<bool, AllocError>
-    requires { MayBeKept snapshot.now.timeline through.now kept.old }
-    ensures kept { MayBeKept snapshot.now.timeline through.now kept.new }
-    ensures bars { IfOk result (λ r. IsTrue r
-        ↔ Refuted (rules_in snapshot.now) (tuples_in snapshot.now) known.now
-        (fact_of (set_value set.entry.set) user) (through_expression through.now)) }
+    requires { MayBeKept fact.now.snapshot.now.timeline through.now kept.old }
+    ensures kept { MayBeKept fact.now.snapshot.now.timeline through.now kept.new }
+    ensures bars { IfOk result (λ r. IsTrue r ↔ DoesFor fact.now false (through_expression through.now)) }
 {
-    let tupleset = MarkedSet::of(under(set.set, through.tupleset.as_str()));
+    let snapshot = fact.snapshot;
+    let set = tupleset_of(fact.set.set, through);
+    let of_tupleset = AskedFact { set, ..*fact };
     if let Some(found) = kept {
-        if is_of(found, set.set, snapshot.at) {
-            return Ok(bars(snapshot, known, through, tupleset, user, found));
+        if is_of(found, fact.set.set, snapshot.at) {
+            return Ok(bars(&of_tupleset, through, found));
         }
-        if is_quiet(snapshot, through, tupleset, found) {
+        if is_quiet(snapshot, through, set, found) {
             return Ok(true);
         }
     }
-    let now = kept_after(alloc, snapshot, through, set.set, kept.take())?;
-    let is_barred = bars(snapshot, known, through, tupleset, user, &now);
+    let now = kept_after(alloc, snapshot, through, fact.set.set, kept.take())?;
+    let is_barred = bars(&of_tupleset, through, &now);
     *kept = Some(Box::new(alloc, now)?);
     Ok(is_barred)
 }

@@ -22,6 +22,7 @@ mod asking;
 mod covers;
 mod crowded;
 mod declaring;
+mod fact;
 mod kept;
 mod live;
 mod paths;

@@ -1,8 +1,5 @@
 use Rattle.std.proofs.Common.{◌≡◌, drop}
-use Rattle.tuple_text.specs.Refs.{set_value}
-use Rattle.tuple_text.specs.Tuples.{fact_of}
 use Rattle.rewrites.specs.Parts.{nodes_shown}
-use Rattle.snapshots.specs.Snapshots.{snapshot_at}
 use Rattle.wide_rules.specs.Asked.{joined_of}
 use Rattle.wide_rules.proofs.AskedLemmas.{IsLeft}
 use Rattle.wide_rules.proofs.asking.+node.Given as goal
@@ -11,7 +8,6 @@ use Rattle.wide_rules.proofs.asking.+node.Given as goal
 abbrev pub invariant-nodes_do-loop-node : goal.invariant-nodes_do-loop-node
 invariant-nodes_do-loop-node g l = record {
   same : l.parts ≡ l.fn.parts;
-  left : IsLeft (snapshot_at l.fn.parts.timeline l.at) l.known (fact_of (set_value l.set.set) l.user) l.fn.parts.questions l.fn.answers l.answers l.is_given
-      (joined_of l.stop l.is_given (nodes_shown l.fn.parts.questions.parts l.node-items))
-      (joined_of l.stop l.is_given (nodes_shown l.fn.parts.questions.parts (drop l.node-index l.node-items)));
+  left : IsLeft l.fact l.fn.parts.questions l.is_given (joined_of l.stop l.is_given (nodes_shown l.fn.parts.questions.parts l.node-items))
+      (joined_of l.stop l.is_given (nodes_shown l.fn.parts.questions.parts (drop l.node-index l.node-items))) l.fn.answers l.answers;
 }

@@ -1,8 +1,6 @@
 use Rattle.std.proofs.Common.{◌≡◌, ◌≤◌, ◌<◌, ◌∙◌, Some, length, refl, sym, ap, arith, ltb-true, ltb-false}
 use Rattle.std.proofs.lemmas.Option.{slice_get_read}
 use Rattle.std.specs.Prelude.{slice_get}
-use Rattle.tuple_text.specs.Refs.{set_value}
-use Rattle.tuple_text.specs.Tuples.{fact_of}
 use Rattle.rewrites.specs.Expression.{union, no_child}
 use Rattle.rewrites.specs.Parts.{part_at, part_expression, parts_shown}
 use Rattle.rewrites.specs.declared.parts.Part.{Part}
@@ -27,7 +25,7 @@ returns-else-is_given-clause-kept g c =
     let at : slice_get parts c.args.part ≡ Some (Part.Through c.in-Some-Through.through) =
     slice_get_read parts (length parts) c.args.part c.in-Some-Through.field-0.now refl (ltb-true c.args.part (length parts) (sym lookup.0)) lookup.1
     ∙ ap (λ (p : Part). Some p) c.in-Some-Through.field-0-is in
-    one_kept c.args.snapshot.now.timeline parts c.args.kept.now.items c.args.part c.in-Some-Through.through c.through_bars.new.kept c.requires at c.through_bars.ensures.kept
+    one_kept c.args.fact.now.snapshot.now.timeline parts c.args.kept.now.items c.args.part c.in-Some-Through.through c.through_bars.new.kept c.requires at c.through_bars.ensures.kept
 
 pub returns-in-Some-Leaf-clause-does : goal.returns-in-Some-Leaf-clause-does
 returns-in-Some-Leaf-clause-does g c =
@@ -50,4 +48,4 @@ returns-in-None-clause-does g c =
     let parts = c.args.parts.now in
     let past : length parts ≤ c.args.part = ltb-false c.args.part (length parts) (sym c.in-None.ensures.lookup.0) in
     let is : part_at (parts_shown parts) c.args.part ≡ union no_child = no_part_there parts c.args.part past in
-    rw is (none_does c.args.snapshot.now c.args.known.now (fact_of (set_value c.args.set.set) c.args.user) c.args.is_given)
+    rw is (none_does c.args.fact.now c.args.is_given)

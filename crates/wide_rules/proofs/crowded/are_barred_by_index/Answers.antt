@@ -1,33 +1,33 @@
 use Rattle.std.proofs.Common.{ℕ, List, suc, refl, subst, arith}
 use Rattle.std.proofs.lemmas.Option.{get_or_from_slice_get}
 use Rattle.std.specs.Prelude.{Contains}
-use Rattle.tuple_text.specs.Refs.{set_value}
 use Rattle.marks.specs.Marks.{set_mark}
 use Rattle.marks.proofs.PlacedLemmas.{and-left, and-right}
 use Rattle.rewrites.specs.Parts.{computed_names}
 use Rattle.userset_index.specs.Index.{is_crowded}
 use Rattle.judgement.specs.Passes.{AreThroughOut}
+use Rattle.wide_rules.specs.AskedFact.{asked_set}
 use Rattle.judgement.proofs.IndexLemmas.{barred_by_through}
 use Rattle.judgement.proofs.PassLemmas.{next_element, place_of_element}
 use Rattle.wide_rules.proofs.crowded.are_barred_by_index.Goals as goal
 
 pub loop-number-preserved : goal.loop-number-preserved
 loop-number-preserved g c =
-    let s = c.args.snapshot.now in
+    let s = c.args.fact.now.snapshot.now in
     let Out : ℕ → Type 0 = λ n. (name : List ℕ) → Contains (computed_names c.args.through.now) name
-    → AreThroughOut s c.args.index.now.through c.args.known.now (set_value c.args.set.set) name c.args.user n in
+    → AreThroughOut s c.args.index.now.through c.args.fact.now.known.now (asked_set c.args.fact.now) name c.args.fact.now.user n in
     next_element Out c.args.numbers.now c.loop-number.number-index c.loop-number.invariant
     (λ n here. subst Out (get_or_from_slice_get c.args.numbers.now c.loop-number.number-index n 0 here) (c.if-not-is_namespace_out.ensures.out refl))
 
 pub returns : goal.returns
 returns g c =
-    let s = c.args.snapshot.now in
-    let set = set_value c.args.set.set in
+    let s = c.args.fact.now.snapshot.now in
+    let set = asked_set c.args.fact.now in
     let live = c.requires.numbers in
     let v = c.args.index.now in (
       λ t name named.
           barred_by_through s c.fits.ensures v (c.requires.index (and-left v.is_whole (is_crowded v.crowds (set_mark set)) c.requires.crowded)) set
-          (and-right v.is_whole (is_crowded v.crowds (set_mark set)) c.requires.crowded) c.args.known.now c.args.user live.few name
+          (and-right v.is_whole (is_crowded v.crowds (set_mark set)) c.requires.crowded) c.args.fact.now.known.now c.args.fact.now.user live.few name
           (λ n h less stored place declared.
           let there = live.all (suc n) h name stored place named declared in
           let p = place_of_element c.args.numbers.now (suc n) there in

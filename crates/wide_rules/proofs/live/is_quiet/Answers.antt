@@ -1,4 +1,3 @@
-use Rattle.std.proofs.Common.{◌<◌, ◌^◌}
 use Rattle.rewrites.specs.Parts.{computed_names}
 use Rattle.wide_rules.proofs.live.is_quiet.Goals as goal
 

@@ -3,19 +3,18 @@ use Rattle.std.proofs.lemmas.List.{length-map}
 use Rattle.tuple_text.specs.Refs.{set_value}
 use Rattle.tuple_text.specs.Sets.{SetValue}
 use Rattle.rewrites.specs.Parts.{computed_names}
-use Rattle.snapshots.specs.Snapshots.{tuples_in}
-use Rattle.judgement.specs.Passes.{IsLed, LeadsByName, SomeSet}
+use Rattle.judgement.specs.Passes.{IsLed, SomeSet}
+use Rattle.wide_rules.specs.AskedFact.{LeadsUnder, asked_set, tuples_over}
 use Rattle.judgement.proofs.LedLemmas.{some_left}
 use Rattle.judgement.proofs.PassLemmas.{next_element, place_of_element}
 use Rattle.wide_rules.proofs.through.leads_by_either.Goals as goal
 
 pub loop-k-preserved : goal.loop-k-preserved
 loop-k-preserved g c =
-    let store = tuples_in c.args.snapshot.now in
-    let set = set_value c.args.set.set in
+    let a = c.args.fact.now in
     let names = computed_names c.args.through.now in
-    let P : List ℕ → Type 0 = λ name. ¬ IsLed store c.args.known.now set (Some name) c.args.user in
-    let Q : SetValue → Type 0 = LeadsByName store c.args.known.now set names c.args.user in (
+    let P : List ℕ → Type 0 = λ name. ¬ IsLed (tuples_over a) a.known.now (asked_set a) (Some name) a.user in
+    let Q : SetValue → Type 0 = LeadsUnder a names in (
       next_element P names c.loop-k.k c.loop-k.invariant.0 (λ name at led. let t = c.leads_at.ensures.none name at led in cc),
       some_left Q c.loop-k.targets c.next.new.self (set_value c.in-Some.target.set) (SomeSet Q c.args.targets) c.in-Some.ensures.steps
           (λ q. let t = c.leads_by_name.ensures.1 q in cc) c.loop-k.invariant.1,
