@@ -79,7 +79,8 @@ fn ask_again<F: KnownFact>(
 ) -> Result<Reached, AllocError>
     requires { fact.now.snapshot.now.timeline ≡ parts.old.timeline }
     ensures same { parts.new ≡ parts.old }
-    ensures right { IfOk result (λ _. AreRight fact.now parts.old.questions answers.old → AreRight fact.now parts.old.questions answers.new) }
+    ensures right { IfOk result (λ _. AreRight fact.now parts.old.questions answers.old
+        → AreRight fact.now parts.old.questions answers.new) }
 {
     let mut reached = paths.first(is_given);
     for _ in 0..paths.most() {

@@ -149,7 +149,8 @@ impl<'r> Parts<'r> {
     ) -> Result<bool, AllocError>
         requires { fact.now.snapshot.now.timeline ≡ self.old.timeline }
         ensures same { self.new ≡ self.old }
-        ensures does { IfOk result (λ r. IsTrue r ↔ DoesFor fact.now is_given (asked_at self.old.questions is_cover part)) }
+        ensures does { IfOk result (λ r. IsTrue r
+            ↔ DoesFor fact.now is_given (asked_at self.old.questions is_cover part)) }
     {
         let alloc = self.alloc;
         if is_cover {
@@ -172,8 +173,8 @@ impl<'r> Parts<'r> {
     ) -> Result<bool, AllocError>
         requires { fact.now.snapshot.now.timeline ≡ self.old.timeline }
         ensures same { self.new ≡ self.old }
-        ensures tells { IfOk result (Tells fact.now self.old.questions is_given (asked_at self.old.questions is_cover part)
-            answers.old answers.new) }
+        ensures tells { IfOk result (Tells fact.now self.old.questions is_given
+            (asked_at self.old.questions is_cover part) answers.old answers.new) }
     {
         if let Some(answer) = answers.find(part, is_cover, is_given) {
             return Ok(answer);
@@ -189,8 +190,8 @@ impl<'r> Parts<'r> {
     }
 }
 
-/// Whether the part of a number gives a fact, or whether it rules the fact out, asked for once, and only where no cover answers for it: where
-/// a cover does not give the fact, or does not rule it out, neither does the part. Each cover is asked for once.
+/// Whether the part of a number gives a fact, or whether it rules the fact out, asked for once, and only where no cover
+/// answers for it: what a cover does not give, its part does not, and what it rules out, its part does.
 fn ask<F: KnownFact>(
     parts: &mut Parts<'_>,
     fact: &AskedFact<'_, F>,
@@ -271,8 +272,8 @@ pub(crate) fn node_does<F: KnownFact>(
 ) -> Result<bool, AllocError>
     requires { fact.now.snapshot.now.timeline ≡ parts.old.timeline }
     ensures same { parts.new ≡ parts.old }
-    ensures tells { IfOk result (Tells fact.now parts.old.questions is_given (node_expression parts.old.questions.parts node.now)
-        answers.old answers.new) }
+    ensures tells { IfOk result (Tells fact.now parts.old.questions is_given
+        (node_expression parts.old.questions.parts node.now) answers.old answers.new) }
 {
     match node {
         Node::Part(part) => ask(parts, fact, *part, is_given, answers),

@@ -24,7 +24,8 @@ fn is_name_out<F: KnownFact>(
     k: usize,
 ) -> bool
     ensures out { IsTrue result → (c : List ℕ)
-        → slice_get (names_in_force fact.now.snapshot.now.at namespace.now fact.now.snapshot.now.timeline.declarations) k ≡ Some c
+        → slice_get (names_in_force fact.now.snapshot.now.at namespace.now
+        fact.now.snapshot.now.timeline.declarations) k ≡ Some c
         → Contains (computed_names through.now) c → IsNumberOut fact.now index.now.through number c }
     ensures barred { IsBarredBy fact.now (computed_names through.now) → IsTrue result }
 {
@@ -83,7 +84,8 @@ fn is_namespace_out<F: KnownFact>(
     number: u16,
 ) -> bool
     ensures out { IsTrue result → (c : List ℕ) → Contains (computed_names through.now) c
-        → AreThroughOut fact.now.snapshot.now index.now.through fact.now.known.now (asked_set fact.now) c fact.now.user number }
+        → AreThroughOut fact.now.snapshot.now index.now.through fact.now.known.now (asked_set fact.now) c fact.now.user
+        number }
     ensures barred { IsBarredBy fact.now (computed_names through.now) → IsTrue result }
 {
     let snapshot = fact.snapshot;
@@ -105,7 +107,8 @@ pub(crate) fn are_barred_by_index<F: KnownFact>(
     index: &UsersetIndex,
     numbers: &[u16],
 ) -> bool
-    requires index { IsUsersetIndex fact.now.snapshot.now.timeline.declarations fact.now.snapshot.now.timeline.commits index.now }
+    requires index { IsUsersetIndex fact.now.snapshot.now.timeline.declarations fact.now.snapshot.now.timeline.commits
+        index.now }
     requires crowded { (index.now.is_whole && is_crowded index.now.crowds (set_mark (asked_set fact.now))) ≡ true }
     requires numbers { AreLive fact.now.snapshot.now (asked_set fact.now) (computed_names through.now) numbers.now }
     ensures { IsTrue result ↔ IsBarredBy fact.now (computed_names through.now) }

@@ -6,7 +6,8 @@ ghost use Rattle.namespaces.specs.InForce.{names_in_force};
 ghost use Rattle.rewrites.specs.Parts.{computed_names, through_expression};
 ghost use Rattle.strata.specs.Meaning.{with_relation};
 ghost use Rattle.judgement.specs.Passes.{BarsId, EachSet, IsLed, SomeSet};
-ghost use Rattle.wide_rules.specs.AskedFact.{BarsUnder, DoesFor, IsBarredBy, IsLedBy, LeadsUnder, asked_set, rules_over, tuples_over};
+ghost use Rattle.wide_rules.specs.AskedFact.{BarsUnder, DoesFor, IsBarredBy, IsLedBy, LeadsUnder};
+ghost use Rattle.wide_rules.specs.AskedFact.{asked_set, rules_over, tuples_over};
 ghost use Rattle.wide_rules.specs.Declaring.{AreDeclaring, AreLive};
 
 use crate::crowded::are_barred_by_index;
@@ -36,8 +37,9 @@ fn bars_name_at<F: KnownFact>(
     k: usize,
 ) -> bool
     ensures bars { IsTrue result → (c : List ℕ)
-        → slice_get (names_in_force fact.now.snapshot.now.at (set_value set.entry.set).namespace fact.now.snapshot.now.timeline.declarations) k ≡ Some c
-        → Contains (computed_names through.now) c → BarsId (rules_over fact.now) fact.now.known.now (Some c) fact.now.user (set_value set.entry.set) }
+        → slice_get (names_in_force fact.now.snapshot.now.at (set_value set.entry.set).namespace
+        fact.now.snapshot.now.timeline.declarations) k ≡ Some c → Contains (computed_names through.now) c
+        → BarsId (rules_over fact.now) fact.now.known.now (Some c) fact.now.user (set_value set.entry.set) }
     ensures none { BarsUnder fact.now (computed_names through.now) (set_value set.entry.set) → IsTrue result }
 {
     let snapshot = fact.snapshot;
@@ -175,7 +177,8 @@ pub(crate) fn are_barred<F: KnownFact>(
     declaring: &[u16],
     live: &[u16],
 ) -> bool
-    requires declaring { AreDeclaring fact.now.snapshot.now.timeline.declarations (computed_names through.now) declaring.now }
+    requires declaring { AreDeclaring fact.now.snapshot.now.timeline.declarations (computed_names through.now)
+        declaring.now }
     requires live { AreLive fact.now.snapshot.now (asked_set fact.now) (computed_names through.now) live.now }
     ensures { IsTrue result ↔ IsBarredBy fact.now (computed_names through.now) }
 {
