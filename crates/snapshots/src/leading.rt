@@ -1,9 +1,11 @@
 //! The usersets that are stored in another and may lead to its members.
 
-ghost use Rattle.std.specs.Prelude.{◌≡◌, ◌++◌, ℕ, List, Option, IfOk, OnOk, map, option_map, slice_get};
+ghost use Rattle.std.specs.Prelude.{◌≡◌, ◌&&◌, ◌++◌, ℕ, List, Option, true, false, IfOk, OnOk, map, option_map, slice_get};
 ghost use Rattle.tuple_text.specs.Refs.{set_value};
 ghost use Rattle.namespaces.specs.WellFormed.{IsWellFormed};
 ghost use Rattle.version_chains.specs.Commits.{changelog};
+ghost use Rattle.marks.specs.Marks.{set_mark};
+ghost use Rattle.userset_index.specs.Index.{is_crowded};
 ghost use Rattle.snapshots.specs.Leading as spec;
 ghost use Rattle.snapshots.specs.Leading.{AreLeading, sets_by, sets_of, sets_up_to};
 
@@ -13,6 +15,20 @@ use namespaces::MAX_NUMBER;
 use std::alloc::{AllocError, Global};
 use tuple_text::{SetRef, UserRef};
 use userset_index::{Alive, UsersetIndex};
+
+/// At how many touches of usersets it is no more than a walk to look at each namespace.
+const MANY: u8 = 255;
+
+/// Whether all that was ever stored in a set is walked over, as where that is little.
+fn is_walked(index: &UsersetIndex, set: MarkedSet<'_>, relation: Option<&str>) -> bool
+    ensures { result ≡ false
+        → (index.now.is_whole && is_crowded index.now.crowds (set_mark (set_value set.entry.set))) ≡ true }
+{
+    if !index.is_crowded(set) {
+        return true;
+    }
+    relation.is_some() && index.count(set) < MANY
+}
 
 /// Whether a userset is of a namespace, or of any.
 fn is_of(set: SetRef<'_>, namespace: Option<&str>) -> bool
@@ -149,7 +165,7 @@ impl<'a> Snapshot<'a> {
         self.fits();
         self.is_well_formed();
         let index = self.timeline.usersets();
-        if !index.is_crowded(set) {
+        if is_walked(index, set, relation) {
             return self.all_stored(alloc, set);
         }
         let mut sets = Vec::new(alloc);
