@@ -8,7 +8,7 @@ use devices::Source;
 use line_blocks::read_blocks;
 use std::alloc::Global;
 use std::thread::Threads;
-use trace_lines::{Trace, TraceFault};
+use trace_lines::{Trace, TraceBuilder, TraceFault};
 
 /// Reads a trace as `read_trace` of `trace_lines` does, with so many workers that read the lines of a block each.
 pub fn read_trace_by<R: Source, T: Threads + Sync>(
@@ -20,12 +20,9 @@ pub fn read_trace_by<R: Source, T: Threads + Sync>(
     requires { (0 < workers) × (workers ≤ 16) }
     ensures { TraceRead R.given R.ends R.failures R.remaining reader.old reader.new result }
 {
-    let mut trace = Trace::new(alloc);
-    match read_blocks(rt, alloc, reader, &TraceLines, &mut trace, workers) {
-        Ok(()) => {
-            trace.settle();
-            Ok(trace)
-        }
+    let mut builder = TraceBuilder::new(alloc);
+    match read_blocks(rt, alloc, reader, &TraceLines, &mut builder, workers) {
+        Ok(()) => Ok(builder.finish()),
         Err(fault) => Err(TraceFault {
             line: fault.line,
             cause: fault.cause(),

@@ -5,7 +5,7 @@ use json_lines::{InputFault, LineCause, Stop, is_blank};
 use line_blocks::{PutTold, TellLine};
 use simdutf8::basic::from_utf8;
 use std::alloc::{AllocError, Global};
-use trace_lines::{Cause, Trace, TraceLine};
+use trace_lines::{Cause, TraceBuilder, TraceLine};
 
 /// What lines of a trace say is told by their texts alone.
 #[derive(Drop)]
@@ -50,7 +50,7 @@ impl TellLine for TraceLines {
     }
 }
 
-impl PutTold<TraceLines> for Trace {
+impl PutTold<TraceLines> for TraceBuilder {
     ghost use Rattle.trace_lines.specs.Values.{next_line};
     ghost use Rattle.trace_blocks.specs.LinesTold.{put_told};
 

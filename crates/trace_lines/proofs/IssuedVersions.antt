@@ -94,6 +94,10 @@ not_issued v es none = none_issued v 0 es none
 pub version_mark-same : (v : Version) (x : Issue) → version_eq v x.version ≡ true → version_mark v ≡ version_mark x.version
 version_mark-same v x h = ap version_mark (version_eq-same v x.version h)
 
+-- versions of which nothing changed
+pub unchanged_issued : (es : List EntryValue) (old now : Versions) → AreIssued old es → now.entries.items ≡ old.entries.items → now.marks ≡ old.marks → AreIssued now es
+unchanged_issued es old now are numbers marks = record { numbers = numbers ∙ are.numbers; marks = marks ∙ are.marks; once = are.once }
+
 module _ (es : List EntryValue) (e : EntryValue) (old : Versions) (are : AreIssued old es) where
   -- who issued a version stays the one who did
   still_issued : (k : ℕ) (x : Issue) → slice_get (issued_by es) k ≡ Some x → issuer (es ++ e ∷ []) x.version ≡ Some x.number

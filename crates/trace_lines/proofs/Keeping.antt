@@ -1,4 +1,4 @@
--- What the type of a trace keeps, from one line to the next.
+-- What the types of a trace keep, from one line to the next.
 use Rattle.std.proofs.Common.{◌≡◌, ℕ, ◌<◌, ◌≤◌, List, [], ◌∷◌, ◌++◌, length, suc, zero, take, drop, get_or, Option, Some, None, arith, refl, sym, ap, ◌∙◌, inl, inr}
 use Rattle.std.specs.Prelude.{All, slice_get}
 use Rattle.std.specs.List.Sorted.{IsStrictlyIncreasing}
@@ -11,9 +11,7 @@ use Rattle.std.proofs.lemmas.List.Kept.{AllPairs-from_increasing}
 use Rattle.std.proofs.lemmas.Option.{slice_get-get_or}
 use Rattle.version_chains.specs.Commits.{Commit}
 use Rattle.trace_lines.specs.Values.{EntryValue, entry_lines, after_last}
-use Rattle.trace_lines.specs.Issued.{AreIssued}
 use Rattle.trace_lines.specs.Versions.{content_among, content_of}
-use Rattle.trace_lines.specs.declared.versions.Versions.{Versions}
 use Rattle.trace_lines.specs.Kept.{IsPlaced, IsKept}
 use Rattle.trace_lines.proofs.RisingLines.{last_of, rising_push}
 
@@ -55,35 +53,22 @@ placed_last lines e up le all = record {
   later = rw (drop_all e.before lines (omega (arith, all))) (λ k d lt. absurd (omega (arith, lt)));
 }
 
-pub kept_empty : (versions : Versions) → AreIssued versions [] → IsKept [] [] [] [] versions
-kept_empty versions none = record {
+pub kept_empty : IsKept [] [] [] []
+kept_empty = record {
   counted = refl;
   commits_rise = λ k lt. absurd (omega (arith, lt));
   entries_rise = λ k lt. absurd (omega (arith, lt));
   placed = λ k d lt. absurd (omega (arith, lt));
-  issued = none;
   named = λ i lt. absurd (omega (arith, lt));
 }
 
-module _ (commits : List Commit) (lines : List ℕ) (es : List EntryValue) (contents : List (Option ℕ)) (versions : Versions) (is : IsKept commits lines es contents versions) where
-  -- versions of which nothing changed
-  pub still_kept : (now : Versions) → now.entries.items ≡ versions.entries.items → now.marks ≡ versions.marks → IsKept commits lines es contents now
-  still_kept now numbers marks = record {
-    counted = is.counted;
-    commits_rise = is.commits_rise;
-    entries_rise = is.entries_rise;
-    placed = is.placed;
-    issued = record { numbers = numbers ∙ is.issued.numbers; marks = marks ∙ is.issued.marks; once = is.issued.once };
-    named = is.named;
-  }
-
-  pub kept_commit : (c : Commit) (n : ℕ) → after_last lines ≤ n → after_last (entry_lines es) ≤ n → IsKept (commits ++ c ∷ []) (lines ++ n ∷ []) es contents versions
+module _ (commits : List Commit) (lines : List ℕ) (es : List EntryValue) (contents : List (Option ℕ)) (is : IsKept commits lines es contents) where
+  pub kept_commit : (c : Commit) (n : ℕ) → after_last lines ≤ n → after_last (entry_lines es) ≤ n → IsKept (commits ++ c ∷ []) (lines ++ n ∷ []) es contents
   kept_commit c n behind below = record {
     counted = let a = length-append commits (c ∷ []) in let b = length-append lines (n ∷ []) in omega (arith, a, b, is.counted);
     commits_rise = rising_push lines n is.commits_rise behind;
     entries_rise = is.entries_rise;
     placed = λ k d lt. still_placed lines n (get_or es k d) (is.placed k d lt) (entries_below es n is.entries_rise below k d lt);
-    issued = is.issued;
     named = is.named;
   }
 
@@ -109,14 +94,13 @@ module _ (commits : List Commit) (lines : List ℕ) (es : List EntryValue) (cont
             ))
       ]
 
-  pub kept_entry : (e : EntryValue) (content : Option ℕ) (now : Versions) → after_last lines ≤ e.line → after_last (entry_lines es) ≤ e.line → e.before ≡ length lines
-      → length contents ≡ length es → content ≡ content_among es e → AreIssued now (es ++ e ∷ [])
-      → IsKept commits lines (es ++ e ∷ []) (contents ++ content ∷ []) now
-  kept_entry e content now behind below before same found led = record {
+  pub kept_entry : (e : EntryValue) (content : Option ℕ) → after_last lines ≤ e.line → after_last (entry_lines es) ≤ e.line → e.before ≡ length lines
+      → length contents ≡ length es → content ≡ content_among es e
+      → IsKept commits lines (es ++ e ∷ []) (contents ++ content ∷ [])
+  kept_entry e content behind below before same found = record {
     counted = is.counted;
     commits_rise = is.commits_rise;
     entries_rise = rw (map-append (λ (x : EntryValue). x.line) es (e ∷ [])) (rising_push (entry_lines es) e.line is.entries_rise below);
     placed = All-push (IsPlaced lines) es e is.placed (placed_last lines e is.commits_rise behind before);
-    issued = led;
     named = name_pushed e content same found;
   }

@@ -18,28 +18,35 @@ use Rattle.trace_lines.specs.VersionMarks.{version_mark}
 use Rattle.trace_lines.proofs.IssuedVersions.{issued_on, issued_more, at_place}
 use Rattle.trace_lines.proofs.Keeping.{kept_entry}
 
-module _ (commits : List Commit) (lines : List ℕ) (rs : List Recorded) (versions : Versions) (is : IsKept commits lines (shown rs) (contents rs) versions)
-    (r : Recorded) (new : List Recorded) (pushed : new ≡ rs ++ r ∷ []) (behind : max (after_last lines) (after_last (entry_lines (shown rs))) ≤ r.entry.line) (before : r.entry.before ≡ length lines) where
+pub kept_push : (commits : List Commit) (lines : List ℕ) (rs : List Recorded) → IsKept commits lines (shown rs) (contents rs)
+    → (r : Recorded) (new : List Recorded) → new ≡ rs ++ r ∷ [] → max (after_last lines) (after_last (entry_lines (shown rs))) ≤ r.entry.line
+    → r.entry.before ≡ length lines → number_at r.content ≡ content_among (shown rs) (entry_value r.entry) → IsKept commits lines (shown new) (contents new)
+kept_push commits lines rs is r new pushed behind before found =
+    let same : length (contents rs) ≡ length (shown rs) = length-map rs (λ (x : Recorded). number_at x.content) ∙ sym (length-map rs (λ (x : Recorded). entry_value x.entry)) in
+    rw (pushed, map-append (λ (x : Recorded). entry_value x.entry) rs (r ∷ []), map-append (λ (x : Recorded). number_at x.content) rs (r ∷ []))
+    (kept_entry commits lines (shown rs) (contents rs) is (entry_value r.entry) (number_at r.content) (omega (arith, behind)) (omega (arith, behind)) before same found)
+
+module _ (rs : List Recorded) (versions : Versions) (are : AreIssued versions (shown rs)) (r : Recorded) (new : List Recorded) (pushed : new ≡ rs ++ r ∷ []) where
   abbrev e : EntryValue
   e = entry_value r.entry
 
-  kept_push : (now : Versions) → number_at r.content ≡ content_among (shown rs) e → AreIssued now (shown rs ++ e ∷ []) → IsKept commits lines (shown new) (contents new) now
-  kept_push now found led =
-      let same : length (contents rs) ≡ length (shown rs) = length-map rs (λ (x : Recorded). number_at x.content) ∙ sym (length-map rs (λ (x : Recorded). entry_value x.entry)) in
-      rw (pushed, map-append (λ (x : Recorded). entry_value x.entry) rs (r ∷ []), map-append (λ (x : Recorded). number_at x.content) rs (r ∷ []))
-      (kept_entry commits lines (shown rs) (contents rs) versions is e (number_at r.content) now (omega (arith, behind)) (omega (arith, behind)) before same found led)
+  with_last : (now : Versions) → AreIssued now (shown rs ++ e ∷ []) → AreIssued now (shown new)
+  with_last now led = rw (pushed, map-append (λ (x : Recorded). entry_value x.entry) rs (r ∷ [])) led
 
   -- it issues nothing
-  pub kept_plain : version_issued r.entry.kind (entry_version e) ≡ None → number_at r.content ≡ content_among (shown rs) e → IsKept commits lines (shown new) (contents new) versions
-  kept_plain nothing found = kept_push versions found (issued_on (shown rs) e versions is.issued nothing)
+  pub issued_plain : version_issued r.entry.kind (entry_version e) ≡ None → AreIssued versions (shown new)
+  issued_plain nothing = with_last versions (issued_on (shown rs) e versions are nothing)
 
   -- it issues a version that is new
-  pub kept_content : (v : Version) (now : Versions) → r.entry.kind ≡ Content → entry_version e ≡ Some v → number_at r.content ≡ None → issuer (shown rs) v ≡ None
-      → now.entries.items ≡ versions.entries.items ++ length rs ∷ [] → now.marks ≡ versions.marks ++ version_mark v ∷ [] → IsKept commits lines (shown new) (contents new) now
-  kept_content v now kind some nothing absent numbers marks =
+  pub issued_content : (v : Version) (now : Versions) → r.entry.kind ≡ Content → entry_version e ≡ Some v → issuer (shown rs) v ≡ None
+      → now.entries.items ≡ versions.entries.items ++ length rs ∷ [] → now.marks ≡ versions.marks ++ version_mark v ∷ [] → AreIssued now (shown new)
+  issued_content v now kind some absent numbers marks =
       let count : length rs ≡ length (shown rs) = sym (length-map rs (λ (x : Recorded). entry_value x.entry)) in
-      kept_push now (nothing ∙ sym (rw kind refl))
-      (issued_more (shown rs) e versions is.issued now v (rw (kind, some) refl) absent (numbers ∙ ap (λ (n : ℕ). versions.entries.items ++ n ∷ []) count) marks)
+      with_last now (issued_more (shown rs) e versions are now v (rw (kind, some) refl) absent (numbers ∙ ap (λ (n : ℕ). versions.entries.items ++ n ∷ []) count) marks)
+
+-- content names no version
+pub content_names_nothing : (es : List EntryValue) (e : EntryValue) → e.kind ≡ Content → None ≡ content_among es e
+content_names_nothing es e kind = sym (rw kind refl)
 
 -- a version that nobody issued is not repeated
 pub recorded_new : (t : TraceValue) (e : EntryValue) (v : Version) (new : List EntryValue) → e.kind ≡ Content → entry_version e ≡ Some v → issuer t.entries v ≡ None → new ≡ t.entries ++ e ∷ []

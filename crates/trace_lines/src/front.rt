@@ -10,6 +10,7 @@ ghost use Rattle.trace_lines.specs.Results.{GivesTrace};
 ghost use Rattle.trace_lines.specs.Traces.{trace_of, made_of};
 ghost use Rattle.trace_lines.specs.declared.cause.Cause.TheVariants.{Read};
 
+use crate::builder::TraceBuilder;
 use crate::cause::{Cause, TraceFault};
 use crate::trace::Trace;
 use devices::Source;
@@ -26,14 +27,11 @@ pub struct TraceFront {
 }
 
 /// The trace that lines made, or which of them is refused.
-fn made_of(mut trace: Trace, read: Result<(), LineFault<Cause>>) -> Result<Trace, TraceFault>
-    ensures { result ≡ made_of trace read }
+fn made_of(builder: TraceBuilder, read: Result<(), LineFault<Cause>>) -> Result<Trace, TraceFault>
+    ensures { result ≡ made_of builder read }
 {
     match read {
-        Ok(()) => {
-            trace.settle();
-            Ok(trace)
-        }
+        Ok(()) => Ok(builder.finish()),
         Err(fault) => Err(TraceFault {
             line: fault.line,
             cause: fault.cause(),
@@ -58,10 +56,10 @@ pub fn read_trace_front<R: Source>(alloc: Global, reader: &mut R) -> Result<Trac
     ensures failed { result ≡ Err input.Read → R.failures reader.new ≡ R.failures reader.old + 1 }
     ensures kept { result ≢ Err input.Read → R.failures reader.new ≡ R.failures reader.old }
 {
-    let mut trace = Trace::new(alloc);
-    let front = read_front(alloc, reader, &mut trace)?;
+    let mut builder = TraceBuilder::new(alloc);
+    let front = read_front(alloc, reader, &mut builder)?;
     Ok(TraceFront {
-        trace: made_of(trace, front.read),
+        trace: made_of(builder, front.read),
         rest: front.rest,
     })
 }

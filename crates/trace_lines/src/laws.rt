@@ -30,7 +30,7 @@ pub fn entries_rise(trace: &Trace)
 pub fn versions_issued_once(trace: &Trace)
     ensures { AreIssuedOnce trace.now.entries }
 {
-    let _ = trace.versions();
+    let _ = trace.recorded();
 }
 
 /// In the trace that some bytes say, strata are valid at each timestamp, over what is stored then.

@@ -2,6 +2,7 @@
 
 ghost use Rattle.trace_lines.specs.TraceReads.{TraceRead};
 
+use crate::builder::TraceBuilder;
 use crate::cause::TraceFault;
 use crate::trace::Trace;
 use devices::Source;
@@ -17,12 +18,9 @@ use std::alloc::Global;
 pub fn read_trace<R: Source>(alloc: Global, reader: &mut R) -> Result<Trace, TraceFault>
     ensures { TraceRead R.given R.ends R.failures R.remaining reader.old reader.new result }
 {
-    let mut trace = Trace::new(alloc);
-    match read_lines(alloc, reader, &mut trace) {
-        Ok(()) => {
-            trace.settle();
-            Ok(trace)
-        }
+    let mut builder = TraceBuilder::new(alloc);
+    match read_lines(alloc, reader, &mut builder) {
+        Ok(()) => Ok(builder.finish()),
         Err(fault) => Err(TraceFault {
             line: fault.line,
             cause: fault.cause(),

@@ -1,73 +1,34 @@
 //! Traces.
 
-ghost use Rattle.std.specs.Prelude.{◌≡◌, ◌+◌, ◌<◌, ◌≤◌, Some, None, slice_get, ◌^◌, ◌&&◌, [], length, take, drop, All, true, false, ℕ, ◌++◌, map, option_map, option_and_then, Ok, IfOk, OnOk, OnErr, IfErr, IfSome, IsErr};
-ghost use Rattle.std.specs.Io.KnownBytes.{Consumes};
-ghost use Rattle.std.specs.Option.{ForSome};
-ghost use Rattle.serde_json.specs.View.{view};
-ghost use Rattle.json_lines.specs.Data.{value_data, line_data};
-ghost use Rattle.tuple_text.specs.Refs.{set_value};
-ghost use Rattle.tuple_text.specs.TupleRefs.{tuple_values};
-ghost use Rattle.trace_lines.specs.Causes.{Gives};
-ghost use Rattle.edge_checks.specs.Indexed.{IsIndex};
-ghost use Rattle.trace_lines.specs.LineValues.{commits, declares, put_line, records};
-ghost use Rattle.trace_lines.specs.LineViews.{owned_value};
-ghost use Rattle.trace_lines.specs.Values.{empty_trace, entry_value, entry_lines, next_line};
-ghost use Rattle.trace_lines.specs.Timelines.{timeline_of};
-ghost use Rattle.trace_lines.specs.Traces.{is_declared, are_declared, is_begun, namespace_line, change_line, declaration_line, commit_checked, commit_of, with_commit, commit_line, entry_of, recorded, with_entry, entry_line, value_line};
-ghost use Rattle.trace_lines.specs.Versions.{entry_version, version_issued, issuer, content_among, content_of, AreIssuedOnce};
-ghost use Rattle.trace_lines.specs.declared.entry.EntryKind.TheVariants.{Content};
-ghost use Rattle.version_chains.specs.Appends.{appended, late_fault, last_at};
-ghost use Rattle.version_chains.specs.Commits.{store_at};
-ghost use Rattle.version_chains.specs.declared.fault.AppendFault.TheVariants.{NotLater};
-ghost use Rattle.namespaces.specs.Lookup.{rule_at};
-ghost use Rattle.strata.specs.Edges.{first_broken, edges_of_tuples};
-ghost use Rattle.strata.specs.Strata.{HasValidStrata};
-ghost use Rattle.edge_checks.specs.Sampled.{Represents};
-ghost use Rattle.trace_lines.specs.Declaring.{rules_changed};
-ghost use Rattle.namespaces.specs.Changing.{IsLater};
-ghost use Rattle.std.specs.List.{list_all};
+ghost use Rattle.std.specs.Prelude.{◌≡◌, ◌<◌, ◌≤◌, ℕ, Some, IfSome, All, length, slice_get, take, drop};
 ghost use Rattle.std.specs.List.Sorted.{IsStrictlyIncreasing};
-ghost use Rattle.userset_index.specs.Index.{IsUsersetIndex};
+ghost use Rattle.namespaces.specs.Lookup.{rule_at};
+ghost use Rattle.version_chains.specs.Commits.{store_at};
+ghost use Rattle.strata.specs.Strata.{HasValidStrata};
+ghost use Rattle.trace_lines.specs.Timelines.{timeline_of};
+ghost use Rattle.trace_lines.specs.Values.{entry_lines, entry_value};
+ghost use Rattle.trace_lines.specs.Versions.{content_of, AreIssuedOnce};
 
-use crate::cause::Cause;
-use crate::checks::entry_of;
-use crate::commits::{OwnedCommit, commit_of, tuple_refs};
-use crate::declaring::{change, declare, late_change};
-use crate::entry::{Entry, EntryKind};
+use crate::entry::Entry;
 use crate::recorded::Recorded;
-use crate::told::{Said, TraceLine};
-use crate::versions::{Versions, version_of};
-use edge_checks::{EdgeIndex, Sample, is_of_relation};
-use json::Scratch;
-use json_lines::fields::{optional_number_at, text_at};
-use json_lines::{JsonLine, JsonRef, TakeJson};
-use namespaces::{Rules, RulesFault};
-use serde_json::Value;
+use namespaces::Rules;
 use snapshots::Timeline;
-use std::alloc::{AllocError, Global};
 use std::marker::Model;
-use tuple_text::{SetRef, TupleRef};
 use userset_index::UsersetIndex;
-use version_chains::{AppendFault, Chains};
+use version_chains::Chains;
 
-/// A trace: its namespaces, its commits with the lines that they stand on, and its entries.
+/// A trace that was read: its namespaces, its commits with the lines that they stand on, and its entries.
 pub struct Trace {
-    alloc: Global,
-    rules: Rules,
-    chains: Chains,
-    // of the tuples ever added
-    sample: Sample,
-    // of the rules and the sample
-    index: EdgeIndex,
-    // of the chains and the rules, when all lines are read
-    usersets: UsersetIndex,
-    commit_lines: Vec<u64>,
-    recorded: Vec<Recorded>,
-    versions: Versions,
+    pub(crate) rules: Rules,
+    pub(crate) chains: Chains,
+    // of the chains and the rules
+    pub(crate) usersets: UsersetIndex,
+    pub(crate) commit_lines: Vec<u64>,
+    pub(crate) recorded: Vec<Recorded>,
 }
 
 impl Model for Trace {
-    ghost use Rattle.std.specs.Prelude.{◌≡◌, ◌-◌, ◌^◌};
+    ghost use Rattle.std.specs.Prelude.{ℕ};
     ghost use Rattle.trace_lines.specs.Values.{TraceValue};
     ghost use Rattle.trace_lines.specs.TraceCode.{trace_code};
 
@@ -75,89 +36,46 @@ impl Model for Trace {
 
     ghost coded = { trace_code };
 
-    ghost use Rattle.edge_checks.specs.Indexed.{IsIndex};
+    ghost use Rattle.namespaces.specs.Lookup.{rule_at};
+    ghost use Rattle.version_chains.specs.Commits.{store_at};
+    ghost use Rattle.strata.specs.Strata.{HasValidStrata};
     ghost use Rattle.trace_lines.specs.Kept.{IsKept};
     ghost use Rattle.trace_lines.specs.Recorded.{shown, contents};
-    ghost use Rattle.trace_lines.specs.Tuples.{IsOrderly};
+    ghost use Rattle.trace_lines.specs.Versions.{AreIssuedOnce};
     ghost use Rattle.userset_index.specs.Index.{IsUsersetIndex};
 
-    ghost view = { λ t. record { declarations = t.rules; commits = t.chains.commits; commit_lines = t.commit_lines.items; entries = shown t.recorded.items } };
+    ghost view = { λ t. record {
+      declarations = t.rules;
+      commits = t.chains.commits;
+      commit_lines = t.commit_lines.items;
+      entries = shown t.recorded.items;
+    } };
 
-    ghost invariant = { λ t. (t.chains.limit ≡ 2 ^ 32 - 1) × IsKept t.chains.commits t.commit_lines.items (shown t.recorded.items) (contents t.recorded.items) t.versions
-        × IsOrderly t.rules t.chains.commits t.sample × IsIndex t.rules t.index t.sample
+    ghost invariant = { λ t. IsKept t.chains.commits t.commit_lines.items (shown t.recorded.items) (contents t.recorded.items)
+        × AreIssuedOnce (shown t.recorded.items)
+        × ((at : ℕ) → HasValidStrata (rule_at t.rules at) (store_at t.chains.commits at))
         × IsUsersetIndex t.rules t.chains.commits t.usersets };
 }
 
-// Written out, since one that is derived is a part of each function that lets a trace go, with all parts of the trace.
+// Written out, since one that is derived is a part of each function that lets a trace go, with all its parts.
 impl Drop for Trace {
     fn drop(self) {
         let Trace {
-            alloc: _,
             rules,
             chains,
-            sample,
-            index,
             usersets,
             commit_lines,
             recorded,
-            versions,
         } = self;
         drop(rules);
         drop(chains);
-        drop(sample);
-        drop(index);
         drop(usersets);
         drop(commit_lines);
         drop(recorded);
-        drop(versions);
-    }
-}
-
-/// Commits changes to the chains, and takes what they add into the sample and the index. The tuples that were there stay in front.
-fn commit(
-    rules: &Rules,
-    sample: &mut Sample,
-    index: &mut EdgeIndex,
-    chains: &mut Chains,
-    at: u64,
-    adds: &[TupleRef<'_>],
-    removes: &[TupleRef<'_>],
-) -> Result<(), Cause>
-    requires unbroken { first_broken rules.now (edges_of_tuples rules.now sample.old) ≡ Ok (tt {0}) }
-    requires index { IsIndex rules.now index.old sample.old }
-    ensures answer { Gives (λ u. u) result (commit_checked rules.now chains.old at (tuple_values adds.now) (tuple_values removes.now)) }
-    ensures appended { OnOk result (chains.new ≡ appended chains.old at (tuple_values adds.now) (tuple_values removes.now)) }
-    ensures unchanged { OnErr result (chains.new ≡ chains.old) }
-    ensures taken { OnOk result (Represents sample.new (sample.old ++ tuple_values adds.now)) }
-    ensures kept { take (length sample.old) sample.new ≡ sample.old }
-    ensures index { OnOk result (IsIndex rules.now index.new sample.new) }
-{
-    sample.admit_all(rules, index, adds)?;
-    match chains.append_borrowed(at, adds, removes) {
-        Ok(()) => Ok(()),
-        Err(AppendFault::OutOfMemory) => Err(Cause::OutOfMemory),
-        Err(fault) => Err(Cause::Commit(fault)),
     }
 }
 
 impl Trace {
-    /// The trace of no lines.
-    pub fn new(alloc: Global) -> Trace
-        ensures { result ≡ empty_trace }
-    {
-        Trace {
-            alloc,
-            rules: Rules::new(alloc),
-            chains: Chains::new(alloc, u32::MAX),
-            sample: Sample::new(alloc),
-            index: EdgeIndex::new(alloc),
-            usersets: UsersetIndex::new(alloc),
-            commit_lines: Vec::new(alloc),
-            recorded: Vec::new(alloc),
-            versions: Versions::new(alloc),
-        }
-    }
-
     /// The namespaces. Strata are valid at each timestamp, over what is stored then.
     pub fn rules(&self) -> &Rules
         ensures declarations { result.now ≡ self.now.declarations }
@@ -178,16 +96,6 @@ impl Trace {
         ensures { result ≡ timeline_of self.now }
     {
         Timeline::new(&self.rules, &self.chains, &self.usersets)
-    }
-
-    /// Makes an index of the usersets that are stored in others, when all lines are read. Where memory is refused there is none, and whoever asks walks over all usersets.
-    pub fn settle(&mut self)
-        ensures { self.new ≡ self.old }
-    {
-        match UsersetIndex::of(self.alloc, &self.chains, &self.rules) {
-            Ok(usersets) => self.usersets = usersets,
-            Err(_) => {}
-        }
     }
 
     /// How many entries there are.
@@ -213,8 +121,8 @@ impl Trace {
         &self.recorded[i].entry
     }
 
-    /// The entry that issued the version which check `i` names, on an earlier line for its goal's object. `None` where there is none, or
-    /// where the check names no version or is one of content.
+    /// The entry that issued the version which check `i` names, on an earlier line for its goal's object. `None` where
+    /// there is none, or where the check names no version or is one of content.
     pub fn content_of(&self, i: usize) -> Option<usize>
         requires { i < length self.now.entries }
         ensures value { result ≡ content_of self.now.entries i }
@@ -223,11 +131,11 @@ impl Trace {
         self.recorded[i].content()
     }
 
-    /// The versions that content checks issued, each once.
-    pub(crate) fn versions(&self) -> &Versions
+    /// The entries, of which at most one issued a version of an object.
+    pub(crate) fn recorded(&self) -> &[Recorded]
         ensures { AreIssuedOnce self.now.entries }
     {
-        &self.versions
+        &self.recorded
     }
 
     /// The line of commit `k`.
@@ -238,324 +146,5 @@ impl Trace {
         ensures rising { IsStrictlyIncreasing self.now.commit_lines }
     {
         self.commit_lines[k]
-    }
-
-    fn is_declared(&self, set: SetRef<'_>) -> bool
-        ensures { result ≡ is_declared self.now.declarations (set_value set.entry) }
-    {
-        self.rules.stratum(set).is_some()
-    }
-
-    /// Whether a userset's relation is declared, where that of another userset is: mostly it is the same.
-    fn is_declared_after(&self, last: Option<SetRef<'_>>, set: SetRef<'_>) -> bool
-        requires { ForSome last (λ s. is_declared self.now.declarations (set_value s) ≡ true) }
-        ensures { result ≡ is_declared self.now.declarations (set_value set.entry) }
-    {
-        match last {
-            Some(last) if is_of_relation(last, set) => true,
-            _ => self.is_declared(set),
-        }
-    }
-
-    fn are_declared(&self, tuples: &[TupleRef<'_>]) -> bool
-        ensures { result ≡ are_declared self.now.declarations (tuple_values tuples.now) }
-    {
-        let mut last = None;
-        for tuple in tuples {
-            if !self.is_declared_after(last, tuple.set()) {
-                return false;
-            }
-            last = Some(tuple.set());
-        }
-        true
-    }
-
-    /// Takes a line that declares a namespace.
-    #[tactic(auto, unfolding(crate::specs::Traces::declaration_line))]
-    fn take_declaration(&mut self, line: u64, json: &JsonLine<'_>) -> Result<(), Cause>
-        requires { next_line self.old ≤ line }
-        ensures { Gives (λ _. self.new) result (declaration_line line self.old (line_data json.now)) }
-    {
-        let Some(at) = optional_number_at(&json.root(), "at") else {
-            return Err(Cause::Namespace(RulesFault::Shape));
-        };
-        let value = json.value(self.alloc)?;
-        match at {
-            Some(at) => self.take_change(line, at, &value),
-            None => self.take_namespace(&value),
-        }
-    }
-
-    /// Takes a line that declares a namespace from the start on.
-    #[tactic(auto, unfolding(crate::specs::Traces::namespace_line))]
-    fn take_namespace(&mut self, value: &Value) -> Result<(), Cause>
-        ensures { Gives (λ _. self.new) result (namespace_line self.old (view value.now)) }
-    {
-        let begun = self.is_begun();
-        self.usersets.give_up();
-        declare(
-            self.alloc,
-            &mut self.rules,
-            &mut self.index,
-            &self.sample,
-            begun,
-            value,
-        )
-    }
-
-    /// Whether a commit or an entry stands on an earlier line.
-    fn is_begun(&self) -> bool
-        ensures { result ≡ is_begun self.now }
-    {
-        !self.commit_lines.is_empty() || !self.recorded.is_empty()
-    }
-
-    /// Takes a line that changes the rules.
-    fn take_change(&mut self, line: u64, at: u64, value: &Value) -> Result<(), Cause>
-        requires { next_line self.old ≤ line }
-        ensures { Gives (λ _. self.new) result (change_line at line self.old (view value.now)) }
-    {
-        if let Some(last) = self.not_before(at) {
-            return Err(late_change(&self.rules, last, value));
-        }
-        // A commit without a touch that is later than all others is refused only where memory runs out.
-        if self.append(line, at, &[], &[]).is_err() {
-            return Err(Cause::OutOfMemory);
-        }
-        self.change_rules(at, value)
-    }
-
-    /// Changes the rules from the timestamp of the last commit on.
-    fn change_rules(&mut self, at: u64, value: &Value) -> Result<(), Cause>
-        requires later { IsLater at self.old.declarations }
-        requires last { last_at self.old.commits ≡ Some at }
-        ensures { Gives (λ _. self.new) result (rules_changed at self.old (view value.now)) }
-    {
-        self.usersets.give_up();
-        change(
-            self.alloc,
-            &mut self.rules,
-            &mut self.index,
-            &self.sample,
-            at,
-            value,
-        )
-    }
-
-    /// The timestamp of the last commit, if it is not before another.
-    fn not_before(&self, at: u64) -> Option<u64>
-        ensures { option_map (λ last. NotLater last) result ≡ late_fault (last_at self.now.commits) at }
-    {
-        let last = self.chains.commits().last()?;
-        if at <= *last { Some(*last) } else { None }
-    }
-
-    /// Takes a line that commits changes.
-    fn take_commit(&mut self, line: u64, value: &JsonRef<'_, '_>) -> Result<(), Cause>
-        requires { next_line self.old ≤ line }
-        ensures { Gives (λ _. self.new) result (commit_line line self.old (value_data value.now)) }
-    {
-        let commit = commit_of(self.alloc, value)?;
-        self.append(line, commit.at, &commit.adds, &commit.removes)
-    }
-
-    #[tactic(auto, unfolding(crate::specs::Traces::with_commit))]
-    fn append(
-        &mut self,
-        line: u64,
-        at: u64,
-        adds: &[TupleRef<'_>],
-        removes: &[TupleRef<'_>],
-    ) -> Result<(), Cause>
-        requires { next_line self.old ≤ line }
-        ensures { Gives (λ _. self.new) result (with_commit line self.old (record { at = at; adds = tuple_values adds.now; removes = tuple_values removes.now })) }
-    {
-        if !self.are_declared(adds) || !self.are_declared(removes) {
-            return Err(Cause::Unknown);
-        }
-        self.commit_lines.reserve(1)?;
-        let known = self.sample.len();
-        self.usersets.give_up();
-        match commit(
-            &self.rules,
-            &mut self.sample,
-            &mut self.index,
-            &mut self.chains,
-            at,
-            adds,
-            removes,
-        ) {
-            Ok(()) => {}
-            Err(cause) => {
-                self.sample.truncate(known);
-                self.index.give_up();
-                return Err(cause);
-            }
-        }
-        self.commit_lines.push_reserved(line);
-        Ok(())
-    }
-
-    /// Takes a line that records a check.
-    fn take_entry(
-        &mut self,
-        kind: EntryKind,
-        line: u64,
-        value: &JsonRef<'_, '_>,
-    ) -> Result<(), Cause>
-        requires { next_line self.old ≤ line }
-        ensures { Gives (λ _. self.new) result (entry_line kind line self.old (value_data value.now)) }
-    {
-        let entry = entry_of(self.alloc, kind, line, self.commit_lines.len(), value)?;
-        self.take_recorded(entry)
-    }
-
-    /// Takes an entry that stands behind all others.
-    #[tactic(auto, unfolding(crate::specs::Traces::with_entry))]
-    fn take_recorded(&mut self, entry: Entry) -> Result<(), Cause>
-        requires line { next_line self.old ≤ entry.line }
-        requires before { entry.before ≡ length self.old.commit_lines }
-        ensures { Gives (λ _. self.new) result (with_entry self.old (entry_value entry)) }
-    {
-        if !self.is_declared(entry.goal.set()) {
-            return Err(Cause::Unknown);
-        }
-        self.record(entry)
-    }
-
-    /// Puts an entry that stands behind all others last.
-    fn record(&mut self, entry: Entry) -> Result<(), Cause>
-        requires line { next_line self.old ≤ entry.line }
-        requires before { entry.before ≡ length self.old.commit_lines }
-        ensures { Gives (λ _. self.new) result (recorded self.old (entry_value entry)) }
-    {
-        match entry.kind {
-            EntryKind::Check => {
-                let content = self.content_named(&entry);
-                self.push(entry, content)
-            }
-            EntryKind::Content => self.issue(entry),
-        }
-    }
-
-    /// The entry that issued the version which stands in this one.
-    fn content_named(&self, entry: &Entry) -> Option<usize>
-        ensures { result ≡ option_and_then (issuer self.now.entries) (entry_version (entry_value entry.now)) }
-    {
-        self.versions.issuer(&self.recorded, version_of(entry)?)
-    }
-
-    /// Puts an entry last that issues no version, and names the one that `content` issued.
-    fn push(&mut self, entry: Entry, content: Option<usize>) -> Result<(), Cause>
-        requires line { next_line self.old ≤ entry.line }
-        requires before { entry.before ≡ length self.old.commit_lines }
-        requires issues_nothing { version_issued entry.kind (entry_version (entry_value entry)) ≡ None }
-        requires content { content ≡ content_among self.old.entries (entry_value entry) }
-        ensures { Gives (λ _. self.new) result (recorded self.old (entry_value entry)) }
-    {
-        self.recorded.push(Recorded::new(entry, content))?;
-        Ok(())
-    }
-
-    /// Puts a content check last. An object's version is issued once.
-    fn issue(&mut self, entry: Entry) -> Result<(), Cause>
-        requires line { next_line self.old ≤ entry.line }
-        requires before { entry.before ≡ length self.old.commit_lines }
-        requires kind { entry.kind ≡ Content }
-        ensures { Gives (λ _. self.new) result (recorded self.old (entry_value entry)) }
-    {
-        let Some(version) = version_of(&entry) else {
-            return self.push(entry, None);
-        };
-        if self.versions.issuer(&self.recorded, version).is_some() {
-            return Err(Cause::RepeatedVersion);
-        }
-        self.recorded.reserve(1)?;
-        self.versions.push(version, self.recorded.len())?;
-        self.recorded.push_reserved(Recorded::new(entry, None));
-        Ok(())
-    }
-
-    #[tactic(auto, unfolding(crate::specs::Traces::value_line))]
-    fn take(&mut self, line: u64, json: &JsonLine<'_>) -> Result<(), Cause>
-        requires { next_line self.old ≤ line }
-        ensures { Gives (λ _. self.new) result (value_line line self.old (line_data json.now)) }
-    {
-        let value = json.root();
-        match text_at(&value, "kind") {
-            Some(kind) => {
-                if kind == "namespace" {
-                    self.take_declaration(line, json)
-                } else if kind == "commit" {
-                    self.take_commit(line, &value)
-                } else if kind == "content" {
-                    self.take_entry(EntryKind::Content, line, &value)
-                } else if kind == "check" {
-                    self.take_entry(EntryKind::Check, line, &value)
-                } else {
-                    Err(Cause::Kind)
-                }
-            }
-            None => Err(Cause::Kind),
-        }
-    }
-
-    /// Takes a line of this text that declares a namespace.
-    fn put_declaration(&mut self, line: u64, text: &str) -> Result<(), Cause>
-        requires { next_line self.old ≤ line }
-        ensures { Gives (λ _. self.new) result (put_line line self.old (declares text.now)) }
-    {
-        let mut scratch = Scratch::new(self.alloc);
-        match JsonLine::read(self.alloc, text, &mut scratch)? {
-            Some(json) => self.take_declaration(line, &json),
-            None => Err(Cause::NotJson),
-        }
-    }
-
-    fn put_commit(&mut self, line: u64, commit: &OwnedCommit) -> Result<(), Cause>
-        requires { next_line self.old ≤ line }
-        ensures { Gives (λ _. self.new) result (put_line line self.old (commits (owned_value commit.now))) }
-    {
-        let adds = tuple_refs(self.alloc, &commit.adds)?;
-        let removes = tuple_refs(self.alloc, &commit.removes)?;
-        self.append(line, commit.at, &adds, &removes)
-    }
-
-    fn put_entry(&mut self, line: u64, mut entry: Entry) -> Result<(), Cause>
-        requires { next_line self.old ≤ line }
-        ensures { Gives (λ _. self.new) result (put_line line self.old (records (entry_value entry))) }
-    {
-        entry.line = line;
-        entry.before = self.commit_lines.len();
-        self.take_recorded(entry)
-    }
-
-    /// Puts in what the line of this number says.
-    pub fn put_line(&mut self, number: u64, line: TraceLine) -> Result<(), Cause>
-        requires { next_line self.old ≤ number }
-        ensures answer { Gives (λ _. self.new) result (put_line number self.old line) }
-        ensures further { OnOk result (next_line self.new ≤ number + 1) }
-    {
-        match line.into_said() {
-            Said::Declares(text) => self.put_declaration(number, &text),
-            Said::Commits(commit) => self.put_commit(number, &commit),
-            Said::Records(entry) => self.put_entry(number, entry),
-        }
-    }
-}
-
-impl TakeJson for Trace {
-    ghost use Rattle.std.specs.Prelude.{◌≡◌};
-    ghost use Rattle.trace_lines.specs.Traces.{value_line};
-    ghost use Rattle.trace_lines.specs.Values.{next_line};
-
-    type Cause = Cause;
-
-    ghost next = { next_line };
-
-    ghost taken = { value_line };
-
-    fn take_value(&mut self, number: u64, line: &JsonLine<'_>) -> Result<(), Cause> {
-        self.take(number, line)
     }
 }

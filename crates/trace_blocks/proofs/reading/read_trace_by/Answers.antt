@@ -6,19 +6,19 @@ use Rattle.trace_blocks.proofs.reading.read_trace_by.Goals as goal
 
 pub returns-in-Ok : goal.returns-in-Ok
 returns-in-Ok g c =
-    rw c.settle.ensures
+    rw c.finish.ensures
     (trace_came g.R.Source.given g.R.Source.ends g.R.Source.failures g.R.Read.remaining c.args.reader.now
-    c.read_blocks.new.reader c.new-trace.result c.read_blocks.new.value c.new-trace.ensures _
+    c.read_blocks.new.reader c.new-builder.result c.read_blocks.new.value c.new-builder.ensures _
     (as_trace g.R.Source.given g.R.Source.ends g.R.Source.failures g.R.Read.remaining c.args.reader.now
-    c.read_blocks.new.reader c.new-trace.result c.read_blocks.new.value (Ok c.in-Ok.field-0) c.in-Ok.ensures))
+    c.read_blocks.new.reader c.new-builder.result c.read_blocks.new.value (Ok c.in-Ok.field-0) c.in-Ok.ensures))
 
 pub returns-in-Err : goal.returns-in-Err
 returns-in-Err g c =
     let read =
     as_trace g.R.Source.given g.R.Source.ends g.R.Source.failures g.R.Read.remaining c.args.reader.now
-    c.read_blocks.new.reader c.new-trace.result c.read_blocks.new.value (Err c.in-Err.fault) c.in-Err.ensures in
+    c.read_blocks.new.reader c.new-builder.result c.read_blocks.new.value (Err c.in-Err.fault) c.in-Err.ensures in
     trace_refused g.R.Source.given g.R.Source.ends g.R.Source.failures g.R.Read.remaining c.args.reader.now
-    c.read_blocks.new.reader c.new-trace.result c.read_blocks.new.value c.new-trace.ensures c.in-Err.fault _
+    c.read_blocks.new.reader c.new-builder.result c.read_blocks.new.value c.new-builder.ensures c.in-Err.fault _
     c.cause.ensures
     (told g.R.Source.given g.R.Source.ends g.R.Source.failures g.R.Read.remaining trace_taken c.args.reader.now
-    c.read_blocks.new.reader c.new-trace.result c.read_blocks.new.value c.in-Err.fault read) read
+    c.read_blocks.new.reader c.new-builder.result c.read_blocks.new.value c.in-Err.fault read) read

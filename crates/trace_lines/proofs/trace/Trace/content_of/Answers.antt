@@ -9,4 +9,4 @@ pub returns-clause-earlier : goal.returns-clause-earlier
 returns-clause-earlier c =
     let rs = c.self.inside.recorded.items in
     let within = subst (λ (t : TraceValue). c.args.i < length t.entries) (sym c.self.view_is) c.requires in
-    content_of-earlier (shown rs) c.args.i c.content.result (c.content.ensures ∙ content_recorded rs c.args.i c.index.result.now c.self.invariant.1.named within c.index.ensures)
+    content_of-earlier (shown rs) c.args.i c.content.result (c.content.ensures ∙ content_recorded rs c.args.i c.index.result.now c.self.invariant.0.named within c.index.ensures)

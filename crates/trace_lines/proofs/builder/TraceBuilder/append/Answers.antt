@@ -3,10 +3,9 @@ use Rattle.tuple_text.specs.TupleRefs.{tuple_values}
 use Rattle.version_chains.specs.Appends.{append_fault}
 use Rattle.version_chains.specs.Commits.{Commit}
 use Rattle.trace_lines.specs.Values.{TraceValue, next_line}
-use Rattle.userset_index.proofs.CallerLemmas.{none_kept}
 use Rattle.trace_lines.proofs.Keeping.{kept_commit}
 use Rattle.trace_lines.proofs.Orderly.{commit_ok, orderly_commit, sample_unbroken}
-use Rattle.trace_lines.proofs.trace.Trace.append.Goals as goal
+use Rattle.trace_lines.proofs.builder.TraceBuilder.append.Goals as goal
 
 pub commit-requires : goal.commit-requires
 commit-requires c = record { unbroken = sample_unbroken c.self.inside.rules c.self.inside.chains.commits c.self.inside.sample c.self.invariant.2; index = c.self.invariant.3 }
@@ -21,10 +20,10 @@ invariant_of-self-2 c =
     subst (λ (n : ℕ). append_fault (record { limit = n; commits = c.self.inside.chains.commits }) commit.at commit.adds commit.removes ≡ None) c.self.invariant.0 fine.1 in
     rw (c.in-Ok.ensures.appended, lines) (
       c.self.invariant.0,
-      kept_commit _ _ _ _ _ c.self.invariant.1 commit c.args.line (omega (arith, room)) (omega (arith, room)),
+      kept_commit _ _ _ _ c.self.invariant.1 commit c.args.line (omega (arith, room)) (omega (arith, room)),
       orderly_commit c.self.inside.rules c.self.inside.chains.commits c.self.inside.sample c.commit.new.sample c.self.invariant.2 commit fine.0 accepted c.in-Ok.ensures.taken,
       c.in-Ok.ensures.index,
-      none_kept c.self.inside.rules _ c.give_up.new.self c.give_up.ensures,
+      c.self.invariant.4,
     )
 
 pub invariant_of-self : goal.invariant_of-self

@@ -2,7 +2,7 @@ use Rattle.trace_lines.specs.LineValues.{commits, declares, records}
 use Rattle.trace_lines.specs.LineViews.{owned_value}
 use Rattle.trace_lines.specs.Values.{entry_value}
 use Rattle.trace_lines.proofs.RisingLines.{put_further}
-use Rattle.trace_lines.proofs.trace.Trace.put_line.Goals as goal
+use Rattle.trace_lines.proofs.builder.TraceBuilder.put_line.Goals as goal
 
 pub returns-in-Declares-clause-further : goal.returns-in-Declares-clause-further
 returns-in-Declares-clause-further c =

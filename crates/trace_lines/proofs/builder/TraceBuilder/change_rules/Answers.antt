@@ -3,9 +3,8 @@ use Rattle.serde_json.specs.View.{view}
 use Rattle.namespaces.specs.Changing.{IsLater}
 use Rattle.version_chains.specs.Appends.{last_at}
 use Rattle.trace_lines.specs.Values.{TraceValue}
-use Rattle.userset_index.proofs.CallerLemmas.{none_kept}
 use Rattle.trace_lines.proofs.Orderly.{orderly_changed, sample_unbroken}
-use Rattle.trace_lines.proofs.trace.Trace.change_rules.Goals as goal
+use Rattle.trace_lines.proofs.builder.TraceBuilder.change_rules.Goals as goal
 
 pub change-requires : goal.change-requires
 change-requires c = record {
@@ -24,5 +23,5 @@ invariant_of-self c = (
       (subst (λ (t : TraceValue). last_at t.commits ≡ Some c.args.at) (sym c.self.view_is) c.requires.last)
       c.change.ensures.answer c.change.ensures.dropped c.change.ensures.later,
   c.change.ensures.index,
-  none_kept c.change.new.rules c.self.inside.chains.commits c.give_up.new.self c.give_up.ensures,
+  c.self.invariant.4,
 )

@@ -3,7 +3,7 @@ use Rattle.std.specs.Option.{ForSome}
 use Rattle.tuple_text.specs.Refs.{set_value}
 use Rattle.tuple_text.specs.TupleRefs.{tuple_values}
 use Rattle.trace_lines.specs.Traces.{are_declared, is_declared}
-use Rattle.trace_lines.proofs.trace.Trace.are_declared.Given as goal
+use Rattle.trace_lines.proofs.builder.TraceBuilder.are_declared.Given as goal
 
 abbrev pub invariant-loop-tuple : goal.invariant-loop-tuple
 invariant-loop-tuple l = record {

@@ -2,9 +2,8 @@ use Rattle.std.proofs.Common.{◌≡◌, false, sym, subst, ◌∙◌}
 use Rattle.serde_json.specs.View.{view}
 use Rattle.trace_lines.specs.Values.{TraceValue}
 use Rattle.trace_lines.specs.Traces.{is_begun}
-use Rattle.userset_index.proofs.CallerLemmas.{none_kept}
 use Rattle.trace_lines.proofs.Orderly.{nothing_before, orderly_declared}
-use Rattle.trace_lines.proofs.trace.Trace.take_namespace.Goals as goal
+use Rattle.trace_lines.proofs.builder.TraceBuilder.take_namespace.Goals as goal
 
 pub invariant_of-self : goal.invariant_of-self
 invariant_of-self c =
@@ -15,5 +14,5 @@ invariant_of-self c =
       orderly_declared c.declare.result c.is_begun-begun.result c.self.inside.rules c.declare.new.rules c.self.inside.chains.commits c.self.inside.sample (view c.args.value.now)
           c.self.invariant.2 first c.declare.ensures.answer c.declare.ensures.dropped c.declare.ensures.later,
       c.declare.ensures.index,
-      none_kept c.declare.new.rules c.self.inside.chains.commits c.give_up.new.self c.give_up.ensures,
+      c.self.invariant.4,
     )

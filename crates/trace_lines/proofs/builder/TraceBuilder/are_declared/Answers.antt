@@ -8,7 +8,7 @@ use Rattle.tuple_text.specs.Tuples.{TupleValue}
 use Rattle.tuple_text.specs.Refs.{set_value}
 use Rattle.tuple_text.specs.declared.sets.SetRef.{SetRef}
 use Rattle.trace_lines.specs.Traces.{is_declared}
-use Rattle.trace_lines.proofs.trace.Trace.are_declared.Goals as goal
+use Rattle.trace_lines.proofs.builder.TraceBuilder.are_declared.Goals as goal
 
 pub returns-then-not-is_declared_after : goal.returns-then-not-is_declared_after
 returns-then-not-is_declared_after c =

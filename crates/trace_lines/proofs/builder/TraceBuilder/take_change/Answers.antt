@@ -8,7 +8,7 @@ use Rattle.trace_lines.specs.Declaring.{refused_late}
 use Rattle.trace_lines.specs.Traces.{empty_commit, with_commit}
 use Rattle.trace_lines.specs.Values.{TraceValue}
 use Rattle.trace_lines.proofs.Orderly.{late_line, committed, empty_last, gives_rest, not_err}
-use Rattle.trace_lines.proofs.trace.Trace.take_change.Goals as goal
+use Rattle.trace_lines.proofs.builder.TraceBuilder.take_change.Goals as goal
 
 pub returns-in-Some : goal.returns-in-Some
 returns-in-Some c =
