@@ -16,7 +16,7 @@ use Rattle.userset_index.specs.Index.{IndexValue, IsFound, IsUsersetIndex, IsLas
 use Rattle.userset_index.specs.Lives.{is_sought, touches_alive}
 use Rattle.userset_index.specs.declared.life.Life.{Life}
 
--- an index that was given up promises nothing
+-- where there is no index, nothing is promised
 pub none_kept : (ds : List Declaration) (commits : List Commit) (v : IndexValue) → v.is_whole ≡ false → IsUsersetIndex ds commits v
 none_kept ds commits v off on = absurd (let bad : true ≡ false = sym on ∙ off in cc)
 

@@ -140,7 +140,7 @@ pub record IsWhole (ds : List Declaration) (commits : List Commit) (v : IndexVal
   pub objects : Holds ds Object (changelog commits) v.crowds v.objects
   pub timed : v.is_timed ≡ true → HaveMoments ds (changelog commits) v.moments v.numbers
 
--- an index of these declarations and commits, unless it was given up
+-- an index of these declarations and commits, unless there is none
 abbrev pub IsUsersetIndex : List Declaration → List Commit → IndexValue → Type 0
 IsUsersetIndex ds commits v = v.is_whole ≡ true → IsWhole ds commits v
 

@@ -98,13 +98,6 @@ impl UsersetIndex {
         })
     }
 
-    /// Leaves it that this is an index: the store or the rules go on. From then on nothing is crowded.
-    pub fn give_up(&mut self)
-        ensures { self.new.is_whole ≡ false }
-    {
-        self.is_whole = false;
-    }
-
     /// Whether the index is to be asked for what is stored in a userset.
     pub fn is_crowded(&self, set: MarkedSet<'_>) -> bool
         ensures { result
