@@ -246,8 +246,8 @@ fn nodes_do<F: KnownFact>(
 ) -> Result<bool, AllocError>
     requires { fact.now.snapshot.now.timeline ≡ parts.old.timeline }
     ensures same { parts.new ≡ parts.old }
-    ensures tells { IfOk result (Tells fact.now parts.old.questions is_given
-        (joined_of stop is_given (nodes_shown parts.old.questions.parts nodes.now.items)) answers.old answers.new) }
+    ensures tells { IfOk result (Tells fact.now parts.old.questions is_given (joined_of stop is_given
+        (nodes_shown parts.old.questions.parts nodes.now.items)) answers.old answers.new) }
 {
     if is_decided(nodes, stop, is_given, answers) {
         return Ok(stop);
