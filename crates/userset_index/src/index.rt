@@ -7,7 +7,9 @@ ghost use Rattle.userset_index.specs.Index as spec;
 ghost use Rattle.userset_index.specs.Index.{AreNamespaces, IsUsersetIndex};
 ghost use Rattle.userset_index.specs.Lives.{touches_alive};
 
-use crate::build::{count_crowds, count_of, ends_of, is_any_crowded, is_crowded, linked_lives, object_mark};
+use crate::build::{
+    count_crowds, count_of, ends_of, is_any_crowded, is_crowded, linked_lives, object_mark,
+};
 use crate::life::Way;
 use crate::moments::Times;
 use crate::numbers::Numbers;
