@@ -1,7 +1,5 @@
 -- What is made of a trace: a record of steps for each entry that the maker settles, and their text.
 use Rattle.std.specs.Prelude.{◌≡◌, ◌⊎◌, ℕ, ◌≤◌, ◌^◌, true, List, [], ◌∷◌, ◌++◌, length, Option, None, Some, Ok, ⊤}
-use Rattle.namespaces.specs.Lookup.{rule_at}
-use Rattle.version_chains.specs.Commits.{store_at}
 use Rattle.trace_lines.specs.Values.{TraceValue, EntryValue}
 use Rattle.trace_lines.specs.Traces.{trace_of}
 use Rattle.evidence_check.specs.Judged.{judged}
@@ -9,10 +7,8 @@ use Rattle.evidence_check.specs.Reading.{fact_count, evidence_of}
 use Rattle.evidence_check.specs.Steps.{StepValue}
 use Rattle.evidence_check.specs.declared.judged.Judged.TheVariants.{Supported, Contradicted}
 use Rattle.evidence_check.specs.declared.records.TheConstants.{MAX_FACTS}
-use Rattle.goal_cone.specs.Bounds.{IsOutgrown}
-use Rattle.goal_cone.specs.declared.premises.TheConstants.{MAX_LINKS}
 use Rattle.record_text.specs.Record.{record_text, record_length}
-use Rattle.evidence_maker.specs.Made.{IsOneStep, IsTooLong}
+use Rattle.evidence_maker.specs.Made.{IsOutOfReach}
 use Rattle.audit.specs.Devices.{Writing, FailsWriting}
 
 -- by the steps the entry is supported or contradicted
@@ -24,14 +20,6 @@ pub record IsRecorded (t : TraceValue) (e : EntryValue) (steps : List StepValue)
   pub decided : IsDecided t e steps
   pub facts : fact_count steps ≤ MAX_FACTS
   pub bytes : record_length e.line steps ≤ 2 ^ 20
-
--- one step is not enough, and the goal outgrows the maker's search, or some record over facts of its cone, none of them
--- twice, is too long for a line; this is of the trace, whatever was tried
-abbrev pub IsOutOfReach : TraceValue → EntryValue → Type 0
-IsOutOfReach t e =
-    (¬ IsOneStep t e)
-    × (IsOutgrown MAX_FACTS MAX_LINKS (rule_at t.declarations e.snapshot) (store_at t.commits e.snapshot) e.goal
-    ⊎ IsTooLong t e)
 
 -- what is made for an entry: the steps of its record, or none where the maker gave up
 abbrev pub IsMade : TraceValue → EntryValue → Option (List StepValue) → Type 0

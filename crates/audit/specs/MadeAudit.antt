@@ -6,13 +6,14 @@ use Rattle.evidence_check.specs.Judged.{judged}
 use Rattle.evidence_check.specs.Members.{IsRight, IsWrong}
 use Rattle.evidence_check.specs.Steps.{StepValue}
 use Rattle.evidence_check.specs.declared.judged.Judged.{Judged}
+use Rattle.evidence_maker.specs.Made.{IsOutOfReach}
 use Rattle.findings.specs.Findings.{found_where, findings_of}
 use Rattle.findings.specs.declared.finding.Finding.{Finding}
 use Rattle.findings.specs.declared.finding.What.{What}
 use Rattle.findings.specs.declared.finding.What.TheVariants.{NoEvidence, BadEvidence, Silent, WrongReply}
 use Rattle.audit.specs.Devices.{Writing, FailsWriting}
 use Rattle.audit.specs.Audit.{report_on, verdict_of}
-use Rattle.audit.specs.Made.{IsMade, AreMade, IsOutOfReach}
+use Rattle.audit.specs.Made.{IsMade, AreMade}
 use Rattle.audit.specs.declared.shared.Found.{Found}
 use Rattle.audit.specs.declared.plain.Verdict.{Verdict}
 

@@ -2,6 +2,7 @@
 
 ghost use Rattle.std.specs.Prelude.{◌≡◌, ℕ, ◌<◌, ◌^◌, [], ◌∷◌, ◌++◌, List, length, Some, IfOk, IfErr, OnOk, IfSome, option_map, slice_get, string_bytes};
 ghost use Rattle.trace_lines.specs.Values.{EntryValue};
+ghost use Rattle.evidence_check.specs.Judged.{judged};
 ghost use Rattle.evidence_check.specs.Steps.{step_values};
 ghost use Rattle.record_text.specs.ReadBack.{IsTaken};
 ghost use Rattle.audit.specs.Answers.{TellsOfTrace};
@@ -15,49 +16,49 @@ use crate::plain::AuditFault;
 use crate::reading::trace_from;
 use crate::telling::tell;
 use devices::{Sink, Source};
-use evidence_check::Steps;
-use evidence_maker::{Found, MakeFault, make_after};
+use evidence_maker::{Found, Made, MakeFault, Maker};
 use record_text::write_record;
 use std::alloc::{AllocError, Global};
 use trace_lines::Trace;
 
-/// The steps that are made for entry `i`, by what was found for another or by a search, or none where the maker gave
-/// up.
-pub(crate) fn steps_for(
-    alloc: Global,
-    trace: &Trace,
+/// What is made for entry `i`, by what was found for another or by a search, or none where the maker gave up.
+pub(crate) fn made_for(
+    maker: &mut Maker<'_>,
     i: usize,
     found: Option<Found<'_>>,
-) -> Result<Option<Steps>, AllocError>
-    requires { i < length trace.now.entries }
-    ensures { IfOk result (λ o. (e : EntryValue) → slice_get trace.now.entries i ≡ Some e
-        → IsMade trace.now e (option_map (λ v. step_values v.items) o)) }
+) -> Result<Option<Made>, AllocError>
+    requires { i < length maker.old.entries }
+    ensures maker { maker.new ≡ maker.old }
+    ensures made { IfOk result (λ o. (e : EntryValue) → slice_get maker.old.entries i ≡ Some e
+        → IsMade maker.old e (option_map (λ m. step_values m.steps.items) o)) }
+    ensures judged { IfOk result (λ o. IfSome o (λ m. (e : EntryValue) → slice_get maker.old.entries i ≡ Some e
+        → m.judged ≡ judged maker.old e (Some (step_values m.steps.items)))) }
 {
-    match make_after(alloc, trace, i, found) {
-        Ok(steps) => Ok(Some(steps)),
+    match maker.make_after(i, found) {
+        Ok(made) => Ok(Some(made)),
         Err(MakeFault::GaveUp) => Ok(None),
         Err(MakeFault::OutOfMemory) => Err(AllocError),
     }
 }
 
-/// Appends the record of the steps for the entry on a line, or the line to those of entries that have no steps.
+/// Appends the record of what is made for the entry on a line, or the line to those of entries for which nothing is.
 fn push_record(
     line: u64,
-    steps: Option<&Steps>,
+    made: Option<&Made>,
     text: &mut String,
     given_up: &mut Vec<u64>,
 ) -> Result<(), AllocError>
     ensures text { OnOk result (string_bytes text.new ≡ string_bytes text.old
-        ++ record_line line (option_map (λ v. step_values v.now.items) steps.entry)) }
+        ++ record_line line (option_map (λ m. step_values m.now.steps.items) made.entry)) }
     ensures given_up { OnOk result (given_up.new.items ≡ given_up.old.items
-        ++ line_without line (option_map (λ v. step_values v.now.items) steps.entry)) }
+        ++ line_without line (option_map (λ m. step_values m.now.steps.items) made.entry)) }
     // As a line of evidence it says the same steps.
-    ensures taken { OnOk result (IfSome steps.entry (λ v. IsTaken line (step_values v.now.items))) }
+    ensures taken { OnOk result (IfSome made.entry (λ m. IsTaken line (step_values m.now.steps.items))) }
     ensures fits { line < 2 ^ 64 }
 {
-    match steps {
-        Some(steps) => {
-            write_record(line, steps, text)?;
+    match made {
+        Some(made) => {
+            write_record(line, &made.steps, text)?;
             Ok(())
         }
         None => {
@@ -68,11 +69,11 @@ fn push_record(
 }
 
 /// What was made for the last entry that has a record.
-fn found_last<'a>(trace: &'a Trace, last: &'a Option<(usize, Steps)>) -> Option<Found<'a>> {
+fn found_last<'a>(trace: &'a Trace, last: &'a Option<(usize, Made)>) -> Option<Found<'a>> {
     match last {
-        Some((i, steps)) if *i < trace.len() => Some(Found {
+        Some((i, made)) if *i < trace.len() => Some(Found {
             entry: trace.entry(*i),
-            steps,
+            steps: &made.steps,
         }),
         _ => None,
     }
@@ -84,17 +85,13 @@ fn records_of(alloc: Global, trace: &Trace) -> Result<(String, Vec<u64>), AllocE
 {
     let mut text = String::new(alloc);
     let mut given_up = Vec::new(alloc);
+    let mut maker = Maker::new(alloc, trace);
     let mut last = None;
     for i in 0..trace.len() {
-        let steps = steps_for(alloc, trace, i, found_last(trace, &last))?;
-        push_record(
-            trace.entry(i).line,
-            steps.as_ref(),
-            &mut text,
-            &mut given_up,
-        )?;
-        last = match steps {
-            Some(steps) => Some((i, steps)),
+        let made = made_for(&mut maker, i, found_last(trace, &last))?;
+        push_record(trace.entry(i).line, made.as_ref(), &mut text, &mut given_up)?;
+        last = match made {
+            Some(made) => Some((i, made)),
             None => None,
         };
     }

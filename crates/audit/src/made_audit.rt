@@ -16,14 +16,15 @@ ghost use Rattle.audit.specs.MadeAudit.{IsJudgedMade, IsFoundMade};
 ghost use Rattle.audit.specs.Shared.{has_finding, are_within_limits};
 ghost use Rattle.audit.specs.declared.plain.AuditFault.TheVariants as faults;
 
-use crate::made::steps_for;
+use crate::made::made_for;
 use crate::plain::{AuditFault, Verdict};
 use crate::reading::trace_by;
 use crate::shared::{Crew, Found, gather, is_any, reports_by};
 use crate::telling::tell_findings;
 use audit_slices::{Blind, Board, Check, Names, SliceReport};
 use devices::{Sink, Source};
-use evidence_check::{Judged, judge_steps};
+use evidence_check::Judged;
+use evidence_maker::Maker;
 use findings::laws::right_and_fresh_without_findings;
 use findings::{Finding, found_where};
 use std::alloc::{AllocError, Global};
@@ -84,8 +85,9 @@ fn judgement_made(alloc: Global, trace: &Trace, i: usize) -> Result<Judged, Allo
     ensures { IfOk result
         (λ j. (e : EntryValue) → slice_get trace.now.entries i ≡ Some e → IsJudgedMade trace.now e j) }
 {
-    match steps_for(alloc, trace, i, None)? {
-        Some(steps) => judge_steps(trace, trace.entry(i), &steps),
+    let mut maker = Maker::new(alloc, trace);
+    match made_for(&mut maker, i, None)? {
+        Some(made) => Ok(made.judged),
         None => Ok(Judged::Missing),
     }
 }

@@ -391,9 +391,21 @@ pub(crate) fn judge_borrowed<'t>(
 pub fn judge_steps(trace: &Trace, entry: &Entry, steps: &Steps) -> Result<Judged, AllocError>
     ensures { IfOk result (λ j. j ≡ judged trace.now (entry_value entry.now) (Some (step_values steps.now.items))) }
 {
+    let mut asked = AskedRules::new(*steps.allocator(), trace);
+    judge_steps_by(&mut asked, entry, steps)
+}
+
+/// The same, where many entries are judged. What is asked of rules of many places for one is kept for those behind.
+pub fn judge_steps_by(
+    asked: &mut AskedRules<'_>,
+    entry: &Entry,
+    steps: &Steps,
+) -> Result<Judged, AllocError>
+    ensures asked { asked.new ≡ asked.old }
+    ensures judged { IfOk result (λ j. j ≡ judged asked.old (entry_value entry.now) (Some (step_values steps.now.items))) }
+{
     let alloc = *steps.allocator();
-    let mut asked = AskedRules::new(alloc, trace);
-    judge_borrowed(alloc, &mut asked, entry, &borrowed_steps(alloc, steps)?)
+    judge_borrowed(alloc, asked, entry, &borrowed_steps(alloc, steps)?)
 }
 
 fn judge(trace: &Trace, entry: &Entry, steps: Option<&Steps>) -> Result<Judged, AllocError>

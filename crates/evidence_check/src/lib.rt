@@ -37,7 +37,7 @@ pub use asked_rules::AskedRules;
 pub use behind::judge_evidence_behind;
 pub use cause::{EvidenceCause, EvidenceFault};
 pub use evidence::Evidence;
-pub use judged::{Judged, is_proved_by, judge_entry, judge_steps};
+pub use judged::{Judged, is_proved_by, judge_entry, judge_steps, judge_steps_by};
 pub use judging::Judging;
 pub use placed::EntryLines;
 pub use read::{judge_evidence, read_evidence};

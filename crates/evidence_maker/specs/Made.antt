@@ -1,16 +1,21 @@
 -- What is made for an entry.
-use Rattle.std.specs.Prelude.{[], ◌∷◌, ℕ, ◌≤◌, ◌<◌, ◌^◌, List, ◌⊎◌, Contains}
+use Rattle.std.specs.Prelude.{◌≡◌, Some, [], ◌∷◌, ℕ, ◌≤◌, ◌<◌, ◌^◌, List, ◌⊎◌, Contains}
 use Rattle.tuple_text.specs.Tuples.{FactValue}
 use Rattle.namespaces.specs.Lookup.{rule_at}
 use Rattle.version_chains.specs.Commits.{store_at}
 use Rattle.trace_lines.specs.Values.{TraceValue, EntryValue}
 use Rattle.evidence_check.specs.Accepted.{nothing_known, after_steps, AreAccepted, IsAccepted}
+use Rattle.evidence_check.specs.Judged.{judged}
 use Rattle.evidence_check.specs.Reading.{fact_count}
-use Rattle.evidence_check.specs.Steps.{StepValue, yes_step, no_step}
+use Rattle.evidence_check.specs.Steps.{StepValue, yes_step, no_step, step_values}
+use Rattle.evidence_check.specs.declared.records.TheConstants.{MAX_FACTS}
 use Rattle.record_text.specs.Record.{record_length}
+use Rattle.goal_cone.specs.Bounds.{IsOutgrown}
 use Rattle.goal_cone.specs.Cone.{IsNeeded, AreDistinct}
+use Rattle.goal_cone.specs.declared.premises.TheConstants.{MAX_LINKS}
 use Rattle.evidence_maker.specs.Making.{IsKnown}
 use Rattle.evidence_maker.specs.Saturation.{facts_of}
+use Rattle.evidence_maker.specs.declared.maker.Made.{Made}
 
 -- the steps are accepted in order, and after them it is known whether the goal holds
 pub record Settles (t : TraceValue) (e : EntryValue) (steps : List StepValue) : Type 0 where
@@ -38,3 +43,17 @@ pub record IsTooLong (t : TraceValue) (e : EntryValue) : Type 0 where
   pub needed : (f : FactValue) → Contains (facts_of steps) f → IsNeeded (rule_at t.declarations e.snapshot) (store_at t.commits e.snapshot) e.goal f
   pub distinct : AreDistinct (facts_of steps)
   pub long : 2 ^ 20 < record_length e.line steps
+
+-- one step is not enough, and the goal outgrows the search, or some record over facts of its cone, none of them twice, is
+-- too long for a line; this is of the trace, whatever was tried
+abbrev pub IsOutOfReach : TraceValue → EntryValue → Type 0
+IsOutOfReach t e =
+    (¬ IsOneStep t e)
+    × (IsOutgrown MAX_FACTS MAX_LINKS (rule_at t.declarations e.snapshot) (store_at t.commits e.snapshot) e.goal
+    ⊎ IsTooLong t e)
+
+-- the steps settle the entry, its record may hold them, and they judge it so
+pub record IsMadeFor (t : TraceValue) (e : EntryValue) (m : Made) : Type 0 where
+  pub settles : Settles t e (step_values m.steps.items)
+  pub fits : Fits e.line (step_values m.steps.items)
+  pub judges : m.judged ≡ judged t e (Some (step_values m.steps.items))

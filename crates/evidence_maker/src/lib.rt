@@ -9,7 +9,7 @@
 //! 100,000 facts and 2^20 bytes; so the entry is supported or contradicted by them. `make` gives up only where one step is not enough,
 //! and one of these holds: every list of facts that holds the goal and its own premises has more than 100,000 facts or reads more than
 //! [`MAX_LINKS`] stored usersets, or the record of the whole cone has more than 2^20 bytes. The gates are not trusted: what they find
-//! is judged by `judge_steps`, and what they miss is looked at again. How few the steps are is not promised: longer evidence that fits
+//! is judged by `judge_steps_by`, and what they miss is looked at again. How few the steps are is not promised: longer evidence that fits
 //! would meet the contract too. [`laws`] say why there is evidence to find.
 //!
 //! ```text
@@ -28,4 +28,4 @@ mod settle;
 pub use fault::MakeFault;
 pub use goal_cone::{MAX_LINKS, MAX_USERSETS};
 pub use like::Found;
-pub use maker::{make, make_after};
+pub use maker::{Made, Maker, make};

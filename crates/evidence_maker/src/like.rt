@@ -1,14 +1,13 @@
 //! Evidence by the way that was found for another entry.
 
-ghost use Rattle.std.specs.Prelude.{IfOk, IfSome};
+ghost use Rattle.std.specs.Prelude.{◌≡◌, IfOk, IfSome};
 ghost use Rattle.trace_lines.specs.Values.{entry_value};
-ghost use Rattle.evidence_check.specs.Steps.{step_values};
-ghost use Rattle.evidence_maker.specs.Made.{IsRecord};
+ghost use Rattle.evidence_maker.specs.Made.{IsMadeFor};
 
-use crate::maker::is_record;
-use evidence_check::{Step, Steps};
+use crate::maker::{Made, made_of};
+use evidence_check::{AskedRules, Step, Steps};
 use std::alloc::{AllocError, Global};
-use trace_lines::{Entry, Trace};
+use trace_lines::Entry;
 use tuple_text::Fact;
 
 /// What was found for an entry.
@@ -63,11 +62,12 @@ fn changed_steps(alloc: Global, steps: &[Step], change: Change) -> Result<Steps,
 /// was found.
 pub(crate) fn made_like(
     alloc: Global,
-    trace: &Trace,
+    asked: &mut AskedRules<'_>,
     entry: &Entry,
     found: Option<Found<'_>>,
-) -> Result<Option<Steps>, AllocError>
-    ensures { IfOk result (λ o. IfSome o (λ v. IsRecord trace.now (entry_value entry.now) (step_values v.items))) }
+) -> Result<Option<Made>, AllocError>
+    ensures asked { asked.new ≡ asked.old }
+    ensures made { IfOk result (λ o. IfSome o (IsMadeFor asked.old (entry_value entry.now))) }
 {
     let Some(found) = found else {
         return Ok(None);
@@ -80,9 +80,5 @@ pub(crate) fn made_like(
         to: entry.goal.user(),
     };
     let steps = changed_steps(alloc, found.steps, change)?;
-    if is_record(trace, entry, &steps)? {
-        Ok(Some(steps))
-    } else {
-        Ok(None)
-    }
+    made_of(asked, entry, steps)
 }

@@ -1,6 +1,6 @@
 //! Making evidence for a decision.
 
-ghost use Rattle.std.specs.Prelude.{◌≡◌, ◌<◌, ◌≤◌, ◌↔◌, ◌^◌, ◌⊎◌, [], ◌∷◌, IsTrue, IfOk, Err, Some, length, slice_get};
+ghost use Rattle.std.specs.Prelude.{◌≡◌, ◌<◌, ◌≤◌, ◌↔◌, ◌^◌, ◌⊎◌, [], ◌∷◌, IsTrue, IfOk, IfSome, Err, None, Some, length, slice_get};
 ghost use Rattle.tuple_text.specs.Grammar.{IsFact};
 ghost use Rattle.namespaces.specs.Lookup.{rule_at};
 ghost use Rattle.version_chains.specs.Commits.{store_at};
@@ -11,19 +11,27 @@ ghost use Rattle.evidence_check.specs.declared.records.TheConstants.{MAX_FACTS};
 ghost use Rattle.goal_cone.specs.Bounds.{IsOutgrown};
 ghost use Rattle.goal_cone.specs.declared.premises.TheConstants.{MAX_LINKS};
 ghost use Rattle.record_text.specs.Record.{record_length};
-ghost use Rattle.evidence_maker.specs.Made.{Settles, Fits, IsRecord, IsOneStep, IsTooLong};
+ghost use Rattle.evidence_maker.specs.Made.{Settles, Fits, IsRecord, IsOneStep, IsTooLong, IsOutOfReach, IsMadeFor};
 
 use crate::fault::MakeFault;
 use crate::like::{Found, made_like};
 use crate::needed::needed_steps;
 use crate::settle::settle;
-use evidence_check::{Judged, Step, Steps, has_too_many, judge_steps};
+use evidence_check::{AskedRules, Judged, Step, Steps, has_too_many, judge_steps_by};
 use goal_cone::explore;
 use goal_gates::Gates;
 use record_text::record_bytes;
 use std::alloc::{AllocError, Global};
+use std::marker::Model;
 use trace_lines::{Entry, Trace};
 use tuple_text::Fact;
+
+/// Steps that are made for an entry, and how they judge it.
+#[derive(Drop)]
+pub struct Made {
+    pub steps: Steps,
+    pub judged: Judged,
+}
 
 /// How many bytes a record may have, without its newline.
 const MAX_BYTES: u64 = 1 << 20;
@@ -38,16 +46,23 @@ fn fits(line: u64, steps: &[Step]) -> bool
     record_bytes(line, steps) <= MAX_BYTES
 }
 
-/// Whether the steps are accepted and settle the goal, and a record may hold them.
-pub(crate) fn is_record(trace: &Trace, entry: &Entry, steps: &Steps) -> Result<bool, AllocError>
-    ensures { IfOk result (λ b. IsTrue b ↔ IsRecord trace.now (entry_value entry.now) (step_values steps.now.items)) }
+/// The steps as evidence for the entry, where they are accepted and settle the goal, and a record may hold them.
+pub(crate) fn made_of(
+    asked: &mut AskedRules<'_>,
+    entry: &Entry,
+    steps: Steps,
+) -> Result<Option<Made>, AllocError>
+    ensures asked { asked.new ≡ asked.old }
+    ensures made { IfOk result (λ o. IfSome o (IsMadeFor asked.old (entry_value entry.now))) }
+    ensures none { IfOk result (λ o. o ≡ None → ¬ IsRecord asked.old (entry_value entry.now) (step_values steps.items)) }
 {
-    if !fits(entry.line, steps) {
-        return Ok(false);
+    if !fits(entry.line, &steps) {
+        return Ok(None);
     }
-    match judge_steps(trace, entry, steps)? {
-        Judged::Supported | Judged::Contradicted => Ok(true),
-        _ => Ok(false),
+    let judged = judge_steps_by(asked, entry, &steps)?;
+    match judged {
+        Judged::Supported | Judged::Contradicted => Ok(Some(Made { steps, judged })),
+        _ => Ok(None),
     }
 }
 
@@ -80,50 +95,85 @@ fn no_alone(alloc: Global, entry: &Entry) -> Result<Steps, AllocError>
     Ok(steps)
 }
 
-/// Evidence for entry `i` as [`make`] gives it. Where one step is not enough, what was found for another entry of the same userset and reply
-/// is tried for this one's user before a search.
-///
-/// Refusals are those of [`make`].
-pub fn make_after(
+/// Evidence for an entry. Where one step is not enough, what was found for another one is tried before a search.
+fn made_for(
     alloc: Global,
-    trace: &Trace,
-    i: usize,
+    asked: &mut AskedRules<'_>,
+    entry: &Entry,
     found: Option<Found<'_>>,
-) -> Result<Steps, MakeFault>
-    requires { i < length trace.now.entries }
-    ensures accepted { IfOk result (λ v. (e : EntryValue) → slice_get trace.now.entries i ≡ Some e → Settles trace.now e (step_values v.items)) }
-    ensures fits { IfOk result (λ v. fact_count (step_values v.items) ≤ MAX_FACTS) }
-    ensures short { IfOk result (λ v. (e : EntryValue) → slice_get trace.now.entries i ≡ Some e → record_length e.line (step_values v.items) ≤ 2 ^ 20) }
-    ensures complete { result ≡ Err MakeFault.GaveUp → (e : EntryValue) → slice_get trace.now.entries i ≡ Some e →
-        IsOutgrown MAX_FACTS MAX_LINKS (rule_at trace.now.declarations e.snapshot) (store_at trace.now.commits e.snapshot) e.goal
-        ⊎ IsTooLong trace.now e }
-    ensures one_step { result ≡ Err MakeFault.GaveUp → (e : EntryValue) → slice_get trace.now.entries i ≡ Some e → ¬ IsOneStep trace.now e }
+) -> Result<Made, MakeFault>
+    ensures asked { asked.new ≡ asked.old }
+    ensures made { IfOk result (IsMadeFor asked.old (entry_value entry.now)) }
+    ensures gave_up { result ≡ Err MakeFault.GaveUp → IsOutOfReach asked.old (entry_value entry.now) }
 {
-    let entry = trace.entry(i);
     has_text(entry.line, &entry.goal);
     let yes = yes_alone(alloc, entry)?;
-    if is_record(trace, entry, &yes)? {
-        return Ok(yes);
+    if let Some(made) = made_of(asked, entry, yes)? {
+        return Ok(made);
     }
     let no = no_alone(alloc, entry)?;
-    if is_record(trace, entry, &no)? {
-        return Ok(no);
+    if let Some(made) = made_of(asked, entry, no)? {
+        return Ok(made);
     }
-    if let Some(alike) = made_like(alloc, trace, entry, found)? {
-        return Ok(alike);
+    if let Some(made) = made_like(alloc, asked, entry, found)? {
+        return Ok(made);
     }
-    let snapshot = trace.timeline().at(entry.snapshot);
+    let snapshot = asked.trace().timeline().at(entry.snapshot);
     let cone = explore(alloc, &snapshot, &entry.goal)?;
     let mut gates = Gates::of(alloc, &snapshot, &cone)?;
-    let steps = settle(alloc, trace, entry.snapshot, &cone, &mut gates)?;
+    let steps = settle(alloc, asked, entry.snapshot, &cone, &mut gates)?;
     let short = needed_steps(alloc, &mut gates, &steps)?;
-    if is_record(trace, entry, &short)? {
-        return Ok(short);
+    if let Some(made) = made_of(asked, entry, short)? {
+        return Ok(made);
     }
-    if is_record(trace, entry, &steps)? {
-        return Ok(steps);
+    match made_of(asked, entry, steps)? {
+        Some(made) => Ok(made),
+        None => Err(MakeFault::GaveUp),
     }
-    Err(MakeFault::GaveUp)
+}
+
+/// It makes evidence for the entries of a trace, and keeps what it asked of rules of many places for the entries behind.
+#[derive(Drop)]
+pub struct Maker<'t> {
+    alloc: Global,
+    asked: AskedRules<'t>,
+}
+
+impl<'t> Model for Maker<'t> {
+    ghost use Rattle.trace_lines.specs.TraceCode.{trace_code};
+    ghost use Rattle.trace_lines.specs.Values.{TraceValue};
+
+    ghost Value = { TraceValue };
+
+    ghost coded = { trace_code };
+
+    ghost view = { λ m. m.asked };
+}
+
+impl<'t> Maker<'t> {
+    /// Nothing was asked.
+    pub fn new(alloc: Global, trace: &'t Trace) -> Maker<'t>
+        ensures { result ≡ trace.now }
+    {
+        Maker {
+            alloc,
+            asked: AskedRules::new(alloc, trace),
+        }
+    }
+
+    /// Evidence for entry `i` as [`make`] gives it, and how it judges the entry. Where one step is not enough, what was found for another
+    /// entry of the same userset and reply is tried for this one's user before a search.
+    ///
+    /// Refusals are those of [`make`].
+    pub fn make_after(&mut self, i: usize, found: Option<Found<'_>>) -> Result<Made, MakeFault>
+        requires { i < length self.old.entries }
+        ensures trace { self.new ≡ self.old }
+        ensures made { IfOk result (λ m. (e : EntryValue) → slice_get self.old.entries i ≡ Some e → IsMadeFor self.old e m) }
+        ensures gave_up { result ≡ Err MakeFault.GaveUp → (e : EntryValue) → slice_get self.old.entries i ≡ Some e → IsOutOfReach self.old e }
+    {
+        let entry = self.asked.trace().entry(i);
+        made_for(self.alloc, &mut self.asked, entry, found)
+    }
 }
 
 /// Evidence for entry `i`: steps that are accepted in order, after which it is known whether the goal holds, so that the entry is
@@ -142,5 +192,9 @@ pub fn make(alloc: Global, trace: &Trace, i: usize) -> Result<Steps, MakeFault>
         ⊎ IsTooLong trace.now e }
     ensures one_step { result ≡ Err MakeFault.GaveUp → (e : EntryValue) → slice_get trace.now.entries i ≡ Some e → ¬ IsOneStep trace.now e }
 {
-    make_after(alloc, trace, i, None)
+    let mut maker = Maker::new(alloc, trace);
+    match maker.make_after(i, None) {
+        Ok(made) => Ok(made.steps),
+        Err(fault) => Err(fault),
+    }
 }

@@ -187,25 +187,24 @@ fn settle_stratum(
 /// Steps that settle each fact of a cone, in the order in which its gates open.
 pub(crate) fn settle(
     alloc: Global,
-    trace: &Trace,
+    asked: &mut AskedRules<'_>,
     at: u64,
     cone: &[Fact],
     gates: &mut Gates<'_>,
 ) -> Result<Steps, AllocError>
-    ensures { IfOk result (λ v. HasItsPremises (rule_at trace.now.declarations at) (store_at trace.now.commits at) cone.now → AreDistinct cone.now →
-        IsMade (rule_at trace.now.declarations at) (store_at trace.now.commits at) cone.now (step_values v.items)) }
+    ensures asked { asked.new ≡ asked.old }
+    ensures made { IfOk result (λ v.
+        HasItsPremises (rule_at asked.old.declarations at) (store_at asked.old.commits at) cone.now → AreDistinct cone.now →
+        IsMade (rule_at asked.old.declarations at) (store_at asked.old.commits at) cone.now (step_values v.items)) }
 {
-    let snapshot = trace.timeline().at(at);
+    let snapshot = asked.trace().timeline().at(at);
     let strata = strata_of(alloc, &snapshot, cone)?;
-    let mut asked = AskedRules::new(alloc, trace);
     let mut known = Known::new(alloc);
     let mut steps = Vec::new(alloc);
     let end = top_of(&snapshot, cone) as u16 + 1;
     for stratum in 0..end {
         let places = gates.tell(&strata, stratum)?;
-        settle_stratum(
-            &mut asked, at, cone, stratum, &places, &mut known, &mut steps,
-        )?;
+        settle_stratum(asked, at, cone, stratum, &places, &mut known, &mut steps)?;
     }
     Ok(steps)
 }

@@ -8,6 +8,6 @@ use Rattle.evidence_maker.proofs.settle.settle.Given as goal
 
 abbrev pub invariant-loop-stratum : goal.invariant-loop-stratum
 invariant-loop-stratum l =
-    (l.asked ≡ l.trace)
-    × (HasItsPremises (rule_at l.trace.declarations l.at) (store_at l.trace.commits l.at) l.cone → AreDistinct l.cone
-    → IsMaking (rule_at l.trace.declarations l.at) (store_at l.trace.commits l.at) l.cone l.stratum l.known (step_values l.steps.items))
+    (l.asked ≡ l.fn.asked)
+    × (HasItsPremises (rule_at l.fn.asked.declarations l.at) (store_at l.fn.asked.commits l.at) l.cone → AreDistinct l.cone
+    → IsMaking (rule_at l.fn.asked.declarations l.at) (store_at l.fn.asked.commits l.at) l.cone l.stratum l.known (step_values l.steps.items))
