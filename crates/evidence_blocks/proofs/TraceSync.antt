@@ -18,7 +18,6 @@ use Rattle.namespaces.specs.contracts.rules.Rules as rules
 use Rattle.userset_index.specs.contracts.spans.Spans as spans
 use Rattle.userset_index.specs.contracts.moments.Times as times
 use Rattle.userset_index.specs.contracts.index.UsersetIndex as usersets
-use Rattle.edge_checks.specs.contracts.sample.Sample as sample
 use Rattle.trace_lines.specs.contracts.trace.Trace as trace
 
 tuple_sync : IsSync tuple.the_row
@@ -54,9 +53,6 @@ line_sync = search (sendable, namespace_sync) depth 40
 pub rules_sync : IsSync rules.the_row
 rules_sync = search (sendable, crosses, maps.crosses, line_sync) depth 40 fits 100000
 
-sample_sync : IsSync sample.the_row
-sample_sync = search (sendable, crosses, maps.crosses, tuple_sync) depth 40
-
 spans_sync : IsSync spans.the_row
 spans_sync = search (sendable, crosses, maps.crosses, places_sync) depth 40
 
@@ -68,5 +64,5 @@ usersets_sync = search (sendable, crosses, maps.crosses, spans_sync, times_sync)
 
 pub trace_sync : IsSync trace.the_row
 trace_sync =
-    search (sendable, crosses, maps.crosses, rules_sync, chains_sync, sample_sync, places_sync, usersets_sync) depth
+    search (sendable, crosses, maps.crosses, rules_sync, chains_sync, usersets_sync) depth
     40 fits 100000

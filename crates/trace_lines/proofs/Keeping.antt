@@ -53,15 +53,6 @@ placed_last lines e up le all = record {
   later = rw (drop_all e.before lines (omega (arith, all))) (λ k d lt. absurd (omega (arith, lt)));
 }
 
-pub kept_empty : IsKept [] [] [] []
-kept_empty = record {
-  counted = refl;
-  commits_rise = λ k lt. absurd (omega (arith, lt));
-  entries_rise = λ k lt. absurd (omega (arith, lt));
-  placed = λ k d lt. absurd (omega (arith, lt));
-  named = λ i lt. absurd (omega (arith, lt));
-}
-
 module _ (commits : List Commit) (lines : List ℕ) (es : List EntryValue) (contents : List (Option ℕ)) (is : IsKept commits lines es contents) where
   pub kept_commit : (c : Commit) (n : ℕ) → after_last lines ≤ n → after_last (entry_lines es) ≤ n → IsKept (commits ++ c ∷ []) (lines ++ n ∷ []) es contents
   kept_commit c n behind below = record {

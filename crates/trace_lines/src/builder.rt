@@ -37,7 +37,7 @@ use json_lines::fields::{optional_number_at, text_at};
 use json_lines::{JsonLine, JsonRef, TakeJson};
 use namespaces::{Rules, RulesFault};
 use serde_json::Value;
-use std::alloc::{AllocError, Global};
+use std::alloc::Global;
 use std::marker::Model;
 use tuple_text::{SetRef, TupleRef};
 use userset_index::UsersetIndex;
