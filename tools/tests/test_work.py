@@ -26,11 +26,16 @@ class Counted(Case):
         return run.returncode, run.stdout.splitlines()
 
     def test_what_is_allowed(self) -> None:
-        self.assertEqual(self.work("size * 999"), (0, ["toggled: 0.10 MB 999 a byte, 0.40 MB 999 a byte", "1 passed, 0 failed"]))
+        self.assertEqual(self.work("size * 3999"), (0, ["toggled: 0.10 MB 3,999 a byte, 0.40 MB 3,999 a byte", "1 passed, 0 failed"]))
 
     def test_too_much(self) -> None:
-        said = "toggled: 0.10 MB 1,001 a byte, 0.40 MB 1,001 a byte (too much: more than 1,000 instructions a byte)"
-        self.assertEqual(self.work("size * 1001"), (1, [said, "0 passed, 1 failed"]))
+        said = "toggled: 0.10 MB 4,001 a byte, 0.40 MB 4,001 a byte (too much: more than 4,000 instructions a byte)"
+        self.assertEqual(self.work("size * 4001"), (1, [said, "0 passed, 1 failed"]))
+
+    def test_a_kind_of_long_rules_is_counted_at_larger_sizes(self) -> None:
+        status, said = self.work("size * 999", "tuplesets_in_turn")
+        self.assertEqual((status, said[-1]), (0, "1 passed, 0 failed"))
+        self.assertRegex(said[0], r"^tuplesets_in_turn: 0\.4\d MB 999 a byte, 1\.6\d MB 999 a byte$")
 
     def test_growth(self) -> None:
         status, said = self.work("size * size / 1000")
