@@ -55,6 +55,7 @@ KIND is one of
   ring           groups in a circle, and checks that each of many strangers is not in it: for `make`
   wide_make      a rule of many places that compute one relation, and objects in a chain of such rules: for `make`
   nested_make    a rule of many intersections, and objects in a chain of such rules: for `make`
+  through_make   a rule of many relations through one tupleset, in which 400 usersets are stored, and checks of two such objects in turn: for `make`
   toggled        one tuple added and removed in every other commit, and checks at old snapshots
   ids            one group of users alone, and checks that a stranger is not in it
   chain          records of one chain of groups each, as long as a record may be: from the last group on
@@ -724,6 +725,20 @@ def wide_make(size):
     return given
 
 
+def through_make(size):
+    """Folders that each declare one relation, of which the rule reads many: each check has to name all folders."""
+    leaves = [{"tuple_to": {"tupleset": "parent", "computed": f"r{k}"}} for k in range(size // 120)]
+    rule = {"union": [{"union": leaves[k : k + 50]} for k in range(0, len(leaves), 50)]}
+    doc = {"name": "doc", "relations": [relation("parent"), relation("viewer", rule)]}
+    given = Input(size, [doc, *({"name": f"n{k}", "relations": [relation("r0")]} for k in range(250))])
+    for name in "ab":
+        for first in range(0, 400, 100):
+            given.commit([f"doc:{name}#parent@n{k % 250}:{k}#..." for k in range(first, first + 100)])
+    for user in range(size // 400):
+        given.check(f"doc:{'ab'[user % 2]}#viewer@{user}", False, [])
+    return given
+
+
 def nested_make(size):
     """A rule of many intersections, no two alike, and objects in a chain that each read the next one's."""
     names = [f"r{k}" for k in range(40)]
@@ -871,6 +886,7 @@ KINDS = {
     "ring": ring,
     "wide_make": wide_make,
     "nested_make": nested_make,
+    "through_make": through_make,
     "toggled": toggled,
     "ids": ids,
     "chain": lambda size: rings(size, 1, False),
@@ -885,7 +901,7 @@ KINDS = {
 }
 
 # Those whose evidence the auditor makes: they have none.
-FOR_MAKE = ("ring", "wide_make", "nested_make")
+FOR_MAKE = ("ring", "wide_make", "nested_make", "through_make")
 
 
 def main():
