@@ -1,12 +1,13 @@
 -- The usersets that are stored in another and may lead to its members, as they are gathered.
 use Rattle.std.proofs.Common.{◌≡◌, ℕ, zero, suc, ◌<◌, ◌^◌, ◌&&◌, Bool, true, false, cond, List, [], ◌∷◌, ◌++◌, length, ◌⊎◌, refl, sym, ◌∙◌, ap, subst, Option, None, Some, inl, inr, arith}
-use Rattle.std.specs.Prelude.{nat_eq, slice_get, Contains, is_some}
+use Rattle.std.specs.Prelude.{◌+◌, nat_eq, option_map, position, slice_get, Contains}
 use Rattle.std.specs.List.{AllByRecursion, IsDistinct, cons_option, list_any}
 use Rattle.std.specs.Str.{bytes_eq}
 use Rattle.std.proofs.lemmas.Bool.{eq-eqb, cases_lt, cases_eq}
 use Rattle.std.proofs.lemmas.Cmp.{nat_list_eq_equiv}
 use Rattle.std.proofs.lemmas.List.Elements.{All-contains, All-from_recursion, Contains-append_cases, Contains-append_left, Contains-append_right, Contains-get_or}
 use Rattle.std.proofs.lemmas.Map.Keys.{any_passes_from_place}
+use Rattle.std.proofs.lemmas.Option.{slice_get_within}
 use Rattle.std.proofs.lemmas.Map.Views.{Contains-from_any, list_any-from_Contains}
 use Rattle.tuple_text.specs.OrderLaws.{set_equiv}
 use Rattle.tuple_text.specs.Sets.{SetValue, set_eq}
@@ -14,10 +15,12 @@ use Rattle.tuple_text.specs.Tuples.{TupleValue, tuple_of}
 use Rattle.tuple_text.specs.declared.users.User.{User}
 use Rattle.tuple_text.specs.declared.users.User.TheVariants.{Id, Set}
 use Rattle.tuple_text.proofs.ValueLemmas.{set_eq-same, set_eq-itself}
-use Rattle.namespaces.specs.Lookup.{Rule, namespace_names, namespace_numbered}
+use Rattle.namespaces.specs.Lookup.{namespace_names, namespace_numbered, place_of}
 use Rattle.namespaces.specs.Adding.{has_repeats}
 use Rattle.namespaces.specs.WellFormed.{IsWellFormed}
 use Rattle.rewrites.proofs.Names.{one_name, or_false}
+use Rattle.strata.proofs.LastTuple.{placed}
+use Rattle.strata.proofs.Newest.{position_item}
 use Rattle.strata.proofs.Lists.{Contains-cons_cases, Contains-here, Contains-there, not_in_nil}
 use Rattle.strata.specs.Meaning.{IsStored}
 use Rattle.version_chains.specs.Commits.{Touch, changelog, is_stored}
@@ -29,10 +32,10 @@ use Rattle.userset_index.specs.Lives.{touches_alive}
 use Rattle.userset_index.specs.declared.life.Life.{Life}
 use Rattle.userset_index.proofs.CallerLemmas.{each_found, touch_stored}
 use Rattle.userset_index.proofs.ExactLemmas.{alive_last, alive_once}
-use Rattle.snapshots.specs.Leading.{AreLeading, if_set, is_of, set_by, sets_by, sets_named, sets_of, sets_up_to}
-use Rattle.snapshots.specs.Snapshots.{rules_in, tuples_in}
+use Rattle.snapshots.specs.Leading.{AreAll, AreGathered, AreLeading, AreLeadingThrough, IsNumbered, IsOfObject, if_set, is_of, set_by, sets_by, sets_named, sets_of}
+use Rattle.snapshots.specs.Snapshots.{tuples_in}
 use Rattle.snapshots.specs.declared.snapshot.Snapshot.{Snapshot}
-use Rattle.snapshots.proofs.FoundLemmas.{crowded_there, item_next, numbered, of_stored, through_there}
+use Rattle.snapshots.proofs.FoundLemmas.{crowded_there, item_next, of_stored, through_there}
 
 -- ---- one more, or none
 
@@ -190,15 +193,71 @@ module _ (set : SetValue) (namespace : Option (List ℕ)) where
         (store_at-iff s.timeline.commits s.at (tuple_of set (Set g))).1
         (ap (is_stored s.timeline.commits s.at) (sym (ap (λ (z : Touch). z.tuple) one ∙ w.4)) ∙ touch_stored s.timeline.commits s.at w.0 x.0 x.1)
 
+-- the number of a namespace is that of its place, counted from 1
+place_within : (p : List ℕ) (names : List (List ℕ)) (n : ℕ) → place_of p names ≡ Some n → (k : ℕ) × (n ≡ suc k) × (k < length names)
+place_within p names n place = by_position (position (bytes_eq p) names) refl place
+  where
+    by_position : (o : Option ℕ) → position (bytes_eq p) names ≡ o → option_map (λ i. i + 1) o ≡ Some n → (k : ℕ) × (n ≡ suc k) × (k < length names)
+    by_position None e is = absurd cc
+    by_position (Some i) e is =
+        let w = position_item (bytes_eq p) names i e in
+        let one : i + 1 ≡ n = cc in
+        (i, omega (arith, one), slice_get_within names i w.0 w.1)
+
 -- ---- a set that is not crowded
 
-pub all_leading : (s : Snapshot) (set : SetValue) (relation : Option (List ℕ)) (gs : List SetValue) → IsDistinct set_eq gs
-    → ((g : SetValue) → list_any (set_eq g) gs ≡ is_stored s.timeline.commits s.at (tuple_of set (Set g))) → AreLeading s set relation gs
-all_leading s set relation gs distinct has = record {
-  distinct = distinct;
-  stored = λ g there. (store_at-iff s.timeline.commits s.at (tuple_of set (Set g))).1 (sym (has g) ∙ list_any-from_Contains set_equiv g gs there);
-  leads = λ g stored declared. (g, Contains-from_any set_eq-same g gs (has g ∙ (store_at-iff s.timeline.commits s.at (tuple_of set (Set g))).0 stored), refl);
+pub all_stored : (s : Snapshot) (set : SetValue) (gs : List SetValue) → IsDistinct set_eq gs
+    → ((g : SetValue) → list_any (set_eq g) gs ≡ is_stored s.timeline.commits s.at (tuple_of set (Set g))) → AreAll s set gs
+all_stored s set gs distinct has = record {
+  stored = record {
+    distinct = distinct;
+    each = λ g there. (store_at-iff s.timeline.commits s.at (tuple_of set (Set g))).1 (sym (has g) ∙ list_any-from_Contains set_equiv g gs there);
+  };
+  all = λ g stored. Contains-from_any set_eq-same g gs (has g ∙ (store_at-iff s.timeline.commits s.at (tuple_of set (Set g))).0 stored);
 }
+
+pub all_leading : (s : Snapshot) (set : SetValue) (gs : List SetValue) → AreAll s set gs → AreLeading s set gs
+all_leading s set gs are = record { stored = are.stored; own = λ g stored declared. are.all g stored }
+
+pub all_leading_through : (s : Snapshot) (set : SetValue) (P : ℕ → Type 0) (gs : List SetValue) → AreAll s set gs → AreLeadingThrough s set P gs
+all_leading_through s set P gs are = record {
+  stored = are.stored;
+  through = λ n g stored numbered wanted. (g, are.all g stored, record { namespace = refl; id = refl });
+}
+
+-- ---- as one namespace comes behind the other
+
+module _ (s : Snapshot) (set : SetValue) (P : ℕ → Type 0) where
+  pub none_gathered : AreGathered s set P 0 []
+  unfolding IsDistinct
+  none_gathered = record {
+    through = record {
+      stored = record { distinct = tt; each = λ g there. absurd (not_in_nil g there) };
+      through = λ n g stored numbered wanted. let w = place_within g.namespace (namespace_names s.timeline.declarations) n numbered in absurd (let none = wanted.1 in let next = w.1 in omega (arith, none, next));
+    };
+    below = λ g there. absurd (not_in_nil g there);
+  }
+
+  -- a namespace that is not wanted is passed over
+  pub passed : (n : ℕ) (gs : List SetValue) → (¬ P (suc n)) → AreGathered s set P n gs → AreGathered s set P (suc n) gs
+  passed n gs unwanted rest = record {
+    through = record {
+      stored = rest.through.stored;
+      through = λ k g stored numbered wanted. elim (cases_eq k (suc n)) [
+        | inl here ↦ absurd (unwanted (subst P here wanted.0))
+        | inr other ↦ rest.through.through k g stored numbered (wanted.0, (let most = wanted.1 in omega (arith, most, other)))
+      ];
+    };
+    below = λ g there. let w = rest.below g there in (w.0, (let less = w.1 in omega (arith, less)), w.2);
+  }
+
+  -- there are no more than 256
+  pub all_gathered : IsWellFormed s.timeline.declarations → (gs : List SetValue) → AreGathered s set P 256 gs → AreLeadingThrough s set P gs
+  all_gathered well gs all = record {
+    stored = all.through.stored;
+    through = λ n g stored numbered wanted.
+        all.through.through n g stored numbered (wanted, (let w = place_within g.namespace (namespace_names s.timeline.declarations) n numbered in let next = w.1 in let less = w.2 in let few = well.namespaces in omega (arith, few, next, less)));
+  }
 
 -- ---- a crowded one
 
@@ -211,112 +270,94 @@ module _ (s : Snapshot) (small : s.at < 2 ^ 64) (v : IndexValue) (is : IsWhole s
   abbrev own_touches : List ℕ
   own_touches = touches_alive (set_mark set) s.at v.own (length v.own)
 
-  pub own_leading : AreLeading s set None (sets_by s set None own_touches)
+  pub own_leading : AreLeading s set (sets_by s set None own_touches)
   own_leading = record {
-    distinct = distinct_sets set None s own_touches (alive_once (changelog s.timeline.commits) v.own is.own_exact (set_mark set) s.at) last;
-    stored = stored_sets set None s own_touches last;
-    leads = λ g stored declared.
+    stored = record {
+      distinct = distinct_sets set None s own_touches (alive_once (changelog s.timeline.commits) v.own is.own_exact (set_mark set) s.at) last;
+      each = stored_sets set None s own_touches last;
+    };
+    own = λ g stored declared.
         let w = of_stored s small v is set crowded g stored in
         let found =
         is.own w.0 s.at (set_mark set) w.1 g w.2 (ap (λ (t : TupleValue). t.user) w.3) (crowded_there s small v is set crowded w.1 g w.3) small
         (ap (λ (t : TupleValue). set_mark t.set) (sym w.3), declared) in
-        (g, among_sets set None s own_touches w.0 w.1 g (found_in v.own (set_mark set) s.at w.0 found) w.2.here w.3 refl, refl);
+        among_sets set None s own_touches w.0 w.1 g (found_in v.own (set_mark set) s.at w.0 found) w.2.here w.3 refl;
   }
     where
       last : AreLast set None s own_touches
       last = alive_last (changelog s.timeline.commits) v.own is.own_exact (set_mark set) s.at
 
-  module _ (relation : List ℕ) where
-    abbrev through_touches : ℕ → List ℕ
-    through_touches n = touches_alive (pair_mark (set_mark set) n) s.at v.through (length v.through)
+  abbrev through_touches : ℕ → List ℕ
+  through_touches n = touches_alive (pair_mark (set_mark set) n) s.at v.through (length v.through)
 
-    last_through : (n : ℕ) (name : List ℕ) → AreLast set (Some name) s (through_touches n)
-    last_through n name = alive_last (changelog s.timeline.commits) v.through is.through_exact (pair_mark (set_mark set) n) s.at
+  -- where nothing is found of a namespace, nothing of it is stored
+  pub none_found : (n : ℕ) → through_touches n ≡ [] → (g : SetValue) → IsStored (tuples_in s) set (Set g) → ¬ IsNumbered s g n
+  none_found n none g stored numbered =
+      let f = through_there s small v is set crowded g n numbered stored in
+      not_in_nil f.touch (subst (λ (is : List ℕ). Contains is f.touch) none (found_in v.through (pair_mark (set_mark set) n) s.at f.touch f.found))
 
-    -- what is gathered of the first so many namespaces
-    record IsGathered (n : ℕ) (gs : List SetValue) : Type 0 where
-      distinct : IsDistinct set_eq gs
-      stored : (g : SetValue) → Contains gs g → IsStored (tuples_in s) set (Set g)
-      of : (g : SetValue) → Contains gs g → (k : ℕ) × (k < n) × (slice_get (namespace_names s.timeline.declarations) k ≡ Some g.namespace)
+  last_through : (n : ℕ) (name : List ℕ) → AreLast set (Some name) s (through_touches n)
+  last_through n name = alive_last (changelog s.timeline.commits) v.through is.through_exact (pair_mark (set_mark set) n) s.at
 
-    in_named : (n : ℕ) (o : Option (List ℕ)) (g : SetValue) → Contains (sets_named s v set relation n o) g
-        → (name : List ℕ) × (o ≡ Some name) × Contains (sets_by s set (Some name) (through_touches n)) g
-    in_named n None g there = absurd (not_in_nil g there)
-    in_named n (Some name) g there = by_test (is_some (rules_in s name relation)) there
-      where
-        by_test : (b : Bool) → Contains (cond b (sets_by s set (Some name) (through_touches n)) []) g
-            → (q : List ℕ) × (Some name ≡ Some q) × Contains (sets_by s set (Some q) (through_touches n)) g
-        by_test true there = (name, refl, there)
-        by_test false there = absurd (not_in_nil g there)
+  in_named : (n : ℕ) (o : Option (List ℕ)) (g : SetValue) → Contains (sets_named s v set n o) g
+      → (name : List ℕ) × (o ≡ Some name) × Contains (sets_by s set (Some name) (through_touches n)) g
+  in_named n None g there = absurd (not_in_nil g there)
+  in_named n (Some name) g there = (name, refl, there)
 
-    named_distinct : (n : ℕ) (o : Option (List ℕ)) → IsDistinct set_eq (sets_named s v set relation n o)
-    unfolding IsDistinct
-    named_distinct n None = tt
-    named_distinct n (Some name) = by_test (is_some (rules_in s name relation))
-      where
-        by_test : (b : Bool) → IsDistinct set_eq (cond b (sets_by s set (Some name) (through_touches n)) [])
-        by_test true =
-            distinct_sets set (Some name) s (through_touches n) (alive_once (changelog s.timeline.commits) v.through is.through_exact (pair_mark (set_mark set) n) s.at) (last_through n name)
-        by_test false = tt
+  named_distinct : (n : ℕ) (o : Option (List ℕ)) → IsDistinct set_eq (sets_named s v set n o)
+  unfolding IsDistinct
+  named_distinct n None = tt
+  named_distinct n (Some name) =
+      distinct_sets set (Some name) s (through_touches n) (alive_once (changelog s.timeline.commits) v.through is.through_exact (pair_mark (set_mark set) n) s.at) (last_through n name)
 
-    -- each of them is stored, and of the namespace
-    of_named : (n : ℕ) (g : SetValue) → Contains (sets_of s v set relation (suc n)) g
-        → IsStored (tuples_in s) set (Set g) × (slice_get (namespace_names s.timeline.declarations) n ≡ Some g.namespace)
-    of_named n g there =
-        let w = in_named (suc n) (namespace_numbered (suc n) s.timeline.declarations) g there in
-        let u = in_sets set (Some w.0) s (through_touches (suc n)) g w.2 in (
-          stored_sets set (Some w.0) s (through_touches (suc n)) (last_through (suc n) w.0) g w.2,
-          sym (item_next (namespace_names s.timeline.declarations) n) ∙ w.1 ∙ ap (λ (q : List ℕ). Some q) (one_name w.0 g.namespace u.5),
-        )
+  -- each of them is stored, and of the namespace
+  of_named : (n : ℕ) (g : SetValue) → Contains (sets_of s v set (suc n)) g
+      → IsStored (tuples_in s) set (Set g) × (slice_get (namespace_names s.timeline.declarations) n ≡ Some g.namespace)
+  of_named n g there =
+      let w = in_named (suc n) (namespace_numbered (suc n) s.timeline.declarations) g there in
+      let u = in_sets set (Some w.0) s (through_touches (suc n)) g w.2 in (
+        stored_sets set (Some w.0) s (through_touches (suc n)) (last_through (suc n) w.0) g w.2,
+        sym (item_next (namespace_names s.timeline.declarations) n) ∙ w.1 ∙ ap (λ (q : List ℕ). Some q) (one_name w.0 g.namespace u.5),
+      )
 
-    gathered : has_repeats (namespace_names s.timeline.declarations) ≡ false → (n : ℕ) → IsGathered n (sets_up_to s v set relation n)
-    unfolding IsDistinct
-    gathered once zero = record { distinct = tt; stored = λ g there. absurd (not_in_nil g there); of = λ g there. absurd (not_in_nil g there) }
-    gathered once (suc n) = by_rest (gathered once n)
-      where
-        by_rest : IsGathered n (sets_up_to s v set relation n) → IsGathered (suc n) (sets_up_to s v set relation (suc n))
-        by_rest rest = record {
-          distinct = distinct_append (sets_up_to s v set relation n) (sets_of s v set relation (suc n)) rest.distinct (named_distinct (suc n) (namespace_numbered (suc n) s.timeline.declarations))
-              (λ g there again.
-              let w = rest.of g there in
-              let same = one_place (namespace_names s.timeline.declarations) w.0 n g.namespace once w.2 (of_named n g again).1 in
-              let less = w.1 in
-              omega (arith, less, same));
-          stored = λ g there. elim (Contains-append_cases (sets_up_to s v set relation n) (sets_of s v set relation (suc n)) g there) [
-            | inl before ↦ rest.stored g before
-            | inr here ↦ (of_named n g here).0
-          ];
-          of = λ g there. elim (Contains-append_cases (sets_up_to s v set relation n) (sets_of s v set relation (suc n)) g there) [
-            | inl before ↦ let w = rest.of g before in (w.0, (let less = w.1 in omega (arith, less)), w.2)
-            | inr here ↦ (n, omega arith, (of_named n g here).1)
-          ];
-        }
+  -- and one of the object of each that is stored and of the namespace is among them
+  object_of : (n : ℕ) (g : SetValue) → IsStored (tuples_in s) set (Set g) → IsNumbered s g (suc n) → (h : SetValue) × Contains (sets_of s v set (suc n)) h × IsOfObject g h
+  object_of n g stored place =
+      let name : namespace_numbered (suc n) s.timeline.declarations ≡ Some g.namespace = placed g.namespace (namespace_names s.timeline.declarations) (suc n) place in
+      let f = through_there s small v is set crowded g (suc n) place stored in
+      let one : bytes_eq g.namespace f.of.namespace ≡ true = same_bytes_eq g.namespace f.of.namespace (sym f.one_namespace) in
+      let there : Contains (sets_by s set (Some g.namespace) (through_touches (suc n))) f.of =
+      among_sets set (Some g.namespace) s (through_touches (suc n)) f.touch f.is f.of (found_in v.through (pair_mark (set_mark set) (suc n)) s.at f.touch f.found) f.last.here f.stored one in
+      (f.of, subst (λ (o : Option (List ℕ)). Contains (sets_named s v set (suc n) o) f.of) (sym name) there, record { namespace = f.one_namespace; id = f.one_id })
 
-    up_to : (n k : ℕ) (g : SetValue) → k < n → Contains (sets_of s v set relation (suc k)) g → Contains (sets_up_to s v set relation n) g
-    up_to zero k g less there = absurd (omega (arith, less))
-    up_to (suc n) k g less there = elim (cases_lt k n) [
-      | inl before ↦ Contains-append_left (sets_up_to s v set relation n) (sets_of s v set relation (suc n)) g (up_to n k g before there)
-      | inr past ↦
-          let here : k ≡ n = omega (arith, less, past) in
-          Contains-append_right (sets_up_to s v set relation n) (sets_of s v set relation (suc n)) g (subst (λ (j : ℕ). Contains (sets_of s v set relation (suc j)) g) here there)
-    ]
-
-    pub through_leading : IsWellFormed s.timeline.declarations → AreLeading s set (Some relation) (sets_up_to s v set relation 256)
-    through_leading well = record {
-      distinct = (gathered well.distinct 256).distinct;
-      stored = (gathered well.distinct 256).stored;
-      leads = λ g stored declared.
-          let n = numbered s.timeline.declarations s.at g.namespace relation declared well.namespaces in
-          let f = through_there s small v is set crowded g (suc n.0) n.2 stored in
-          let one : bytes_eq g.namespace f.of.namespace ≡ true = same_bytes_eq g.namespace f.of.namespace (sym f.one_namespace) in
-          let there : Contains (sets_by s set (Some g.namespace) (through_touches (suc n.0))) f.of =
-          among_sets set (Some g.namespace) s (through_touches (suc n.0)) f.touch f.is f.of (found_in v.through (pair_mark (set_mark set) (suc n.0)) s.at f.touch f.found) f.last.here f.stored one in
-          let here : Contains (sets_of s v set relation (suc n.0)) f.of =
-          subst (λ (o : Option (List ℕ)). Contains (sets_named s v set relation (suc n.0) o) f.of) (sym n.3) (by_test (rules_in s g.namespace relation) refl declared (suc n.0) f.of g.namespace there) in
-          (f.of, up_to 256 n.0 f.of n.1 here, λ k. record { namespace = f.one_namespace k; id = f.one_id k; relation = relation });
-    }
-      where
-        by_test : (o : Option Rule) → o ≡ o → ¬ (o ≡ None) → (n : ℕ) (h : SetValue) (name : List ℕ) → Contains (sets_by s set (Some name) (through_touches n)) h
-            → Contains (cond (is_some o) (sets_by s set (Some name) (through_touches n)) []) h
-        by_test None e declared n h name there = absurd (declared refl)
-        by_test (Some r) e declared n h name there = there
+  -- what an index finds of one more namespace
+  pub more_gathered : (P : ℕ → Type 0) → has_repeats (namespace_names s.timeline.declarations) ≡ false → (n : ℕ) (gs : List SetValue) → AreGathered s set P n gs
+      → AreGathered s set P (suc n) (gs ++ sets_of s v set (suc n))
+  more_gathered P once n gs rest = record {
+    through = record {
+      stored = record {
+        distinct = distinct_append gs (sets_of s v set (suc n)) rest.through.stored.distinct (named_distinct (suc n) (namespace_numbered (suc n) s.timeline.declarations))
+            (λ g there again.
+            let w = rest.below g there in
+            let same = one_place (namespace_names s.timeline.declarations) w.0 n g.namespace once w.2 (of_named n g again).1 in
+            let less = w.1 in
+            omega (arith, less, same));
+        each = λ g there. elim (Contains-append_cases gs (sets_of s v set (suc n)) g there) [
+          | inl before ↦ rest.through.stored.each g before
+          | inr here ↦ (of_named n g here).0
+        ];
+      };
+      through = λ k g stored numbered wanted. elim (cases_eq k (suc n)) [
+        | inl here ↦
+            let w = object_of n g stored (subst (IsNumbered s g) here numbered) in
+            (w.0, Contains-append_right gs (sets_of s v set (suc n)) w.0 w.1, w.2)
+        | inr other ↦
+            let w = rest.through.through k g stored numbered (wanted.0, (let most = wanted.1 in omega (arith, most, other))) in
+            (w.0, Contains-append_left gs (sets_of s v set (suc n)) w.0 w.1, w.2)
+      ];
+    };
+    below = λ g there. elim (Contains-append_cases gs (sets_of s v set (suc n)) g there) [
+      | inl before ↦ let w = rest.below g before in (w.0, (let less = w.1 in omega (arith, less)), w.2)
+      | inr here ↦ (n, omega arith, (of_named n g here).1)
+    ];
+  }

@@ -1,34 +1,23 @@
 //! The usersets that are stored in another and may lead to its members.
 
-ghost use Rattle.std.specs.Prelude.{◌≡◌, ◌&&◌, ◌++◌, ℕ, List, Option, true, false, IfOk, OnOk, map, option_map, slice_get};
+ghost use Rattle.std.specs.Prelude.{◌≡◌, ◌&&◌, ◌++◌, ℕ, true, IfOk, IfSome, OnOk, map, option_map, slice_get};
 ghost use Rattle.tuple_text.specs.Refs.{set_value};
+ghost use Rattle.tuple_text.specs.Sets.{SetValue};
+ghost use Rattle.tuple_text.specs.declared.users.User.TheVariants.{Set};
 ghost use Rattle.namespaces.specs.WellFormed.{IsWellFormed};
+ghost use Rattle.strata.specs.Meaning.{IsStored};
 ghost use Rattle.version_chains.specs.Commits.{changelog};
-ghost use Rattle.marks.specs.Marks.{set_mark};
-ghost use Rattle.userset_index.specs.Index.{is_crowded};
+ghost use Rattle.userset_index.specs.Numbers.{Has};
 ghost use Rattle.snapshots.specs.Leading as spec;
-ghost use Rattle.snapshots.specs.Leading.{AreLeading, sets_by, sets_of, sets_up_to};
+ghost use Rattle.snapshots.specs.Leading.{AreAll, AreLeading, AreLeadingThrough, IsNumbered, sets_by, sets_of};
+ghost use Rattle.snapshots.specs.Snapshots.{tuples_in};
 
 use crate::snapshot::Snapshot;
 use marks::MarkedSet;
 use namespaces::MAX_NUMBER;
 use std::alloc::{AllocError, Global};
 use tuple_text::{SetRef, UserRef};
-use userset_index::{Alive, UsersetIndex};
-
-/// At how many touches of usersets it is no more than a walk to look at each namespace.
-const MANY: u8 = 255;
-
-/// Whether all that was ever stored in a set is walked over, as where that is little.
-fn is_walked(index: &UsersetIndex, set: MarkedSet<'_>, relation: Option<&str>) -> bool
-    ensures { result ≡ false
-        → (index.now.is_whole && is_crowded index.now.crowds (set_mark (set_value set.entry.set))) ≡ true }
-{
-    if !index.is_crowded(set) {
-        return true;
-    }
-    relation.is_some() && index.count(set) < MANY
-}
+use userset_index::{Alive, Numbers, UsersetIndex};
 
 /// Whether a userset is of a namespace, or of any.
 fn is_of(set: SetRef<'_>, namespace: Option<&str>) -> bool
@@ -73,6 +62,7 @@ impl<'a> Snapshot<'a> {
         ensures { OnOk result (map set_value sets.new.items ≡ map set_value sets.old.items
             ++ sets_by self.now (set_value set.entry) (option_map (λ s. s.now) namespace.entry) touches.entry) }
     {
+        // the lives of one mark that hold the timestamp: a touch for each userset that is stored then
         for touch in touches {
             if let Some(stored) = self.set_by(set, namespace, touch) {
                 sets.push(stored)?;
@@ -81,61 +71,34 @@ impl<'a> Snapshot<'a> {
         Ok(())
     }
 
-    /// Puts the usersets of a namespace that are stored in a crowded set behind others, one of an object at least, where
-    /// the namespace declares a relation.
+    /// Puts the usersets that are stored in a crowded set, and are of the namespace of a number, behind others: one of an object at least.
     fn push_of<'s>(
         &'s self,
         sets: &mut Vec<SetRef<'s>>,
         index: &UsersetIndex,
         set: MarkedSet<'_>,
-        relation: &str,
         number: u16,
     ) -> Result<(), AllocError>
         ensures { OnOk result (map set_value sets.new.items ≡ map set_value sets.old.items
-            ++ sets_of self.now index.now (set_value set.entry.set) relation.now number) }
+            ++ sets_of self.now index.now (set_value set.entry.set) number) }
     {
         let Some(namespace) = self.timeline.rules().namespace(number) else {
             return Ok(());
         };
-        let target = SetRef {
-            namespace,
-            id: "",
-            relation,
-        };
-        if self.rule(target).is_none() {
-            return Ok(());
-        }
         let touches = index.through(set, number, self.at);
         self.push_touched(sets, set.set, Some(namespace), touches)
     }
 
-    /// Those of all namespaces, of which there are 256 at most.
-    fn push_through<'s>(
-        &'s self,
-        sets: &mut Vec<SetRef<'s>>,
-        index: &UsersetIndex,
-        set: MarkedSet<'_>,
-        relation: &str,
-    ) -> Result<(), AllocError>
-        ensures { OnOk result (map set_value sets.new.items ≡ map set_value sets.old.items
-            ++ sets_up_to self.now index.now (set_value set.entry.set) relation.now 256) }
-    {
-        for before in 0..MAX_NUMBER {
-            self.push_of(sets, index, set, relation, before + 1)?;
-        }
-        Ok(())
-    }
-
-    /// The usersets that are stored in a set that is not crowded.
+    /// The usersets that are stored in a set, by what was ever stored there. Of a set that is not crowded that is little.
     fn all_stored<'s>(
         &'s self,
         alloc: Global,
         set: MarkedSet<'s>,
     ) -> Result<Vec<SetRef<'s>>, AllocError>
-        ensures { (relation : Option (List ℕ)) → IfOk result (λ v. AreLeading self.now (set_value set.entry.set) relation
-            (map set_value v.items)) }
+        ensures { IfOk result (λ v. AreAll self.now (set_value set.entry.set) (map set_value v.items)) }
     {
         let mut sets = Vec::new(alloc);
+        // where there is no index, no set of the trace is crowded
         for stored in self.usersets(set) {
             sets.push(stored.set)?;
         }
@@ -143,36 +106,90 @@ impl<'a> Snapshot<'a> {
     }
 
     /// The declarations are well formed. That is a law: it computes nothing.
-    fn is_well_formed(&self)
+    pub fn is_well_formed(&self)
         ensures { IsWellFormed self.now.timeline.declarations }
     {
         let _ = self.timeline.rules().namespace(1);
     }
 
-    /// Usersets that are stored in a set and may lead to its members: themselves, or through a relation of their objects.
+    /// The usersets that are stored in a set, or `None` where many were, so that an index is to be asked.
     ///
-    /// Each is stored, and comes once. For each whose own relation, or that one of its object, is declared, there is one that leads to
-    /// the same userset. Where many usersets were stored in the set, what is dead is not gone over, nor what is undeclared.
+    /// Refusals: OutOfMemory.
+    pub fn few<'s>(
+        &'s self,
+        alloc: Global,
+        set: MarkedSet<'s>,
+    ) -> Result<Option<Vec<SetRef<'s>>>, AllocError>
+        ensures { IfOk result (λ o. IfSome o (λ v. AreAll self.now (set_value set.entry.set) (map set_value v.items))) }
+    {
+        if self.timeline.usersets().is_crowded(set) {
+            return Ok(None);
+        }
+        Ok(Some(self.all_stored(alloc, set)?))
+    }
+
+    /// Usersets that are stored in a set, each once, among them each whose relation is declared.
+    ///
+    /// Where many usersets were stored in the set, what is dead is not gone over, nor what is undeclared.
+    ///
+    /// Refusals: OutOfMemory.
     pub fn leading<'s>(
         &'s self,
         alloc: Global,
         set: MarkedSet<'s>,
-        relation: Option<&str>,
     ) -> Result<Vec<SetRef<'s>>, AllocError>
-        ensures { IfOk result (λ v. AreLeading self.now (set_value set.entry.set) (option_map (λ s. s.now) relation.entry)
+        ensures { IfOk result (λ v. AreLeading self.now (set_value set.entry.set) (map set_value v.items)) }
+    {
+        self.fits();
+        let index = self.timeline.usersets();
+        if !index.is_crowded(set) {
+            return self.all_stored(alloc, set);
+        }
+        let mut sets = Vec::new(alloc);
+        self.push_touched(&mut sets, set.set, None, index.own(set, self.at))?;
+        Ok(sets)
+    }
+
+    /// Usersets that are stored in a set, each once, among them one of the object of each whose namespace has one of some numbers.
+    ///
+    /// Where many usersets were stored in the set, what is dead is not gone over, nor what is of other namespaces.
+    ///
+    /// Refusals: OutOfMemory.
+    pub fn leading_through<'s>(
+        &'s self,
+        alloc: Global,
+        set: MarkedSet<'s>,
+        wanted: Numbers,
+    ) -> Result<Vec<SetRef<'s>>, AllocError>
+        ensures { IfOk result (λ v. AreLeadingThrough self.now (set_value set.entry.set) (Has wanted)
             (map set_value v.items)) }
     {
         self.fits();
         self.is_well_formed();
         let index = self.timeline.usersets();
-        if is_walked(index, set, relation) {
+        if !index.is_crowded(set) {
             return self.all_stored(alloc, set);
         }
         let mut sets = Vec::new(alloc);
-        match relation {
-            None => self.push_touched(&mut sets, set.set, None, index.own(set, self.at))?,
-            Some(relation) => self.push_through(&mut sets, index, set, relation)?,
+        for before in 0..MAX_NUMBER {
+            if wanted.has(before + 1) {
+                self.push_of(&mut sets, index, set, before + 1)?;
+            }
         }
         Ok(sets)
+    }
+
+    /// Whether it is known at one look that no userset of the namespace of a number is stored in a set. Of a set that is not crowded it is not.
+    pub fn stores_none(&self, set: MarkedSet<'_>, number: u16) -> bool
+        ensures { result ≡ true → (g : SetValue) → IsStored (tuples_in self.now) (set_value set.entry.set) (Set g)
+            → ¬ IsNumbered self.now g number }
+    {
+        self.fits();
+        let index = self.timeline.usersets();
+        if !index.is_crowded(set) {
+            return false;
+        }
+        let mut touches = index.through(set, number, self.at);
+        touches.next().is_none()
     }
 }

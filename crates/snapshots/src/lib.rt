@@ -4,7 +4,8 @@
 //! one. Contracts see a timeline as its declarations and its commits. What they ask of a snapshot are `rules_in` and `tuples_in`.
 //!
 //! Callers may rely on this: what a timeline lends has the values that it was made of, and its index is one of these. What
-//! [`Snapshot::leading`] gives of a userset is stored there, each once, and leads to all of its declared premises (`AreLeading`).
+//! [`Snapshot::leading`] gives of a userset is stored there, each once, with all that is declared (`AreLeading`), and what
+//! [`Snapshot::leading_through`] gives has one of the object of each that is of a wanted namespace (`AreLeadingThrough`).
 //!
 //! ```text
 //! let snapshot = Timeline::new(&rules, &chains, &usersets).at(entry.snapshot);

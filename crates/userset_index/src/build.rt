@@ -27,7 +27,7 @@ const FEW: u8 = 16;
 const COUNTS: usize = 1 << 16;
 
 /// Which count is that of a userset with this mark.
-pub(crate) fn count_of(mark: u64) -> usize
+fn count_of(mark: u64) -> usize
     ensures { result ≡ spec.count_of mark }
 {
     (mark >> 48) as usize

@@ -1,15 +1,13 @@
 //! The index.
 
-ghost use Rattle.std.specs.Prelude.{◌≡◌, ◌&&◌, length, slice_get, unwrap_or, false, IfOk, IfSome};
+ghost use Rattle.std.specs.Prelude.{◌≡◌, ◌&&◌, length, false, IfOk, IfSome};
 ghost use Rattle.tuple_text.specs.Refs.{set_value};
 ghost use Rattle.marks.specs.Marks as marks;
 ghost use Rattle.userset_index.specs.Index as spec;
 ghost use Rattle.userset_index.specs.Index.{AreNamespaces, IsUsersetIndex};
 ghost use Rattle.userset_index.specs.Lives.{touches_alive};
 
-use crate::build::{
-    count_crowds, count_of, ends_of, is_any_crowded, is_crowded, linked_lives, object_mark,
-};
+use crate::build::{count_crowds, ends_of, is_any_crowded, is_crowded, linked_lives, object_mark};
 use crate::life::Way;
 use crate::moments::Times;
 use crate::numbers::Numbers;
@@ -106,14 +104,6 @@ impl UsersetIndex {
             ≡ (self.now.is_whole && spec.is_crowded self.now.crowds (marks.set_mark (set_value set.entry.set))) }
     {
         self.is_whole && is_crowded(&self.crowds, set.mark)
-    }
-
-    /// How many touches of usersets were counted of a userset and of those that share its count; 255 stands for more, too.
-    pub fn count(&self, set: MarkedSet<'_>) -> u8
-        ensures { result
-            ≡ unwrap_or (slice_get self.now.crowds (spec.count_of (marks.set_mark (set_value set.entry.set)))) 0 }
-    {
-        self.crowds.get(count_of(set.mark)).copied().unwrap_or(0)
     }
 
     /// The namespaces of the usersets that are stored in a userset at a timestamp, and maybe others. `None` where that was not noted: it is
