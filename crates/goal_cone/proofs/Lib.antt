@@ -1,8 +1,10 @@
 pub mod Exploring
+pub mod GroupLemmas
 pub mod LeafLemmas
 pub mod OnceLemmas
 pub mod PremiseLemmas
 pub mod Searching
 pub mod SeenLemmas
 pub mod StoredLemmas
+pub mod TargetLemmas
 pub mod Weights

@@ -11,14 +11,14 @@ use Rattle.tuple_text.specs.Parts.{checked_fact}
 use Rattle.tuple_text.specs.declared.fault.TupleFault.{TupleFault}
 use Rattle.tuple_text.specs.Tuples.{TupleValue, FactValue, fact_of}
 use Rattle.tuple_text.specs.Grammar.{IsFact}
-use Rattle.rewrites.specs.Expression.{Expression, union}
+use Rattle.rewrites.specs.Expression.{Expression, union, no_child}
 use Rattle.namespaces.specs.Lookup.{Rule, Lookup, rule_of}
 use Rattle.rewrites.specs.View.{children}
 use Rattle.judgement.specs.Judgement.{IsUndeclared}
 use Rattle.strata.proofs.Lists.{not_in_nil, Contains-cons_cases}
 use Rattle.goal_cone.specs.Bounds.{links, links_all, links_by, links_of}
 use Rattle.goal_cone.specs.Cone.{IsMet, IsNeeded}
-use Rattle.rewrites.specs.Leaves.{AreLeavesOf}
+use Rattle.goal_cone.specs.Leaves.{HaveLeavesOf}
 use Rattle.goal_cone.specs.Pass.{IsRead, IsUnderWay}
 use Rattle.goal_cone.specs.Premises.{Reads, ReadsSome}
 use Rattle.goal_cone.specs.Seen.{Sees, IsStuck}
@@ -220,20 +220,20 @@ second_stuck most_facts most_links rules store T S old now had room a b le seen 
 
 -- by its leaves
 abbrev pub HasLeaves : Lookup → SetValue → List Expression → Type 0
-HasLeaves rules g es = AreLeavesOf es (option_map (λ (r : Rule). r.expression) (rule_of rules g))
+HasLeaves rules g es = HaveLeavesOf es (option_map (λ (r : Rule). r.expression) (rule_of rules g))
 
 pub read_by : (rules : Lookup) (store : List TupleValue) (f : FactValue) (es : List Expression) → HasLeaves rules f.set es
     → ((p : FactValue) → ReadsSome store f (children es) p → IsRead rules store f p) × ((p : FactValue) → IsRead rules store f p → ReadsSome store f (children es) p)
     × (links_all store f.set (children es) ≤ links_of rules store f)
 read_by rules store f es found = by_rule (rule_of rules f.set) refl found
   where
-    by_rule : (o : Option Rule) → rule_of rules f.set ≡ o → AreLeavesOf es (option_map (λ (r : Rule). r.expression) o)
+    by_rule : (o : Option Rule) → rule_of rules f.set ≡ o → HaveLeavesOf es (option_map (λ (r : Rule). r.expression) o)
         → ((p : FactValue) → ReadsSome store f (children es) p → IsRead rules store f p) × ((p : FactValue) → IsRead rules store f p → ReadsSome store f (children es) p)
         × (links_all store f.set (children es) ≤ links_by store f.set (rule_of rules f.set))
-    by_rule None e none = (
-      λ p reads. absurd (rw none at reads),
+    by_rule None e thin = (
+      λ p reads. absurd (thinned_reads store f p (union (children es)) (union no_child) thin reads),
       λ p t. (let d : None ≡ Some t.0 = sym e ∙ t.1 in absurd (cc)),
-      rw (none, e) (omega arith),
+      (let few : links_all store f.set (children es) ≤ 0 = thinned_links store f.set (union (children es)) (union no_child) thin in rw e few),
     )
     by_rule (Some r) e thin = (
       λ p reads. (r, e, thinned_reads store f p (union (children es)) r.expression thin reads),

@@ -1,24 +1,17 @@
 -- What is left of a pass over premises. No public clause cites this module.
-use Rattle.std.specs.Prelude.{◌≡◌, ℕ, ◌+◌, ◌≤◌, List, [], ◌∷◌, Option, Some, ◌⊎◌, length, slice_get, take, drop, sum_by}
+use Rattle.std.specs.Prelude.{◌≡◌, ℕ, ◌+◌, ◌≤◌, List, [], ◌∷◌, Some, ◌⊎◌, length, slice_get, take, drop, sum_by}
 use Rattle.tuple_text.specs.Sets.{SetValue}
 use Rattle.tuple_text.specs.Tuples.{TupleValue, FactValue, fact_of}
-use Rattle.tuple_text.specs.declared.users.User.TheVariants.{Set}
-use Rattle.strata.specs.Meaning.{IsStored}
 use Rattle.namespaces.specs.Lookup.{Rule, Lookup, rule_of}
-use Rattle.judgement.specs.Passes.{target}
 use Rattle.goal_cone.specs.Bounds.{links_of}
 use Rattle.goal_cone.specs.Cone.{IsExploring, AreDistinct}
 use Rattle.goal_cone.specs.Premises.{Reads}
 use Rattle.goal_cone.specs.Seen.{Sees, IsStuck}
 
--- the fact is that of a userset's target
-abbrev pub AmongTargets : Option (List ℕ) → ℕ → List SetValue → FactValue → Type 0
-AmongTargets relation user [] p = ⊥
-AmongTargets relation user (g ∷ gs) p = (fact_of (target g relation) user ≡ p) ⊎ AmongTargets relation user gs p
-
--- the fact is that of the target of a userset that is stored
-abbrev pub IsGiven : List TupleValue → SetValue → Option (List ℕ) → ℕ → FactValue → Type 0
-IsGiven store set relation user p = (g : SetValue) × IsStored store set (Set g) × (fact_of (target g relation) user ≡ p)
+-- the fact is that of one of some usersets
+abbrev pub AmongSets : ℕ → List SetValue → FactValue → Type 0
+AmongSets user [] p = ⊥
+AmongSets user (g ∷ gs) p = (fact_of g user ≡ p) ⊎ AmongSets user gs p
 
 -- f's rule reads p
 abbrev pub IsRead : Lookup → List TupleValue → FactValue → FactValue → Type 0

@@ -1,56 +1,193 @@
-//! The leaves of rules, each once.
+//! The leaves of rules, each once; those that go through one tupleset together.
 
-ghost use Rattle.std.specs.Prelude.{◌≡◌, [], slice_get, Some, IfOk};
-ghost use Rattle.goal_cone.specs.Leaves.{ArePlaced};
-ghost use Rattle.goal_cone.specs.declared.leaves.PlacedLeaves.{PlacedLeaves};
+ghost use Rattle.std.specs.Prelude.{◌≡◌, ◌∷◌, [], true, false, IfOk, OnOk, map, string_bytes};
+ghost use Rattle.namespaces.specs.Lookup.{expression_in};
+ghost use Rattle.rewrites.specs.Expression.{tuple_to};
+ghost use Rattle.rewrites.specs.Joints.{IsPut};
+ghost use Rattle.rewrites.specs.Leaves.{Collects, leaves_in};
+ghost use Rattle.rewrites.specs.Parts.{each_shown, parts_shown};
+ghost use Rattle.rewrites.specs.Plain.{leaves};
+ghost use Rattle.rewrites.specs.View.{expression_of};
+ghost use Rattle.goal_cone.specs.Leaves.{Grows, HaveLeavesOf, numbered};
 
+use indexmap::IndexMap;
 use namespaces::{RulePlace, Rules};
-use rewrites::Rewrite;
+use rewrites::{Part, Rewrite, Through};
 use std::alloc::{AllocError, Global};
 use std::collections::BTreeMap;
+use std::marker::Model;
 
 /// The leaves of a rule, and where it stands.
 #[derive(Drop)]
 pub(crate) struct PlacedLeaves {
     pub(crate) place: RulePlace,
-    pub(crate) leaves: Vec<Rewrite>,
+    pub(crate) parts: Vec<Part>,
 }
 
-/// The leaves of the rules that were read so far. Each rule is gone over once, however many facts have it.
+/// The leaves of the rules that were asked for, each of which is gone over once, however many facts have it. Contracts see the rules that
+/// it is of, and what was found.
 #[derive(Drop)]
-pub(crate) struct KnownLeaves {
+pub struct Leaves<'r> {
     alloc: Global,
-    pub(crate) rules: Vec<PlacedLeaves>,
+    rules: &'r Rules,
+    placed: Vec<PlacedLeaves>,
     // by its place, where those of a rule may be found: they are its own only where their place says so
     numbers: BTreeMap<(usize, usize), usize>,
 }
 
-impl KnownLeaves {
-    pub(crate) fn new(alloc: Global) -> KnownLeaves
-        ensures { result.rules.items ≡ [] }
+impl<'r> Model for Leaves<'r> {
+    ghost use Rattle.std.specs.Prelude.{map};
+    ghost use Rattle.rewrites.specs.Parts.{parts_shown};
+    ghost use Rattle.goal_cone.specs.Leaves.{ArePlaced, LeavesValue};
+    ghost use Rattle.goal_cone.specs.LeavesCode.{leaves_code};
+
+    ghost Value = { LeavesValue };
+
+    ghost coded = { leaves_code };
+
+    ghost view = { λ l. record { declarations = l.rules.now; found = map (λ p. parts_shown p.parts.items) l.placed.items } };
+
+    ghost invariant = { λ l. ArePlaced l.rules.now l.placed.items };
+}
+
+/// What one relation gives through a tupleset.
+pub(crate) fn through_one(
+    alloc: Global,
+    tupleset: &String,
+    computed: &String,
+) -> Result<Through, AllocError>
+    ensures { IfOk result (λ t. each_shown t ≡ tuple_to (string_bytes tupleset.now) (string_bytes computed.now) ∷ []) }
+{
+    let mut names = IndexMap::new(alloc);
+    let _ = names.insert(computed.clone()?, ())?;
+    Ok(Through {
+        tupleset: tupleset.clone()?,
+        computed: names,
+    })
+}
+
+/// Reads one more relation through a tupleset, unless it is read there already.
+fn read_more(through: &mut Through, computed: &String) -> Result<(), AllocError>
+    ensures { OnOk result (IsPut (each_shown through.old) (each_shown through.new)
+        (tuple_to (string_bytes through.old.tupleset) (string_bytes computed.now))) }
+{
+    if through.computed.contains_key(computed.as_str()) {
+        return Ok(());
+    }
+    let _ = through.computed.insert(computed.clone()?, ())?;
+    Ok(())
+}
+
+/// The same, if it is this tupleset. Whether it is.
+fn read_if(through: &mut Through, tupleset: &String, computed: &String) -> Result<bool, AllocError>
+    ensures read { IfOk result (λ r. r ≡ true → IsPut (each_shown through.old) (each_shown through.new)
+        (tuple_to (string_bytes tupleset.now) (string_bytes computed.now))) }
+    ensures same { IfOk result (λ r. r ≡ false → through.new ≡ through.old) }
+{
+    if through.tupleset != *tupleset {
+        return Ok(false);
+    }
+    read_more(through, computed)?;
+    Ok(true)
+}
+
+/// The same of a part. Whether it goes through this tupleset.
+fn read_in(part: &mut Part, tupleset: &String, computed: &String) -> Result<bool, AllocError>
+    ensures read { IfOk result (λ r. r ≡ true
+        → Grows part.old part.new (tuple_to (string_bytes tupleset.now) (string_bytes computed.now))) }
+    ensures same { IfOk result (λ r. r ≡ false → part.new ≡ part.old) }
+{
+    match part {
+        Part::Leaf(_) => Ok(false),
+        Part::Through(through) => read_if(through, tupleset, computed),
+    }
+}
+
+/// Reads one more relation through a tupleset, by the part that goes through that.
+fn put_through(
+    alloc: Global,
+    parts: &mut Vec<Part>,
+    tupleset: &String,
+    computed: &String,
+) -> Result<(), AllocError>
+    ensures { OnOk result (Collects (parts_shown parts.old.items) (parts_shown parts.new.items)
+        (tuple_to (string_bytes tupleset.now) (string_bytes computed.now) ∷ [])) }
+{
+    // 256 tuplesets and 256 computed relations at most: a rule names those of its namespace
+    for i in 0..parts.len() {
+        if read_in(&mut parts[i], tupleset, computed)? {
+            return Ok(());
+        }
+    }
+    let through = through_one(alloc, tupleset, computed)?;
+    parts.push(Part::Through(through))?;
+    Ok(())
+}
+
+/// Puts a leaf of a rule behind others, or to those that go through its tupleset.
+fn put(alloc: Global, parts: &mut Vec<Part>, leaf: Rewrite) -> Result<(), AllocError>
+    ensures { OnOk result (Collects (parts_shown parts.old.items) (parts_shown parts.new.items) (leaves (expression_of leaf))) }
+{
+    match leaf {
+        Rewrite::TupleTo { tupleset, computed } => put_through(alloc, parts, &tupleset, &computed),
+        leaf => {
+            parts.push(Part::Leaf(leaf))?;
+            Ok(())
+        }
+    }
+}
+
+/// Leaves of a rule, those that go through one tupleset together.
+fn parts_of(alloc: Global, leaves: Vec<Rewrite>) -> Result<Vec<Part>, AllocError>
+    ensures { IfOk result (λ v. Collects [] (parts_shown v.items) (leaves_in (map expression_of leaves.items))) }
+{
+    let mut parts = Vec::new(alloc);
+    for leaf in leaves {
+        put(alloc, &mut parts, leaf)?;
+    }
+    Ok(parts)
+}
+
+impl<'r> Leaves<'r> {
+    /// Of these rules nothing was asked.
+    pub fn new(alloc: Global, rules: &'r Rules) -> Leaves<'r>
+        ensures { result ≡ record { declarations = rules.now; found = [] } }
     {
-        KnownLeaves {
+        Leaves {
             alloc,
-            rules: Vec::new(alloc),
+            rules,
+            placed: Vec::new(alloc),
             numbers: BTreeMap::new(alloc),
         }
     }
 
     /// The number of the leaves of the rule at a place, which are found where they were not yet.
-    pub(crate) fn number(&mut self, rules: &Rules, place: RulePlace) -> Result<usize, AllocError>
-        requires { ArePlaced rules.now self.old.rules.items }
-        ensures placed { ArePlaced rules.now self.new.rules.items }
-        ensures number { IfOk result (λ n. (p : PlacedLeaves) × (slice_get self.new.rules.items n ≡ Some p) × (p.place ≡ place)) }
+    ///
+    /// Refusals: OutOfMemory.
+    pub fn number(&mut self, place: RulePlace) -> Result<usize, AllocError>
+        ensures rules { self.new.declarations ≡ self.old.declarations }
+        ensures found { IfOk result (λ n. HaveLeavesOf (numbered n self.new.found) (expression_in place self.old.declarations)) }
     {
         let key = (place.line, place.relation);
-        let number = self.numbers.get(&key).copied().unwrap_or(self.rules.len());
-        if number < self.rules.len() && self.rules[number].place == place {
+        let number = self.numbers.get(&key).copied().unwrap_or(self.placed.len());
+        if number < self.placed.len() && self.placed[number].place == place {
             return Ok(number);
         }
-        let leaves = rules.leaves_in(self.alloc, place)?;
-        let number = self.rules.len();
-        self.rules.push(PlacedLeaves { place, leaves })?;
+        let leaves = self.rules.leaves_in(self.alloc, place)?;
+        let parts = parts_of(self.alloc, leaves)?;
+        let number = self.placed.len();
+        self.placed.push(PlacedLeaves { place, parts })?;
         let _ = self.numbers.insert(key, number)?;
         Ok(number)
+    }
+
+    /// The leaves of a number, each once; those that go through one tupleset are one part. None where the number is not given yet.
+    pub fn parts(&self, number: usize) -> &[Part]
+        ensures { parts_shown result.now ≡ numbered number self.now.found }
+    {
+        match self.placed.get(number) {
+            Some(placed) => placed.parts.as_slice(),
+            None => &[],
+        }
     }
 }

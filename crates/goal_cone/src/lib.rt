@@ -5,13 +5,16 @@
 //! them, and each of its facts lies in every list that does.
 //!
 //! Callers may rely on this: [`explore`] answers the cone, each fact once, and refuses only a goal for which every such list of
-//! facts has more than [`MAX_USERSETS`] facts or reads more than [`MAX_LINKS`] stored usersets.
+//! facts has more than [`MAX_USERSETS`] facts or reads more than [`MAX_LINKS`] stored usersets. [`targets`] gives what relations give
+//! through a tupleset, all that is declared of it and nothing that is not stored (`AreTargets`).
 //!
-//! What a call costs is no promise. It recurs over rules alone, never over facts; its memory is that of the cone, a look-up among
-//! facts goes by their marks, and of usersets it goes over those that are stored and declared then.
+//! What a call costs is no promise. It recurs over rules alone, never over facts; its memory is that of the cone, and a look-up among facts
+//! goes by their marks. What is stored in a tupleset is gone over once for all relations that a rule reads through it, and where many usersets
+//! were stored there, what is dead or declares none of them is not. [`Leaves`] keeps what was read of rules for the next goal.
 //!
 //! ```text
-//! let cone = explore(alloc, &snapshot, &entry.goal)?;
+//! let mut leaves = Leaves::new(alloc, snapshot.timeline.rules());
+//! let cone = explore_by(alloc, &mut leaves, &snapshot, &entry.goal)?;
 //! ```
 #![tactic(auto)]
 
@@ -20,7 +23,10 @@ mod fault;
 mod leaves;
 mod premises;
 mod seen;
+mod through;
 
-pub use cone::explore;
+pub use cone::{explore, explore_by};
 pub use fault::ConeFault;
+pub use leaves::Leaves;
 pub use premises::{MAX_LINKS, MAX_USERSETS};
+pub use through::targets;

@@ -1,24 +1,25 @@
 //! The premises of one fact, as its rule names them.
 
-ghost use Rattle.std.specs.Prelude.{◌≡◌, ◌+◌, ◌<◌, ◌≤◌, ◌⊎◌, OnOk, Err, false, length, map, option_map};
+ghost use Rattle.std.specs.Prelude.{◌≡◌, ◌+◌, ◌<◌, ◌≤◌, ◌⊎◌, OnOk, Err, false, length, map};
 ghost use Rattle.tuple_text.specs.Faults.{is_memory};
 ghost use Rattle.tuple_text.specs.Refs.{set_value};
 ghost use Rattle.tuple_text.specs.Tuples.{fact_of};
-ghost use Rattle.rewrites.specs.View.{expression_of, expressions_of};
+ghost use Rattle.rewrites.specs.Expression.{this};
+ghost use Rattle.rewrites.specs.Parts.{part_expression, parts_shown, through_expression};
+ghost use Rattle.rewrites.specs.View.{children, expression_of, expressions_of};
 ghost use Rattle.snapshots.specs.Snapshots.{rules_in, tuples_in};
-ghost use Rattle.judgement.specs.Passes.{target};
-ghost use Rattle.goal_cone.specs.Bounds.{stored_sets, links, links_all, links_of};
-ghost use Rattle.goal_cone.specs.Leaves.{ArePlaced};
-ghost use Rattle.goal_cone.specs.Pass.{AmongTargets, IsGiven, IsRead};
+ghost use Rattle.goal_cone.specs.Bounds.{links, links_all, links_of};
+ghost use Rattle.goal_cone.specs.Pass.{AmongSets, IsRead};
 ghost use Rattle.goal_cone.specs.Premises.{Reads, ReadsSome};
 ghost use Rattle.goal_cone.specs.Seen.{Sees, IsStuck};
 
 use crate::fault::ConeFault;
-use crate::leaves::KnownLeaves;
+use crate::leaves::{Leaves, through_one};
 use crate::seen::Seen;
+use crate::through::targets;
 use judgement::under;
 use marks::MarkedSet;
-use rewrites::Rewrite;
+use rewrites::{Part, Rewrite, Through};
 use snapshots::Snapshot;
 use std::alloc::Global;
 use tuple_text::{Fact, SetRef, TupleFault};
@@ -66,62 +67,70 @@ fn see(
     }
 }
 
-/// The userset whose members are asked for: a stored one itself, or its object under a relation.
-fn target<'a>(set: SetRef<'a>, relation: Option<&'a str>) -> SetRef<'a>
-    ensures { set_value result ≡ target (set_value set.entry) (option_map (λ s. s.now) relation.entry) }
-{
-    match relation {
-        None => set,
-        Some(relation) => SetRef { relation, ..set },
-    }
-}
-
-/// Sees the targets of usersets, each of which takes a link from the room.
+/// Sees the facts of a user in usersets, each of which takes a link from the room.
 fn see_each(
     alloc: Global,
     snapshot: &Snapshot<'_>,
-    relation: Option<&str>,
     user: u64,
     sets: Vec<SetRef<'_>>,
     seen: &mut Seen,
     room: &mut usize,
 ) -> Result<(), ConeFault>
-    ensures seen { OnOk result (Sees (rules_in snapshot.now)
-        (AmongTargets (option_map (λ s. s.now) relation.entry) user (map set_value sets.entry.items)) seen.old seen.new) }
+    ensures seen { OnOk result (Sees (rules_in snapshot.now) (AmongSets user (map set_value sets.entry.items)) seen.old seen.new) }
     ensures links { OnOk result (room.old ≤ room.new + length (map set_value sets.entry.items)) }
     ensures stuck { result ≡ Err ConeFault.Outgrown → (room.old < length (map set_value sets.entry.items))
         ⊎ IsStuck MAX_USERSETS MAX_LINKS (rules_in snapshot.now) (tuples_in snapshot.now)
-        (AmongTargets (option_map (λ s. s.now) relation.entry) user (map set_value sets.entry.items)) seen.old }
+        (AmongSets user (map set_value sets.entry.items)) seen.old }
 {
     for set in sets {
         if *room == 0 {
             return Err(ConeFault::Outgrown);
         }
         *room -= 1;
-        see(alloc, snapshot, target(set, relation), user, seen)?;
+        see(alloc, snapshot, set, user, seen)?;
     }
     Ok(())
 }
 
-/// Sees the targets of the usersets that are stored in a set.
-fn see_stored(
+/// Sees what a rule `this` reads.
+fn see_own(
     alloc: Global,
     snapshot: &Snapshot<'_>,
     set: SetRef<'_>,
-    relation: Option<&str>,
     user: u64,
     seen: &mut Seen,
     room: &mut usize,
 ) -> Result<(), ConeFault>
     ensures seen { OnOk result (Sees (rules_in snapshot.now)
-        (IsGiven (tuples_in snapshot.now) (set_value set.entry) (option_map (λ s. s.now) relation.entry) user) seen.old seen.new) }
-    ensures links { OnOk result (room.old ≤ room.new + length (stored_sets (tuples_in snapshot.now) (set_value set.entry))) }
-    ensures stuck { result ≡ Err ConeFault.Outgrown → (room.old < length (stored_sets (tuples_in snapshot.now) (set_value set.entry)))
+        (Reads (tuples_in snapshot.now) (fact_of (set_value set.entry) user) this) seen.old seen.new) }
+    ensures links { OnOk result (room.old ≤ room.new + links (tuples_in snapshot.now) (set_value set.entry) this) }
+    ensures stuck { result ≡ Err ConeFault.Outgrown → (room.old < links (tuples_in snapshot.now) (set_value set.entry) this)
         ⊎ IsStuck MAX_USERSETS MAX_LINKS (rules_in snapshot.now) (tuples_in snapshot.now)
-        (IsGiven (tuples_in snapshot.now) (set_value set.entry) (option_map (λ s. s.now) relation.entry) user) seen.old }
+        (Reads (tuples_in snapshot.now) (fact_of (set_value set.entry) user) this) seen.old }
 {
-    let sets = snapshot.leading(alloc, MarkedSet::of(set), relation)?;
-    see_each(alloc, snapshot, relation, user, sets, seen, room)
+    let sets = snapshot.leading(alloc, MarkedSet::of(set))?;
+    see_each(alloc, snapshot, user, sets, seen, room)
+}
+
+/// Sees what some relations give through a tupleset.
+fn see_through(
+    alloc: Global,
+    through: &Through,
+    set: SetRef<'_>,
+    user: u64,
+    snapshot: &Snapshot<'_>,
+    seen: &mut Seen,
+    room: &mut usize,
+) -> Result<(), ConeFault>
+    ensures seen { OnOk result (Sees (rules_in snapshot.now)
+        (Reads (tuples_in snapshot.now) (fact_of (set_value set.entry) user) (through_expression through.now)) seen.old seen.new) }
+    ensures links { OnOk result (room.old ≤ room.new + links (tuples_in snapshot.now) (set_value set.entry) (through_expression through.now)) }
+    ensures stuck { result ≡ Err ConeFault.Outgrown → (room.old < links (tuples_in snapshot.now) (set_value set.entry) (through_expression through.now))
+        ⊎ IsStuck MAX_USERSETS MAX_LINKS (rules_in snapshot.now) (tuples_in snapshot.now)
+        (Reads (tuples_in snapshot.now) (fact_of (set_value set.entry) user) (through_expression through.now)) seen.old }
+{
+    let sets = targets(alloc, snapshot, set, through)?;
+    see_each(alloc, snapshot, user, sets, seen, room)
 }
 
 /// Sees what a rule reads for a user in a userset.
@@ -143,21 +152,13 @@ fn see_premises(
         (Reads (tuples_in snapshot.now) (fact_of (set_value set.entry) user) (expression_of rewrite.now)) seen.old }
 {
     match rewrite {
-        Rewrite::This => see_stored(alloc, snapshot, set, None, user, seen, room),
+        Rewrite::This => see_own(alloc, snapshot, set, user, seen, room),
         Rewrite::Computed(relation) => {
             see(alloc, snapshot, under(set, relation.as_str()), user, seen)
         }
         Rewrite::TupleTo { tupleset, computed } => {
-            let tupleset = under(set, tupleset.as_str());
-            see_stored(
-                alloc,
-                snapshot,
-                tupleset,
-                Some(computed.as_str()),
-                user,
-                seen,
-                room,
-            )
+            let through = through_one(alloc, tupleset, computed)?;
+            see_through(alloc, &through, set, user, snapshot, seen, room)
         }
         Rewrite::Union(children) | Rewrite::Inter(children) => {
             see_children(alloc, children, set, user, snapshot, seen, room)
@@ -192,17 +193,63 @@ fn see_children(
     Ok(())
 }
 
+/// Sees what a part of a rule reads.
+fn see_part(
+    alloc: Global,
+    part: &Part,
+    set: SetRef<'_>,
+    user: u64,
+    snapshot: &Snapshot<'_>,
+    seen: &mut Seen,
+    room: &mut usize,
+) -> Result<(), ConeFault>
+    ensures seen { OnOk result (Sees (rules_in snapshot.now)
+        (Reads (tuples_in snapshot.now) (fact_of (set_value set.entry) user) (part_expression part.now)) seen.old seen.new) }
+    ensures links { OnOk result (room.old ≤ room.new + links (tuples_in snapshot.now) (set_value set.entry) (part_expression part.now)) }
+    ensures stuck { result ≡ Err ConeFault.Outgrown → (room.old < links (tuples_in snapshot.now) (set_value set.entry) (part_expression part.now))
+        ⊎ IsStuck MAX_USERSETS MAX_LINKS (rules_in snapshot.now) (tuples_in snapshot.now)
+        (Reads (tuples_in snapshot.now) (fact_of (set_value set.entry) user) (part_expression part.now)) seen.old }
+{
+    match part {
+        Part::Leaf(leaf) => see_premises(alloc, leaf, set, user, snapshot, seen, room),
+        Part::Through(through) => see_through(alloc, through, set, user, snapshot, seen, room),
+    }
+}
+
+/// Sees what the parts of a rule read.
+fn see_parts(
+    alloc: Global,
+    parts: &[Part],
+    set: SetRef<'_>,
+    user: u64,
+    snapshot: &Snapshot<'_>,
+    seen: &mut Seen,
+    room: &mut usize,
+) -> Result<(), ConeFault>
+    ensures seen { OnOk result (Sees (rules_in snapshot.now)
+        (ReadsSome (tuples_in snapshot.now) (fact_of (set_value set.entry) user) (children (parts_shown parts.now))) seen.old seen.new) }
+    ensures links { OnOk result (room.old ≤ room.new + links_all (tuples_in snapshot.now) (set_value set.entry) (children (parts_shown parts.now))) }
+    ensures stuck { result ≡ Err ConeFault.Outgrown → (room.old < links_all (tuples_in snapshot.now) (set_value set.entry) (children (parts_shown parts.now)))
+        ⊎ IsStuck MAX_USERSETS MAX_LINKS (rules_in snapshot.now) (tuples_in snapshot.now)
+        (ReadsSome (tuples_in snapshot.now) (fact_of (set_value set.entry) user) (children (parts_shown parts.now))) seen.old }
+{
+    for part in parts {
+        see_part(alloc, part, set, user, snapshot, seen, room)?;
+    }
+    Ok(())
+}
+
 /// Sees what a fact's rule reads, by the leaves of it.
 pub(crate) fn see_read(
     alloc: Global,
     snapshot: &Snapshot<'_>,
     fact: &Fact,
-    known: &mut KnownLeaves,
+    leaves: &mut Leaves<'_>,
     seen: &mut Seen,
     room: &mut usize,
 ) -> Result<(), ConeFault>
-    requires { ArePlaced snapshot.now.timeline.declarations known.old.rules.items }
-    ensures placed { ArePlaced snapshot.now.timeline.declarations known.new.rules.items }
+    requires { leaves.old.declarations ≡ snapshot.now.timeline.declarations }
+    ensures rules { leaves.new.declarations ≡ leaves.old.declarations }
     ensures seen { OnOk result (Sees (rules_in snapshot.now)
         (IsRead (rules_in snapshot.now) (tuples_in snapshot.now) fact.now) seen.old seen.new) }
     ensures links { OnOk result (room.old ≤ room.new + links_of (rules_in snapshot.now) (tuples_in snapshot.now) fact.now) }
@@ -210,14 +257,11 @@ pub(crate) fn see_read(
         ⊎ IsStuck MAX_USERSETS MAX_LINKS (rules_in snapshot.now) (tuples_in snapshot.now)
         (IsRead (rules_in snapshot.now) (tuples_in snapshot.now) fact.now) seen.old }
 {
-    let Some(place) = snapshot
-        .timeline
-        .rules()
-        .body_place(fact.set(), snapshot.at)
-    else {
+    let rules = snapshot.timeline.rules();
+    let Some(place) = rules.body_place(fact.set(), snapshot.at) else {
         return Ok(());
     };
-    let number = known.number(snapshot.timeline.rules(), place)?;
-    let leaves = &known.rules[number].leaves;
-    see_children(alloc, leaves, fact.set(), fact.user(), snapshot, seen, room)
+    let number = leaves.number(place)?;
+    let parts = leaves.parts(number);
+    see_parts(alloc, parts, fact.set(), fact.user(), snapshot, seen, room)
 }

@@ -1,27 +1,28 @@
-use Rattle.std.proofs.Common.{rules, ◌≡◌, ℕ, List, Some, [], ◌+◌, ◌<◌, length, ◌⊎◌, inl, inr, subst, drop, refl, OnOk}
+use Rattle.std.proofs.Common.{rules, ◌≡◌, ℕ, List, Some, [], ◌+◌, ◌<◌, length, ◌⊎◌, inl, inr, subst, drop, refl, OnOk, arith}
 use Rattle.std.proofs.lemmas.List.{drop_all}
 use Rattle.std.specs.Prelude.{string_bytes}
 use Rattle.tuple_text.specs.Refs.{set_value}
 use Rattle.tuple_text.specs.Sets.{SetValue}
 use Rattle.tuple_text.specs.Tuples.{fact_of}
 use Rattle.rewrites.specs.Expression.{this, computed, tuple_to, union, inter, minus, child}
+use Rattle.rewrites.specs.Parts.{through_expression}
 use Rattle.rewrites.specs.View.{expression_of, expressions_of}
 use Rattle.strata.specs.Meaning.{with_relation}
-use Rattle.goal_cone.specs.Bounds.{stored_sets, links, links_all}
-use Rattle.goal_cone.specs.Pass.{IsGiven}
+use Rattle.goal_cone.specs.Bounds.{links, links_all}
 use Rattle.goal_cone.specs.Premises.{Reads, ReadsSome}
 use Rattle.goal_cone.specs.Seen.{Sees, IsStuck}
-use Rattle.goal_cone.proofs.SeenLemmas.{under_way_start, under_way_step, under_way_stuck, under_way_done, both_ok, second_stuck, first_stuck}
+use Rattle.goal_cone.proofs.StoredLemmas.{one_link, one_read}
+use Rattle.goal_cone.proofs.SeenLemmas.{under_way_start, under_way_step, under_way_stuck, under_way_done, both_ok, ok_as, outgrown_as, second_stuck, first_stuck}
 use Rattle.rewrites.specs.declared.rewrite.Rewrite.{the_lemmas}
 use Rattle.rewrites.proofs.Walks.{children_step}
 use Rattle.snapshots.specs.Snapshots.{rules_in, tuples_in}
 use Rattle.goal_cone.proofs.premises.+see_premises.Goals as goal
 
 pub see_premises-returns-in-This-clause-seen : goal.see_premises-returns-in-This-clause-seen
-see_premises-returns-in-This-clause-seen t c = let e : expression_of c.args.rewrite.now ≡ this = rw c.in-This.is (search (rules, the_lemmas)) in rw e c.see_stored.ensures.seen
+see_premises-returns-in-This-clause-seen t c = let e : expression_of c.args.rewrite.now ≡ this = rw c.in-This.is (search (rules, the_lemmas)) in rw e c.see_own.ensures.seen
 
 pub see_premises-returns-in-This-clause-stuck : goal.see_premises-returns-in-This-clause-stuck
-see_premises-returns-in-This-clause-stuck t c = let e : expression_of c.args.rewrite.now ≡ this = rw c.in-This.is (search (rules, the_lemmas)) in rw e c.see_stored.ensures.stuck
+see_premises-returns-in-This-clause-stuck t c = let e : expression_of c.args.rewrite.now ≡ this = rw c.in-This.is (search (rules, the_lemmas)) in rw e c.see_own.ensures.stuck
 
 pub see_premises-returns-in-Computed-clause-seen : goal.see_premises-returns-in-Computed-clause-seen
 see_premises-returns-in-Computed-clause-seen t c =
@@ -39,34 +40,37 @@ see_premises-returns-in-Computed-clause-stuck t c =
     (subst (λ (g : SetValue). IsStuck 131072 4194304 (rules_in c.args.snapshot.now) (tuples_in c.args.snapshot.now) (λ p. fact_of g c.args.user ≡ p) c.args.seen.now) q
     (c.see.ensures.stuck h)))
 
-pub see_premises-returns-in-TupleTo-clause-seen : goal.see_premises-returns-in-TupleTo-clause-seen
-see_premises-returns-in-TupleTo-clause-seen t c =
-    let e : expression_of c.args.rewrite.now ≡ tuple_to (string_bytes c.in-TupleTo.tupleset) (string_bytes c.in-TupleTo.computed) = rw c.in-TupleTo.is (search (rules, the_lemmas)) in
-    let q : set_value c.under-tupleset.result ≡ with_relation (set_value c.args.set) (string_bytes c.in-TupleTo.tupleset) = rw (← c.as_str-in-TupleTo.ensures.value) c.under-tupleset.ensures in
-    let r : c.as_str-in-TupleTo-2.result.now ≡ string_bytes c.in-TupleTo.computed = c.as_str-in-TupleTo-2.ensures.value in
-    let rules_at = rules_in c.args.snapshot.now in
+pub see_premises-returns-in_ok-through-in-TupleTo-clause-seen : goal.see_premises-returns-in_ok-through-in-TupleTo-clause-seen
+see_premises-returns-in_ok-through-in-TupleTo-clause-seen t c =
+    let leaf = tuple_to (string_bytes c.in-TupleTo.tupleset) (string_bytes c.in-TupleTo.computed) in
+    let e : expression_of c.args.rewrite.now ≡ leaf = rw c.in-TupleTo.is (search (rules, the_lemmas)) in
     let store = tuples_in c.args.snapshot.now in
-    let under_q : OnOk c.see_stored-in-TupleTo.result (Sees rules_at (IsGiven store (with_relation (set_value c.args.set) (string_bytes c.in-TupleTo.tupleset))
-    (Some c.as_str-in-TupleTo-2.result.now) c.args.user) c.args.seen.now c.see_stored-in-TupleTo.new.seen) =
-    subst (λ (g : SetValue). OnOk c.see_stored-in-TupleTo.result (Sees rules_at (IsGiven store g (Some c.as_str-in-TupleTo-2.result.now) c.args.user)
-    c.args.seen.now c.see_stored-in-TupleTo.new.seen)) q c.see_stored-in-TupleTo.ensures.seen in
-    rw e
-    (subst (λ (x : List ℕ). OnOk c.see_stored-in-TupleTo.result (Sees rules_at (IsGiven store (with_relation (set_value c.args.set) (string_bytes c.in-TupleTo.tupleset)) (Some x) c.args.user)
-    c.args.seen.now c.see_stored-in-TupleTo.new.seen)) r under_q)
+    let set = set_value c.args.set in
+    let one = c.in_ok-through-in-TupleTo.ensures in
+    rw e (ok_as (rules_in c.args.snapshot.now) (Reads store (fact_of set c.args.user) (through_expression c.in_ok-through-in-TupleTo.through)) (Reads store (fact_of set c.args.user) leaf)
+    (λ p. (one_read store (fact_of set c.args.user) p leaf c.in_ok-through-in-TupleTo.through one).0)
+    (λ p. (one_read store (fact_of set c.args.user) p leaf c.in_ok-through-in-TupleTo.through one).1) c.args.seen.now c.see_through.new.seen c.see_through.result c.see_through.ensures.seen)
 
-pub see_premises-returns-in-TupleTo-clause-stuck : goal.see_premises-returns-in-TupleTo-clause-stuck
-see_premises-returns-in-TupleTo-clause-stuck t c =
-    let e : expression_of c.args.rewrite.now ≡ tuple_to (string_bytes c.in-TupleTo.tupleset) (string_bytes c.in-TupleTo.computed) = rw c.in-TupleTo.is (search (rules, the_lemmas)) in
-    let q : set_value c.under-tupleset.result ≡ with_relation (set_value c.args.set) (string_bytes c.in-TupleTo.tupleset) = rw (← c.as_str-in-TupleTo.ensures.value) c.under-tupleset.ensures in
-    let r : c.as_str-in-TupleTo-2.result.now ≡ string_bytes c.in-TupleTo.computed = c.as_str-in-TupleTo-2.ensures.value in
-    let rules_at = rules_in c.args.snapshot.now in
+pub see_premises-returns-in_ok-through-in-TupleTo-clause-links : goal.see_premises-returns-in_ok-through-in-TupleTo-clause-links
+see_premises-returns-in_ok-through-in-TupleTo-clause-links t c =
+    let leaf = tuple_to (string_bytes c.in-TupleTo.tupleset) (string_bytes c.in-TupleTo.computed) in
+    let e : expression_of c.args.rewrite.now ≡ leaf = rw c.in-TupleTo.is (search (rules, the_lemmas)) in
     let store = tuples_in c.args.snapshot.now in
-    rw e
-    (λ h. subst (λ (x : List ℕ). (c.args.room.now < length (stored_sets store (with_relation (set_value c.args.set) (string_bytes c.in-TupleTo.tupleset))))
-    ⊎ IsStuck 131072 4194304 rules_at store (IsGiven store (with_relation (set_value c.args.set) (string_bytes c.in-TupleTo.tupleset)) (Some x) c.args.user) c.args.seen.now) r
-    (subst (λ (g : SetValue). (c.args.room.now < length (stored_sets store g))
-    ⊎ IsStuck 131072 4194304 rules_at store (IsGiven store g (Some c.as_str-in-TupleTo-2.result.now) c.args.user) c.args.seen.now) q
-    (c.see_stored-in-TupleTo.ensures.stuck h)))
+    let set = set_value c.args.set in
+    let one = c.in_ok-through-in-TupleTo.ensures in
+    rw (e, ← one_link store set leaf c.in_ok-through-in-TupleTo.through one) c.see_through.ensures.links
+
+pub see_premises-returns-in_ok-through-in-TupleTo-clause-stuck : goal.see_premises-returns-in_ok-through-in-TupleTo-clause-stuck
+see_premises-returns-in_ok-through-in-TupleTo-clause-stuck t c =
+    let leaf = tuple_to (string_bytes c.in-TupleTo.tupleset) (string_bytes c.in-TupleTo.computed) in
+    let e : expression_of c.args.rewrite.now ≡ leaf = rw c.in-TupleTo.is (search (rules, the_lemmas)) in
+    let store = tuples_in c.args.snapshot.now in
+    let set = set_value c.args.set in
+    let one = c.in_ok-through-in-TupleTo.ensures in
+    rw e (λ h. outgrown_as 131072 4194304 (rules_in c.args.snapshot.now) store (Reads store (fact_of set c.args.user) (through_expression c.in_ok-through-in-TupleTo.through))
+    (Reads store (fact_of set c.args.user) leaf) (λ p. (one_read store (fact_of set c.args.user) p leaf c.in_ok-through-in-TupleTo.through one).0) c.args.seen.now c.args.room.now
+    (links store set (through_expression c.in_ok-through-in-TupleTo.through)) (links store set leaf)
+    (let same = one_link store set leaf c.in_ok-through-in-TupleTo.through one in omega (arith, same)) (c.see_through.ensures.stuck h))
 
 pub see_premises-returns-in-Union-clause-seen : goal.see_premises-returns-in-Union-clause-seen
 see_premises-returns-in-Union-clause-seen t c = elim c.in-Union.is [

@@ -1,9 +1,8 @@
-use Rattle.std.proofs.Common.{rules, ◌≡◌, [], ◌∷◌, None, Some, slice_get, arith}
-use Rattle.strata.proofs.Lists.{not_in_nil}
+use Rattle.std.proofs.Common.{rules, ◌≡◌, ◌∙◌, refl, [], ◌∷◌, None, Some, slice_get, arith}
 use Rattle.snapshots.specs.Snapshots.{rules_in, tuples_in}
 use Rattle.goal_cone.proofs.Searching.{searching_start, searching_done, searching_full, searching_stuck, searching_step}
-use Rattle.goal_cone.proofs.cone.explore.Goals.{In_ok-fact}
-use Rattle.goal_cone.proofs.cone.explore.Goals as goal
+use Rattle.goal_cone.proofs.cone.explore_by.Goals.{In_ok-fact}
+use Rattle.goal_cone.proofs.cone.explore_by.Goals as goal
 
 there : (c : In_ok-fact) → slice_get c.loop-next.seen c.loop-next.next ≡ Some c.in_ok-fact.fact
 there c = let same : c.in_ok-fact.fact ≡ c.in-Some.fact.now = search rules in let at : Some c.in-Some.fact.now ≡ slice_get c.loop-next.seen c.loop-next.next = c.in-Some.ensures in cc
@@ -12,7 +11,7 @@ pub loop-next-init : goal.loop-next-init
 loop-next-init c =
     let seen : c.add.new.self ≡ c.args.goal.now ∷ [] = search rules in (
       rw seen (searching_start (rules_in c.args.snapshot.now) (tuples_in c.args.snapshot.now) 4194304 c.args.goal.now),
-      rw c.new-leaves.ensures (λ p there. absurd (not_in_nil p there)),
+      refl,
     )
 
 pub returns-in_default-clause-cone : goal.returns-in_default-clause-cone
@@ -36,7 +35,7 @@ loop-next-preserved c = (
   searching_step (rules_in c.args.snapshot.now) (tuples_in c.args.snapshot.now) 4194304 c.args.goal.now
       c.loop-next.seen c.loop-next.next c.loop-next.room c.loop-next.invariant.0 c.in_ok-fact.fact (there (goal.at.loop-next-preserved c).In_ok-fact)
       c.see_read.new.seen c.see_read.new.room c.in_ok-see_read.ensures.seen c.in_ok-see_read.ensures.links,
-  c.in_ok-see_read.ensures.placed,
+  c.in_ok-see_read.ensures.rules ∙ c.loop-next.invariant.1,
 )
 
 pub returns-clause-outgrown : goal.returns-clause-outgrown

@@ -1,0 +1,7 @@
+use Rattle.tuple_text.specs.Refs.{set_value}
+use Rattle.rewrites.specs.Parts.{computed_names}
+use Rattle.goal_cone.specs.Targets.{AreWanted}
+use Rattle.goal_cone.proofs.through.wanted.Given as goal
+
+abbrev pub invariant-loop-before : goal.invariant-loop-before
+invariant-loop-before l = AreWanted l.snapshot (set_value l.tupleset.set) (computed_names l.through) l.before l.wanted

@@ -1,0 +1,248 @@
+//! What relations give through a tupleset.
+
+ghost use Rattle.std.specs.Prelude.{◌≡◌, ◌≤◌, ◌++◌, ℕ, List, None, Some, Contains, IfOk, IfSome, OnOk, true, false, length, map, option_map, slice_get, string_bytes};
+ghost use Rattle.tuple_text.specs.Refs.{set_value};
+ghost use Rattle.tuple_text.specs.Sets.{SetValue};
+ghost use Rattle.tuple_text.specs.declared.users.User.TheVariants.{Set};
+ghost use Rattle.namespaces.specs.InForce.{names_in_force};
+ghost use Rattle.namespaces.specs.Lookup.{rule_at};
+ghost use Rattle.rewrites.specs.Parts.{computed_names};
+ghost use Rattle.strata.specs.Meaning.{with_relation, IsStored};
+ghost use Rattle.snapshots.specs.Leading.{IsNumbered};
+ghost use Rattle.snapshots.specs.Snapshots.{rules_in, tuples_in};
+ghost use Rattle.goal_cone.specs.Targets.{AreObjects, AreRead, AreTargets, AreWanted, targets_under};
+
+use judgement::under;
+use marks::MarkedSet;
+use namespaces::{MAX_NUMBER, Rules};
+use rewrites::Through;
+use snapshots::Snapshot;
+use std::alloc::{AllocError, Global};
+use tuple_text::SetRef;
+use userset_index::Numbers;
+
+/// The name of a relation that is read, by its place.
+fn name_at(through: &Through, k: usize) -> Option<&str>
+    ensures { option_map (λ s. s.now) result ≡ slice_get (computed_names through.now) k }
+{
+    let (name, _) = through.computed.get_index(k)?;
+    Some(name.as_str())
+}
+
+/// The relation that is read at a place, where a namespace declares it at a timestamp.
+fn declared_at<'s>(
+    rules: &Rules,
+    through: &'s Through,
+    namespace: &str,
+    at: u64,
+    k: usize,
+) -> Option<&'s str>
+    ensures some { IfSome result (λ s. slice_get (computed_names through.now) k ≡ Some s.now) }
+    ensures none { result ≡ None → (c : List ℕ) → slice_get (computed_names through.now) k ≡ Some c
+        → rule_at rules.now at namespace.now c ≡ None }
+{
+    let relation = name_at(through, k)?;
+    let set = SetRef {
+        namespace,
+        id: "",
+        relation,
+    };
+    if rules.body(set, at).is_some() {
+        Some(relation)
+    } else {
+        None
+    }
+}
+
+/// Relation number `k` of a namespace at a timestamp, where it is read.
+fn read_at<'s>(
+    rules: &'s Rules,
+    through: &Through,
+    namespace: &str,
+    at: u64,
+    k: usize,
+) -> Option<&'s str>
+    ensures some { IfSome result (λ s. (slice_get (names_in_force at namespace.now rules.now) k ≡ Some s.now)
+        × Contains (computed_names through.now) s.now) }
+    ensures none { result ≡ None → (c : List ℕ) → slice_get (names_in_force at namespace.now rules.now) k ≡ Some c
+        → ¬ Contains (computed_names through.now) c }
+{
+    let name = rules.name_in_force(namespace, at, k)?;
+    if through.reads(name) {
+        Some(name)
+    } else {
+        None
+    }
+}
+
+/// The relations that are read and that a namespace declares at a timestamp, of those that are read.
+fn declared_of<'s>(
+    alloc: Global,
+    rules: &Rules,
+    through: &'s Through,
+    namespace: &str,
+    at: u64,
+) -> Result<Vec<&'s str>, AllocError>
+    ensures { IfOk result (λ v. AreRead (rule_at rules.now at namespace.now) (computed_names through.now)
+        (map (λ s. s.now) v.items)) }
+{
+    let mut names = Vec::new(alloc);
+    for k in 0..through.computed.len() {
+        if let Some(name) = declared_at(rules, through, namespace, at, k) {
+            names.push(name)?;
+        }
+    }
+    Ok(names)
+}
+
+/// The same, of those that are declared, of which there are 256 at most.
+fn read_of<'s>(
+    alloc: Global,
+    rules: &'s Rules,
+    through: &Through,
+    namespace: &str,
+    at: u64,
+) -> Result<Vec<&'s str>, AllocError>
+    requires { length (names_in_force at namespace.now rules.now) ≤ length (computed_names through.now) }
+    ensures { IfOk result (λ v. AreRead (rule_at rules.now at namespace.now) (computed_names through.now)
+        (map (λ s. s.now) v.items)) }
+{
+    let mut names = Vec::new(alloc);
+    for k in 0..rules.count_in_force(namespace, at) {
+        if let Some(name) = read_at(rules, through, namespace, at, k) {
+            names.push(name)?;
+        }
+    }
+    Ok(names)
+}
+
+/// The same, of the shorter of both lists.
+fn names_read<'s>(
+    alloc: Global,
+    rules: &'s Rules,
+    through: &'s Through,
+    namespace: &str,
+    at: u64,
+) -> Result<Vec<&'s str>, AllocError>
+    ensures { IfOk result (λ v. AreRead (rule_at rules.now at namespace.now) (computed_names through.now) (map (λ s. s.now) v.items)) }
+{
+    if through.computed.len() < rules.count_in_force(namespace, at) {
+        declared_of(alloc, rules, through, namespace, at)
+    } else {
+        read_of(alloc, rules, through, namespace, at)
+    }
+}
+
+/// Whether something is stored in a crowded tupleset, of the namespace of a number, that declares a relation that is read.
+fn is_wanted(
+    alloc: Global,
+    snapshot: &Snapshot<'_>,
+    tupleset: MarkedSet<'_>,
+    through: &Through,
+    number: u16,
+) -> Result<bool, AllocError>
+    ensures { IfOk result (λ r. r ≡ false → (g : SetValue) (c : List ℕ) → IsStored (tuples_in snapshot.now) (set_value tupleset.entry.set) (Set g)
+        → IsNumbered snapshot.now g number → Contains (computed_names through.now) c → rules_in snapshot.now g.namespace c ≡ None) }
+{
+    if snapshot.stores_none(tupleset, number) {
+        return Ok(false);
+    }
+    let rules = snapshot.timeline.rules();
+    match rules.namespace(number) {
+        Some(namespace) => {
+            let names = names_read(alloc, rules, through, namespace, snapshot.at)?;
+            Ok(!names.is_empty())
+        }
+        None => Ok(true),
+    }
+}
+
+/// The namespaces of which something matters that is stored in a crowded tupleset, of 256.
+fn wanted(
+    alloc: Global,
+    snapshot: &Snapshot<'_>,
+    tupleset: MarkedSet<'_>,
+    through: &Through,
+) -> Result<Numbers, AllocError>
+    ensures { IfOk result (λ w. AreWanted snapshot.now (set_value tupleset.entry.set) (computed_names through.now) 256 w) }
+{
+    let mut wanted = Numbers::none();
+    for before in 0..MAX_NUMBER {
+        if is_wanted(alloc, snapshot, tupleset, through, before + 1)? {
+            wanted = wanted.with(before + 1);
+        }
+    }
+    Ok(wanted)
+}
+
+/// Usersets that are stored in a tupleset, each once, among them one of the object of each whose namespace declares a relation that is read.
+fn objects<'s>(
+    alloc: Global,
+    snapshot: &'s Snapshot<'_>,
+    tupleset: MarkedSet<'s>,
+    through: &Through,
+) -> Result<Vec<SetRef<'s>>, AllocError>
+    ensures { IfOk result (λ v. AreObjects snapshot.now (set_value tupleset.entry.set) (computed_names through.now) (map set_value v.items)) }
+{
+    match snapshot.few(alloc, tupleset)? {
+        Some(sets) => Ok(sets),
+        None => {
+            snapshot.is_well_formed();
+            let wanted = wanted(alloc, snapshot, tupleset, through)?;
+            snapshot.leading_through(alloc, tupleset, wanted)
+        }
+    }
+}
+
+/// Whether two usersets are of one namespace.
+fn are_of_one(set: SetRef<'_>, other: SetRef<'_>) -> bool
+    ensures { result ≡ true → (set_value set.entry).namespace ≡ (set_value other.entry).namespace }
+{
+    set.namespace == other.namespace
+}
+
+/// Puts the object of a userset under some relations behind other usersets.
+fn push_under<'s>(
+    targets: &mut Vec<SetRef<'s>>,
+    set: SetRef<'s>,
+    names: &[&'s str],
+) -> Result<(), AllocError>
+    ensures { OnOk result (map set_value targets.new.items ≡ map set_value targets.old.items ++ targets_under (set_value set.entry) (map (λ s. s.now) names.now)) }
+{
+    for relation in names {
+        targets.push(SetRef {
+            relation: *relation,
+            ..set
+        })?;
+    }
+    Ok(())
+}
+
+/// What relations give through a tupleset of the object of a userset: the objects of what is stored there, each under those of the relations
+/// that it declares then. What is stored is gone over once for all of the relations.
+///
+/// Refusals: OutOfMemory.
+pub fn targets<'s>(
+    alloc: Global,
+    snapshot: &'s Snapshot<'_>,
+    set: SetRef<'s>,
+    through: &'s Through,
+) -> Result<Vec<SetRef<'s>>, AllocError>
+    ensures { IfOk result (λ v. AreTargets snapshot.now (with_relation (set_value set.entry) (string_bytes through.now.tupleset)) (computed_names through.now)
+        (map set_value v.items)) }
+{
+    let rules = snapshot.timeline.rules();
+    let tupleset = MarkedSet::of(under(set, through.tupleset.as_str()));
+    let mut targets = Vec::new(alloc);
+    let mut of = set;
+    let mut names = names_read(alloc, rules, through, of.namespace, snapshot.at)?;
+    // those of one namespace mostly follow one another
+    for stored in objects(alloc, snapshot, tupleset, through)? {
+        if !are_of_one(of, stored) {
+            of = stored;
+            names = names_read(alloc, rules, through, of.namespace, snapshot.at)?;
+        }
+        push_under(&mut targets, stored, &names)?;
+    }
+    Ok(targets)
+}
