@@ -2,7 +2,9 @@
 
 use crate::gates::{Gate, Gates, Wants};
 use crate::links::{Link, Way};
+use crate::wide::Reached;
 use std::alloc::{AllocError, Global};
+use std::collections::BTreeMap;
 
 /// The gates that are kept, in the order in which they came, and how many of them were given.
 #[derive(Drop)]
@@ -43,7 +45,7 @@ impl Leaning {
     }
 }
 
-impl<'t> Gates<'t> {
+impl<'g, 't> Gates<'g, 't> {
     /// Which gates the first fact leans on, itself among them: an open one on those that opened it, and one that is shut on enough of
     /// those that keep it shut.
     pub fn leaning(&mut self) -> Result<Leaning, AllocError> {
@@ -143,48 +145,47 @@ impl<'t> Gates<'t> {
         }
     }
 
-    /// The least of these for each part that is open.
-    fn openings(&self, gate: Gate, parts: usize) -> Result<Vec<Option<u32>>, AllocError> {
-        let mut first = vec![in *self.open.allocator(); None; parts]?;
+    /// The least of these for each group that is open, by its number.
+    fn openings(&self, gate: Gate) -> Result<BTreeMap<u32, u32>, AllocError> {
+        let mut first = BTreeMap::new(*self.open.allocator());
         let mut walk = self.links.walk(gate.fed_by, Way::FedBy);
         for _ in 0..self.links.len() {
             let Some(link) = self.links.next(&mut walk) else {
                 break;
             };
-            if let (Some(opening), Some(part)) = (
-                self.opening(link),
-                first.get_mut(link.part as usize),
-            ) {
-                *part = Some(part.unwrap_or(opening).min(opening));
+            if let Some(opening) = self.opening(link) {
+                let least = first.get(&link.group).copied().unwrap_or(opening);
+                let _ = first.insert(link.group, least.min(opening))?;
             }
         }
         Ok(first)
     }
 
-    /// Where a link of a part leads from, if the part leans on that: one that is open on the first gate that opened it, and one that is
+    /// Where a link of a group leads from, if the group leans on that: one that is open on the first gate that opened it, and one that is
     /// shut on each that feeds it.
-    fn leans_on(&self, link: Link, first: &[Option<u32>]) -> Option<usize> {
-        if first.get(link.part as usize).copied() == Some(self.opening(link)) {
+    fn leans_on(&self, link: Link, first: &BTreeMap<u32, u32>) -> Option<usize> {
+        if first.get(&link.group).copied() == self.opening(link) {
             Some(link.from()? as usize)
         } else {
             None
         }
     }
 
-    /// The gates on which the parts of a fact lean that are kept.
-    fn lean_on_kept(
+    /// The gates on which a fact leans, by the groups on which its rule does.
+    fn lean_on_groups(
         &self,
         gate: Gate,
-        kept: &[bool],
+        reached: Reached,
         leaning: &mut Leaning,
     ) -> Result<(), AllocError> {
-        let first = self.openings(gate, kept.len())?;
+        let groups = self.rules.leaning(reached);
+        let first = self.openings(gate)?;
         let mut walk = self.links.walk(gate.fed_by, Way::FedBy);
         for _ in 0..self.links.len() {
             let Some(link) = self.links.next(&mut walk) else {
                 break;
             };
-            if kept.get(link.part as usize).copied() == Some(true) {
+            if groups.binary_search(&(link.group as usize)).is_ok() {
                 if let Some(from) = self.leans_on(link, &first) {
                     leaning.add(from)?;
                 }
@@ -203,6 +204,6 @@ impl<'t> Gates<'t> {
             return Ok(());
         };
         self.rules.find_leaning(fact.reached)?;
-        self.lean_on_kept(gate, self.rules.leaning(fact.reached), leaning)
+        self.lean_on_groups(gate, fact.reached, leaning)
     }
 }

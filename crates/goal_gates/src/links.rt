@@ -28,8 +28,8 @@ pub(crate) struct Link {
     // counted from 1: 0 where what is fed is open from the first
     from: u32,
     pub(crate) to: u32,
-    /// Which part of a rule of many places is fed.
-    pub(crate) part: u32,
+    /// Which parts of a rule of many places are fed: the number of their group.
+    pub(crate) group: u32,
     next_of_from: u32,
     next_of_to: u32,
 }
@@ -110,7 +110,12 @@ impl Links {
     }
 
     /// Adds a link, and gives its number.
-    pub(crate) fn add(&mut self, from: Option<u32>, to: u32, part: u32) -> Result<u32, AllocError> {
+    pub(crate) fn add(
+        &mut self,
+        from: Option<u32>,
+        to: u32,
+        group: u32,
+    ) -> Result<u32, AllocError> {
         let from = match from {
             Some(from) => from.checked_add(1).ok_or(AllocError)?,
             None => 0,
@@ -118,7 +123,7 @@ impl Links {
         self.links.push(Link {
             from,
             to,
-            part,
+            group,
             next_of_from: 0,
             next_of_to: 0,
         })?;

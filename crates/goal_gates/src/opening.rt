@@ -12,7 +12,7 @@ fn is_of(strata: &[Option<u8>], place: usize, stratum: u16) -> bool {
     }
 }
 
-impl<'t> Gates<'t> {
+impl<'g, 't> Gates<'g, 't> {
     /// Lets each gate that opened feed the others, once, and looks at facts of which parts opened, until there is nothing to do.
     fn drain(&mut self) -> Result<(), AllocError> {
         let most = self.gates.len().saturating_add(self.links.len());
@@ -52,7 +52,7 @@ impl<'t> Gates<'t> {
                     wants: Wants::Parts(_),
                     ..
                 },
-            ) => self.open_part(to, link.part as usize),
+            ) => self.open_group(to, link.group as usize),
             _ => self.lower(to, link.from()),
         }
     }
@@ -65,8 +65,8 @@ impl<'t> Gates<'t> {
         }
     }
 
-    /// A part of a fact opens. What opens once the fact itself has opened is not looked at: it may lean on the fact.
-    pub(crate) fn open_part(&mut self, gate: usize, part: usize) -> Result<(), AllocError> {
+    /// A group of the parts of a fact opens. What opens once the fact itself has opened is not looked at: it may lean on the fact.
+    pub(crate) fn open_group(&mut self, gate: usize, group: usize) -> Result<(), AllocError> {
         let Some(number) = self.wide_number(gate) else {
             return Ok(());
         };
@@ -74,7 +74,7 @@ impl<'t> Gates<'t> {
             return Ok(());
         }
         if let Some(fact) = self.wide.get_mut(number) {
-            let stage = self.rules.after(fact.reached, part)?;
+            let stage = self.rules.after(fact.reached, group)?;
             if stage != fact.reached.stage {
                 fact.reached.stage = stage;
                 self.wait(number)?;

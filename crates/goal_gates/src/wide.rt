@@ -1,14 +1,15 @@
-//! Rules of many places, and which of their parts open them.
+//! A rule of many places, and which of its parts open it.
 //!
-//! Facts of one rule are alike where the same parts of it opened for them one after the other: what was found for one holds for the
-//! others. So a rule is walked over once for each way in which its parts opened, and not once for each fact. Nothing here is trusted.
+//! Facts of one rule are alike where the same groups of its parts opened for them one after the other: what was found for one holds for the
+//! others. So a rule is walked over once for each way in which its groups opened, and not once for each fact. Nothing here is trusted.
 
-use namespaces::RulePlace;
-use rewrites::{Node, PartedRule};
+use crate::groups::{Groups, Read};
+use crate::premises::Reading;
+use rewrites::{Node, Part, PartedRule, Rewrite};
 use std::alloc::{AllocError, Global};
 use std::collections::BTreeMap;
 
-/// Some parts of a rule that opened one after the other: how many, the last one, and the stage before it.
+/// Some groups of a rule's parts that opened one after the other: how many, the last one, and the stage before it.
 #[derive(Clone, Copy, Drop)]
 struct Stage {
     count: usize,
@@ -18,15 +19,15 @@ struct Stage {
     opens_told: Option<bool>,
 }
 
-/// A part opens at a stage.
+/// A group opens at a stage.
 #[derive(Clone, Copy)]
-struct Turn {
-    stage: usize,
-    part: usize,
+pub(crate) struct Turn {
+    pub(crate) stage: usize,
+    pub(crate) group: usize,
 }
 
 /// How far a fact of a rule of many places has come.
-#[derive(Clone, Copy, Drop)]
+#[derive(Clone, Copy, Drop, PartialEq, Eq, PartialOrd, Ord)]
 pub(crate) struct Reached {
     /// The number of its rule.
     pub(crate) rule: usize,
@@ -37,24 +38,16 @@ pub(crate) struct Reached {
 
 /// A rule of many places, with the stages that facts of it have come to.
 #[derive(Drop)]
-struct WideRule<'t> {
+pub(crate) struct WideRule<'t> {
     rule: &'t PartedRule,
+    groups: Groups,
     has_exclusions: bool,
     stages: Vec<Stage>,
-    // by a stage and a part, the stage behind it
+    // by a stage and a group, the stage behind it
     turns: BTreeMap<(usize, usize), usize>,
-    // by a stage, and whether exclusions are told, which parts the rule leans on
-    leaning: BTreeMap<(usize, bool), Vec<bool>>,
-    // while the rule is looked at, as which the parts opened, counted from 1; else, and where one is shut, 0
+    // while the rule is looked at, as which the parts and the groups opened, counted from 1; else, and where one is shut, 0
     open: Vec<usize>,
-}
-
-/// The rules of many places that facts of a cone have, by their numbers.
-#[derive(Drop)]
-pub(crate) struct WideRules<'t> {
-    alloc: Global,
-    rules: Vec<WideRule<'t>>,
-    numbers: BTreeMap<(usize, usize), usize>,
+    open_groups: Vec<usize>,
 }
 
 fn is_set(flags: &[bool], at: usize) -> bool {
@@ -64,6 +57,12 @@ fn is_set(flags: &[bool], at: usize) -> bool {
 fn set_flag(flags: &mut [bool], at: usize) {
     if let Some(flag) = flags.get_mut(at) {
         *flag = true;
+    }
+}
+
+fn set_number(numbers: &mut [usize], at: usize, number: usize) {
+    if let Some(found) = numbers.get_mut(at) {
+        *found = number;
     }
 }
 
@@ -242,31 +241,68 @@ fn lean(node: &Node, is_open: bool, sight: Sight<'_>, kept: &mut [bool]) {
     }
 }
 
+/// No part is open.
+fn first_stage() -> Stage {
+    Stage {
+        count: 0,
+        last: None,
+        opens_untold: None,
+        opens_told: None,
+    }
+}
+
 impl<'t> WideRule<'t> {
-    fn new(alloc: Global, rule: &'t PartedRule) -> Result<WideRule<'t>, AllocError> {
+    pub(crate) fn new(alloc: Global, rule: &'t PartedRule) -> Result<WideRule<'t>, AllocError> {
+        let groups = Groups::of(alloc, &rule.parts)?;
         let mut stages = Vec::new(alloc);
-        stages.push(Stage {
-            count: 0,
-            last: None,
-            opens_untold: None,
-            opens_told: None,
-        })?;
+        stages.push(first_stage())?;
+        let open_groups = vec![in alloc; 0usize; groups.len().saturating_add(1)]?;
         Ok(WideRule {
             rule,
+            groups,
             has_exclusions: has_exclusions(&rule.top),
             stages,
             turns: BTreeMap::new(alloc),
-            leaning: BTreeMap::new(alloc),
             open: vec![in alloc; 0usize; rule.parts.len()]?,
+            open_groups,
         })
     }
 
-    /// The part that opened last at a stage, and the stage before it.
+    pub(crate) fn has_exclusions(&self) -> bool {
+        self.has_exclusions
+    }
+
+    /// What the rule reads of the object itself.
+    pub(crate) fn own(&self) -> &[Read] {
+        self.groups.own()
+    }
+
+    /// What the rule reads as that through a tupleset, if it does.
+    pub(crate) fn read_as(&self, reading: Reading<'_>) -> Option<Read> {
+        self.groups.read_as(&self.rule.parts, reading)
+    }
+
+    /// The part of a number, where it is a rule without children.
+    pub(crate) fn leaf(&self, number: usize) -> Option<&'t Rewrite> {
+        let rule = self.rule;
+        match rule.parts.get(number)? {
+            Part::Leaf(leaf) => Some(leaf),
+            Part::Through(_) => None,
+        }
+    }
+
+    /// From now on there are no stages but the first.
+    pub(crate) fn forget_stages(&mut self) {
+        self.stages.truncate(1);
+        self.turns.clear();
+    }
+
+    /// The group that opened last at a stage, and the stage before it.
     fn last_turn(&self, stage: usize) -> Option<Turn> {
         self.stages.get(stage)?.last
     }
 
-    /// How many parts are open at a stage.
+    /// How many groups are open at a stage.
     fn count_at(&self, stage: usize) -> usize {
         match self.stages.get(stage) {
             Some(found) => found.count,
@@ -274,65 +310,84 @@ impl<'t> WideRule<'t> {
         }
     }
 
-    /// Whether the part is open at the stage.
-    fn has(&self, stage: usize, part: usize) -> bool {
-        let mut stage = stage;
+    /// Whether the group is open at the stage. A stage has each group once, so its turns are no more than the rule has groups.
+    fn has(&self, turn: Turn) -> bool {
+        let mut stage = turn.stage;
         for _ in 0..self.stages.len() {
-            let Some(turn) = self.last_turn(stage) else {
+            let Some(last) = self.last_turn(stage) else {
                 return false;
             };
-            if turn.part == part {
+            if last.group == turn.group {
                 return true;
             }
-            stage = turn.stage;
+            stage = last.stage;
         }
         false
     }
 
-    /// A new stage, behind one where a part opens.
+    /// A new stage, behind one where a group opens.
     fn add_stage(&mut self, turn: Turn) -> Result<usize, AllocError> {
         let next = self.stages.len();
         let count = self.count_at(turn.stage).saturating_add(1);
         self.stages.push(Stage {
             count,
             last: Some(turn),
-            opens_untold: None,
-            opens_told: None,
+            ..first_stage()
         })?;
         Ok(next)
     }
 
-    /// The stage behind a stage where a part opens.
-    fn after(&mut self, stage: usize, part: usize) -> Result<usize, AllocError> {
-        if let Some(next) = self.turns.get(&(stage, part)).copied() {
-            return Ok(next);
-        }
-        let next = if self.has(stage, part) {
-            stage
+    /// The stage behind a stage where a group opens, if that was found.
+    pub(crate) fn known_after(&self, turn: Turn) -> Option<usize> {
+        self.turns.get(&(turn.stage, turn.group)).copied()
+    }
+
+    /// Finds the stage behind a stage where a group opens.
+    pub(crate) fn find_after(&mut self, turn: Turn) -> Result<usize, AllocError> {
+        let next = if self.has(turn) {
+            turn.stage
         } else {
-            self.add_stage(Turn { stage, part })?
+            self.add_stage(turn)?
         };
-        let _ = self.turns.insert((stage, part), next)?;
+        let _ = self.turns.insert((turn.stage, turn.group), next)?;
         Ok(next)
     }
 
-    /// From now on the parts of a stage are open as they opened, or shut.
-    fn set_parts(&mut self, stage: usize, to_open: bool) {
+    /// From now on the groups of a stage are open as they opened, or shut. A part of some of them is as the one that opened first, which comes
+    /// last here. It takes no more steps than a walk over the rule.
+    fn set_groups(&mut self, stage: usize, to_open: bool) {
         let mut stage = stage;
         for _ in 0..self.stages.len() {
             let Some(turn) = self.last_turn(stage) else {
                 return;
             };
             let opening = if to_open { self.count_at(stage) } else { 0 };
-            if let Some(part) = self.open.get_mut(turn.part) {
-                *part = opening;
-            }
+            self.set_group(turn.group, opening);
             stage = turn.stage;
         }
     }
 
+    fn set_group(&mut self, group: usize, opening: usize) {
+        set_number(&mut self.open_groups, group, opening);
+        let mut rest = group;
+        for _ in 0..self.groups.len() {
+            let Some(found) = self.groups.get(rest) else {
+                return;
+            };
+            set_number(&mut self.open, found.part, opening);
+            rest = found.others;
+        }
+    }
+
+    fn sight(&self, is_told: bool) -> Sight<'_> {
+        Sight {
+            open: &self.open,
+            is_told,
+        }
+    }
+
     /// Whether the rule is open at a stage.
-    fn opens(&mut self, stage: usize, is_told: bool) -> bool {
+    pub(crate) fn opens(&mut self, stage: usize, is_told: bool) -> bool {
         let Some(found) = self.stages.get(stage).copied() else {
             return false;
         };
@@ -344,13 +399,9 @@ impl<'t> WideRule<'t> {
         if let Some(is_open) = known {
             return is_open;
         }
-        self.set_parts(stage, true);
-        let sight = Sight {
-            open: &self.open,
-            is_told,
-        };
-        let is_open = opens(&self.rule.top, sight);
-        self.set_parts(stage, false);
+        self.set_groups(stage, true);
+        let is_open = opens(&self.rule.top, self.sight(is_told));
+        self.set_groups(stage, false);
         if let Some(found) = self.stages.get_mut(stage) {
             if is_told {
                 found.opens_told = Some(is_open);
@@ -361,101 +412,46 @@ impl<'t> WideRule<'t> {
         is_open
     }
 
-    /// Finds on which parts the rule leans at a stage, unless that was found.
-    fn find_leaning(
+    /// Whether one of the parts that are leaned on opened with the group, or is shut, as the group is.
+    fn is_leaned_on(&self, group: usize, kept: &[bool]) -> bool {
+        let opening = self.open_groups.get(group).copied();
+        let mut rest = group;
+        for _ in 0..self.groups.len() {
+            let Some(found) = self.groups.get(rest) else {
+                return false;
+            };
+            if is_set(kept, found.part) && self.open.get(found.part).copied() == opening {
+                return true;
+            }
+            rest = found.others;
+        }
+        false
+    }
+
+    fn groups_of(&self, alloc: Global, kept: &[bool]) -> Result<Vec<usize>, AllocError> {
+        let mut groups = Vec::new(alloc);
+        for group in self.groups.of_reads() {
+            if self.is_leaned_on(*group, kept) {
+                groups.push(*group)?;
+            }
+        }
+        Ok(groups)
+    }
+
+    /// The groups on which the rule leans at a stage, rising: where it is open, on those that opened it, and else on enough of those that keep it
+    /// shut.
+    pub(crate) fn leaning(
         &mut self,
         alloc: Global,
         stage: usize,
         is_told: bool,
-    ) -> Result<(), AllocError> {
-        if self.leaning.contains_key(&(stage, is_told)) {
-            return Ok(());
-        }
+    ) -> Result<Vec<usize>, AllocError> {
         let mut kept = vec![in alloc; false; self.rule.parts.len()]?;
         let is_open = self.opens(stage, is_told);
-        self.set_parts(stage, true);
-        let sight = Sight {
-            open: &self.open,
-            is_told,
-        };
-        lean(&self.rule.top, is_open, sight, &mut kept);
-        self.set_parts(stage, false);
-        let _ = self.leaning.insert((stage, is_told), kept)?;
-        Ok(())
-    }
-}
-
-impl<'t> WideRules<'t> {
-    pub(crate) fn new(alloc: Global) -> WideRules<'t> {
-        WideRules {
-            alloc,
-            rules: Vec::new(alloc),
-            numbers: BTreeMap::new(alloc),
-        }
-    }
-
-    /// Where a fact of the rule at a place begins: none of its parts is open.
-    pub(crate) fn start(
-        &mut self,
-        place: RulePlace,
-        rule: &'t PartedRule,
-    ) -> Result<Reached, AllocError> {
-        let key = (place.line, place.relation);
-        let number = match self.numbers.get(&key).copied() {
-            Some(number) => number,
-            None => {
-                let number = self.rules.len();
-                self.rules.push(WideRule::new(self.alloc, rule)?)?;
-                let _ = self.numbers.insert(key, number)?;
-                number
-            }
-        };
-        Ok(Reached {
-            rule: number,
-            stage: 0,
-            is_told: false,
-        })
-    }
-
-    /// The stage that is reached as a part opens.
-    pub(crate) fn after(&mut self, reached: Reached, part: usize) -> Result<usize, AllocError> {
-        match self.rules.get_mut(reached.rule) {
-            Some(rule) => rule.after(reached.stage, part),
-            None => Ok(reached.stage),
-        }
-    }
-
-    pub(crate) fn has_exclusions(&self, reached: Reached) -> bool {
-        match self.rules.get(reached.rule) {
-            Some(rule) => rule.has_exclusions,
-            None => false,
-        }
-    }
-
-    pub(crate) fn opens(&mut self, reached: Reached) -> bool {
-        match self.rules.get_mut(reached.rule) {
-            Some(rule) => rule.opens(reached.stage, reached.is_told),
-            None => false,
-        }
-    }
-
-    /// Finds on which parts a rule leans, for [`WideRules::leaning`].
-    pub(crate) fn find_leaning(&mut self, reached: Reached) -> Result<(), AllocError> {
-        match self.rules.get_mut(reached.rule) {
-            Some(rule) => rule.find_leaning(self.alloc, reached.stage, reached.is_told),
-            None => Ok(()),
-        }
-    }
-
-    /// For each part, whether the rule leans on it, as far as that was found: where the rule is open, on parts that opened it, and else on
-    /// enough of those that keep it shut.
-    pub(crate) fn leaning(&self, reached: Reached) -> &[bool] {
-        let Some(rule) = self.rules.get(reached.rule) else {
-            return &[];
-        };
-        match rule.leaning.get(&(reached.stage, reached.is_told)) {
-            Some(kept) => kept,
-            None => &[],
-        }
+        self.set_groups(stage, true);
+        lean(&self.rule.top, is_open, self.sight(is_told), &mut kept);
+        let groups = self.groups_of(alloc, &kept);
+        self.set_groups(stage, false);
+        groups
     }
 }
