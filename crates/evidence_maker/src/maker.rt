@@ -18,8 +18,8 @@ use crate::like::{Found, made_like};
 use crate::needed::needed_steps;
 use crate::settle::settle;
 use evidence_check::{AskedRules, Judged, Step, Steps, has_too_many, judge_steps_by};
-use goal_cone::explore;
-use goal_gates::Gates;
+use goal_cone::{Leaves, explore_by};
+use goal_gates::{Gates, KeptRules};
 use record_text::record_bytes;
 use std::alloc::{AllocError, Global};
 use std::marker::Model;
@@ -96,13 +96,17 @@ fn no_alone(alloc: Global, entry: &Entry) -> Result<Steps, AllocError>
 }
 
 /// Evidence for an entry. Where one step is not enough, what was found for another one is tried before a search.
-fn made_for(
+fn made_for<'t>(
     alloc: Global,
-    asked: &mut AskedRules<'_>,
+    asked: &mut AskedRules<'t>,
+    leaves: &mut Leaves<'t>,
+    rules: &mut KeptRules<'t>,
     entry: &Entry,
     found: Option<Found<'_>>,
 ) -> Result<Made, MakeFault>
+    requires { leaves.old.declarations ≡ asked.old.declarations }
     ensures asked { asked.new ≡ asked.old }
+    ensures leaves { leaves.new.declarations ≡ leaves.old.declarations }
     ensures made { IfOk result (IsMadeFor asked.old (entry_value entry.now)) }
     ensures gave_up { result ≡ Err MakeFault.GaveUp → IsOutOfReach asked.old (entry_value entry.now) }
 {
@@ -119,8 +123,8 @@ fn made_for(
         return Ok(made);
     }
     let snapshot = asked.trace().timeline().at(entry.snapshot);
-    let cone = explore(alloc, &snapshot, &entry.goal)?;
-    let mut gates = Gates::of(alloc, &snapshot, &cone)?;
+    let cone = explore_by(alloc, leaves, &snapshot, &entry.goal)?;
+    let mut gates = Gates::of(alloc, &snapshot, &cone, leaves, rules)?;
     let steps = settle(alloc, asked, entry.snapshot, &cone, &mut gates)?;
     let short = needed_steps(alloc, &mut gates, &steps)?;
     if let Some(made) = made_of(asked, entry, short)? {
@@ -132,14 +136,18 @@ fn made_for(
     }
 }
 
-/// It makes evidence for the entries of a trace, and keeps what it asked of rules of many places for the entries behind.
+/// It makes evidence for the entries of a trace, and keeps the leaves of rules, what it asked of rules of many places, and which of their parts
+/// open them, for the entries behind.
 #[derive(Drop)]
 pub struct Maker<'t> {
     alloc: Global,
     asked: AskedRules<'t>,
+    leaves: Leaves<'t>,
+    rules: KeptRules<'t>,
 }
 
 impl<'t> Model for Maker<'t> {
+    ghost use Rattle.std.specs.Prelude.{◌≡◌};
     ghost use Rattle.trace_lines.specs.TraceCode.{trace_code};
     ghost use Rattle.trace_lines.specs.Values.{TraceValue};
 
@@ -148,6 +156,8 @@ impl<'t> Model for Maker<'t> {
     ghost coded = { trace_code };
 
     ghost view = { λ m. m.asked };
+
+    ghost invariant = { λ m. m.leaves.declarations ≡ m.asked.declarations };
 }
 
 impl<'t> Maker<'t> {
@@ -158,6 +168,8 @@ impl<'t> Maker<'t> {
         Maker {
             alloc,
             asked: AskedRules::new(alloc, trace),
+            leaves: Leaves::new(alloc, trace.rules()),
+            rules: KeptRules::new(alloc),
         }
     }
 
@@ -172,7 +184,14 @@ impl<'t> Maker<'t> {
         ensures gave_up { result ≡ Err MakeFault.GaveUp → (e : EntryValue) → slice_get self.old.entries i ≡ Some e → IsOutOfReach self.old e }
     {
         let entry = self.asked.trace().entry(i);
-        made_for(self.alloc, &mut self.asked, entry, found)
+        made_for(
+            self.alloc,
+            &mut self.asked,
+            &mut self.leaves,
+            &mut self.rules,
+            entry,
+            found,
+        )
     }
 }
 

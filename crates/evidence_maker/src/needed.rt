@@ -9,7 +9,7 @@ use tuple_text::Fact;
 
 fn kept_of(
     alloc: Global,
-    gates: &Gates<'_>,
+    gates: &Gates<'_, '_>,
     leaning: &Leaning,
     facts: &[Fact],
 ) -> Result<Vec<Fact>, AllocError> {
@@ -25,7 +25,7 @@ fn kept_of(
 /// The steps in their order, of the facts alone on which the goal leans.
 pub(crate) fn needed_steps(
     alloc: Global,
-    gates: &mut Gates<'_>,
+    gates: &mut Gates<'_, '_>,
     steps: &[Step],
 ) -> Result<Steps, AllocError> {
     let leaning = gates.leaning()?;

@@ -190,7 +190,7 @@ pub(crate) fn settle(
     asked: &mut AskedRules<'_>,
     at: u64,
     cone: &[Fact],
-    gates: &mut Gates<'_>,
+    gates: &mut Gates<'_, '_>,
 ) -> Result<Steps, AllocError>
     ensures asked { asked.new ≡ asked.old }
     ensures made { IfOk result (λ v.
