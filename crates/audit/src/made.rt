@@ -69,13 +69,24 @@ fn push_record(
 }
 
 /// What was made for the last entry that has a record.
-fn found_last<'a>(trace: &'a Trace, last: &'a Option<(usize, Made)>) -> Option<Found<'a>> {
+pub(crate) fn found_last<'a>(
+    trace: &'a Trace,
+    last: &'a Option<(usize, Made)>,
+) -> Option<Found<'a>> {
     match last {
         Some((i, made)) if *i < trace.len() => Some(Found {
             entry: trace.entry(*i),
             steps: &made.steps,
         }),
         _ => None,
+    }
+}
+
+/// What was made for entry `i`, with its number.
+pub(crate) fn made_at(i: usize, made: Option<Made>) -> Option<(usize, Made)> {
+    match made {
+        Some(made) => Some((i, made)),
+        None => None,
     }
 }
 
@@ -87,13 +98,11 @@ fn records_of(alloc: Global, trace: &Trace) -> Result<(String, Vec<u64>), AllocE
     let mut given_up = Vec::new(alloc);
     let mut maker = Maker::new(alloc, trace);
     let mut last = None;
+    // bounded by the lines of the trace, and for each entry by the limits of the search
     for i in 0..trace.len() {
         let made = made_for(&mut maker, i, found_last(trace, &last))?;
         push_record(trace.entry(i).line, made.as_ref(), &mut text, &mut given_up)?;
-        last = match made {
-            Some(made) => Some((i, made)),
-            None => None,
-        };
+        last = made_at(i, made);
     }
     Ok((text, given_up))
 }

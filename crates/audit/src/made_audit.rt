@@ -16,7 +16,7 @@ ghost use Rattle.audit.specs.MadeAudit.{IsJudgedMade, IsFoundMade};
 ghost use Rattle.audit.specs.Shared.{has_finding, are_within_limits};
 ghost use Rattle.audit.specs.declared.plain.AuditFault.TheVariants as faults;
 
-use crate::made::made_for;
+use crate::made::{found_last, made_at, made_for};
 use crate::plain::{AuditFault, Verdict};
 use crate::reading::trace_by;
 use crate::shared::{Crew, Found, gather, is_any, reports_by};
@@ -24,7 +24,7 @@ use crate::telling::tell_findings;
 use audit_slices::{Blind, Board, Check, Names, SliceReport};
 use devices::{Sink, Source};
 use evidence_check::Judged;
-use evidence_maker::Maker;
+use evidence_maker::{Made, Maker};
 use findings::laws::right_and_fresh_without_findings;
 use findings::{Finding, found_where};
 use std::alloc::{AllocError, Global};
@@ -60,7 +60,29 @@ impl<'t, 'a> Check for MakingCheck<'t, 'a> {
     ghost entries_fit = { Prim.search rules };
 
     fn check(&self, entry: usize) -> Result<Found, AllocError> {
-        found_making(*self.alloc, self.trace, entry)
+        let mut maker = Maker::new(*self.alloc, self.trace);
+        let (found, _) = found_making(&mut maker, self.trace, entry, &None)?;
+        Ok(found)
+    }
+
+    // One maker for all of them, so that a rule of many places is begun once for a slice and not for each entry; and what was made for the
+    // entry before is tried first.
+    fn check_run(
+        &self,
+        alloc: Global,
+        from: usize,
+        count: usize,
+    ) -> Result<Vec<Found>, AllocError> {
+        let mut maker = Maker::new(alloc, self.trace);
+        let mut reports = Vec::new(alloc);
+        let mut last = None;
+        // bounded by the entries of a slice, and for each by the limits of the search
+        for k in 0..count {
+            let (found, made) = found_making(&mut maker, self.trace, from + k, &last)?;
+            reports.push(found)?;
+            last = made_at(from + k, made);
+        }
+        Ok(reports)
     }
 
     fn alerts(&self, found: &Found) -> bool {
@@ -68,27 +90,38 @@ impl<'t, 'a> Check for MakingCheck<'t, 'a> {
     }
 }
 
-/// What is found on entry `i` by evidence that is made for it.
-fn found_making(alloc: Global, trace: &Trace, i: usize) -> Result<Found, AllocError>
-    requires { i < length trace.now.entries }
-    ensures { IfOk result (IsFoundMade trace.now i) }
+/// What is found on entry `i` by evidence that is made for it, and that. What was made for another is tried first.
+fn found_making(
+    maker: &mut Maker<'_>,
+    trace: &Trace,
+    i: usize,
+    last: &Option<(usize, Made)>,
+) -> Result<(Found, Option<Made>), AllocError>
+    requires maker { maker.old ≡ trace.now }
+    requires entry { i < length trace.now.entries }
+    ensures maker { maker.new ≡ maker.old }
+    ensures found { IfOk result (λ r. IsFoundMade trace.now i r.0) }
 {
-    let judged = judgement_made(alloc, trace, i)?;
+    let (judged, made) = judgement_made(maker, i, found_last(trace, last))?;
     let what = found_where(trace, i, judged);
     let line = trace.entry(i).line;
-    Ok(Found { line, what })
+    Ok((Found { line, what }, made))
 }
 
-/// How evidence that is made for entry `i` judges it.
-fn judgement_made(alloc: Global, trace: &Trace, i: usize) -> Result<Judged, AllocError>
-    requires { i < length trace.now.entries }
-    ensures { IfOk result
-        (λ j. (e : EntryValue) → slice_get trace.now.entries i ≡ Some e → IsJudgedMade trace.now e j) }
+/// How evidence that is made for entry `i` judges it, and that.
+fn judgement_made(
+    maker: &mut Maker<'_>,
+    i: usize,
+    found: Option<evidence_maker::Found<'_>>,
+) -> Result<(Judged, Option<Made>), AllocError>
+    requires { i < length maker.old.entries }
+    ensures maker { maker.new ≡ maker.old }
+    ensures judged { IfOk result
+        (λ r. (e : EntryValue) → slice_get maker.old.entries i ≡ Some e → IsJudgedMade maker.old e r.0) }
 {
-    let mut maker = Maker::new(alloc, trace);
-    match made_for(&mut maker, i, None)? {
-        Some(made) => Ok(made.judged),
-        None => Ok(Judged::Missing),
+    match made_for(maker, i, found)? {
+        Some(made) => Ok((made.judged, Some(made))),
+        None => Ok((Judged::Missing, None)),
     }
 }
 
@@ -167,7 +200,8 @@ fn audit_made_by<A: Source, W: Sink, R: Threads + Wait + Sync>(
 ///
 /// 1 to 16 workers, the calling thread among them, share the entries, in slices of 1 to 4,096. Each makes the
 /// evidence for an entry, judges the entry by it and lets it go, so that no more of it stands in memory than one
-/// entry's for each worker; no clause speaks of memory.
+/// entry's for each worker; what it asked of rules of many places it keeps up to the end of the slice. No clause
+/// speaks of memory.
 ///
 /// `Limits` is answered where there are other numbers of workers or entries in a slice, and then nothing is read or
 /// written. A trace is refused as by [`audit`](crate::audit), and nothing is written where it is or memory runs out.

@@ -192,6 +192,7 @@ fn found_unseen<N: Names<Found> + Sync, R: Threads + Wait + Sync>(
 fn push_all(found: &[Found], findings: &mut Vec<Finding>) -> Result<(), AllocError>
     ensures { OnOk result (findings.new.items ≡ findings.old.items ++ found_lines found.now) }
 {
+    // bounded by the entries of a slice
     for one in found {
         push_found(one.line, &one.what, findings)?;
     }
@@ -206,6 +207,7 @@ pub(crate) fn gather(
     ensures { IfOk result (λ v. v.items ≡ found_lines (flat_map report_items reports.now)) }
 {
     let mut findings = Vec::new(alloc);
+    // bounded by the slices, of which there are no more than entries
     for report in reports {
         push_all(report.reports(), &mut findings)?;
     }

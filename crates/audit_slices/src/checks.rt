@@ -1,4 +1,4 @@
-//! What a check of an entry gives, and a check of a slice.
+//! What a check of an entry gives, of entries in a row, and of a slice.
 ghost use Rattle.std.specs.Prelude.{◌≡◌, ◌+◌, ◌<◌, ◌≤◌, ◌^◌, ℕ, Bool, IfOk, IfErr};
 ghost use Rattle.std.specs.List.{AllZip, range_with_len};
 ghost use Rattle.slice_yard.specs.Cut.{slice_number, IsWithin};
@@ -24,6 +24,28 @@ pub trait Check {
     fn check(&self, entry: usize) -> Result<Self::Report, AllocError>
         requires { entry < entries self.now }
         ensures { IfOk result (gives self.now entry) };
+
+    /// A report of each of `count` entries in a row, in order. Refused only where memory runs out.
+    ///
+    /// An implementation may keep between them what it needs for several.
+    fn check_run(
+        &self,
+        alloc: Global,
+        from: usize,
+        count: usize,
+    ) -> Result<Vec<Self::Report>, AllocError>
+    where
+        Self::Report: Drop,
+        requires { from + count ≤ entries self.now }
+        ensures { IfOk result (λ v. AllZip (gives self.now) (range_with_len from count) v.items) }
+    {
+        let mut reports = Vec::new(alloc);
+        // bounded by the entries of a slice, where a pool calls it
+        for k in 0..count {
+            reports.push(self.check(from + k)?)?;
+        }
+        Ok(reports)
+    }
 
     /// Whether the report raises an alert.
     fn alerts(&self, report: &Self::Report) -> bool
@@ -69,25 +91,6 @@ impl<X> SliceReport<X> {
     }
 }
 
-fn reports_from<C: Check>(
-    alloc: Global,
-    check: &C,
-    from: usize,
-    count: usize,
-) -> Result<Vec<C::Report>, AllocError>
-where
-    C::Report: Drop,
-    requires fits { from + count < 2 ^ 64 }
-    requires covered { from + count ≤ C.entries check.now }
-    ensures { IfOk result (λ v. AllZip (C.gives check.now) (range_with_len from count) v.items) }
-{
-    let mut reports = Vec::new(alloc);
-    for k in 0..count {
-        reports.push(check.check(from + k)?)?;
-    }
-    Ok(reports)
-}
-
 /// Reports of the slice's entries, in order, or the slice back where memory ran out.
 pub fn check_slice<C: Check>(
     alloc: Global,
@@ -101,7 +104,7 @@ where
     ensures reports { IfOk result (IsReported (C.gives check.now)) }
     ensures back { IfErr result (λ s. s ≡ slice) }
 {
-    match reports_from(alloc, check, slice.first(), slice.len()) {
+    match check.check_run(alloc, slice.first(), slice.len()) {
         Ok(reports) => Ok(SliceReport { slice, reports }),
         Err(_) => Err(slice),
     }

@@ -3,7 +3,8 @@
 //! `cut` makes slices of the entries, and `run_pool` has 1 to 16 workers check them, each in a thread and with a lane of its own:
 //! `run_pool(rt, alloc, &check, &Free, Some(&board), &mut watch, cut(alloc, 1000, 64)?, 4)` answers the reports of entry 0, 1 and so
 //! on, and shows the watch the alerts that the checks raise on a shared [`Board`]. The yards below are those of `slice_yard`, and
-//! their core that of `slice_core`; both are passed on here.
+//! their core that of `slice_core`; both are passed on here. A slice is checked by one call of [`Check::check_run`]: a check may
+//! write it itself, and keep in it what several entries need.
 //!
 //! The model of a [`Check`] is which reports it may give to an entry; where that is one, its reports are known. Callers
 //! may rely on this, over every schedule: the reports of [`run_pool`] are one for entry 0, 1 and so on, each one that the check may
