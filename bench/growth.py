@@ -1,10 +1,10 @@
 #!/usr/bin/env python3
 """How the cost of an input grows: kinds of a generator of this folder at several sizes, as a table.
 
-    python3 bench/growth.py [--runs N | --count] [--make] PROGRAM trace|hostile SIZE [SIZE ..] [KIND ..] > table
+    python3 bench/growth.py [--runs N | --count] [--make | --audit-make] PROGRAM trace|hostile SIZE [SIZE ..] [KIND ..] > table
 
 With --make the program makes evidence for the trace in front of the parting line, in place of an audit; of the kinds that are for that
-it always does.
+it always does. With --audit-make it audits that trace by evidence that it makes, on one worker.
 
 Sizes are megabytes. Seconds are processor time, the least of N runs, or of three; memory is the most that the program held, in MB. The column
 behind the seconds says what a megabyte costs there, and the one behind the memory, from the second size on, how many times as much a megabyte
@@ -21,13 +21,16 @@ import subprocess
 import sys
 import tempfile
 from types import ModuleType
-from typing import List, NamedTuple, Optional, Tuple
+from typing import Dict, List, NamedTuple, Optional, Tuple
 
 import hostile
 import trace
 
 GENERATORS = {"trace": trace, "hostile": hostile}
 COUNTING = ["valgrind", "--tool=callgrind", "--callgrind-out-file=/dev/null"]
+# What the program may do with an input, and by which words. The last two take its trace alone.
+AUDIT, MAKE, AUDIT_MAKE = "audit", "make", "audit --make"
+WORDS: Dict[str, List[str]] = {AUDIT: [], MAKE: ["make", "/dev/stdin"], AUDIT_MAKE: ["audit", "/dev/stdin", "--make"]}
 
 
 class TooLong(Exception):
@@ -76,15 +79,16 @@ def counted(words: List[str], path: str) -> int:
     return int(re.findall(rb"Collected : (\d+)", done.stderr)[-1])
 
 
-def cost(program: str, generator: ModuleType, kind: str, megabytes: str, count: int, makes: bool) -> Optional[Cost]:
+def cost(program: str, generator: ModuleType, kind: str, megabytes: str, count: int, does: str) -> Optional[Cost]:
     """The least of so many runs, or of 0 the instructions of one; None where a line of the input is too long. A process of its own makes the
     input: what this one holds would count as memory of the program that it starts."""
-    makes = makes or kind in getattr(generator, "FOR_MAKE", ())
+    if does == AUDIT and kind in getattr(generator, "FOR_MAKE", ()):
+        does = MAKE
     with tempfile.NamedTemporaryFile() as file:
         subprocess.run([sys.executable, str(generator.__file__), kind, megabytes], stdout=file, check=True)
-        if makes:
+        if does != AUDIT:
             cut(file.name)
-        words = [program, "make", "/dev/stdin"] if makes else [program]
+        words = [program, *WORDS[does]]
         size = os.path.getsize(file.name) / 10**6
         try:
             if not count:
@@ -119,7 +123,9 @@ def main() -> None:
     parser = argparse.ArgumentParser(description=__doc__, formatter_class=argparse.RawDescriptionHelpFormatter)
     parser.add_argument("--runs", type=int, default=3)
     parser.add_argument("--count", action="store_true")
-    parser.add_argument("--make", action="store_true")
+    makes = parser.add_mutually_exclusive_group()
+    makes.add_argument("--make", action="store_const", dest="does", const=MAKE, default=AUDIT)
+    makes.add_argument("--audit-make", action="store_const", dest="does", const=AUDIT_MAKE)
     parser.add_argument("program", metavar="PROGRAM")
     parser.add_argument("generator", choices=GENERATORS)
     parser.add_argument("words", metavar="SIZE|KIND", nargs="+")
@@ -137,7 +143,7 @@ def main() -> None:
     print(f"| {' | '.join(columns)} |")
     print(f"|{'---|' * len(columns)}")
     for kind in kinds or generator.KINDS:
-        costs = [cost(given.program, generator, kind, size, 0 if given.count else given.runs, given.make) for size in sizes]
+        costs = [cost(given.program, generator, kind, size, 0 if given.count else given.runs, given.does) for size in sizes]
         print(row(kind, costs, given.count), flush=True)
 
 

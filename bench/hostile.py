@@ -56,6 +56,11 @@ KIND is one of
   wide_make      a rule of many places that compute one relation, and objects in a chain of such rules: for `make`
   nested_make    a rule of many intersections, and objects in a chain of such rules: for `make`
   through_make   a rule of many relations through one tupleset, in which 400 usersets are stored, and checks of two such objects in turn: for `make`
+  few_make       the same with 60 relations, of which one of the usersets' 250 namespaces declares one: for `make`
+  each_declares  as `through_make`, where each of 250 namespaces declares other ones of the relations, and the usersets are of one of them: for `make`
+  unread_through as `few_make`, where the usersets' namespaces each declare 200 relations that the rule does not read: for `make`
+  late_through   as `few_make`, where the usersets' namespaces declare the relations behind the snapshots that are asked for: for `make`
+  wide_groups    a rule of `this` and many relations through one tupleset, and objects that each store one group: for `make`
   toggled        one tuple added and removed in every other commit, and checks at old snapshots
   ids            one group of users alone, and checks that a stranger is not in it
   chain          records of one chain of groups each, as long as a record may be: from the last group on
@@ -523,10 +528,16 @@ def wide_leaves(size):
     return wide_intersections(size, lambda one, other: [one, other, THIS])
 
 
-def through_many(size, *more, names=0):
-    """Rules of many relations through one tupleset, those of these names declared and the last ones; and so many further namespaces."""
+def through_parent(names):
+    """Leaves that read relations of these names through one tupleset."""
+    return [{"tuple_to": {"tupleset": "parent", "computed": name}} for name in names]
+
+
+def through_many(size, *more, names=0, beside=()):
+    """Rules of many relations through one tupleset, behind these leaves; those of these names declared and the last ones; and so many
+    further namespaces."""
     count = min(size // 3, LINE * 8 // 10) // 52
-    rule = nested([{"tuple_to": {"tupleset": "parent", "computed": name}} for name in ["c%x" % k for k in range(count)] + list(more)])
+    rule = nested([*beside, *through_parent(["c%x" % k for k in range(count)]), *through_parent(more)])
     others = [{"name": f"n{k}", "relations": [relation("m")]} for k in range(names)]
     given = Input(size, [{"name": "doc", "relations": [relation("parent"), *map(relation, more), relation("viewer", rule)]}, *others])
     given.bytes = sum(map(len, given.lines))
@@ -578,8 +589,9 @@ def wide_crowd(size):
 
 def few_through(size):
     """A rule of a few relations through a tupleset that stores usersets of 250 namespaces, none of which declares one of them."""
-    rule = {"union": [{"tuple_to": {"tupleset": "parent", "computed": f"c{k}"}} for k in range(14)]}
-    own = [relation(name) for name in ["parent", *(f"c{k}" for k in range(14))]]
+    names = [f"c{k}" for k in range(14)]
+    rule = {"union": through_parent(names)}
+    own = [relation(name) for name in ["parent", *names]]
     others = [{"name": f"n{k}", "relations": [relation("m")]} for k in range(250)]
     given = Input(size, [{"name": "doc", "relations": [*own, relation("viewer", rule)]}, *others])
     given.bytes = sum(map(len, given.lines))
@@ -590,7 +602,7 @@ def few_through(size):
 def many_names(size):
     """30 relations through a tupleset that stores 12 usersets of a namespace with 250 relations, none of which is one of them."""
     names = [f"c{k}" for k in range(30)]
-    rule = {"union": [{"tuple_to": {"tupleset": "parent", "computed": name}} for name in names]}
+    rule = {"union": through_parent(names)}
     other = {"name": "other", "relations": [relation(f"m{k}") for k in range(250)]}
     given = Input(size, [{"name": "doc", "relations": [*map(relation, ["parent", *names]), relation("viewer", rule)]}, other])
     given.bytes = sum(map(len, given.lines))
@@ -725,17 +737,78 @@ def wide_make(size):
     return given
 
 
-def through_make(size):
-    """Folders that each declare one relation, of which the rule reads many: each check has to name all folders."""
-    leaves = [{"tuple_to": {"tupleset": "parent", "computed": f"r{k}"}} for k in range(size // 120)]
-    rule = {"union": [{"union": leaves[k : k + 50]} for k in range(0, len(leaves), 50)]}
-    doc = {"name": "doc", "relations": [relation("parent"), relation("viewer", rule)]}
-    given = Input(size, [doc, *({"name": f"n{k}", "relations": [relation("r0")]} for k in range(250))])
-    for name in "ab":
+EACH_OF_250 = [k % 250 for k in range(400)]
+
+
+def read_by_two(size, read, others, stored):
+    """Namespaces that each declare relations of these names, and two objects that are viewed through a tupleset by the relations that are
+    read. Each stores 400 usersets there, of the namespaces of these numbers."""
+    doc = {"name": "doc", "relations": [relation("parent"), relation("viewer", nested(through_parent(read)))]}
+    given = Input(size, [doc, *({"name": f"n{k}", "relations": [*map(relation, names)]} for k, names in enumerate(others))])
+    for one in "ab":
         for first in range(0, 400, 100):
-            given.commit([f"doc:{name}#parent@n{k % 250}:{k}#..." for k in range(first, first + 100)])
-    for user in range(size // 400):
+            given.commit([f"doc:{one}#parent@n{stored[k]}:{k}#..." for k in range(first, first + 100)])
+    return given
+
+
+def denied_in_turn(given, count):
+    """So many checks of the two objects in turn."""
+    for user in range(count):
         given.check(f"doc:{'ab'[user % 2]}#viewer@{user}", False, [])
+    return given
+
+
+def many_read(size):
+    """Names of relations for a rule of at most a line."""
+    return [f"r{k}" for k in range(min(size // 120, LINE * 8 // 10 // 54))]
+
+
+def through_make(size):
+    """Folders that each declare one relation, of which the rule reads many: each check has to name all folders, so there are few checks."""
+    return denied_in_turn(read_by_two(size, many_read(size), [["r0"]] * 250, EACH_OF_250), size // 4000)
+
+
+FEW = [f"r{k}" for k in range(60)]
+
+
+def few_make(size):
+    """One of the namespaces declares one of the relations, so that each check has to name two folders of the 400."""
+    return denied_in_turn(read_by_two(size, FEW, [["r0"], *[["x"]] * 249], EACH_OF_250), size // 80)
+
+
+def each_declares(size):
+    """Of the first namespace, which declares the first relation alone, usersets are stored: each check has to name all folders."""
+    read = many_read(size)
+    return denied_in_turn(read_by_two(size, read, [["r0"], *(read[k::249] or ["x"] for k in range(1, 250))], [0] * 400), size // 4000)
+
+
+def unread_through(size):
+    """As many namespaces as a third of the bytes has room for. One userset is of the one that declares what is read too."""
+    count = min(max(size // 3 // 3300, 1), 249)
+    unread = [f"x{k}" for k in range(200)]
+    stored = [0, *(1 + k % count for k in range(399))]
+    return denied_in_turn(read_by_two(size, FEW, [["r0", *unread], *[unread] * count], stored), size // 120)
+
+
+def late_through(size):
+    """Changes, as many as a third of the bytes has room for, behind all checks."""
+    given = denied_in_turn(read_by_two(size, FEW, [["r0"], *[["x"]] * 249], EACH_OF_250), size // 120)
+    for k in range(1, min(max(size // 3 // 900, 1), 249) + 1):
+        given.at += 1
+        given.line({"kind": "namespace", "at": given.at, "name": f"n{k}", "relations": [*map(relation, ["x", *FEW])]})
+    return given
+
+
+def wide_groups(size):
+    """None of the relations is declared anywhere, so that each check has to name the object's group alone."""
+    given = through_many(size, names=1, beside=[THIS])
+    k = 0
+    while not given.is_full():
+        objects = range(k, k + 20)
+        given.commit([f"doc:{one}#viewer@n0:{one}#m" for one in objects])
+        for one in objects:
+            given.check(f"doc:{one}#viewer@{one}", False, [])
+        k += 20
     return given
 
 
@@ -752,7 +825,6 @@ def nested_make(size):
         given.commit([f"doc:{j}#parent@doc:{j + 1}#parent" for j in range(k, k + 20)])
         k += 20
     given.check("doc:0#viewer@7", False, [])
-    given.records.clear()
     return given
 
 
@@ -887,6 +959,11 @@ KINDS = {
     "wide_make": wide_make,
     "nested_make": nested_make,
     "through_make": through_make,
+    "few_make": few_make,
+    "each_declares": each_declares,
+    "unread_through": unread_through,
+    "late_through": late_through,
+    "wide_groups": wide_groups,
     "toggled": toggled,
     "ids": ids,
     "chain": lambda size: rings(size, 1, False),
@@ -901,13 +978,13 @@ KINDS = {
 }
 
 # Those whose evidence the auditor makes: they have none.
-FOR_MAKE = ("ring", "wide_make", "nested_make", "through_make")
+FOR_MAKE = ("ring", "wide_make", "nested_make", "through_make", "few_make", "each_declares", "unread_through", "late_through", "wide_groups")
 
 
 def main():
     kind, size = asked(__doc__, KINDS)
     given = KINDS[kind](size)
-    print("\n".join(given.lines + ["---"] + given.records))
+    print("\n".join(given.lines + ["---"] + ([] if kind in FOR_MAKE else given.records)))
 
 
 if __name__ == "__main__":
