@@ -1,10 +1,10 @@
 -- Leaves that go through one tupleset, put together.
-use Rattle.std.proofs.Common.{◌≡◌, ℕ, zero, suc, Bool, true, false, List, [], ◌∷◌, ◌++◌, ◌||◌, Option, Some, String, Global, inl, inr, map, refl, sym, ◌∙◌, ap, subst, append_assoc, arith}
-use Rattle.std.proofs.lemmas.List.{append-nil, map-append}
+use Rattle.std.proofs.Common.{◌≡◌, ℕ, zero, suc, Bool, true, false, List, [], ◌∷◌, ◌++◌, ◌||◌, Some, String, Global, inl, inr, map, refl, sym, ◌∙◌, ap, subst, append_assoc, arith}
+use Rattle.std.proofs.lemmas.List.{map-append}
 use Rattle.std.proofs.lemmas.List.Folds.{list_any-append}
 use Rattle.std.proofs.lemmas.List.Sums.{sum_by-append}
 use Rattle.std.specs.List.{list_any}
-use Rattle.std.specs.Prelude.{Contains, slice_get, slice_set, string_bytes, sum_by}
+use Rattle.std.specs.Prelude.{Contains, slice_get, slice_set, string_bytes}
 use Rattle.rewrites.specs.Expression.{Expression, tuple_to}
 use Rattle.rewrites.specs.Joints.{IsPut}
 use Rattle.rewrites.specs.Leaves.{leaves_in, Collects}

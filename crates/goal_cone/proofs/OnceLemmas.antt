@@ -1,5 +1,5 @@
 -- The leaves of rules, where these stand.
-use Rattle.std.proofs.Common.{◌≡◌, ℕ, zero, suc, ◌<◌, List, length, slice_get, get_or, sym, ◌∙◌, ap, [], ◌∷◌, ◌++◌, Option, None, Some, inl, inr, refl, subst, true, ◌&&◌, nat_eq, arith}
+use Rattle.std.proofs.Common.{◌≡◌, ℕ, zero, suc, ◌<◌, List, length, slice_get, sym, ap, [], ◌∷◌, ◌++◌, Option, None, Some, inl, inr, subst, true, ◌&&◌, nat_eq, arith}
 use Rattle.std.proofs.lemmas.Bool.{eqb-true}
 use Rattle.std.proofs.lemmas.List.Elements.{Contains-append_cases}
 use Rattle.std.proofs.lemmas.Option.{get_or_from_slice_get, slice_get_within}

@@ -1,5 +1,5 @@
 -- What relations give through a tupleset, as it is gathered.
-use Rattle.std.proofs.Common.{◌≡◌, Bool, true, false, not, ℕ, zero, suc, ◌+◌, ◌<◌, ◌≤◌, List, [], ◌∷◌, ◌++◌, length, map, ◌⊎◌, inl, inr, Option, None, Some, refl, sym, ◌∙◌, ap, subst, arith}
+use Rattle.std.proofs.Common.{◌≡◌, Bool, true, false, not, ℕ, suc, ◌+◌, ◌<◌, ◌≤◌, List, [], ◌∷◌, ◌++◌, length, inl, inr, Option, None, Some, refl, sym, ◌∙◌, ap, subst, arith}
 use Rattle.std.proofs.lemmas.Bool.{cases_eq}
 use Rattle.std.proofs.lemmas.List.{length-append}
 use Rattle.std.proofs.lemmas.List.Elements.{Contains-append_cases, Contains-append_left, Contains-append_right}
@@ -8,18 +8,17 @@ use Rattle.std.proofs.lemmas.Option.{get_or_from_slice_get, slice_get-get_or, sl
 use Rattle.std.specs.Str.{bytes_eq}
 use Rattle.std.specs.Prelude.{Contains, option_map, position, slice_get, sum_by}
 use Rattle.tuple_text.specs.Sets.{SetValue}
-use Rattle.tuple_text.specs.declared.users.User.TheVariants.{Set}
 use Rattle.namespaces.specs.Lookup.{Rule, namespace_names, place_of}
 use Rattle.strata.proofs.Lists.{Contains-cons_cases, Contains-here, Contains-there, not_in_nil}
-use Rattle.strata.specs.Meaning.{with_relation, IsStored}
+use Rattle.strata.specs.Meaning.{with_relation}
 use Rattle.userset_index.specs.Numbers.{Has}
 use Rattle.userset_index.specs.declared.numbers.Numbers.{Numbers}
-use Rattle.snapshots.specs.Leading.{AreAll, AreLeadingThrough, AreStored, IsNumbered, IsOfObject}
+use Rattle.snapshots.specs.Leading.{AreAll, AreLeadingThrough, AreStored, IsNumbered}
 use Rattle.snapshots.specs.Snapshots.{rules_in, tuples_in}
 use Rattle.snapshots.specs.declared.snapshot.Snapshot.{Snapshot}
 use Rattle.snapshots.proofs.FoundLemmas.{numbered}
 use Rattle.goal_cone.specs.Bounds.{stored_sets}
-use Rattle.goal_cone.specs.Targets.{AreObjects, AreRead, AreReadBefore, AreTargeted, AreTargets, AreWanted, IsTarget, Matters, targets_under}
+use Rattle.goal_cone.specs.Targets.{AreObjects, AreRead, AreReadBefore, AreTargeted, AreTargets, AreWanted, Matters, targets_under}
 use Rattle.goal_cone.proofs.StoredLemmas.{no_more}
 
 -- ---- names

@@ -10,9 +10,10 @@ ghost use Rattle.rewrites.specs.Parts.{computed_names};
 ghost use Rattle.strata.specs.Meaning.{with_relation, IsStored};
 ghost use Rattle.snapshots.specs.Leading.{IsNumbered};
 ghost use Rattle.snapshots.specs.Snapshots.{rules_in, tuples_in};
+ghost use Rattle.judgement.specs.StoredIn.{HaveStored};
 ghost use Rattle.goal_cone.specs.Targets.{AreObjects, AreRead, AreTargets, AreWanted, targets_under};
 
-use judgement::under;
+use judgement::{is_absent, stored_in, under};
 use marks::MarkedSet;
 use namespaces::{MAX_NUMBER, Rules};
 use rewrites::Through;
@@ -139,12 +140,14 @@ fn is_wanted(
     snapshot: &Snapshot<'_>,
     tupleset: MarkedSet<'_>,
     through: &Through,
+    stored: Option<Numbers>,
     number: u16,
 ) -> Result<bool, AllocError>
+    requires { IfSome stored (HaveStored snapshot.now (set_value tupleset.set)) }
     ensures { IfOk result (λ r. r ≡ false → (g : SetValue) (c : List ℕ) → IsStored (tuples_in snapshot.now) (set_value tupleset.entry.set) (Set g)
         → IsNumbered snapshot.now g number → Contains (computed_names through.now) c → rules_in snapshot.now g.namespace c ≡ None) }
 {
-    if snapshot.stores_none(tupleset, number) {
+    if is_absent(stored, number) || snapshot.stores_none(tupleset, number) {
         return Ok(false);
     }
     let rules = snapshot.timeline.rules();
@@ -166,9 +169,10 @@ fn wanted(
 ) -> Result<Numbers, AllocError>
     ensures { IfOk result (λ w. AreWanted snapshot.now (set_value tupleset.entry.set) (computed_names through.now) 256 w) }
 {
+    let stored = stored_in(snapshot, tupleset);
     let mut wanted = Numbers::none();
     for before in 0..MAX_NUMBER {
-        if is_wanted(alloc, snapshot, tupleset, through, before + 1)? {
+        if is_wanted(alloc, snapshot, tupleset, through, stored, before + 1)? {
             wanted = wanted.with(before + 1);
         }
     }

@@ -1,4 +1,4 @@
-use Rattle.std.proofs.Common.{rules, ◌≡◌, ◌∷◌, ◌++◌, [], ap, length, refl, string_bytes, subst, arith}
+use Rattle.std.proofs.Common.{rules, ◌≡◌, ◌∷◌, ◌++◌, [], ap, length, refl, string_bytes, subst}
 use Rattle.std.specs.Prelude.{slice_get, slice_set, Some, List}
 use Rattle.std.proofs.lemmas.Option.{slice_get_read}
 use Rattle.rewrites.specs.Expression.{tuple_to}

@@ -1,4 +1,4 @@
-use Rattle.std.proofs.Common.{◌≡◌, true, refl, string_bytes, subst, sym}
+use Rattle.std.proofs.Common.{refl, string_bytes, subst, sym}
 use Rattle.std.proofs.lemmas.Result.{IfOk-weaker}
 use Rattle.rewrites.specs.Expression.{tuple_to}
 use Rattle.rewrites.specs.declared.parts.Part.{Part}

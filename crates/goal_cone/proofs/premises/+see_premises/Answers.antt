@@ -1,4 +1,4 @@
-use Rattle.std.proofs.Common.{rules, ◌≡◌, ℕ, List, Some, [], ◌+◌, ◌<◌, length, ◌⊎◌, inl, inr, subst, drop, refl, OnOk, arith}
+use Rattle.std.proofs.Common.{rules, ◌≡◌, [], ◌+◌, inl, inr, subst, drop, refl, OnOk, arith}
 use Rattle.std.proofs.lemmas.List.{drop_all}
 use Rattle.std.specs.Prelude.{string_bytes}
 use Rattle.tuple_text.specs.Refs.{set_value}

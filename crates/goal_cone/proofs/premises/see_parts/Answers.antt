@@ -1,4 +1,4 @@
-use Rattle.std.proofs.Common.{rules, ◌≡◌, ◌+◌, ◌∷◌, [], List, drop, refl, arith, add-one, ap, ◌∙◌}
+use Rattle.std.proofs.Common.{rules, ◌≡◌, ◌+◌, [], drop, refl, add-one}
 use Rattle.std.proofs.Math.Seq.{drop-cons}
 use Rattle.std.proofs.lemmas.List.{drop_all}
 use Rattle.tuple_text.specs.Refs.{set_value}
@@ -6,7 +6,6 @@ use Rattle.tuple_text.specs.Tuples.{fact_of}
 use Rattle.rewrites.specs.Expression.{child}
 use Rattle.rewrites.specs.Parts.{part_expression, parts_shown}
 use Rattle.rewrites.specs.View.{children}
-use Rattle.rewrites.specs.declared.parts.Part.{Part}
 use Rattle.snapshots.specs.Snapshots.{rules_in, tuples_in}
 use Rattle.goal_cone.specs.Bounds.{links, links_all}
 use Rattle.goal_cone.specs.Premises.{Reads, ReadsSome}

@@ -1,4 +1,4 @@
-use Rattle.std.proofs.Common.{◌≡◌, ◌∙◌, ap, List, map, option_map, sym, subst}
+use Rattle.std.proofs.Common.{◌≡◌, ◌∙◌, ap, List, option_map, sym, subst}
 use Rattle.tuple_text.specs.Sets.{SetValue}
 use Rattle.namespaces.specs.Lookup.{Rule, rule_of, expression_in}
 use Rattle.rewrites.specs.Expression.{Expression}

@@ -1,5 +1,4 @@
-use Rattle.std.specs.Prelude.{◌≡◌, None, Contains, map}
-use Rattle.namespaces.specs.InForce.{names_in_force}
+use Rattle.std.specs.Prelude.{◌≡◌, None, map}
 use Rattle.namespaces.specs.Lookup.{rule_at}
 use Rattle.rewrites.specs.Parts.{computed_names}
 use Rattle.goal_cone.specs.Targets.{AreReadBefore}

@@ -1,11 +1,11 @@
 use Rattle.std.proofs.Common.{rules, ◌≡◌, ◌++◌, ◌∷◌, ◌+◌, ◌∙◌, ap, Bor, ℕ, List, [], None, Some, length, map, sym, subst}
-use Rattle.std.proofs.lemmas.List.{length-map, map-append}
-use Rattle.std.specs.Prelude.{Contains, slice_get, string_bytes}
+use Rattle.std.proofs.lemmas.List.{map-append}
+use Rattle.std.specs.Prelude.{Contains, slice_get}
 use Rattle.namespaces.specs.InForce.{names_in_force}
 use Rattle.namespaces.specs.Lookup.{rule_at}
 use Rattle.rewrites.specs.Parts.{computed_names}
 use Rattle.goal_cone.specs.Targets.{AreReadBefore}
-use Rattle.goal_cone.proofs.TargetLemmas.{all_declared, all_read, at_item, passed, pushed}
+use Rattle.goal_cone.proofs.TargetLemmas.{all_read, passed, pushed}
 use Rattle.goal_cone.proofs.through.read_of.Goals.{in-Some+in_ok-push, in_default}
 use Rattle.goal_cone.proofs.through.read_of.Goals as goal
 

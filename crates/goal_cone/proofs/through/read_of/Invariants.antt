@@ -1,6 +1,5 @@
-use Rattle.std.specs.Prelude.{◌≡◌, None, Contains, map}
+use Rattle.std.specs.Prelude.{Contains, map}
 use Rattle.namespaces.specs.InForce.{names_in_force}
-use Rattle.namespaces.specs.Lookup.{rule_at}
 use Rattle.rewrites.specs.Parts.{computed_names}
 use Rattle.goal_cone.specs.Targets.{AreReadBefore}
 use Rattle.goal_cone.proofs.through.read_of.Given as goal

@@ -1,4 +1,4 @@
-use Rattle.std.proofs.Common.{rules, ◌≡◌, ◌++◌, ◌∷◌, ◌∙◌, ℕ, List, [], Bor, map, ap, sym, refl, subst, arith}
+use Rattle.std.proofs.Common.{rules, ◌≡◌, ◌++◌, ◌∷◌, ◌∙◌, ℕ, List, [], map, ap, sym, subst, arith}
 use Rattle.std.proofs.lemmas.Grind.{common_steps}
 use Rattle.std.specs.Prelude.{string_bytes}
 use Rattle.std.specs.Vec.Iter.{into_iter_items}
@@ -7,7 +7,7 @@ use Rattle.tuple_text.specs.Sets.{SetValue}
 use Rattle.rewrites.specs.Parts.{computed_names}
 use Rattle.strata.specs.Meaning.{with_relation}
 use Rattle.snapshots.specs.Snapshots.{rules_in}
-use Rattle.goal_cone.specs.Targets.{AreObjects, AreRead, AreTargeted, AreTargets, targets_under}
+use Rattle.goal_cone.specs.Targets.{AreObjects, AreRead, AreTargeted, targets_under}
 use Rattle.goal_cone.proofs.TargetLemmas.{all_targeted, next_targeted, none_targeted}
 use Rattle.goal_cone.proofs.through.targets.Goals.{After-into_iter-stored-iterator, then-not-are_of_one+in_ok-names-2, else-not-are_of_one}
 use Rattle.goal_cone.proofs.through.targets.Goals as goal

@@ -1,6 +1,4 @@
-use Rattle.std.proofs.Common.{rules, ◌≡◌, ◌∷◌, ◌++◌, [], ◌<◌, length, map, refl, sym, ◌∙◌, ap, subst}
-use Rattle.std.proofs.lemmas.Option.{slice_get_read}
-use Rattle.std.specs.Prelude.{slice_get, Some, List}
+use Rattle.std.proofs.Common.{rules, ◌≡◌, ◌∷◌, ◌++◌, [], length, map, refl, sym, ap, subst}
 use Rattle.marks.proofs.PlacedLemmas.{slice_get-next}
 use Rattle.namespaces.specs.Lookup.{expression_in}
 use Rattle.rewrites.specs.Parts.{parts_shown}
