@@ -61,6 +61,7 @@ KIND is one of
   unread_through as `few_make`, where the usersets' namespaces each declare 200 relations that the rule does not read: for `make`
   late_through   as `few_make`, where the usersets' namespaces declare the relations behind the snapshots that are asked for: for `make`
   wide_groups    a rule of `this` and many relations through one tupleset, and objects that each store one group: for `make`
+  many_make      a rule of one relation through many tuplesets, in each of which 17 usersets are stored, and checks of two such objects in turn: for `make`
   toggled        one tuple added and removed in every other commit, and checks at old snapshots
   ids            one group of users alone, and checks that a stranger is not in it
   chain          records of one chain of groups each, as long as a record may be: from the last group on
@@ -828,6 +829,19 @@ def nested_make(size):
     return given
 
 
+def many_make(size):
+    """One of the usersets is of the namespace that declares what is read, so that each check has to name two folders."""
+    names = [f"t{k}" for k in range(max(min(size // 3000, 200), 1))]
+    leaves = [{"tuple_to": {"tupleset": name, "computed": "r0"}} for name in names]
+    rule = {"union": [{"union": leaves[k : k + 50]} for k in range(0, len(leaves), 50)]}
+    doc = {"name": "doc", "relations": [*map(relation, names), relation("viewer", rule)]}
+    given = Input(size, [doc, *({"name": f"n{k}", "relations": [relation("r0" if k == 0 else "x")]} for k in range(18))])
+    for one in "ab":
+        for name in names:
+            given.commit([f"doc:{one}#{name}@n{k if name == 't0' else k + 1}:{k}#..." for k in range(17)])
+    return denied_in_turn(given, size // 240)
+
+
 def toggled(size):
     given = Input(size, [{"name": "doc", "relations": [relation("viewer")]}])
     goal = "doc:readme#viewer@10"
@@ -964,6 +978,7 @@ KINDS = {
     "unread_through": unread_through,
     "late_through": late_through,
     "wide_groups": wide_groups,
+    "many_make": many_make,
     "toggled": toggled,
     "ids": ids,
     "chain": lambda size: rings(size, 1, False),
@@ -978,7 +993,7 @@ KINDS = {
 }
 
 # Those whose evidence the auditor makes: they have none.
-FOR_MAKE = ("ring", "wide_make", "nested_make", "through_make", "few_make", "each_declares", "unread_through", "late_through", "wide_groups")
+FOR_MAKE = ("ring", "wide_make", "nested_make", "through_make", "few_make", "each_declares", "unread_through", "late_through", "wide_groups", "many_make")
 
 
 def main():
