@@ -62,6 +62,7 @@ KIND is one of
   late_through   as `few_make`, where the usersets' namespaces declare the relations behind the snapshots that are asked for: for `make`
   wide_groups    a rule of `this` and many relations through one tupleset, and objects that each store one group: for `make`
   many_make      a rule of one relation through many tuplesets, in each of which 17 usersets are stored, and checks of two such objects in turn: for `make`
+  small_sets     a rule of 60 relations through each of many tuplesets, in each of which 16 usersets are stored, and checks of two such objects in turn: for `make`
   toggled        one tuple added and removed in every other commit, and checks at old snapshots
   ids            one group of users alone, and checks that a stranger is not in it
   chain          records of one chain of groups each, as long as a record may be: from the last group on
@@ -842,6 +843,19 @@ def many_make(size):
     return denied_in_turn(given, size // 240)
 
 
+def small_sets(size):
+    """The same of tuplesets of 16 usersets, for which there is no index, and of many relations through each."""
+    names = [f"t{k}" for k in range(max(min(size // 3 // 5000, 100), 1))]
+    leaves = [{"tuple_to": {"tupleset": name, "computed": f"r{k}"}} for name in names for k in range(60)]
+    unread = [f"x{k}" for k in range(100)]
+    doc = {"name": "doc", "relations": [*map(relation, names), relation("viewer", nested(leaves))]}
+    given = Input(size, [doc, *({"name": f"n{k}", "relations": [*map(relation, unread if k else ["r0"])]} for k in range(17))])
+    for one in "ab":
+        for name in names:
+            given.commit([f"doc:{one}#{name}@n{k if name == 't0' else k + 1}:{k}#..." for k in range(16)])
+    return denied_in_turn(given, size // 240)
+
+
 def toggled(size):
     given = Input(size, [{"name": "doc", "relations": [relation("viewer")]}])
     goal = "doc:readme#viewer@10"
@@ -979,6 +993,7 @@ KINDS = {
     "late_through": late_through,
     "wide_groups": wide_groups,
     "many_make": many_make,
+    "small_sets": small_sets,
     "toggled": toggled,
     "ids": ids,
     "chain": lambda size: rings(size, 1, False),
@@ -993,7 +1008,7 @@ KINDS = {
 }
 
 # Those whose evidence the auditor makes: they have none.
-FOR_MAKE = ("ring", "wide_make", "nested_make", "through_make", "few_make", "each_declares", "unread_through", "late_through", "wide_groups", "many_make")
+FOR_MAKE = ("ring", "wide_make", "nested_make", "through_make", "few_make", "each_declares", "unread_through", "late_through", "wide_groups", "many_make", "small_sets")
 
 
 def main():

@@ -125,6 +125,21 @@ fn judgement_made(
     }
 }
 
+/// How many slices a worker takes, about, where a trace has many entries.
+const SLICES_EACH: usize = 16;
+
+/// The same crew, with slices so long that each worker takes few of them, however many entries there are: with each slice the rules of many
+/// places are begun anew.
+fn with_few_slices(crew: Crew, entries: usize) -> Crew
+    ensures { result.workers ≡ crew.workers }
+{
+    let share = entries / (crew.workers * SLICES_EACH);
+    Crew {
+        workers: crew.workers,
+        slice: crew.slice.max(share),
+    }
+}
+
 /// What is found on each entry by evidence that is made for it, in slices.
 fn found_made<N: Names<Found> + Sync, R: Threads + Wait + Sync>(
     rt: &R,
@@ -148,7 +163,7 @@ fn found_made<N: Names<Found> + Sync, R: Threads + Wait + Sync>(
         alloc,
         &check,
         entries,
-        crew,
+        with_few_slices(crew, entries),
         no_board.as_ref(),
         &mut Blind,
     )
@@ -198,10 +213,10 @@ fn audit_made_by<A: Source, W: Sink, R: Threads + Wait + Sync>(
 /// that it is the same on any number of workers no clause says. `F7` is found only on the line of an entry that is out
 /// of the maker's reach, and `F8` and `F9` nowhere.
 ///
-/// 1 to 16 workers, the calling thread among them, share the entries, in slices of 1 to 4,096. Each makes the
-/// evidence for an entry, judges the entry by it and lets it go, so that no more of it stands in memory than one
-/// entry's for each worker; what it asked of rules of many places it keeps up to the end of the slice. No clause
-/// speaks of memory.
+/// 1 to 16 workers, the calling thread among them, share the entries, in slices of `slice` entries, 1 to 4,096, or of
+/// more where a trace has so many that each worker would take over 16. Each makes the evidence for an entry, judges
+/// the entry by it and lets it go, so that no more of it stands in memory than one entry's for each worker; what it
+/// asked of rules of many places it keeps up to the end of the slice. No clause speaks of memory.
 ///
 /// `Limits` is answered where there are other numbers of workers or entries in a slice, and then nothing is read or
 /// written. A trace is refused as by [`audit`](crate::audit), and nothing is written where it is or memory runs out.

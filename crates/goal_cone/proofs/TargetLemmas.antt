@@ -1,12 +1,13 @@
 -- What relations give through a tupleset, as it is gathered.
-use Rattle.std.proofs.Common.{◌≡◌, Bool, true, false, not, ℕ, suc, ◌+◌, ◌<◌, ◌≤◌, List, [], ◌∷◌, ◌++◌, length, inl, inr, Option, None, Some, refl, sym, ◌∙◌, ap, subst, arith}
+use Rattle.std.proofs.Common.{◌≡◌, Bool, true, false, not, ℕ, suc, ◌+◌, ◌<◌, ◌≤◌, ◌^◌, List, [], ◌∷◌, ◌++◌, length, inl, inr, Option, None, Some, refl, sym, ◌∙◌, ap, subst, arith}
 use Rattle.std.proofs.lemmas.Bool.{cases_eq}
 use Rattle.std.proofs.lemmas.List.{length-append}
 use Rattle.std.proofs.lemmas.List.Elements.{Contains-append_cases, Contains-append_left, Contains-append_right}
 use Rattle.std.proofs.lemmas.List.Sums.{sum_by-cons}
 use Rattle.std.proofs.lemmas.Option.{get_or_from_slice_get, slice_get-get_or, slice_get_within}
 use Rattle.std.specs.Str.{bytes_eq}
-use Rattle.std.specs.Prelude.{Contains, option_map, position, slice_get, sum_by}
+use Rattle.std.specs.List.{IsDistinct}
+use Rattle.std.specs.Prelude.{Contains, IfSome, IsSomeAnd, option_map, position, slice_get, sum_by}
 use Rattle.tuple_text.specs.Sets.{SetValue}
 use Rattle.namespaces.specs.Lookup.{Rule, namespace_names, place_of}
 use Rattle.strata.proofs.Lists.{Contains-cons_cases, Contains-here, Contains-there, not_in_nil}
@@ -17,6 +18,8 @@ use Rattle.snapshots.specs.Leading.{AreAll, AreLeadingThrough, AreStored, IsNumb
 use Rattle.snapshots.specs.Snapshots.{rules_in, tuples_in}
 use Rattle.snapshots.specs.declared.snapshot.Snapshot.{Snapshot}
 use Rattle.snapshots.proofs.FoundLemmas.{numbered}
+use Rattle.judgement.specs.StoredIn.{HaveStored}
+use Rattle.wide_rules.specs.Declaring.{HaveDeclaring}
 use Rattle.goal_cone.specs.Bounds.{stored_sets}
 use Rattle.goal_cone.specs.Targets.{AreObjects, AreRead, AreReadBefore, AreTargeted, AreTargets, AreWanted, Matters, targets_under}
 use Rattle.goal_cone.proofs.StoredLemmas.{no_more}
@@ -112,7 +115,28 @@ module _ (s : Snapshot) (tupleset : SetValue) (names : List (List ℕ)) where
     | inr other ↦ kept k (before k g c (omega (arith, few, other)) is read matters)
   ]
 
+  -- what matters is of a namespace that declares a relation at some time
+  pub has_declaring : s.at < 2 ^ 64 → (w : Numbers) → HaveDeclaring s.timeline.declarations names w → (n : ℕ) (g : SetValue) (c : List ℕ) → IsNumbered s g n
+      → Contains names c → ¬ (rules_in s g.namespace c ≡ None) → Has w n
+  has_declaring small w (numbers, are, kept) n g c is named declared =
+      let k = numbered s.timeline.declarations s.at g.namespace c declared are.few in
+      let both : Some (suc k.0) ≡ Some n = sym k.2 ∙ is in
+      let same : suc k.0 ≡ n = cc in
+      kept n (subst (Contains numbers) same (are.all k.0 s.at g.namespace c k.1 small k.3 named declared))
+
   -- ---- usersets
+
+  -- where nothing is stored of such a namespace
+  pub no_objects : s.at < 2 ^ 64 → (w : Numbers) → HaveDeclaring s.timeline.declarations names w → (stored : Option Numbers)
+      → IfSome stored (HaveStored s tupleset) → IsSomeAnd stored (λ m. (n : ℕ) → Has m n → Has w n → ⊥) → AreObjects s tupleset names []
+  unfolding IsDistinct
+  no_objects small w declaring None have apart = absurd apart
+  no_objects small w declaring (Some m) have apart = record {
+    stored = record { distinct = _; each = λ g there. absurd (not_in_nil g there) };
+    matter = λ g c named matters.
+        let k = numbered s.timeline.declarations s.at g.namespace c matters.1 declaring.1.few in
+        absurd (apart (suc k.0) (have (suc k.0) g matters.0 k.2) (has_declaring small w declaring (suc k.0) g c k.2 named matters.1));
+  }
 
   pub all_objects : (gs : List SetValue) → AreAll s tupleset gs → AreObjects s tupleset names gs
   all_objects gs are = record { stored = are.stored; matter = λ g c read matters. (g, are.all g matters.0, record { namespace = refl; id = refl }) }
@@ -217,4 +241,16 @@ all_targeted s tupleset names gs ts objects are = record {
       let before = are.few in
       let swap = each_under_each gs (length (stored_sets (tuples_in s) tupleset)) (no_more s tupleset gs objects.stored) names in
       omega (arith, before, swap);
+}
+
+-- where nothing matters that is stored, nothing is given
+pub no_targets : (s : Snapshot) (tupleset : SetValue) (names : List (List ℕ)) → AreObjects s tupleset names [] → AreTargets s tupleset names []
+no_targets s tupleset names objects = all_targeted s tupleset names [] [] objects (none_targeted s tupleset names [])
+
+-- of a namespace that declares none of some names
+pub none_read : (rules : List ℕ → Option Rule) (names : List (List ℕ)) → ((c : List ℕ) → Contains names c → rules c ≡ None) → AreRead rules names []
+none_read rules names none = record {
+  few = omega arith;
+  read = λ c there. absurd (not_in_nil c there);
+  declared = λ c there declared. absurd (declared (none c there));
 }

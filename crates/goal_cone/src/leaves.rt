@@ -1,6 +1,6 @@
 //! The leaves of rules, each once; those that go through one tupleset together.
 
-ghost use Rattle.std.specs.Prelude.{◌≡◌, ◌∷◌, [], true, false, IfOk, OnOk, map, string_bytes};
+ghost use Rattle.std.specs.Prelude.{◌≡◌, ◌∷◌, [], true, false, Contains, IfOk, OnOk, map, string_bytes};
 ghost use Rattle.namespaces.specs.Lookup.{expression_in};
 ghost use Rattle.rewrites.specs.Expression.{tuple_to};
 ghost use Rattle.rewrites.specs.Joints.{IsPut};
@@ -8,7 +8,7 @@ ghost use Rattle.rewrites.specs.Leaves.{Collects, leaves_in};
 ghost use Rattle.rewrites.specs.Parts.{each_shown, parts_shown};
 ghost use Rattle.rewrites.specs.Plain.{leaves};
 ghost use Rattle.rewrites.specs.View.{expression_of};
-ghost use Rattle.goal_cone.specs.Leaves.{Grows, HaveLeavesOf, numbered};
+ghost use Rattle.goal_cone.specs.Leaves.{Grows, HaveLeavesOf, IsNoted, numbered, read_shown};
 
 use indexmap::IndexMap;
 use namespaces::{RulePlace, Rules};
@@ -16,12 +16,21 @@ use rewrites::{Part, Rewrite, Through};
 use std::alloc::{AllocError, Global};
 use std::collections::BTreeMap;
 use std::marker::Model;
+use userset_index::Numbers;
+use wide_rules::namespaces_declaring;
+
+/// A part of a rule, and, where it reads through a tupleset, the namespaces that ever declare a relation that it reads there.
+#[derive(Drop)]
+pub struct ReadPart {
+    pub part: Part,
+    pub declaring: Numbers,
+}
 
 /// The leaves of a rule, and where it stands.
 #[derive(Drop)]
 pub(crate) struct PlacedLeaves {
     pub(crate) place: RulePlace,
-    pub(crate) parts: Vec<Part>,
+    pub(crate) parts: Vec<ReadPart>,
 }
 
 /// The leaves of the rules that were asked for, each of which is gone over once, however many facts have it. Contracts see the rules that
@@ -37,15 +46,14 @@ pub struct Leaves<'r> {
 
 impl<'r> Model for Leaves<'r> {
     ghost use Rattle.std.specs.Prelude.{map};
-    ghost use Rattle.rewrites.specs.Parts.{parts_shown};
-    ghost use Rattle.goal_cone.specs.Leaves.{ArePlaced, LeavesValue};
+    ghost use Rattle.goal_cone.specs.Leaves.{ArePlaced, LeavesValue, read_shown};
     ghost use Rattle.goal_cone.specs.LeavesCode.{leaves_code};
 
     ghost Value = { LeavesValue };
 
     ghost coded = { leaves_code };
 
-    ghost view = { λ l. record { declarations = l.rules.now; found = map (λ p. parts_shown p.parts.items) l.placed.items } };
+    ghost view = { λ l. record { declarations = l.rules.now; found = map (λ p. read_shown p.parts.items) l.placed.items } };
 
     ghost invariant = { λ l. ArePlaced l.rules.now l.placed.items };
 }
@@ -148,6 +156,31 @@ fn parts_of(alloc: Global, leaves: Vec<Rewrite>) -> Result<Vec<Part>, AllocError
     Ok(parts)
 }
 
+/// A part with what is noted of it.
+fn noted(alloc: Global, rules: &Rules, part: Part) -> Result<ReadPart, AllocError>
+    ensures part { IfOk result (λ r. r.part ≡ part) }
+    ensures noted { IfOk result (IsNoted rules.now) }
+{
+    let declaring = match &part {
+        Part::Leaf(_) => Numbers::none(),
+        Part::Through(through) => namespaces_declaring(alloc, rules, through)?,
+    };
+    Ok(ReadPart { part, declaring })
+}
+
+/// Parts of a rule with what is noted of each.
+fn each_noted(alloc: Global, rules: &Rules, parts: Vec<Part>) -> Result<Vec<ReadPart>, AllocError>
+    ensures shown { IfOk result (λ v. read_shown v.items ≡ parts_shown parts.items) }
+    ensures noted { IfOk result (λ v. (r : ReadPart) → Contains v.items r → IsNoted rules.now r) }
+{
+    let mut read = Vec::new(alloc);
+    for part in parts {
+        let part = noted(alloc, rules, part)?;
+        read.push(part)?;
+    }
+    Ok(read)
+}
+
 impl<'r> Leaves<'r> {
     /// Of these rules nothing was asked.
     pub fn new(alloc: Global, rules: &'r Rules) -> Leaves<'r>
@@ -175,6 +208,7 @@ impl<'r> Leaves<'r> {
         }
         let leaves = self.rules.leaves_in(self.alloc, place)?;
         let parts = parts_of(self.alloc, leaves)?;
+        let parts = each_noted(self.alloc, self.rules, parts)?;
         let number = self.placed.len();
         self.placed.push(PlacedLeaves { place, parts })?;
         let _ = self.numbers.insert(key, number)?;
@@ -182,8 +216,9 @@ impl<'r> Leaves<'r> {
     }
 
     /// The leaves of a number, each once; those that go through one tupleset are one part. None where the number is not given yet.
-    pub fn parts(&self, number: usize) -> &[Part]
-        ensures { parts_shown result.now ≡ numbered number self.now.found }
+    pub fn parts(&self, number: usize) -> &[ReadPart]
+        ensures shown { read_shown result.now ≡ numbered number self.now.found }
+        ensures noted { (r : ReadPart) → Contains result.now r → IsNoted self.now.declarations r }
     {
         match self.placed.get(number) {
             Some(placed) => placed.parts.as_slice(),

@@ -27,6 +27,6 @@ mod through;
 
 pub use cone::{explore, explore_by};
 pub use fault::ConeFault;
-pub use leaves::Leaves;
+pub use leaves::{Leaves, ReadPart};
 pub use premises::{MAX_LINKS, MAX_USERSETS};
 pub use through::targets;

@@ -1,20 +1,22 @@
 //! The premises of one fact, as its rule names them.
 
-ghost use Rattle.std.specs.Prelude.{◌≡◌, ◌+◌, ◌<◌, ◌≤◌, ◌⊎◌, OnOk, Err, false, length, map};
+ghost use Rattle.std.specs.Prelude.{◌≡◌, ◌+◌, ◌<◌, ◌≤◌, ◌⊎◌, Contains, OnOk, Err, false, length, map};
 ghost use Rattle.tuple_text.specs.Faults.{is_memory};
 ghost use Rattle.tuple_text.specs.Refs.{set_value};
 ghost use Rattle.tuple_text.specs.Tuples.{fact_of};
 ghost use Rattle.rewrites.specs.Expression.{this};
-ghost use Rattle.rewrites.specs.Parts.{part_expression, parts_shown, through_expression};
+ghost use Rattle.rewrites.specs.Parts.{computed_names, part_expression, through_expression};
 ghost use Rattle.rewrites.specs.View.{children, expression_of, expressions_of};
 ghost use Rattle.snapshots.specs.Snapshots.{rules_in, tuples_in};
+ghost use Rattle.wide_rules.specs.Declaring.{HaveDeclaring};
 ghost use Rattle.goal_cone.specs.Bounds.{links, links_all, links_of};
+ghost use Rattle.goal_cone.specs.Leaves.{IsNoted, read_shown};
 ghost use Rattle.goal_cone.specs.Pass.{AmongSets, IsRead};
 ghost use Rattle.goal_cone.specs.Premises.{Reads, ReadsSome};
 ghost use Rattle.goal_cone.specs.Seen.{Sees, IsStuck};
 
 use crate::fault::ConeFault;
-use crate::leaves::{Leaves, through_one};
+use crate::leaves::{Leaves, ReadPart, through_one};
 use crate::seen::Seen;
 use crate::through::targets;
 use judgement::under;
@@ -23,6 +25,8 @@ use rewrites::{Part, Rewrite, Through};
 use snapshots::Snapshot;
 use std::alloc::Global;
 use tuple_text::{Fact, SetRef, TupleFault};
+use userset_index::Numbers;
+use wide_rules::namespaces_declaring;
 
 /// How many facts a cone may have.
 pub const MAX_USERSETS: usize = 131072;
@@ -112,16 +116,18 @@ fn see_own(
     see_each(alloc, snapshot, user, sets, seen, room)
 }
 
-/// Sees what some relations give through a tupleset.
+/// Sees what some relations give through a tupleset, where these namespaces declare them.
 fn see_through(
     alloc: Global,
     through: &Through,
+    declaring: Numbers,
     set: SetRef<'_>,
     user: u64,
     snapshot: &Snapshot<'_>,
     seen: &mut Seen,
     room: &mut usize,
 ) -> Result<(), ConeFault>
+    requires { HaveDeclaring snapshot.now.timeline.declarations (computed_names through.now) declaring }
     ensures seen { OnOk result (Sees (rules_in snapshot.now)
         (Reads (tuples_in snapshot.now) (fact_of (set_value set.entry) user) (through_expression through.now)) seen.old seen.new) }
     ensures links { OnOk result (room.old ≤ room.new + links (tuples_in snapshot.now) (set_value set.entry) (through_expression through.now)) }
@@ -129,7 +135,7 @@ fn see_through(
         ⊎ IsStuck MAX_USERSETS MAX_LINKS (rules_in snapshot.now) (tuples_in snapshot.now)
         (Reads (tuples_in snapshot.now) (fact_of (set_value set.entry) user) (through_expression through.now)) seen.old }
 {
-    let sets = targets(alloc, snapshot, set, through)?;
+    let sets = targets(alloc, snapshot, set, through, declaring)?;
     see_each(alloc, snapshot, user, sets, seen, room)
 }
 
@@ -158,7 +164,8 @@ fn see_premises(
         }
         Rewrite::TupleTo { tupleset, computed } => {
             let through = through_one(alloc, tupleset, computed)?;
-            see_through(alloc, &through, set, user, snapshot, seen, room)
+            let declaring = namespaces_declaring(alloc, snapshot.timeline.rules(), &through)?;
+            see_through(alloc, &through, declaring, set, user, snapshot, seen, room)
         }
         Rewrite::Union(children) | Rewrite::Inter(children) => {
             see_children(alloc, children, set, user, snapshot, seen, room)
@@ -196,42 +203,53 @@ fn see_children(
 /// Sees what a part of a rule reads.
 fn see_part(
     alloc: Global,
-    part: &Part,
+    part: &ReadPart,
     set: SetRef<'_>,
     user: u64,
     snapshot: &Snapshot<'_>,
     seen: &mut Seen,
     room: &mut usize,
 ) -> Result<(), ConeFault>
+    requires { IsNoted snapshot.now.timeline.declarations part.now }
     ensures seen { OnOk result (Sees (rules_in snapshot.now)
-        (Reads (tuples_in snapshot.now) (fact_of (set_value set.entry) user) (part_expression part.now)) seen.old seen.new) }
-    ensures links { OnOk result (room.old ≤ room.new + links (tuples_in snapshot.now) (set_value set.entry) (part_expression part.now)) }
-    ensures stuck { result ≡ Err ConeFault.Outgrown → (room.old < links (tuples_in snapshot.now) (set_value set.entry) (part_expression part.now))
+        (Reads (tuples_in snapshot.now) (fact_of (set_value set.entry) user) (part_expression part.now.part)) seen.old seen.new) }
+    ensures links { OnOk result (room.old ≤ room.new + links (tuples_in snapshot.now) (set_value set.entry) (part_expression part.now.part)) }
+    ensures stuck { result ≡ Err ConeFault.Outgrown → (room.old < links (tuples_in snapshot.now) (set_value set.entry) (part_expression part.now.part))
         ⊎ IsStuck MAX_USERSETS MAX_LINKS (rules_in snapshot.now) (tuples_in snapshot.now)
-        (Reads (tuples_in snapshot.now) (fact_of (set_value set.entry) user) (part_expression part.now)) seen.old }
+        (Reads (tuples_in snapshot.now) (fact_of (set_value set.entry) user) (part_expression part.now.part)) seen.old }
 {
-    match part {
+    match &part.part {
         Part::Leaf(leaf) => see_premises(alloc, leaf, set, user, snapshot, seen, room),
-        Part::Through(through) => see_through(alloc, through, set, user, snapshot, seen, room),
+        Part::Through(through) => see_through(
+            alloc,
+            through,
+            part.declaring,
+            set,
+            user,
+            snapshot,
+            seen,
+            room,
+        ),
     }
 }
 
 /// Sees what the parts of a rule read.
 fn see_parts(
     alloc: Global,
-    parts: &[Part],
+    parts: &[ReadPart],
     set: SetRef<'_>,
     user: u64,
     snapshot: &Snapshot<'_>,
     seen: &mut Seen,
     room: &mut usize,
 ) -> Result<(), ConeFault>
+    requires { (r : ReadPart) → Contains parts.now r → IsNoted snapshot.now.timeline.declarations r }
     ensures seen { OnOk result (Sees (rules_in snapshot.now)
-        (ReadsSome (tuples_in snapshot.now) (fact_of (set_value set.entry) user) (children (parts_shown parts.now))) seen.old seen.new) }
-    ensures links { OnOk result (room.old ≤ room.new + links_all (tuples_in snapshot.now) (set_value set.entry) (children (parts_shown parts.now))) }
-    ensures stuck { result ≡ Err ConeFault.Outgrown → (room.old < links_all (tuples_in snapshot.now) (set_value set.entry) (children (parts_shown parts.now)))
+        (ReadsSome (tuples_in snapshot.now) (fact_of (set_value set.entry) user) (children (read_shown parts.now))) seen.old seen.new) }
+    ensures links { OnOk result (room.old ≤ room.new + links_all (tuples_in snapshot.now) (set_value set.entry) (children (read_shown parts.now))) }
+    ensures stuck { result ≡ Err ConeFault.Outgrown → (room.old < links_all (tuples_in snapshot.now) (set_value set.entry) (children (read_shown parts.now)))
         ⊎ IsStuck MAX_USERSETS MAX_LINKS (rules_in snapshot.now) (tuples_in snapshot.now)
-        (ReadsSome (tuples_in snapshot.now) (fact_of (set_value set.entry) user) (children (parts_shown parts.now))) seen.old }
+        (ReadsSome (tuples_in snapshot.now) (fact_of (set_value set.entry) user) (children (read_shown parts.now))) seen.old }
 {
     for part in parts {
         see_part(alloc, part, set, user, snapshot, seen, room)?;

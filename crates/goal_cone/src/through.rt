@@ -1,6 +1,6 @@
 //! What relations give through a tupleset.
 
-ghost use Rattle.std.specs.Prelude.{◌≡◌, ◌≤◌, ◌++◌, ℕ, List, None, Some, Contains, IfOk, IfSome, OnOk, true, false, length, map, option_map, slice_get, string_bytes};
+ghost use Rattle.std.specs.Prelude.{◌≡◌, ◌<◌, ◌≤◌, ◌++◌, ◌^◌, ℕ, List, None, Some, Contains, IfOk, IfSome, IsSomeAnd, OnOk, true, false, length, map, option_map, slice_get, string_bytes};
 ghost use Rattle.tuple_text.specs.Refs.{set_value};
 ghost use Rattle.tuple_text.specs.Sets.{SetValue};
 ghost use Rattle.tuple_text.specs.declared.users.User.TheVariants.{Set};
@@ -11,6 +11,8 @@ ghost use Rattle.strata.specs.Meaning.{with_relation, IsStored};
 ghost use Rattle.snapshots.specs.Leading.{IsNumbered};
 ghost use Rattle.snapshots.specs.Snapshots.{rules_in, tuples_in};
 ghost use Rattle.judgement.specs.StoredIn.{HaveStored};
+ghost use Rattle.userset_index.specs.Numbers.{Has};
+ghost use Rattle.wide_rules.specs.Declaring.{DeclaresNone, HaveDeclaring};
 ghost use Rattle.goal_cone.specs.Targets.{AreObjects, AreRead, AreTargets, AreWanted, targets_under};
 
 use judgement::{is_absent, stored_in, under};
@@ -117,16 +119,32 @@ fn read_of<'s>(
     Ok(names)
 }
 
-/// The same, of the shorter of both lists.
+/// Whether a namespace may declare a relation that is read, where those that do are among some.
+fn may_declare(rules: &Rules, namespace: &str, declaring: Numbers) -> bool
+    ensures { result ≡ false → (names : List (List ℕ)) (at : ℕ) → HaveDeclaring rules.now names declaring → at < 2 ^ 64
+        → DeclaresNone (rule_at rules.now at) names namespace.now }
+{
+    match rules.namespace_number(namespace) {
+        Some(number) => declaring.has(number),
+        None => false,
+    }
+}
+
+/// The same, of the shorter of both lists, and of none where it is known that the namespace declares none.
 fn names_read<'s>(
     alloc: Global,
     rules: &'s Rules,
     through: &'s Through,
+    declaring: Numbers,
     namespace: &str,
     at: u64,
 ) -> Result<Vec<&'s str>, AllocError>
-    ensures { IfOk result (λ v. AreRead (rule_at rules.now at namespace.now) (computed_names through.now) (map (λ s. s.now) v.items)) }
+    ensures { HaveDeclaring rules.now (computed_names through.now) declaring
+        → IfOk result (λ v. AreRead (rule_at rules.now at namespace.now) (computed_names through.now) (map (λ s. s.now) v.items)) }
 {
+    if !may_declare(rules, namespace, declaring) {
+        return Ok(Vec::new(alloc));
+    }
     if through.computed.len() < rules.count_in_force(namespace, at) {
         declared_of(alloc, rules, through, namespace, at)
     } else {
@@ -140,20 +158,26 @@ fn is_wanted(
     snapshot: &Snapshot<'_>,
     tupleset: MarkedSet<'_>,
     through: &Through,
+    declaring: Numbers,
     stored: Option<Numbers>,
     number: u16,
 ) -> Result<bool, AllocError>
     requires { IfSome stored (HaveStored snapshot.now (set_value tupleset.set)) }
-    ensures { IfOk result (λ r. r ≡ false → (g : SetValue) (c : List ℕ) → IsStored (tuples_in snapshot.now) (set_value tupleset.entry.set) (Set g)
+    ensures { HaveDeclaring snapshot.now.timeline.declarations (computed_names through.now) declaring
+        → IfOk result (λ r. r ≡ false → (g : SetValue) (c : List ℕ) → IsStored (tuples_in snapshot.now) (set_value tupleset.entry.set) (Set g)
         → IsNumbered snapshot.now g number → Contains (computed_names through.now) c → rules_in snapshot.now g.namespace c ≡ None) }
 {
-    if is_absent(stored, number) || snapshot.stores_none(tupleset, number) {
+    snapshot.fits();
+    if !declaring.has(number)
+        || is_absent(stored, number)
+        || snapshot.stores_none(tupleset, number)
+    {
         return Ok(false);
     }
     let rules = snapshot.timeline.rules();
     match rules.namespace(number) {
         Some(namespace) => {
-            let names = names_read(alloc, rules, through, namespace, snapshot.at)?;
+            let names = names_read(alloc, rules, through, declaring, namespace, snapshot.at)?;
             Ok(!names.is_empty())
         }
         None => Ok(true),
@@ -166,17 +190,59 @@ fn wanted(
     snapshot: &Snapshot<'_>,
     tupleset: MarkedSet<'_>,
     through: &Through,
+    declaring: Numbers,
+    stored: Option<Numbers>,
 ) -> Result<Numbers, AllocError>
-    ensures { IfOk result (λ w. AreWanted snapshot.now (set_value tupleset.entry.set) (computed_names through.now) 256 w) }
+    requires { IfSome stored (HaveStored snapshot.now (set_value tupleset.set)) }
+    ensures { HaveDeclaring snapshot.now.timeline.declarations (computed_names through.now) declaring
+        → IfOk result (λ w. AreWanted snapshot.now (set_value tupleset.entry.set) (computed_names through.now) 256 w) }
 {
-    let stored = stored_in(snapshot, tupleset);
     let mut wanted = Numbers::none();
     for before in 0..MAX_NUMBER {
-        if is_wanted(alloc, snapshot, tupleset, through, stored, before + 1)? {
+        if is_wanted(
+            alloc,
+            snapshot,
+            tupleset,
+            through,
+            declaring,
+            stored,
+            before + 1,
+        )? {
             wanted = wanted.with(before + 1);
         }
     }
     Ok(wanted)
+}
+
+/// Whether it is known at one look that nothing is stored of namespaces.
+fn are_apart(stored: Option<Numbers>, declaring: Numbers) -> bool
+    ensures { result ≡ true → IsSomeAnd stored (λ s. (n : ℕ) → Has s n → Has declaring n → ⊥) }
+{
+    match stored {
+        Some(stored) => !stored.meets(declaring),
+        None => false,
+    }
+}
+
+/// Usersets that are stored in a crowded tupleset, as [`objects`] gives them.
+fn objects_in_crowd<'s>(
+    alloc: Global,
+    snapshot: &'s Snapshot<'_>,
+    tupleset: MarkedSet<'s>,
+    through: &Through,
+    declaring: Numbers,
+) -> Result<Vec<SetRef<'s>>, AllocError>
+    ensures { HaveDeclaring snapshot.now.timeline.declarations (computed_names through.now) declaring
+        → IfOk result (λ v. AreObjects snapshot.now (set_value tupleset.entry.set) (computed_names through.now) (map set_value v.items)) }
+{
+    snapshot.fits();
+    snapshot.is_well_formed();
+    let stored = stored_in(snapshot, tupleset);
+    if are_apart(stored, declaring) {
+        return Ok(Vec::new(alloc));
+    }
+    let wanted = wanted(alloc, snapshot, tupleset, through, declaring, stored)?;
+    snapshot.leading_through(alloc, tupleset, wanted)
 }
 
 /// Usersets that are stored in a tupleset, each once, among them one of the object of each whose namespace declares a relation that is read.
@@ -185,16 +251,14 @@ fn objects<'s>(
     snapshot: &'s Snapshot<'_>,
     tupleset: MarkedSet<'s>,
     through: &Through,
+    declaring: Numbers,
 ) -> Result<Vec<SetRef<'s>>, AllocError>
-    ensures { IfOk result (λ v. AreObjects snapshot.now (set_value tupleset.entry.set) (computed_names through.now) (map set_value v.items)) }
+    ensures { HaveDeclaring snapshot.now.timeline.declarations (computed_names through.now) declaring
+        → IfOk result (λ v. AreObjects snapshot.now (set_value tupleset.entry.set) (computed_names through.now) (map set_value v.items)) }
 {
     match snapshot.few(alloc, tupleset)? {
         Some(sets) => Ok(sets),
-        None => {
-            snapshot.is_well_formed();
-            let wanted = wanted(alloc, snapshot, tupleset, through)?;
-            snapshot.leading_through(alloc, tupleset, wanted)
-        }
+        None => objects_in_crowd(alloc, snapshot, tupleset, through, declaring),
     }
 }
 
@@ -225,26 +289,36 @@ fn push_under<'s>(
 /// What relations give through a tupleset of the object of a userset: the objects of what is stored there, each under those of the relations
 /// that it declares then. What is stored is gone over once for all of the relations.
 ///
+/// `declaring` says of which namespaces that may be: what is stored of others is passed over, unread where much is stored. So all that is
+/// declared is given where each namespace that ever declares one of the relations is there.
+///
 /// Refusals: OutOfMemory.
 pub fn targets<'s>(
     alloc: Global,
     snapshot: &'s Snapshot<'_>,
     set: SetRef<'s>,
     through: &'s Through,
+    declaring: Numbers,
 ) -> Result<Vec<SetRef<'s>>, AllocError>
-    ensures { IfOk result (λ v. AreTargets snapshot.now (with_relation (set_value set.entry) (string_bytes through.now.tupleset)) (computed_names through.now)
-        (map set_value v.items)) }
+    ensures { HaveDeclaring snapshot.now.timeline.declarations (computed_names through.now) declaring
+        → IfOk result (λ v. AreTargets snapshot.now (with_relation (set_value set.entry) (string_bytes through.now.tupleset))
+        (computed_names through.now) (map set_value v.items)) }
 {
     let rules = snapshot.timeline.rules();
+    let at = snapshot.at;
     let tupleset = MarkedSet::of(under(set, through.tupleset.as_str()));
+    let objects = objects(alloc, snapshot, tupleset, through, declaring)?;
     let mut targets = Vec::new(alloc);
-    let mut of = set;
-    let mut names = names_read(alloc, rules, through, of.namespace, snapshot.at)?;
+    if objects.is_empty() {
+        return Ok(targets);
+    }
+    let mut of = objects[0];
+    let mut names = names_read(alloc, rules, through, declaring, of.namespace, at)?;
     // those of one namespace mostly follow one another
-    for stored in objects(alloc, snapshot, tupleset, through)? {
+    for stored in objects {
         if !are_of_one(of, stored) {
             of = stored;
-            names = names_read(alloc, rules, through, of.namespace, snapshot.at)?;
+            names = names_read(alloc, rules, through, declaring, of.namespace, at)?;
         }
         push_under(&mut targets, stored, &names)?;
     }

@@ -5,7 +5,7 @@ ghost use Rattle.std.specs.Prelude.{◌≡◌};
 use crate::gates::{Exclusion, Gates, Wants};
 use crate::links::small;
 use crate::premises::{Premise, Reading, premises_of};
-use goal_cone::Leaves;
+use goal_cone::{Leaves, ReadPart};
 use judgement::under;
 use marks::MarkedSet;
 use namespaces::RulePlace;
@@ -62,7 +62,7 @@ impl<'g, 't> Gates<'g, 't> {
         snapshot: &'a Snapshot<'t>,
         place: usize,
         fact: &'a Fact,
-        leaves: &'a [Part],
+        leaves: &'a [ReadPart],
     ) -> Result<(), AllocError> {
         let alloc = *self.gates.allocator();
         let premises = premises_of(alloc, snapshot, &self.facts, fact, leaves)?;

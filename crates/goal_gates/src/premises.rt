@@ -1,12 +1,13 @@
 //! What the rule of a fact reads through tuplesets, as far as it is in the cone.
 
 use crate::facts::ConeFacts;
-use goal_cone::targets;
+use goal_cone::{ReadPart, targets};
 use marks::MarkedSet;
 use rewrites::{Part, Through};
 use snapshots::Snapshot;
 use std::alloc::{AllocError, Global};
 use tuple_text::{Fact, SetRef};
+use userset_index::Numbers;
 
 /// A relation that is read through a tupleset.
 #[derive(Clone, Copy, Drop, PartialEq, Eq)]
@@ -41,8 +42,10 @@ fn push_through<'a>(
     cone: &ConeFacts<'_>,
     fact: &'a Fact,
     through: &'a Through,
+    declaring: Numbers,
 ) -> Result<(), AllocError> {
-    let sets = targets(*premises.allocator(), snapshot, fact.set(), through)?;
+    let alloc = *premises.allocator();
+    let sets = targets(alloc, snapshot, fact.set(), through, declaring)?;
     for set in sets {
         if let Some(place) = cone.place_of(set) {
             let reading = Reading {
@@ -62,12 +65,12 @@ pub(crate) fn premises_of<'a>(
     snapshot: &'a Snapshot<'_>,
     cone: &ConeFacts<'_>,
     fact: &'a Fact,
-    leaves: &'a [Part],
+    leaves: &'a [ReadPart],
 ) -> Result<Vec<Premise<'a>>, AllocError> {
     let mut premises = Vec::new(alloc);
     for leaf in leaves {
-        if let Part::Through(through) = leaf {
-            push_through(&mut premises, snapshot, cone, fact, through)?;
+        if let Part::Through(through) = &leaf.part {
+            push_through(&mut premises, snapshot, cone, fact, through, leaf.declaring)?;
         }
     }
     Ok(premises)

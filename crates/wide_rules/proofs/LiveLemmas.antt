@@ -12,7 +12,8 @@ use Rattle.userset_index.specs.declared.numbers.Numbers.{Numbers}
 use Rattle.snapshots.specs.Snapshots.{rules_in, tuples_in}
 use Rattle.snapshots.specs.declared.snapshot.Snapshot.{Snapshot}
 use Rattle.judgement.specs.Decided.{dec_undeclared}
-use Rattle.wide_rules.specs.Declaring.{AreDeclaring, AreLive, DeclaresNone}
+use Rattle.wide_rules.specs.Declaring.{AreDeclaring, DeclaresNone}
+use Rattle.wide_rules.specs.Kept.{AreLive}
 use Rattle.judgement.specs.Judgement.{KnownValue, IsOut}
 use Rattle.judgement.specs.StoredIn.{HaveStored}
 use Rattle.judgement.specs.Passes.{AreBarred}

@@ -11,7 +11,7 @@ use Rattle.rewrites.specs.declared.parts.Through.{Through}
 use Rattle.marks.proofs.PlacedLemmas.{length-set, slice_get-set}
 use Rattle.snapshots.specs.Timelines.{TimelineValue}
 use Rattle.wide_rules.specs.AskedFact.{DoesFor}
-use Rattle.wide_rules.specs.Declaring.{AreKeptByPart, MayBeKept}
+use Rattle.wide_rules.specs.Kept.{AreKeptByPart, MayBeKept}
 use Rattle.wide_rules.specs.declared.fact.AskedFact.{AskedFact}
 use Rattle.wide_rules.specs.declared.kept.Kept.{Kept}
 

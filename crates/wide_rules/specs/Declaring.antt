@@ -1,21 +1,9 @@
--- Which namespaces declare a relation that is read through a tupleset. No public clause cites this module.
-use Rattle.std.specs.Prelude.{◌≡◌, ◌<◌, ◌≤◌, ◌^◌, ℕ, suc, length, List, Contains, Option, None, Some, slice_get, string_bytes}
-use Rattle.std.specs.Option.{ForSome}
-use Rattle.std.specs.declared.alloc.Global.{Global}
-use Rattle.std.specs.declared.boxed.Box.{Box}
-use Rattle.tuple_text.specs.Sets.{SetValue}
-use Rattle.tuple_text.specs.declared.users.User.TheVariants.{Set}
+-- Which namespaces declare a relation that is read through a tupleset.
+use Rattle.std.specs.Prelude.{◌≡◌, ◌<◌, ◌≤◌, ◌^◌, ℕ, suc, length, List, Contains, None, Some}
 use Rattle.namespaces.specs.Declaration.{Declaration}
-use Rattle.namespaces.specs.Lookup.{Lookup, namespace_names, namespace_numbered, place_of, rule_at}
-use Rattle.rewrites.specs.Parts.{computed_names}
-use Rattle.rewrites.specs.declared.parts.Part.{Part}
-use Rattle.rewrites.specs.declared.parts.Through.{Through}
-use Rattle.strata.specs.Meaning.{IsStored}
+use Rattle.namespaces.specs.Lookup.{Lookup, namespace_names, namespace_numbered, rule_at}
 use Rattle.userset_index.specs.Numbers.{Has}
-use Rattle.snapshots.specs.Snapshots.{rules_in, snapshot_at, tuples_in}
-use Rattle.snapshots.specs.Timelines.{TimelineValue}
-use Rattle.snapshots.specs.declared.snapshot.Snapshot.{Snapshot}
-use Rattle.wide_rules.specs.declared.kept.Kept.{Kept}
+use Rattle.userset_index.specs.declared.numbers.Numbers.{Numbers}
 
 -- a namespace declares none of these relations
 abbrev pub DeclaresNone : Lookup → List (List ℕ) → List ℕ → Type 0
@@ -27,28 +15,6 @@ pub record AreDeclaring (ds : List Declaration) (names : List (List ℕ)) (numbe
   pub all : (n at : ℕ) (namespace relation : List ℕ) → n < 256 → at < 2 ^ 64 → namespace_numbered (suc n) ds ≡ Some namespace
       → Contains names relation → ¬ (rule_at ds at namespace relation ≡ None) → Contains numbers (suc n)
 
--- the numbers of all namespaces of usersets that are stored in `set` and whose namespace declares one of these relations, and maybe of others
-pub record AreLive (s : Snapshot) (set : SetValue) (names : List (List ℕ)) (numbers : List ℕ) : Type 0 where
-  pub few : length (namespace_names s.timeline.declarations) ≤ 256
-  pub all : (n : ℕ) (g : SetValue) (relation : List ℕ) → IsStored (tuples_in s) set (Set g)
-      → place_of g.namespace (namespace_names s.timeline.declarations) ≡ Some n → Contains names relation → ¬ (rules_in s g.namespace relation ≡ None)
-      → Contains numbers n
-
--- the tupleset for whose usersets numbers are kept
-abbrev pub kept_set : Kept → Through → SetValue
-kept_set k through = record { namespace = string_bytes k.namespace; id = string_bytes k.id; relation = string_bytes through.tupleset }
-
--- what is kept of a part that reads through a tupleset
-pub record IsKept (timeline : TimelineValue) (through : Through) (k : Kept) : Type 0 where
-  pub declaring : AreDeclaring timeline.declarations (computed_names through) k.declaring.items
-  pub numbers : (n : ℕ) → Contains k.declaring.items n → Has k.numbers n
-  pub live : AreLive (snapshot_at timeline k.at) (kept_set k through) (computed_names through) k.live.items
-
-abbrev pub MayBeKept : TimelineValue → Through → Option (Box Kept Global) → Type 0
-MayBeKept timeline through kept = ForSome kept (λ k. IsKept timeline through k.value)
-
--- so it is of each part that reads through a tupleset, and there is room for each part
-pub record AreKeptByPart (timeline : TimelineValue) (parts : List Part) (kept : List (Option (Box Kept Global))) : Type 0 where
-  pub room : length kept ≡ length parts
-  pub each : (k : ℕ) (through : Through) (one : Option (Box Kept Global)) → slice_get parts k ≡ Some (Part.Through through)
-      → slice_get kept k ≡ Some one → MayBeKept timeline through one
+-- a set that has such numbers
+abbrev pub HaveDeclaring : List Declaration → List (List ℕ) → Numbers → Type 0
+HaveDeclaring ds names set = (numbers : List ℕ) × AreDeclaring ds names numbers × ((n : ℕ) → Contains numbers n → Has set n)

@@ -2,3 +2,4 @@ pub mod Asked
 pub mod AskedCode
 pub mod AskedFact
 pub mod Declaring
+pub mod Kept

@@ -7,7 +7,7 @@ ghost use Rattle.snapshots.specs.Snapshots.{snapshot_at};
 ghost use Rattle.snapshots.specs.Timelines.{TimelineValue};
 ghost use Rattle.wide_rules.specs.Asked.{Follows, IsCoveredBy, Questions, asked_at, joined_of};
 ghost use Rattle.wide_rules.specs.AskedFact.{DoesFor, Tells};
-ghost use Rattle.wide_rules.specs.Declaring.{AreKeptByPart};
+ghost use Rattle.wide_rules.specs.Kept.{AreKeptByPart};
 
 use crate::answers::{Answers, Asked};
 use crate::covers::{Covers, MOST_COVERS, covers_of};
@@ -36,7 +36,7 @@ pub(crate) struct Parts<'r> {
 impl<'r> Model for Parts<'r> {
     ghost use Rattle.rewrites.specs.Parts.{parts_shown};
     ghost use Rattle.wide_rules.specs.Asked.{AreCoversByPart, PartsValue};
-    ghost use Rattle.wide_rules.specs.Declaring.{AreKeptByPart};
+    ghost use Rattle.wide_rules.specs.Kept.{AreKeptByPart};
     ghost use Rattle.wide_rules.specs.AskedCode.{parts_code};
 
     ghost Value = { PartsValue };

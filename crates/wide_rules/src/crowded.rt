@@ -7,7 +7,7 @@ ghost use Rattle.marks.specs.Marks.{set_mark};
 ghost use Rattle.userset_index.specs.Index.{IsUsersetIndex, is_crowded};
 ghost use Rattle.judgement.specs.Passes.{AreThroughOut};
 ghost use Rattle.wide_rules.specs.AskedFact.{IsBarredBy, IsNumberOut, asked_set, rules_over};
-ghost use Rattle.wide_rules.specs.Declaring.{AreLive};
+ghost use Rattle.wide_rules.specs.Kept.{AreLive};
 
 use crate::fact::AskedFact;
 use judgement::{KnownFact, are_out};

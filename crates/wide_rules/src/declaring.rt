@@ -4,7 +4,7 @@ ghost use Rattle.std.specs.Prelude.{◌≡◌, ◌<◌, ◌^◌, ℕ, List, Cont
 ghost use Rattle.namespaces.specs.Lookup.{rule_at};
 ghost use Rattle.rewrites.specs.Parts.{computed_names};
 ghost use Rattle.userset_index.specs.Numbers.{Has};
-ghost use Rattle.wide_rules.specs.Declaring.{AreDeclaring, DeclaresNone};
+ghost use Rattle.wide_rules.specs.Declaring.{AreDeclaring, DeclaresNone, HaveDeclaring};
 
 use namespaces::{MAX_NUMBER, Rules};
 use rewrites::Through;
@@ -111,4 +111,18 @@ pub(crate) fn numbers_of(numbers: &[u16]) -> Numbers
         all = all.with(*number);
     }
     all
+}
+
+/// The namespaces that declare, at whatever time, a relation that is read through a tupleset, and maybe others.
+///
+/// Refusals: OutOfMemory.
+pub fn namespaces_declaring(
+    alloc: Global,
+    rules: &Rules,
+    through: &Through,
+) -> Result<Numbers, AllocError>
+    ensures { IfOk result (HaveDeclaring rules.now (computed_names through.now)) }
+{
+    let numbers = declaring(alloc, rules, through)?;
+    Ok(numbers_of(&numbers))
 }

@@ -5,7 +5,8 @@ ghost use Rattle.tuple_text.specs.Refs.{set_value};
 ghost use Rattle.rewrites.specs.Parts.{computed_names, through_expression};
 ghost use Rattle.strata.specs.Meaning.{with_relation};
 ghost use Rattle.wide_rules.specs.AskedFact.{DoesFor, IsBarredBy, asked_set};
-ghost use Rattle.wide_rules.specs.Declaring.{AreDeclaring, AreLive, IsKept, MayBeKept, kept_set};
+ghost use Rattle.wide_rules.specs.Declaring.{AreDeclaring};
+ghost use Rattle.wide_rules.specs.Kept.{AreLive, IsKept, MayBeKept, kept_set};
 
 use crate::declaring::{declaring, numbers_of};
 use crate::fact::AskedFact;

@@ -29,3 +29,4 @@ mod paths;
 mod through;
 
 pub use asked_rule::AskedRule;
+pub use declaring::namespaces_declaring;

@@ -11,7 +11,8 @@ ghost use Rattle.snapshots.specs.Snapshots.{rules_in, tuples_in};
 ghost use Rattle.marks.specs.Marks.{set_mark};
 ghost use Rattle.userset_index.specs.Index.{IsUsersetIndex, is_crowded};
 ghost use Rattle.userset_index.specs.Numbers.{Has};
-ghost use Rattle.wide_rules.specs.Declaring.{AreDeclaring, AreLive, DeclaresNone};
+ghost use Rattle.wide_rules.specs.Declaring.{AreDeclaring, DeclaresNone};
+ghost use Rattle.wide_rules.specs.Kept.{AreLive};
 ghost use Rattle.judgement.specs.StoredIn.{HaveStored};
 ghost use Rattle.judgement.specs.Passes.{EachSet};
 

@@ -8,7 +8,8 @@ ghost use Rattle.strata.specs.Meaning.{with_relation};
 ghost use Rattle.judgement.specs.Passes.{BarsId, EachSet, IsLed, SomeSet};
 ghost use Rattle.wide_rules.specs.AskedFact.{BarsUnder, DoesFor, IsBarredBy, IsLedBy, LeadsUnder};
 ghost use Rattle.wide_rules.specs.AskedFact.{asked_set, rules_over, tuples_over};
-ghost use Rattle.wide_rules.specs.Declaring.{AreDeclaring, AreLive};
+ghost use Rattle.wide_rules.specs.Declaring.{AreDeclaring};
+ghost use Rattle.wide_rules.specs.Kept.{AreLive};
 
 use crate::crowded::are_barred_by_index;
 use crate::declaring::{is_among, name_at};

@@ -40,8 +40,8 @@ see_premises-returns-in-Computed-clause-stuck t c =
     (subst (λ (g : SetValue). IsStuck 131072 4194304 (rules_in c.args.snapshot.now) (tuples_in c.args.snapshot.now) (λ p. fact_of g c.args.user ≡ p) c.args.seen.now) q
     (c.see.ensures.stuck h)))
 
-pub see_premises-returns-in_ok-through-in-TupleTo-clause-seen : goal.see_premises-returns-in_ok-through-in-TupleTo-clause-seen
-see_premises-returns-in_ok-through-in-TupleTo-clause-seen t c =
+pub see_premises-returns-in_ok-declaring-in-TupleTo-clause-seen : goal.see_premises-returns-in_ok-declaring-in-TupleTo-clause-seen
+see_premises-returns-in_ok-declaring-in-TupleTo-clause-seen t c =
     let leaf = tuple_to (string_bytes c.in-TupleTo.tupleset) (string_bytes c.in-TupleTo.computed) in
     let e : expression_of c.args.rewrite.now ≡ leaf = rw c.in-TupleTo.is (search (rules, the_lemmas)) in
     let store = tuples_in c.args.snapshot.now in
@@ -51,8 +51,8 @@ see_premises-returns-in_ok-through-in-TupleTo-clause-seen t c =
     (λ p. (one_read store (fact_of set c.args.user) p leaf c.in_ok-through-in-TupleTo.through one).0)
     (λ p. (one_read store (fact_of set c.args.user) p leaf c.in_ok-through-in-TupleTo.through one).1) c.args.seen.now c.see_through.new.seen c.see_through.result c.see_through.ensures.seen)
 
-pub see_premises-returns-in_ok-through-in-TupleTo-clause-links : goal.see_premises-returns-in_ok-through-in-TupleTo-clause-links
-see_premises-returns-in_ok-through-in-TupleTo-clause-links t c =
+pub see_premises-returns-in_ok-declaring-in-TupleTo-clause-links : goal.see_premises-returns-in_ok-declaring-in-TupleTo-clause-links
+see_premises-returns-in_ok-declaring-in-TupleTo-clause-links t c =
     let leaf = tuple_to (string_bytes c.in-TupleTo.tupleset) (string_bytes c.in-TupleTo.computed) in
     let e : expression_of c.args.rewrite.now ≡ leaf = rw c.in-TupleTo.is (search (rules, the_lemmas)) in
     let store = tuples_in c.args.snapshot.now in
@@ -60,8 +60,8 @@ see_premises-returns-in_ok-through-in-TupleTo-clause-links t c =
     let one = c.in_ok-through-in-TupleTo.ensures in
     rw (e, ← one_link store set leaf c.in_ok-through-in-TupleTo.through one) c.see_through.ensures.links
 
-pub see_premises-returns-in_ok-through-in-TupleTo-clause-stuck : goal.see_premises-returns-in_ok-through-in-TupleTo-clause-stuck
-see_premises-returns-in_ok-through-in-TupleTo-clause-stuck t c =
+pub see_premises-returns-in_ok-declaring-in-TupleTo-clause-stuck : goal.see_premises-returns-in_ok-declaring-in-TupleTo-clause-stuck
+see_premises-returns-in_ok-declaring-in-TupleTo-clause-stuck t c =
     let leaf = tuple_to (string_bytes c.in-TupleTo.tupleset) (string_bytes c.in-TupleTo.computed) in
     let e : expression_of c.args.rewrite.now ≡ leaf = rw c.in-TupleTo.is (search (rules, the_lemmas)) in
     let store = tuples_in c.args.snapshot.now in

@@ -3,7 +3,7 @@ use Rattle.tuple_text.specs.Refs.{set_value}
 use Rattle.tuple_text.specs.Sets.{SetValue}
 use Rattle.rewrites.specs.Parts.{computed_names}
 use Rattle.strata.specs.Meaning.{with_relation}
-use Rattle.wide_rules.specs.Declaring.{AreLive}
+use Rattle.wide_rules.specs.Kept.{AreLive}
 use Rattle.wide_rules.proofs.kept.kept_of.Goals as goal
 
 pub returns : goal.returns
