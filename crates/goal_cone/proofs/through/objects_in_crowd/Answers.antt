@@ -16,4 +16,4 @@ returns-then-are_apart c = λ declaring.
     let s = c.args.snapshot.now in
     let none : c.new.result.items ≡ [] = search rules in
     rw none (no_objects s (set_value c.args.tupleset.set) (computed_names c.args.through.now) c.fits.ensures c.args.declaring declaring
-        c.stored_in-stored.result c.stored_in-stored.ensures (c.are_apart.ensures c.if-are_apart.true))
+    c.stored_in-stored.result c.stored_in-stored.ensures (c.are_apart.ensures c.if-are_apart.true))
