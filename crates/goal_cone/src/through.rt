@@ -224,27 +224,6 @@ fn are_apart(stored: Option<Numbers>, declaring: Numbers) -> bool
     }
 }
 
-/// Usersets that are stored in a crowded tupleset, as [`objects`] gives them.
-fn objects_in_crowd<'s>(
-    alloc: Global,
-    snapshot: &'s Snapshot<'_>,
-    tupleset: MarkedSet<'s>,
-    through: &Through,
-    declaring: Numbers,
-) -> Result<Vec<SetRef<'s>>, AllocError>
-    ensures { HaveDeclaring snapshot.now.timeline.declarations (computed_names through.now) declaring
-        → IfOk result (λ v. AreObjects snapshot.now (set_value tupleset.entry.set) (computed_names through.now) (map set_value v.items)) }
-{
-    snapshot.fits();
-    snapshot.is_well_formed();
-    let stored = stored_in(snapshot, tupleset);
-    if are_apart(stored, declaring) {
-        return Ok(Vec::new(alloc));
-    }
-    let wanted = wanted(alloc, snapshot, tupleset, through, declaring, stored)?;
-    snapshot.leading_through(alloc, tupleset, wanted)
-}
-
 /// Usersets that are stored in a tupleset, each once, among them one of the object of each whose namespace declares a relation that is read.
 fn objects<'s>(
     alloc: Global,
@@ -256,9 +235,18 @@ fn objects<'s>(
     ensures { HaveDeclaring snapshot.now.timeline.declarations (computed_names through.now) declaring
         → IfOk result (λ v. AreObjects snapshot.now (set_value tupleset.entry.set) (computed_names through.now) (map set_value v.items)) }
 {
+    snapshot.fits();
+    let stored = stored_in(snapshot, tupleset);
+    if are_apart(stored, declaring) {
+        return Ok(Vec::new(alloc));
+    }
     match snapshot.few(alloc, tupleset)? {
         Some(sets) => Ok(sets),
-        None => objects_in_crowd(alloc, snapshot, tupleset, through, declaring),
+        None => {
+            snapshot.is_well_formed();
+            let wanted = wanted(alloc, snapshot, tupleset, through, declaring, stored)?;
+            snapshot.leading_through(alloc, tupleset, wanted)
+        }
     }
 }
 

@@ -3,13 +3,13 @@ use Rattle.std.proofs.lemmas.Result.{IfOk-weaker}
 use Rattle.tuple_text.specs.Refs.{set_value}
 use Rattle.rewrites.specs.Parts.{computed_names}
 use Rattle.goal_cone.proofs.TargetLemmas.{no_objects, wanted_objects}
-use Rattle.goal_cone.proofs.through.objects_in_crowd.Goals as goal
+use Rattle.goal_cone.proofs.through.objects.Goals as goal
 
-pub returns : goal.returns
-returns c = λ declaring.
+pub returns-in_ok-wanted-in-None : goal.returns-in_ok-wanted-in-None
+returns-in_ok-wanted-in-None c = λ declaring.
     IfOk-weaker c.leading_through.result _ _
     (λ v are. wanted_objects c.args.snapshot.now (set_value c.args.tupleset.set) (computed_names c.args.through.now) c.is_well_formed.ensures.namespaces
-    c.in_ok-wanted.wanted (map set_value v.items) (c.in_ok-wanted.ensures declaring) are) c.leading_through.ensures
+    c.in_ok-wanted-in-None.wanted (map set_value v.items) (c.in_ok-wanted-in-None.ensures declaring) are) c.leading_through.ensures
 
 pub returns-then-are_apart : goal.returns-then-are_apart
 returns-then-are_apart c = λ declaring.
