@@ -20,8 +20,8 @@ use Rattle.findings.specs.declared.finding.Finding.{Finding}
 use Rattle.findings.proofs.WrongReplies.{named_by_bytes}
 use Rattle.audit.specs.Answers.{TellsOfTrace, Audited}
 use Rattle.audit.specs.Parts.{TraceRead, EvidenceRead, Told, IsReport, AreFound}
-use Rattle.audit.specs.Audit.{Audits, Breaks, RefusesEvidenceFor, IsOfBytes, BlamesNoDevice, verdict_of}
-use Rattle.audit.specs.Devices.{Reader, Reading, Writer, Writing, OfAll, OfAny, OfBoth, OfCame, GivesFew, GivesNext, reads, ReaderFailed, ReaderNeverFailed, WriterNeverFailed, FailsWriting, StandsBehind}
+use Rattle.audit.specs.Audit.{Audits, BreaksOffAt, RefusesEvidenceFor, IsOfBytes, BlamesNoDevice, verdict_of}
+use Rattle.audit.specs.Devices.{Reader, Reading, Writer, Writing, OfWhole, OfInput, OfBoth, OfBytes, GivesFew, GivesNext, reads, ReaderFailed, ReaderNeverFailed, WriterNeverFailed, FailsWriting, StandsBehind}
 use Rattle.audit.specs.Kinds.{IsOneOf}
 use Rattle.audit.specs.Kinds as kind
 use Rattle.audit.specs.declared.plain.Verdict.{Verdict}
@@ -29,7 +29,7 @@ use Rattle.audit.specs.declared.plain.Verdict.TheVariants.{Clean}
 use Rattle.audit.specs.declared.plain.AuditFault.{AuditFault}
 use Rattle.audit.specs.declared.plain.AuditFault.TheVariants as faults
 use Rattle.audit.proofs.KindLemmas.{one_of-more, never_answered, never_kind, same_fault}
-use Rattle.audit.proofs.Readers.{of_all-map, few_at_rest, next_at_rest, behind_at_rest, refused_evidence, cut_evidence, on_both, devices_of_reading, devices_of_writing, unwritten_without_device, answered_clean}
+use Rattle.audit.proofs.Readers.{of_whole-map, few_at_rest, next_at_rest, behind_at_rest, refused_evidence, cut_evidence, on_both, devices_of_reading, devices_of_writing, unwritten_without_device, answered_clean}
 
 -- ---- what is told
 
@@ -97,8 +97,8 @@ told_clean t given out (Err e) told clean = absurd (cc (clean))
 module _ (t : TraceValue) (r : Reading) where
   -- reading evidence stopped at this fault, which is told so
   pub evidence_stopped : {V : Type 0} (Says : List (Option (List StepValue)) → V → Type 0) (fault : EvidenceFault)
-      (e : AuditFault) → OfAny r (λ b. RefusesEvidenceFor t b fault)
-      → (fault.cause ≡ evidence_causes.Read → OfCame r (λ b. evidence_of t.entries false b ≡ Err fault)) → GivesFew r
+      (e : AuditFault) → OfInput r (λ b. RefusesEvidenceFor t b fault)
+      → (fault.cause ≡ evidence_causes.Read → OfBytes r (λ b. evidence_of t.entries false b ≡ Err fault)) → GivesFew r
       → GivesNext r
       → (fault.cause ≡ evidence_causes.Read → ReaderFailed r)
       → (fault.cause ≢ evidence_causes.Read → ReaderNeverFailed r)
@@ -112,9 +112,9 @@ module _ (t : TraceValue) (r : Reading) where
       record {
         given = tt;
         refused =
-            λ f is. subst (λ (x : EvidenceFault). OfAny r (λ b. RefusesEvidenceFor t b x)) (sym (same f is)) refused;
+            λ f is. subst (λ (x : EvidenceFault). OfInput r (λ b. RefusesEvidenceFor t b x)) (sym (same f is)) refused;
         cut = λ f is read.
-            subst (λ (x : EvidenceFault). OfCame r (λ b. evidence_of t.entries false b ≡ Err x)) (sym (same f is))
+            subst (λ (x : EvidenceFault). OfBytes r (λ b. evidence_of t.entries false b ≡ Err x)) (sym (same f is))
             (cut (subst (λ (x : EvidenceFault). x.cause ≡ evidence_causes.Read) (same f is) read));
         most = most;
         known = known;
@@ -126,7 +126,8 @@ module _ (t : TraceValue) (r : Reading) where
 
   -- reading evidence came to the reader's end
   pub evidence_whole : {V : Type 0} (Says : List (Option (List StepValue)) → V → Type 0) (v : V)
-      (given : List (Option (List StepValue))) → Says given v → OfAll r (λ b. evidence_of t.entries true b ≡ Ok given)
+      (given : List (Option (List StepValue))) → Says given v
+      → OfWhole r (λ b. evidence_of t.entries true b ≡ Ok given)
       → GivesFew r → GivesNext r → ReaderNeverFailed r → EvidenceRead Says t r (Ok v)
   evidence_whole Says v given says whole most known kept =
       record {
@@ -230,7 +231,7 @@ trace_not_read {V} Tells Breaks trace w e read =
 -- it was told whole
 tells_whole : {V : Type 0} (Tells : List ℕ → List ℕ → List ℕ → V → Type 0)
     (Breaks : List ℕ → Writing → ℕ → Type 0) (trace : Reading) (out : Writing) (v : V)
-    → OfAll trace (λ a. Tells a out.before.taken out.after.taken v) → out.after.flushes ≡ out.before.flushes + 1
+    → OfWhole trace (λ a. Tells a out.before.taken out.after.taken v) → out.after.flushes ≡ out.before.flushes + 1
     → GivesFew trace → GivesNext trace → StandsBehind out → ReaderNeverFailed trace × WriterNeverFailed out
     → TellsOfTrace Tells Breaks trace out (Ok v)
 tells_whole Tells Breaks trace out v told flushed most known held kept =
@@ -258,7 +259,7 @@ pub tells_of : {V : Type 0} (Tells : List ℕ → List ℕ → List ℕ → V �
     → TellsOfTrace Tells Breaks trace out r
 tells_of Tells Breaks Says trace out t (Ok v) read told tells breaks =
     tells_whole Tells Breaks trace out v
-    (of_all-map trace (λ a. trace_of true a ≡ Ok t) (λ a. Tells a out.before.taken out.after.taken v)
+    (of_whole-map trace (λ a. trace_of true a ≡ Ok t) (λ a. Tells a out.before.taken out.after.taken v)
     (λ a is. tells a told.text.0 out.before.taken out.after.taken v is told.text.1 told.text.2) read.given)
     told.flushed read.most read.known told.held (read.kept, told.kept)
 tells_of {V} Tells Breaks Says trace out t (Err e) read told tells breaks =
@@ -271,7 +272,7 @@ tells_of {V} Tells Breaks Says trace out t (Err e) read told tells breaks =
           λ f is. never_answered (kind.write ∷ kind.memory ∷ []) e (faults.Trace f) refl told.kinds is;
       write = λ n is.
           let h = told.write n is in
-          of_all-map trace (λ a. trace_of true a ≡ Ok t) (λ a. Breaks a out n)
+          of_whole-map trace (λ a. trace_of true a ≡ Ok t) (λ a. Breaks a out n)
           (λ a says. breaks a h.1 h.0 n says h.2 h.3) read.given;
       unwritten = told.unwritten;
       most = read.most;
@@ -289,7 +290,7 @@ pub tells-map : {V X : Type 0} (Tells : List ℕ → List ℕ → List ℕ → V
     → TellsOfTrace Tells Breaks trace out (Ok v) → TellsOfTrace Also Breaks trace out (Ok x)
 tells-map Tells Also Breaks trace out v x f h =
     tells_whole Also Breaks trace out x
-    (of_all-map trace (λ a. Tells a out.before.taken out.after.taken v)
+    (of_whole-map trace (λ a. Tells a out.before.taken out.after.taken v)
     (λ a. Also a out.before.taken out.after.taken x) (λ a. f a out.before.taken out.after.taken) h.told)
     h.flushed h.most h.known h.held h.kept
 
@@ -424,7 +425,7 @@ audited trace evidence out t found (Ok v) read by law told =
           ));
       flushed = told.flushed;
       headline = λ clean.
-          of_all-map trace (λ a. trace_of true a ≡ Ok t) IsTraceRightAndFresh
+          of_whole-map trace (λ a. trace_of true a ≡ Ok t) IsTraceRightAndFresh
           (λ a is. (t, is, law given (told_clean t given out (Ok v) told clean))) read.given;
       wrong_replies =
           on_both trace evidence t read.given NamesOnlyWrongReplies given by.given.2
@@ -459,7 +460,7 @@ audited trace evidence out t found (Err e) read by law told =
           λ f is. never_answered (kind.write ∷ kind.memory ∷ []) e (faults.Evidence f) refl told.kinds is;
       write = λ n is.
           let h = told.write n is in
-          on_both trace evidence t read.given (λ a b. Breaks a b out n) given by.given.2
+          on_both trace evidence t read.given (λ a b. BreaksOffAt a b out n) given by.given.2
           (λ a b is says. (t, given, is, says, subst (λ (text : List ℕ). FailsWriting out n text) h.2.0 h.3));
       unwritten = told.unwritten;
       most = (read.most, by.most);
@@ -498,14 +499,14 @@ audited_at_rest a b w =
 pub told_by_bytes : {V : Type 0} {Says : List (Option (List StepValue)) → V → Type 0} {trace evidence : Reading}
     {t : TraceValue} {r : Result V AuditFault} (N : Type 0) (P : TraceValue → List (Option (List StepValue)) → Type 0)
     → TraceRead trace (Ok t) → EvidenceRead Says t evidence r
-    → N ⊎ OfAll evidence
+    → N ⊎ OfWhole evidence
     (λ b. (given : List (Option (List StepValue))) × (evidence_of t.entries true b ≡ Ok given) × P t given)
     → N ⊎ OfBoth trace evidence (λ a b. IsOfBytes a b P)
 told_by_bytes N P read by (inl not) = inl not
 told_by_bytes {trace = trace} {evidence = evidence} {t = t} N P read by (inr told) =
     inr
-    (of_all-map trace (λ a. trace_of true a ≡ Ok t) (λ a. OfAll evidence (λ b. IsOfBytes a b P))
-    (λ a is. of_all-map evidence
+    (of_whole-map trace (λ a. trace_of true a ≡ Ok t) (λ a. OfWhole evidence (λ b. IsOfBytes a b P))
+    (λ a is. of_whole-map evidence
     (λ b. (given : List (Option (List StepValue))) × (evidence_of t.entries true b ≡ Ok given) × P t given)
     (λ b. IsOfBytes a b P) (λ b h. (t, h.0, is, h.1, h.2)) told) read.given)
 
@@ -513,9 +514,9 @@ told_by_bytes {trace = trace} {evidence = evidence} {t = t} N P read by (inr tol
 pub told_of : {t : TraceValue} {evidence : Reading} {v : Vec Judged Global} (P : List (Option (List StepValue)) → Type 0)
     → EvidenceRead (λ given v. AreJudged t given v.items) t evidence (Ok v)
     → ((given : List (Option (List StepValue))) → AreJudged t given v.items → P given)
-    → OfAll evidence
+    → OfWhole evidence
     (λ b. (given : List (Option (List StepValue))) × (evidence_of t.entries true b ≡ Ok given) × P given)
 told_of {t} {evidence} P read told =
-    of_all-map evidence (λ b. evidence_of t.entries true b ≡ Ok read.given.0)
+    of_whole-map evidence (λ b. evidence_of t.entries true b ≡ Ok read.given.0)
     (λ b. (given : List (Option (List StepValue))) × (evidence_of t.entries true b ≡ Ok given) × P given)
     (λ b is. (read.given.0, is, told read.given.0 read.given.1)) read.given.2

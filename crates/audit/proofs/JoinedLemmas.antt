@@ -25,8 +25,8 @@ use Rattle.findings.proofs.WrongReplies.{named_by_bytes}
 use Rattle.findings.specs.Findings.{findings_of}
 use Rattle.findings.specs.Headline.{IsRightAndFresh, IsTraceRightAndFresh}
 use Rattle.findings.specs.WrongReplies.{NamesOnlyWrongReplies}
-use Rattle.audit.specs.Audit.{Audits, Breaks, BlamesOnly, RefusesTrace, RefusesEvidence, RefusesEvidenceFor}
-use Rattle.audit.specs.Devices.{Reader, Reading, Writer, Writing, OfAll, OfAny, OfCame, GivesFew, GivesNext, ReaderFailed, ReaderNeverFailed, FailsWriting}
+use Rattle.audit.specs.Audit.{Audits, BreaksOffAt, BlamesOnly, RefusesTrace, RefusesEvidence, RefusesEvidenceFor}
+use Rattle.audit.specs.Devices.{Reader, Reading, Writer, Writing, OfWhole, OfInput, OfBytes, GivesFew, GivesNext, ReaderFailed, ReaderNeverFailed, FailsWriting}
 use Rattle.audit.specs.Joined.{OfParts, OfBothParts, HasNoParts, AuditedJoined}
 use Rattle.audit.specs.JoinedParts.{IsRead, of_input, SayBoth, PartsRead, FrontRead, BehindRead}
 use Rattle.audit.specs.Kinds.{IsOneOf}
@@ -44,11 +44,11 @@ abbrev between : Reader → Reader → Reading
 between old new = record { before = old; after = new }
 
 -- what begins so has too many bytes
-pub too_long_to_part : (r : Reading) → OfCame r (λ came. 2 ^ 30 < length came) → OfAny r HasNoParts
+pub too_long_to_part : (r : Reading) → OfBytes r (λ came. 2 ^ 30 < length came) → OfInput r HasNoParts
 too_long_to_part r h = (h.0, h.1, λ rest ended. inr (omega (arith, length-append h.0 rest, h.2)))
 
 -- the whole has no marker
-no_marker : (r : Reading) → OfAll r (λ came. joined_of came ≡ None) → OfAny r HasNoParts
+no_marker : (r : Reading) → OfWhole r (λ came. joined_of came ≡ None) → OfInput r HasNoParts
 no_marker r h =
     let given = λ (s : Reader). s.given in
     let ends = λ (s : Reader). s.ends in
@@ -100,7 +100,7 @@ module _ (old mid new : Reader) (rest : RestValue) (P : List ℕ → Type 0)
         ),
       )
 
-  pub long_behind : ComesPast rest.room mid.given new.given rest.at_hand → OfAny (between old new) HasNoParts
+  pub long_behind : ComesPast rest.room mid.given new.given rest.at_hand → OfInput (between old new) HasNoParts
   long_behind past =
       let more = past (old.given ++ front.0) passed_first in
       too_long_to_part (between old new)
@@ -142,7 +142,7 @@ blames_later _ failed later out more h = tt
 
 -- reading the input stopped, in front of the marker or behind it
 pub front_stopped : (r : Reading) (fault : InputFault) (e : AuditFault) → e ≡ of_input fault
-    → (fault ≡ input.TooLong → OfAny r HasNoParts) → GivesFew r → GivesNext r → (fault ≡ input.Read → ReaderFailed r)
+    → (fault ≡ input.TooLong → OfInput r HasNoParts) → GivesFew r → GivesNext r → (fault ≡ input.Read → ReaderFailed r)
     → (fault ≢ input.Read → ReaderNeverFailed r) → FrontRead r (Err e)
 front_stopped r fault e is long most known failed kept =
     subst (λ (x : AuditFault). FrontRead r (Err x)) (sym is)
@@ -163,7 +163,7 @@ front_stopped r fault e is long most known failed kept =
     })
 
 -- there was no marker
-pub front_unmarked : (r : Reading) → OfAll r (λ came. joined_of came ≡ None) → GivesFew r → GivesNext r
+pub front_unmarked : (r : Reading) → OfWhole r (λ came. joined_of came ≡ None) → GivesFew r → GivesNext r
     → ReaderNeverFailed r → FrontRead r (Err faults.Joined)
 front_unmarked r none most known kept =
     record {
@@ -504,7 +504,7 @@ module _ (r : Reading) (out : Writing) (t : TraceValue) (v : Vec Judged Global) 
         joined = λ is. never_answered (kind.write ∷ kind.memory ∷ []) e faults.Joined refl told.kinds is;
         write = λ n is.
             let h = told.write n is in
-            of_both (λ a b. Breaks a b out n)
+            of_both (λ a b. BreaksOffAt a b out n)
             (λ a b says by.
             (t, read.given.0, says, by, subst (λ (l : List ℕ). FailsWriting out n l) h.2.0 h.3));
         unwritten = told.unwritten;

@@ -21,16 +21,16 @@ use Rattle.findings.proofs.EachFinding.{HoldsOfTokens, each_finding}
 use Rattle.findings.proofs.ToldFindings.{by_evidence, told}
 use Rattle.audit.specs.Made.{IsMade, AreMade}
 use Rattle.audit.specs.Answers.{AuditedMade}
-use Rattle.audit.specs.MadeAudit.{AuditsMade, BreaksMade, WhateverIsMade, IsOfMaker, AreOfMaker, IsSettled, MissesNoWrongReply, IsFoundMade}
+use Rattle.audit.specs.MadeAudit.{AuditsMade, BreaksMade, WhateverIsMade, IsOfMaker, AreOfMaker, IsAccountedFor, MissesNoWrongReply, IsFoundMade}
 use Rattle.audit.specs.Shared.{found_lines}
 use Rattle.audit.specs.declared.shared.Found.{Found}
 use Rattle.audit.specs.declared.plain.AuditFault.{AuditFault}
 use Rattle.audit.specs.declared.plain.Verdict.{Verdict}
 use Rattle.audit.specs.Answers.{TellsOfTrace}
 use Rattle.audit.specs.Parts.{TraceRead, Told, IsReport}
-use Rattle.audit.specs.Devices.{Reading, Writing, Writer, FailsWriting, OfAll}
+use Rattle.audit.specs.Devices.{Reading, Writing, Writer, FailsWriting, OfWhole}
 use Rattle.audit.proofs.Answering.{tells_of, told_clean}
-use Rattle.audit.proofs.Readers.{of_all-map}
+use Rattle.audit.proofs.Readers.{of_whole-map}
 use Rattle.findings.proofs.WrongReplies.{named_by_bytes}
 use Rattle.findings.specs.WrongReplies.{HasOnlyWrongRepliesNamed}
 
@@ -67,7 +67,7 @@ of_maker t given made = each_finding (IsOfMaker t) t given 0 t.entries (on_token
 settled_by : (t : TraceValue) → ((at : ℕ) → HasValidStrataAt t at)
     → (given : List (Option (List StepValue))) (i : ℕ) (e : EntryValue)
     → slice_get t.entries i ≡ Some e → (o : Option (List StepValue)) → steps_of given i ≡ o → IsMade t e o
-    → IsSettled t (findings_of t given) e
+    → IsAccountedFor t (findings_of t given) e
 settled_by t valid given i e at None is made =
     inr
     (inr (
@@ -84,7 +84,7 @@ settled_by t valid given i e at (Some steps) is made =
       ))
     ]
 
--- each entry is settled
+-- each entry is accounted for
 pub misses_none : (a : List ℕ) (t : TraceValue) (given : List (Option (List StepValue))) → trace_of true a ≡ Ok t
     → AreMade t t.entries given
     → MissesNoWrongReply t (findings_of t given)
@@ -144,13 +144,13 @@ made_findings t found findings is each =
 
 -- ---- what a reader says
 
-module _ (trace : Reading) (t : TraceValue) (says : OfAll trace (λ a. trace_of true a ≡ Ok t)) where
+module _ (trace : Reading) (t : TraceValue) (says : OfWhole trace (λ a. trace_of true a ≡ Ok t)) where
   whatever_made : (r : Result Verdict AuditFault) (P : TraceValue → List Finding → Type 0)
       → ((a : List ℕ) (given : List (Option (List StepValue))) → trace_of true a ≡ Ok t → AreMade t t.entries given
       → P t (findings_of t given))
-      → OnOk r (OfAll trace (WhateverIsMade P))
+      → OnOk r (OfWhole trace (WhateverIsMade P))
   whatever_made (Ok v) P h =
-      of_all-map trace (λ a. trace_of true a ≡ Ok t) (WhateverIsMade P)
+      of_whole-map trace (λ a. trace_of true a ≡ Ok t) (WhateverIsMade P)
       (λ a is. (t, is, λ given made. h a given is made)) says
   whatever_made (Err f) P h = tt
 
@@ -161,14 +161,14 @@ module _ (trace : Reading) (out : Writing) (t : TraceValue) (read : TraceRead tr
       → Told (IsReport t given) out r → AuditedMade trace out r
   audited_made given r made law told =
       record {
-        tells =
+        of_trace =
             tells_of AuditsMade BreaksMade (IsReport t given) trace out t r read told
             (λ a text old new v is says went.
             (t, given, is, made, (went ∙ ap (λ (l : List ℕ). old ++ l) says.0, says.1)))
             (λ a text v n is says fails.
             (t, given, is, made, subst (λ (l : List ℕ). FailsWriting out n l) says.0 fails));
         headline = λ clean.
-            of_all-map trace (λ a. trace_of true a ≡ Ok t) IsTraceRightAndFresh
+            of_whole-map trace (λ a. trace_of true a ≡ Ok t) IsTraceRightAndFresh
             (λ a is. (t, is, law given (told_clean t given out r told clean))) read.given;
         wrong_replies =
             whatever_made trace t read.given r HasOnlyWrongRepliesNamed
@@ -183,4 +183,4 @@ pub made_fault : (trace : Reading) (w : Writer) (e : AuditFault)
     → TellsOfTrace AuditsMade BreaksMade trace (record { before = w; after = w }) (Err e)
     → AuditedMade trace (record { before = w; after = w }) (Err e)
 made_fault trace w e tells =
-    record { tells = tells; headline = λ is. absurd (cc (is)); wrong_replies = tt; given_up = tt; complete = tt }
+    record { of_trace = tells; headline = λ is. absurd (cc (is)); wrong_replies = tt; given_up = tt; complete = tt }

@@ -1,7 +1,8 @@
 -- What readers say and what a writer took, put together.
 use Rattle.std.proofs.Common.{◌≡◌, ℕ, true, false, List, [], ◌∷◌, Option, Result, Ok, Err, arith, refl, subst, sym, ◌∙◌, append-nil}
 use Rattle.std.specs.Prelude.{IfErr}
-use Rattle.devices.proofs.Given.{of_bytes-map, of_whole-map, of_input-map, next-refl}
+use Rattle.devices.proofs.Given as devices
+use Rattle.devices.proofs.Given.{next-refl}
 use Rattle.trace_lines.specs.Values.{TraceValue}
 use Rattle.trace_lines.specs.Traces.{trace_of}
 use Rattle.evidence_check.specs.Reading.{evidence_of}
@@ -16,21 +17,24 @@ use Rattle.audit.specs.Parts.{TraceRead, EvidenceRead}
 use Rattle.audit.specs.Kinds as kind
 use Rattle.audit.proofs.KindLemmas.{of_writing}
 use Rattle.std.proofs.KnownBytes.{Appends-nil}
-use Rattle.audit.specs.Devices.{Reader, Reading, Writer, OfCame, OfAll, OfAny, OfBoth, GivesFew, GivesNext, StandsBehind}
+use Rattle.audit.specs.Devices.{Reader, Reading, Writer, OfBytes, OfWhole, OfInput, OfBoth, GivesFew, GivesNext, StandsBehind}
 use Rattle.findings.specs.declared.finding.Finding.{Finding}
 use Rattle.audit.specs.declared.plain.Verdict.{Verdict}
 use Rattle.audit.specs.declared.plain.Verdict.TheVariants.{Clean}
 use Rattle.audit.specs.declared.plain.AuditFault.{AuditFault}
 use Rattle.audit.specs.declared.plain.AuditFault.TheVariants as faults
 
-pub of_all-map : (r : Reading) (P Q : List ℕ → Type 0) → ((a : List ℕ) → P a → Q a) → OfAll r P → OfAll r Q
-of_all-map r P Q f h = of_whole-map (λ (s : Reader). s.given) (λ (s : Reader). s.ends) r.before r.after P Q f h
+pub of_whole-map : (r : Reading) (P Q : List ℕ → Type 0) → ((a : List ℕ) → P a → Q a) → OfWhole r P → OfWhole r Q
+of_whole-map r P Q f h =
+    devices.of_whole-map (λ (s : Reader). s.given) (λ (s : Reader). s.ends) r.before r.after P Q f h
 
-pub of_any-map : (r : Reading) (P Q : List ℕ → Type 0) → ((a : List ℕ) → P a → Q a) → OfAny r P → OfAny r Q
-of_any-map r P Q f h = of_input-map (λ (s : Reader). s.given) (λ (s : Reader). s.ends) r.before r.after P Q f h
+pub of_input-map : (r : Reading) (P Q : List ℕ → Type 0) → ((a : List ℕ) → P a → Q a) → OfInput r P → OfInput r Q
+of_input-map r P Q f h =
+    devices.of_input-map (λ (s : Reader). s.given) (λ (s : Reader). s.ends) r.before r.after P Q f h
 
-pub of_came-map : (r : Reading) (P Q : List ℕ → Type 0) → ((a : List ℕ) → P a → Q a) → OfCame r P → OfCame r Q
-of_came-map r P Q f h = of_bytes-map (λ (s : Reader). s.given) r.before r.after P Q f h
+pub of_bytes-map : (r : Reading) (P Q : List ℕ → Type 0) → ((a : List ℕ) → P a → Q a) → OfBytes r P → OfBytes r Q
+of_bytes-map r P Q f h =
+    devices.of_bytes-map (λ (s : Reader). s.given) r.before r.after P Q f h
 
 -- what holds of a device that a call leaves alone
 pub few_at_rest : (r : Reader) → GivesFew (record { before = r; after = r })
@@ -52,29 +56,29 @@ pub evidence_is : {V : Type 0} {Says : List (Option (List StepValue)) → V → 
 evidence_is {V} {Says} {t} {evidence} {r} {s} is read =
     subst (λ (x : Result V AuditFault). EvidenceRead Says t evidence x) is read
 
-module _ (trace evidence : Reading) (t : TraceValue) (says : OfAll trace (λ a. trace_of true a ≡ Ok t)) where
-  pub refused_evidence : (f : EvidenceFault) → OfAny evidence (λ b. RefusesEvidenceFor t b f)
-      → OfAll trace (λ a. OfAny evidence (λ b. RefusesEvidence a b f))
+module _ (trace evidence : Reading) (t : TraceValue) (says : OfWhole trace (λ a. trace_of true a ≡ Ok t)) where
+  pub refused_evidence : (f : EvidenceFault) → OfInput evidence (λ b. RefusesEvidenceFor t b f)
+      → OfWhole trace (λ a. OfInput evidence (λ b. RefusesEvidence a b f))
   refused_evidence f h =
-      of_all-map trace (λ a. trace_of true a ≡ Ok t) (λ a. OfAny evidence (λ b. RefusesEvidence a b f))
-      (λ a is. of_any-map evidence (λ b. RefusesEvidenceFor t b f) (λ b. RefusesEvidence a b f) (λ b by. (t, is, by))
+      of_whole-map trace (λ a. trace_of true a ≡ Ok t) (λ a. OfInput evidence (λ b. RefusesEvidence a b f))
+      (λ a is. of_input-map evidence (λ b. RefusesEvidenceFor t b f) (λ b. RefusesEvidence a b f) (λ b by. (t, is, by))
       h) says
 
-  pub cut_evidence : (f : EvidenceFault) → OfCame evidence (λ b. evidence_of t.entries false b ≡ Err f)
-      → OfAll trace (λ a. OfCame evidence (λ b. CutsEvidence a b f))
+  pub cut_evidence : (f : EvidenceFault) → OfBytes evidence (λ b. evidence_of t.entries false b ≡ Err f)
+      → OfWhole trace (λ a. OfBytes evidence (λ b. CutsEvidence a b f))
   cut_evidence f h =
-      of_all-map trace (λ a. trace_of true a ≡ Ok t) (λ a. OfCame evidence (λ b. CutsEvidence a b f))
-      (λ a is. of_came-map evidence (λ b. evidence_of t.entries false b ≡ Err f) (λ b. CutsEvidence a b f)
+      of_whole-map trace (λ a. trace_of true a ≡ Ok t) (λ a. OfBytes evidence (λ b. CutsEvidence a b f))
+      (λ a is. of_bytes-map evidence (λ b. evidence_of t.entries false b ≡ Err f) (λ b. CutsEvidence a b f)
       (λ b by. (t, is, by)) h) says
 
   -- what the bytes of both say, where they are a trace and evidence for it
   pub on_both : (P : List ℕ → List ℕ → Type 0) (given : List (Option (List StepValue)))
-      → OfAll evidence (λ b. evidence_of t.entries true b ≡ Ok given)
+      → OfWhole evidence (λ b. evidence_of t.entries true b ≡ Ok given)
       → ((a b : List ℕ) → trace_of true a ≡ Ok t → evidence_of t.entries true b ≡ Ok given → P a b)
       → OfBoth trace evidence P
   on_both P given h f =
-      of_all-map trace (λ a. trace_of true a ≡ Ok t) (λ a. OfAll evidence (λ b. P a b))
-      (λ a is. of_all-map evidence (λ b. evidence_of t.entries true b ≡ Ok given) (λ b. P a b) (λ b by. f a b is by)
+      of_whole-map trace (λ a. trace_of true a ≡ Ok t) (λ a. OfWhole evidence (λ b. P a b))
+      (λ a is. of_whole-map evidence (λ b. evidence_of t.entries true b ≡ Ok given) (λ b. P a b) (λ b by. f a b is by)
       h) says
 
 -- a fault of reading is of the reader that failed, or of no device

@@ -7,7 +7,7 @@ use Rattle.trace_lines.specs.Values.{TraceValue}
 use Rattle.trace_lines.specs.declared.cause.Cause.TheVariants as causes
 use Rattle.trace_lines.specs.declared.cause.TraceFault.{TraceFault}
 use Rattle.audit.specs.Audit.{BlamesNoDevice, RefusesTrace}
-use Rattle.audit.specs.Devices.{reads, OfAny, OfCame}
+use Rattle.audit.specs.Devices.{reads, OfInput, OfBytes}
 use Rattle.audit.specs.Kinds.{IsOneOf}
 use Rattle.audit.specs.Kinds as kind
 use Rattle.audit.specs.Parts.{TraceRead}
@@ -40,10 +40,10 @@ module _ {R : Type 0} (given : R → List ℕ) (ends failures : R → ℕ) (rema
       record {
         given = tt;
         refused =
-            λ f is. subst (λ (x : TraceFault). OfAny (reads given ends failures remaining old new)
+            λ f is. subst (λ (x : TraceFault). OfInput (reads given ends failures remaining old new)
             (λ a. RefusesTrace a x)) (sym (same f (cc (is)))) read.exact;
         cut =
-            λ f is by. subst (λ (x : TraceFault). OfCame (reads given ends failures remaining old new)
+            λ f is by. subst (λ (x : TraceFault). OfBytes (reads given ends failures remaining old new)
             (λ a. trace_of false a ≡ Err x)) (sym (same f (cc (is))))
             (read.failed (subst (λ (x : TraceFault). x.cause ≡ causes.Read) (same f (cc (is))) by));
         most = read.most;

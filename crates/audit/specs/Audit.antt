@@ -39,6 +39,9 @@ IsNotWrite _ = ⊤
 
 -- ---- what the readers' bytes say
 
+-- The flag of `trace_of` and `evidence_of` is true of bytes that are the whole input. It is false where the reader
+-- failed behind them: then the line that they had come to is not whole, and the fault is of it, or of a line before.
+
 -- the bytes say a trace and evidence for it, and the report on them went out
 abbrev pub Audits : List ℕ → List ℕ → List ℕ → List ℕ → Verdict → Type 0
 Audits a b old new v =
@@ -65,8 +68,8 @@ abbrev pub RefusesEvidence : List ℕ → List ℕ → EvidenceFault → Type 0
 RefusesEvidence a b f = (t : TraceValue) × (trace_of true a ≡ Ok t) × RefusesEvidenceFor t b f
 
 -- the bytes say a trace and evidence for it, and the report on them went out up to its first n bytes
-abbrev pub Breaks : List ℕ → List ℕ → Writing → ℕ → Type 0
-Breaks a b out n =
+abbrev pub BreaksOffAt : List ℕ → List ℕ → Writing → ℕ → Type 0
+BreaksOffAt a b out n =
     (t : TraceValue) × (given : List (Option (List StepValue)))
     × (trace_of true a ≡ Ok t) × (evidence_of t.entries true b ≡ Ok given)
     × FailsWriting out n (report_on t given)
@@ -77,8 +80,8 @@ Breaks a b out n =
 abbrev pub CutsEvidence : List ℕ → List ℕ → EvidenceFault → Type 0
 CutsEvidence a came f = (t : TraceValue) × (trace_of true a ≡ Ok t) × (evidence_of t.entries false came ≡ Err f)
 
--- a device is blamed only where this holds of it: of the reader of joined input, of the trace, of the evidence, of
--- the writer
+-- A device is blamed only where the sentence for it holds. In order the four are for the reader of joined input, for
+-- that of the trace, for that of the evidence, and for the writer; ⊥ says that the device is never blamed.
 abbrev pub BlamesOnly : (input trace evidence out : Type 0) → AuditFault → Type 0
 BlamesOnly input trace evidence out (faults.Trace f) = f.cause ≡ causes.Read → trace
 BlamesOnly input trace evidence out (faults.Evidence f) = f.cause ≡ evidence_causes.Read → evidence

@@ -1,6 +1,7 @@
 -- What a call's contract says of its readers and of its writer: each before the call, and after it.
 use Rattle.std.specs.Prelude.{◌≡◌, ◌⊎◌, ℕ, ◌+◌, ◌≤◌, List, ◌++◌, Option, length, take}
-use Rattle.devices.specs.Given.{OfBytes, OfWhole, OfInput, AreNext, StandBehind}
+use Rattle.devices.specs.Given as devices
+use Rattle.devices.specs.Given.{AreNext, StandBehind}
 use Rattle.devices.specs.Moves.{IsBrokenOff}
 use Rattle.json_lines.specs.declared.lines.TheConstants.{CHUNK}
 use Rattle.json_lines.specs.declared.reading.TheConstants.{MAX_INPUT}
@@ -45,29 +46,30 @@ abbrev pub writes : {W : Type 0} → (W → List ℕ) → (W → ℕ) → (W →
 writes taken flushes failures idle held old new =
     record { before = writer taken flushes failures idle held old; after = writer taken flushes failures idle held new }
 
--- ---- the bytes that a reader gave during the call
+-- ---- the bytes that a reader gave during the call, by the words of `devices`
 
 -- P holds of the bytes that came
-abbrev pub OfCame : Reading → (List ℕ → Type 0) → Type 0
-OfCame r P = OfBytes (λ (s : Reader). s.given) r.before r.after P
+abbrev pub OfBytes : Reading → (List ℕ → Type 0) → Type 0
+OfBytes r P = devices.OfBytes (λ (s : Reader). s.given) r.before r.after P
 
 -- P holds of the whole input: of the bytes that came, to the reader's end
-abbrev pub OfAll : Reading → (List ℕ → Type 0) → Type 0
-OfAll r P = OfWhole (λ (s : Reader). s.given) (λ (s : Reader). s.ends) r.before r.after P
+abbrev pub OfWhole : Reading → (List ℕ → Type 0) → Type 0
+OfWhole r P = devices.OfWhole (λ (s : Reader). s.given) (λ (s : Reader). s.ends) r.before r.after P
 
--- P holds of every input that begins with the bytes that came; where the reader was at its end that is these bytes alone
-abbrev pub OfAny : Reading → (List ℕ → Type 0) → Type 0
-OfAny r P = OfInput (λ (s : Reader). s.given) (λ (s : Reader). s.ends) r.before r.after P
+-- P holds of every input that begins with the bytes that came; where the reader was at its end, of these bytes alone
+abbrev pub OfInput : Reading → (List ℕ → Type 0) → Type 0
+OfInput r P = devices.OfInput (λ (s : Reader). s.given) (λ (s : Reader). s.ends) r.before r.after P
 
 -- P holds of the whole inputs of two readers
 abbrev pub OfBoth : Reading → Reading → (List ℕ → List ℕ → Type 0) → Type 0
-OfBoth r s P = OfAll r (λ a. OfAll s (λ b. P a b))
+OfBoth r s P = OfWhole r (λ a. OfWhole s (λ b. P a b))
 
 -- at most so many bytes are taken, also from a reader that never ends
 abbrev pub GivesFew : Reading → Type 0
-GivesFew r = OfCame r (λ a. length a ≤ MAX_INPUT + CHUNK)
+GivesFew r = OfBytes r (λ a. length a ≤ MAX_INPUT + CHUNK)
 
--- what came is what the reader had left, where that is known
+-- where it is known what the reader had left, what came is the next of it, and all of it where the reader came to its
+-- end
 abbrev pub GivesNext : Reading → Type 0
 GivesNext r = AreNext (λ (s : Reader). s.given) (λ (s : Reader). s.ends) (λ (s : Reader). s.left) r.before r.after
 
@@ -83,7 +85,7 @@ ReaderFailed r = HasRisen r.before.failures r.after.failures
 abbrev pub ReaderNeverFailed : Reading → Type 0
 ReaderNeverFailed r = r.after.failures ≡ r.before.failures
 
--- it failed, or took none of some bytes
+-- it failed once, or once took none of some bytes
 abbrev pub WriterFailed : Writing → Type 0
 WriterFailed w = HasRisen w.before.failures w.after.failures ⊎ HasRisen w.before.idle w.after.idle
 

@@ -1,4 +1,4 @@
--- What goes to a writer while the audit runs.
+-- What goes to the writer of early lines.
 use Rattle.std.specs.Prelude.{◌≡◌, ◌⊎◌, ℕ, Bool, true, false, List, [], ◌∷◌, ◌++◌, Option, Some, slice_get, length, take, All, codes}
 use Rattle.std.specs.List.{flat_map}
 use Rattle.trace_lines.specs.Values.{TraceValue, EntryValue}
@@ -42,7 +42,7 @@ WasLast old new =
     × (new.since ≡ 0)
 
 -- Lines of which P holds went out, and nothing else. The last may be cut where the writer was given up, as it failed
--- once or took no byte: then nothing more went there.
+-- once, or once took none of some bytes: that was its last call.
 pub record WentOut (P : List ℕ → Type 0) (old new : WriterState) (given_up : Bool) : Type 0 where
   pub lines : List (List ℕ)
   pub each : All P lines

@@ -16,7 +16,7 @@ use Rattle.evidence_check.specs.Steps.{StepValue}
 use Rattle.evidence_check.specs.declared.cause.EvidenceFault.{EvidenceFault}
 use Rattle.evidence_check.specs.declared.judged.Judged.{Judged}
 use Rattle.audit.specs.Audit.{RefusesTrace, RefusesEvidence, RefusesEvidenceFor, BlamesOnly}
-use Rattle.audit.specs.Devices.{Reading, OfAny, GivesFew, GivesNext, ReaderFailed, ReaderNeverFailed}
+use Rattle.audit.specs.Devices.{Reading, OfInput, GivesFew, GivesNext, ReaderFailed, ReaderNeverFailed}
 use Rattle.audit.specs.Joined.{OfBothParts, HasNoParts}
 use Rattle.audit.specs.Kinds.{IsOneOf}
 use Rattle.audit.specs.Kinds as kind
@@ -40,7 +40,7 @@ pub record PartsRead (input : Reading) (result : Result (TraceValue × Vec Judge
   pub trace_refused : (f : TraceFault) → result ≡ Err (faults.Trace f) → OfBothParts input (λ a b. RefusesTrace a f)
   pub evidence_refused : (f : EvidenceFault) → result ≡ Err (faults.Evidence f)
       → OfBothParts input (λ a b. RefusesEvidence a b f)
-  pub joined : result ≡ Err faults.Joined → OfAny input HasNoParts
+  pub joined : result ≡ Err faults.Joined → OfInput input HasNoParts
   pub most : GivesFew input
   pub known : GivesNext input
   pub devices : IfErr result (BlamesOnly (ReaderFailed input) ⊥ ⊥ ⊥)
@@ -54,7 +54,7 @@ pub record FrontRead (input : Reading) (result : Result (TraceValue × RestValue
       (λ r. IsFront input.before.given input.after.given r.1 (λ a. trace_of true a ≡ Ok r.0))
   pub ended : IfOk result (λ r. input.after.ends + ends_left r.1.ended ≡ input.before.ends + 1)
   pub trace_refused : (f : TraceFault) → result ≡ Err (faults.Trace f) → OfBothParts input (λ a b. RefusesTrace a f)
-  pub joined : result ≡ Err faults.Joined → OfAny input HasNoParts
+  pub joined : result ≡ Err faults.Joined → OfInput input HasNoParts
   pub most : GivesFew input
   pub known : GivesNext input
   pub devices : IfErr result (BlamesOnly (ReaderFailed input) ⊥ ⊥ ⊥)

@@ -37,12 +37,12 @@ is_same _ _ = false
 abbrev pub is_among : List Kind → Kind → Bool
 is_among kinds kind = list_any (is_same kind) kinds
 
--- that memory ran out is told as such, whatever it stopped
+-- that memory ran out is told as such, and never as a fault of the trace or of the evidence
 abbrev pub IsToldAsSuch : AuditFault → Type 0
 IsToldAsSuch (faults.Trace f) = f.cause ≢ causes.OutOfMemory
 IsToldAsSuch (faults.Evidence f) = f.cause ≢ evidence_causes.OutOfMemory
 IsToldAsSuch _ = ⊤
 
--- the fault is of one of these kinds
+-- the fault is of one of these kinds, and where memory ran out it is of the kind `memory`
 abbrev pub IsOneOf : List Kind → AuditFault → Type 0
 IsOneOf kinds fault = IsTrue (is_among kinds (kind_of fault)) × IsToldAsSuch fault

@@ -1,4 +1,5 @@
--- What is made of a trace: a record of steps for each entry that the maker settles, and their text.
+-- What is made of a trace: for each entry a record of steps, or, where it is out of the maker's reach, maybe none; and
+-- the text of the records.
 use Rattle.std.specs.Prelude.{◌≡◌, ◌⊎◌, ℕ, ◌≤◌, ◌^◌, true, List, [], ◌∷◌, ◌++◌, length, Option, None, Some, Ok, ⊤}
 use Rattle.trace_lines.specs.Values.{TraceValue, EntryValue}
 use Rattle.trace_lines.specs.Traces.{trace_of}
@@ -21,7 +22,7 @@ pub record IsRecorded (t : TraceValue) (e : EntryValue) (steps : List StepValue)
   pub facts : fact_count steps ≤ MAX_FACTS
   pub bytes : record_length e.line steps ≤ 2 ^ 20
 
--- what is made for an entry: the steps of its record, or none where the maker gave up
+-- what is made for an entry: the steps of its record; or, where it is out of the maker's reach, maybe none
 abbrev pub IsMade : TraceValue → EntryValue → Option (List StepValue) → Type 0
 IsMade t e (Some steps) = IsRecorded t e steps
 IsMade t e None = IsOutOfReach t e

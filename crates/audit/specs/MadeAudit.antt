@@ -17,11 +17,11 @@ use Rattle.audit.specs.Made.{IsMade, AreMade}
 use Rattle.audit.specs.declared.shared.Found.{Found}
 use Rattle.audit.specs.declared.plain.Verdict.{Verdict}
 
--- the judgement of an entry by steps that are made for it, or none where the maker gave up
+-- the judgement of an entry by steps that are made for it; or, where it is out of the maker's reach, maybe by none
 abbrev pub IsJudgedMade : TraceValue → EntryValue → Judged → Type 0
 IsJudgedMade t e j = (steps : Option (List StepValue)) × IsMade t e steps × (j ≡ judged t e steps)
 
--- what is found on entry i by steps that are made for it, or none where the maker gave up, and its line
+-- what is found on entry i by steps that are made for it, or, where it is out of reach, maybe by none; and its line
 abbrev pub IsFoundMade : TraceValue → ℕ → Found → Type 0
 IsFoundMade t i found = (e : EntryValue) → slice_get t.entries i ≡ Some e
     → (j : Judged) × IsJudgedMade t e j × (found ≡ record { line = e.line; what = found_where t j i e })
@@ -46,7 +46,7 @@ WhateverIsMade P a =
     (t : TraceValue) × (trace_of true a ≡ Ok t)
     × ((given : List (Option (List StepValue))) → AreMade t t.entries given → P t (findings_of t given))
 
--- an entry that the maker gave up stands on the line
+-- an entry that is out of the maker's reach stands on the line
 pub record IsGivenUp (t : TraceValue) (line : ℕ) : Type 0 where
   pub place : ℕ
   pub entry : EntryValue
@@ -54,7 +54,7 @@ pub record IsGivenUp (t : TraceValue) (line : ℕ) : Type 0 where
   pub same : entry.line ≡ line
   pub given_up : IsOutOfReach t entry
 
--- evidence is missing only for an entry that the maker gave up, and none is bad or silent
+-- evidence is told as missing only on the line of an entry that is out of reach, and as bad or silent nowhere
 abbrev pub IsOfMaker : TraceValue → ℕ → What → Type 0
 IsOfMaker t line NoEvidence = IsGivenUp t line
 IsOfMaker t line (BadEvidence k) = ⊥
@@ -65,13 +65,14 @@ IsOfMaker t line _ = ⊤
 abbrev pub AreOfMaker : TraceValue → List Finding → Type 0
 AreOfMaker t findings = All (λ f. IsOfMaker t f.line f.what) findings
 
--- The reply of the entry is right, or it is told as wrong, and it is; or the maker gave the entry up, and that is told.
-abbrev pub IsSettled : TraceValue → List Finding → EntryValue → Type 0
-IsSettled t findings e =
+-- The reply of the entry is right; or it is wrong, and told as wrong; or the entry is out of the maker's reach, and
+-- told to have no evidence.
+abbrev pub IsAccountedFor : TraceValue → List Finding → EntryValue → Type 0
+IsAccountedFor t findings e =
     IsRight t e
     ⊎ ((IsWrong t e × Contains findings (record { line = e.line; what = WrongReply }))
     ⊎ (IsOutOfReach t e × Contains findings (record { line = e.line; what = NoEvidence })))
 
--- so it is with each entry: no wrong reply is missed among those that the maker settles
+-- so it is with each entry: a wrong reply that is not told as wrong is that of an entry out of reach, which is told
 abbrev pub MissesNoWrongReply : TraceValue → List Finding → Type 0
-MissesNoWrongReply t findings = All (IsSettled t findings) t.entries
+MissesNoWrongReply t findings = All (IsAccountedFor t findings) t.entries

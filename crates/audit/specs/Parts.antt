@@ -16,7 +16,7 @@ use Rattle.findings.specs.declared.finding.Finding.{Finding}
 use Rattle.audit.specs.Audit.{RefusesTrace, RefusesEvidenceFor, BlamesNoDevice, IsNotWrite, IsWrite, report_on, verdict_of}
 use Rattle.audit.specs.Kinds.{IsOneOf}
 use Rattle.audit.specs.Kinds as kind
-use Rattle.audit.specs.Devices.{Reading, Writing, OfCame, OfAll, OfAny, GivesFew, GivesNext}
+use Rattle.audit.specs.Devices.{Reading, Writing, OfBytes, OfWhole, OfInput, GivesFew, GivesNext}
 use Rattle.audit.specs.Devices.{ReaderFailed, ReaderNeverFailed, WriterFailed, WriterNeverFailed}
 use Rattle.audit.specs.Devices.{TookNothing, FailsWriting, StandsBehind}
 use Rattle.audit.specs.declared.plain.Verdict.{Verdict}
@@ -25,11 +25,11 @@ use Rattle.audit.specs.declared.plain.AuditFault.TheVariants as faults
 
 -- a trace was read to the reader's end, or its reading stopped at a fault
 pub record TraceRead (trace : Reading) (result : Result TraceValue AuditFault) : Type 0 where
-  pub given : IfOk result (λ t. OfAll trace (λ a. trace_of true a ≡ Ok t))
-  pub refused : (f : TraceFault) → result ≡ Err (faults.Trace f) → OfAny trace (λ a. RefusesTrace a f)
-  -- where the reader failed, the fault is of the line that its bytes had come to
+  pub given : IfOk result (λ t. OfWhole trace (λ a. trace_of true a ≡ Ok t))
+  pub refused : (f : TraceFault) → result ≡ Err (faults.Trace f) → OfInput trace (λ a. RefusesTrace a f)
+  -- where the reader failed (the flag false), the fault is of the line that its bytes had come to
   pub cut : (f : TraceFault) → result ≡ Err (faults.Trace f) → f.cause ≡ causes.Read
-      → OfCame trace (λ a. trace_of false a ≡ Err f)
+      → OfBytes trace (λ a. trace_of false a ≡ Err f)
   pub most : GivesFew trace
   pub known : GivesNext trace
   pub failed : (f : TraceFault) → result ≡ Err (faults.Trace f) → f.cause ≡ causes.Read → ReaderFailed trace
@@ -41,10 +41,11 @@ pub record TraceRead (trace : Reading) (result : Result TraceValue AuditFault) :
 pub record EvidenceRead {V : Type 0} (Says : List (Option (List StepValue)) → V → Type 0) (t : TraceValue)
     (evidence : Reading) (result : Result V AuditFault) : Type 0 where
   pub given : IfOk result (λ v. (given : List (Option (List StepValue))) × Says given v
-      × OfAll evidence (λ b. evidence_of t.entries true b ≡ Ok given))
-  pub refused : (f : EvidenceFault) → result ≡ Err (faults.Evidence f) → OfAny evidence (λ b. RefusesEvidenceFor t b f)
+      × OfWhole evidence (λ b. evidence_of t.entries true b ≡ Ok given))
+  pub refused : (f : EvidenceFault) → result ≡ Err (faults.Evidence f)
+      → OfInput evidence (λ b. RefusesEvidenceFor t b f)
   pub cut : (f : EvidenceFault) → result ≡ Err (faults.Evidence f) → f.cause ≡ evidence_causes.Read
-      → OfCame evidence (λ b. evidence_of t.entries false b ≡ Err f)
+      → OfBytes evidence (λ b. evidence_of t.entries false b ≡ Err f)
   pub most : GivesFew evidence
   pub known : GivesNext evidence
   pub failed : (f : EvidenceFault) → result ≡ Err (faults.Evidence f) → f.cause ≡ evidence_causes.Read

@@ -1,4 +1,4 @@
-//! The audit by several workers that tells of findings while it runs.
+//! The audit by several workers that writes early lines too.
 
 ghost use Rattle.std.specs.Prelude.{◌≡◌, ◌⊎◌, ◌↔◌, ◌<◌, ◌≤◌, ◌+◌, [], ◌∷◌, ◌++◌, ℕ, Bool, List, Option, slice_get, true, false, length, Ok, Err, IfOk, IfErr, OnOk, string_bytes};
 ghost use Rattle.std.specs.List.{flat_map};
@@ -194,10 +194,11 @@ impl<'r, 'e, A: Source, B: Source, R: Threads + Wait + Sync, E: Sink> Finder<A, 
 /// Audits as [`audit`](crate::audit) does, and tells of findings as they come: for each alert that the pool shows, a
 /// line goes to `early`, which is `early ` and the report line of the first finding on an entry.
 ///
-/// Whatever goes there is such lines: in any order, since the workers find them, maybe one of an entry twice, and maybe
-/// none, since a line that finds no memory is dropped. That a line goes out for each alert, and is flushed, no clause
-/// says. Where `early` fails or takes no byte nothing more is written there, and the audit goes on: its answer is that
-/// of `audit`.
+/// Whatever goes there is such lines, and only where both inputs were read to their ends and accepted: in any order,
+/// since the workers find them, maybe one of an entry twice, and maybe none, since a line that finds no memory is
+/// dropped. That a line goes out for each alert, when it does, and that it is flushed, no clause says. Where `early`
+/// fails or takes none of some bytes, that was its last call. What is said of the two inputs, of `out` and of the
+/// answer is the same whatever `early` does, and the same as of `audit`; no clause compares two calls.
 pub fn audit_early<A: Source, B: Source, W: Sink, E: Sink, R: Threads + Wait + Sync>(
     rt: &R,
     alloc: Global,

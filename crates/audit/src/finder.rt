@@ -5,7 +5,7 @@ ghost use Rattle.trace_lines.specs.Values.{TraceValue};
 ghost use Rattle.evidence_check.specs.Reading.{evidence_of};
 ghost use Rattle.evidence_check.specs.Steps.{StepValue};
 ghost use Rattle.audit.specs.Parts.{AreFound, EvidenceRead, TraceRead};
-ghost use Rattle.audit.specs.Devices.{reads, OfAll};
+ghost use Rattle.audit.specs.Devices.{reads, OfWhole};
 
 use crate::plain::AuditFault;
 use crate::reading::{judgements_from, trace_from};
@@ -40,7 +40,7 @@ pub(crate) trait Finder<A: Source, B: Source> {
             (reads B.given B.ends B.failures B.remaining evidence.old evidence.new) result }
         ensures mark { mark self.new ≡ mark self.old }
         ensures tells { (self.new ≡ self.old)
-            ⊎ OfAll (reads B.given B.ends B.failures B.remaining evidence.old evidence.new)
+            ⊎ OfWhole (reads B.given B.ends B.failures B.remaining evidence.old evidence.new)
             (λ b. (given : List (Option (List StepValue))) × (evidence_of trace.now.entries true b ≡ Ok given)
             × tells trace.now given self.old self.new) };
 }

@@ -82,9 +82,10 @@ fn parts_from<R: Source>(alloc: Global, input: &mut R) -> Result<(Trace, Vec<Jud
 /// Audits joined input: the trace, a line that is exactly `---`, and the evidence. The first such line counts, and
 /// each of the two parts has lines from 1.
 ///
-/// `Input` is a failure of the reader, and `Joined` is input without such a line, or with more than 2^30 bytes. Nothing
-/// is written then. Neither of its parts is refused with the cause `Read`. No text is kept once it is read; no clause
-/// speaks of memory.
+/// `Input` is a failure of the reader, and `Joined` is input without such a line, or with more than 2^30 bytes. A
+/// part is refused, by `Trace` or `Evidence`, only once the reader was at its end, and only where the input has such
+/// a line and no more than 2^30 bytes; and never with the cause `Read`. Under each of these faults nothing is
+/// written. No text is kept once it is read; no clause speaks of memory.
 pub fn audit_joined<R: Source, W: Sink>(
     alloc: Global,
     input: &mut R,

@@ -137,12 +137,14 @@ pub fn make_records_listing<A: Source, W: Sink>(
 }
 
 /// Writes evidence for a trace: a record for each entry in order, a line each. An entry that the maker gave up has
-/// none, and how many these are is the answer.
+/// none, and is out of the maker's reach; how many these are is the answer.
 ///
-/// By its record each entry is supported or contradicted, so that an audit with this evidence, where it has at most 2^30
-/// bytes, finds `F7` on the entries that were given up, and `F8` and `F9` nowhere. The text is whole before its first
-/// byte is written, and a flush is asked for behind its last; nothing is written where the trace is refused or memory
-/// runs out. A trace is refused as by an audit.
+/// By its record each entry is supported or contradicted, so that an audit with this evidence, where it has at most
+/// 2^30 bytes, finds `F7` on the entries that were given up, and `F8` and `F9` nowhere.
+///
+/// With an answer the text went out whole, and one flush was asked for; which of the two came first no clause says.
+/// Under `Write` the first bytes of the text went out, and under any other fault nothing did. A trace is refused as by
+/// [`audit_plain`](crate::audit_plain).
 pub fn make_records<A: Source, W: Sink>(
     alloc: Global,
     trace: &mut A,

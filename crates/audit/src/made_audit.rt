@@ -65,8 +65,8 @@ impl<'t, 'a> Check for MakingCheck<'t, 'a> {
         Ok(found)
     }
 
-    // One maker for all of them, so that a rule of many places is begun once for a slice and not for each entry; and what was made for the
-    // entry before is tried first.
+    // One maker for all of them, so that a rule of many places is begun once for a slice and not for each entry; and
+    // what was made for the entry before is tried first.
     fn check_run(
         &self,
         alloc: Global,
@@ -210,13 +210,18 @@ fn audit_made_by<A: Source, W: Sink, R: Threads + Wait + Sync>(
 }
 
 /// Audits a trace by evidence that is made for it in place, and never written. The report is on some such evidence;
-/// that it is the same on any number of workers no clause says. `F7` is found only on the line of an entry that is out
-/// of the maker's reach, and `F8` and `F9` nowhere.
+/// that it is the same on any number of workers no clause says.
+///
+/// A clean verdict says of the trace what that of [`audit`](crate::audit) says, and a reply that a finding `F10` calls
+/// wrong is wrong. Nor is a wrong reply within the maker's reach missed: the reply of each entry is right; or it is
+/// wrong, and has an `F10`; or the entry is out of reach, and has an `F7`. `F7` is found only on the line of an entry
+/// that is out of reach, and `F8` and `F9` nowhere. So it is whatever evidence is made.
 ///
 /// 1 to 16 workers, the calling thread among them, share the entries, in slices of `slice` entries, 1 to 4,096, or of
 /// more where a trace has so many that each worker would take over 16. Each makes the evidence for an entry, judges
 /// the entry by it and lets it go, so that no more of it stands in memory than one entry's for each worker; what it
-/// asked of rules of many places it keeps up to the end of the slice. No clause speaks of memory.
+/// asked of rules of many places it keeps up to the end of the slice. No clause speaks of threads or
+/// of memory.
 ///
 /// `Limits` is answered where there are other numbers of workers or entries in a slice, and then nothing is read or
 /// written. A trace is refused as by [`audit`](crate::audit), and nothing is written where it is or memory runs out.

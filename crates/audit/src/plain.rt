@@ -39,7 +39,8 @@ pub enum AuditFault {
     Trace(TraceFault),
     #[error("{0}")]
     Evidence(EvidenceFault),
-    /// So many bytes of the report went out before the writer failed or took none.
+    /// So many bytes of the text, which is a report, records or a history, went out before the writer failed or took
+    /// none of some bytes.
     #[error("write fault after {written} bytes")]
     Write { written: usize },
     #[error("out of memory")]
@@ -120,10 +121,10 @@ pub(crate) fn audit_with<A: Source, B: Source, W: Sink, F: Finder<A, B>>(
 /// Audits a trace by its evidence, and writes the report: a line for each finding, by trace line, then how many
 /// entries and findings there are, and the verdict.
 ///
-/// The report is whole before its first byte is written, and a flush is asked for behind its last; nothing is written
-/// where a reader's bytes are refused or memory runs out. `Trace` or `Evidence` with the cause `Read`, and `Write`, are
-/// answered only where that device failed; `Write` also where it took none of some bytes. At most 2^30 + 65,536 bytes are taken from either
-/// reader, also from one that never ends.
+/// With a verdict the report went out whole, and one flush was asked for; which of the two came first no clause says.
+/// Under `Write` the first bytes of the report went out, and under any other fault nothing did. `Trace` or `Evidence`
+/// with the cause `Read`, and `Write`, are answered only where that device failed; `Write` also where it took none of
+/// some bytes. At most 2^30 + 65,536 bytes are taken from either reader, also from one that never ends.
 pub fn audit_plain<A: Source, B: Source, W: Sink>(
     alloc: Global,
     trace: &mut A,

@@ -269,8 +269,8 @@ impl<'r, A: Source, B: Source, R: Threads + Wait + Sync> Finder<A, B> for Worker
 
 /// Audits a trace by its evidence as [`audit_plain`](crate::audit_plain) does, on 1 to 16 workers: the calling
 /// thread, and threads of their own. They share the trace and the evidence, each cut into blocks of lines as it is
-/// read, and keep no record of evidence; and then the entries, cut into slices of 1 to 4,096. The report stands in the
-/// order of the entries, whatever the schedule.
+/// read, and keep no record of evidence; and then the entries, cut into slices of 1 to 4,096. No clause speaks of
+/// threads, of blocks or of memory. The report stands in the order of the entries, whatever the schedule.
 ///
 /// `Limits` is answered where there are other numbers of workers or entries in a slice, and then nothing is read or
 /// written.

@@ -70,8 +70,9 @@ fn tell_history<W: Sink>(
 /// Writes the history of a tuple in a trace, `T add` or `T remove` a line, the newest touch first, and answers how
 /// many touches there are.
 ///
-/// The text is whole before its first byte is written, and a flush is asked for behind its last; nothing is written
-/// where the trace is refused or memory runs out. A trace is refused as by an audit.
+/// With an answer the text went out whole, and one flush was asked for; which of the two came first no clause says.
+/// Under `Write` the first bytes of the text went out, and under any other fault nothing did. A trace is refused as by
+/// [`audit_plain`](crate::audit_plain).
 pub fn history<A: Source, W: Sink>(
     alloc: Global,
     trace: &mut A,

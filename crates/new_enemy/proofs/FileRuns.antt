@@ -2,11 +2,11 @@
 use Rattle.std.proofs.Common.{◌≡◌, ◌≢◌, ℕ, ◌+◌, ◌≤◌, List, [], ◌∷◌, ◌++◌, Option, Some, Result, Ok, Err, codes, refl, sym, ap, subst, ◌∙◌, arith}
 use Rattle.std.specs.Prelude.{IfErr}
 use Rattle.devices.specs.Devices.{moved_by, failures_of, stops_of}
-use Rattle.devices.specs.Given.{OfWhole}
+use Rattle.devices.specs.Given as given
 use Rattle.devices.specs.declared.counted.Counted.{Counted}
 use Rattle.audit.specs.Answers.{TellsOfTrace, Audited, AuditedMade}
 use Rattle.audit.specs.Audit.{Audits}
-use Rattle.audit.specs.Devices.{Writer, Writing, OfAll, reads}
+use Rattle.audit.specs.Devices.{Writer, Writing, OfWhole, reads}
 use Rattle.audit.specs.Kinds.{IsOneOf}
 use Rattle.audit.specs.Kinds as kind
 use Rattle.audit.specs.MadeAudit.{AuditsMade, BreaksMade}
@@ -29,7 +29,7 @@ use Rattle.new_enemy.proofs.Statuses.{Ends, answer_of, done_ends, done_is_not_on
 
 -- what holds of all that a file gave, whose history began with the call
 pub whole : {F : Type 0} (old new : Counted F) (P : List ℕ → Type 0) → IsUnused old
-    → OfWhole moved_by stops_of old new P → (stops_of new ≡ 1) × P (moved_by new)
+    → given.OfWhole moved_by stops_of old new P → (stops_of new ≡ 1) × P (moved_by new)
 whole old new P unused h = (
   h.0 ∙ ap (λ n. n + 1) unused.1,
   subst P (sym (h.1.1 ∙ ap (λ (l : List ℕ). l ++ h.1.0) unused.0)) h.1.2,
@@ -74,7 +74,7 @@ module _ {F : Type 0} (left : Counted F → Option (List ℕ)) (a0 a1 : Counted 
   told_of_trace Tells Breaks answer st h zero =
       let one =
       of_done answer s
-      (λ v. OfAll (reads moved_by stops_of failures_of left a0 a1)
+      (λ v. OfWhole (reads moved_by stops_of failures_of left a0 a1)
       (λ a. Tells a out.before.taken out.after.taken v)) st zero h.told in
       let all = whole a0 a1 (λ a. Tells a out.before.taken out.after.taken one.0) unused one.1 in
       (all.0, (one.0, all.1))
@@ -101,8 +101,8 @@ module _ {F : Type 0} (left : Counted F → Option (List ℕ)) (a0 a1 : Counted 
     made_by v is =
         whole a0 a1 (λ a. AuditsMade a out.before.taken out.after.taken v) unused
         (answer_of answer v
-        (λ x. OfAll (reads moved_by stops_of failures_of left a0 a1)
-        (λ a. AuditsMade a out.before.taken out.after.taken x)) is h.tells.told)
+        (λ x. OfWhole (reads moved_by stops_of failures_of left a0 a1)
+        (λ a. AuditsMade a out.before.taken out.after.taken x)) is h.of_trace.told)
 
     clean_made : s ≡ 0 → IsCleanAuditMade a1 out.before.taken out.after.taken
     clean_made zero =
@@ -120,7 +120,7 @@ module _ {F : Type 0} (left : Counted F → Option (List ℕ)) (a0 a1 : Counted 
         runs_of_trace AuditsMade BreaksMade answer (codes "audit") (ran.AuditedAlone a1) (λ is. absurd (cc (is))) refl
         (λ P p. p) (λ none. none) refl clean_made dirty_made
         (λ is. ap (λ (file : Counted F). moved_by file) (unread is) ∙ unused.0) (verdict_ends answer s st) kinds
-        h.tells
+        h.of_trace
 
   module _ (b0 b1 : Counted F) (unused_yet : IsUnused b0) (answer : Result Verdict AuditFault)
       (st : IsStatusOf answer s)
@@ -133,9 +133,9 @@ module _ {F : Type 0} (left : Counted F → Option (List ℕ)) (a0 a1 : Counted 
         let trace = reads moved_by stops_of failures_of left a0 a1 in
         let evidence = reads moved_by stops_of failures_of left b0 b1 in
         let all =
-        whole a0 a1 (λ a. OfAll evidence (λ b. Audits a b out.before.taken out.after.taken v)) unused
+        whole a0 a1 (λ a. OfWhole evidence (λ b. Audits a b out.before.taken out.after.taken v)) unused
         (answer_of answer v
-        (λ x. OfAll trace (λ a. OfAll evidence (λ b. Audits a b out.before.taken out.after.taken x))) is h.audits) in
+        (λ x. OfWhole trace (λ a. OfWhole evidence (λ b. Audits a b out.before.taken out.after.taken x))) is h.audits) in
         let both =
         whole b0 b1 (λ b. Audits (moved_by a1) b out.before.taken out.after.taken v) unused_yet all.1 in
         (all.0, both.0, both.1)

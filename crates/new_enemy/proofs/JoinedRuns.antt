@@ -4,7 +4,7 @@ use Rattle.devices.proofs.Given.{of_input-map, of_input-whole, of_whole-map}
 use Rattle.trace_lines.specs.Traces.{trace_of}
 use Rattle.evidence_check.specs.Reading.{evidence_of}
 use Rattle.audit.specs.Audit.{Audits, RefusesTrace, RefusesEvidence}
-use Rattle.audit.specs.Devices.{Reader, Reading, Writing, OfAny}
+use Rattle.audit.specs.Devices.{Reader, Reading, Writing, OfInput}
 use Rattle.audit.specs.Joined.{AuditedJoined, OfBothParts, OfParts, HasNoParts}
 use Rattle.audit.specs.Kinds.{IsOneOf}
 use Rattle.audit.specs.Kinds as kind
@@ -22,7 +22,7 @@ use Rattle.audit.proofs.Readers.{unwritten_without_device}
 module _ (input : Reading) (out : Writing) (s : ℕ) where
   -- the parts of a whole input that are refused
   of_parts : (P : List ℕ → List ℕ → Type 0) → OfBothParts input P → ((a b : List ℕ) → P a b → SayNoAudit a b)
-      → OfAny input IsRefused
+      → OfInput input IsRefused
   of_parts P h f =
       let given = λ (r : Reader). r.given in
       let ends = λ (r : Reader). r.ends in
@@ -31,7 +31,7 @@ module _ (input : Reading) (out : Writing) (s : ℕ) where
       (λ came p. inr (p.0, p.1, p.2, p.3, f p.0 p.1 p.4)) h)
 
   refused : (fault : AuditFault) → IsStatus fault s → s ≡ 2 → AuditedJoined input out (Err fault)
-      → OfAny input IsRefused
+      → OfInput input IsRefused
   refused (faults.Trace f) (inl p) two h = two_or_five s two p.1
   refused (faults.Trace f) (inr p) two h =
       of_parts (λ a b. RefusesTrace a f) (h.trace_refused f refl)

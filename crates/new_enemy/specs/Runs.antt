@@ -4,7 +4,7 @@ use Rattle.devices.specs.Devices.{moved_by}
 use Rattle.json_lines.specs.declared.lines.TheConstants.{CHUNK}
 use Rattle.json_lines.specs.declared.reading.TheConstants.{MAX_INPUT}
 use Rattle.audit.specs.Audit.{Audits}
-use Rattle.audit.specs.Devices.{Reading, Writing, OfAny, GivesFew, GivesNext, ReaderFailed, ReaderNeverFailed, WriterFailed, WriterNeverFailed, TookNothing, StandsBehind}
+use Rattle.audit.specs.Devices.{Reading, Writing, OfInput, GivesFew, GivesNext, ReaderFailed, ReaderNeverFailed, WriterFailed, WriterNeverFailed, TookNothing, StandsBehind}
 use Rattle.audit.specs.Joined.{OfBothParts}
 use Rattle.audit.specs.declared.plain.Verdict.TheVariants.{Clean, Dirty}
 use Rattle.findings.specs.Headline.{IsTraceRightAndFresh}
@@ -30,7 +30,7 @@ pub record RunsJoined (input : Reading) (out : Writing) (status : ℕ) : Type 0 
   pub dirty : status ≡ 1 → IsDirtyJoined input out
   pub flushed : status ≤ 1 → out.after.flushes ≡ out.before.flushes + 1
   -- of every input that begins with the bytes that came
-  pub refused : status ≡ 2 → OfAny input IsRefused
+  pub refused : status ≡ 2 → OfInput input IsRefused
   -- it is 5 only where a device failed, or the writer took none of some bytes, and any other only where none did
   pub device : status ≡ 5 → ReaderFailed input ⊎ WriterFailed out
   pub kept : status ≢ 5 → ReaderNeverFailed input × WriterNeverFailed out
@@ -60,7 +60,7 @@ pub record SaysOfRun {F : Type 0} (input : Reading) (out : Writing) (status : �
   pub dirty : status ≡ 1 → HasFoundDirty (IsDirtyJoined input out) out.before.taken out.after.taken run
   pub flushed : status ≤ 1 → out.after.flushes ≡ out.before.flushes + 1
   -- of every input that begins with the bytes that came
-  pub refused : status ≡ 2 → HasRefused (OfAny input IsRefused) run
+  pub refused : status ≡ 2 → HasRefused (OfInput input IsRefused) run
   pub used : status ≡ 3 → HasReadNothing run
   -- it is 5 only where a device failed, took none of some bytes, or could not be opened, and any other only where
   -- none did
