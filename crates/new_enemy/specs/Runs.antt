@@ -38,7 +38,8 @@ pub record RunsJoined (input : Reading) (out : Writing) (status : ℕ) : Type 0 
   pub unwritten : 2 ≤ status → status ≤ 4 → TookNothing out
   -- also of input that never ends
   pub most : GivesFew input
-  -- of devices in memory: what came is what the reader had left, and what went out stands behind what the writer held
+  -- of devices in memory: what came is the next of what the reader had left, and all of it where the reader was at its
+  -- end; and what went out stands behind what the writer held
   pub known : GivesNext input
   pub held : StandsBehind out
   pub statuses : (status ≤ 5) × (status ≢ 3)
@@ -69,7 +70,8 @@ pub record SaysOfRun {F : Type 0} (input : Reading) (out : Writing) (status : �
   pub unwritten : 2 ≤ status → status ≤ 4 → TookNothing out
   -- also of input that never ends
   pub most : GivesFew input × OfFiles run (λ file. length (moved_by file) ≤ MAX_INPUT + CHUNK)
-  -- of devices in memory: what came is what the reader had left, and what went out stands behind what the writer held
+  -- of devices in memory: what came is the next of what the reader had left, and all of it where the reader was at its
+  -- end; and what went out stands behind what the writer held
   pub known : GivesNext input
   pub held : StandsBehind out
   pub statuses : status ≤ 5
