@@ -43,6 +43,7 @@
 
 mod early;
 mod finder;
+mod finds;
 mod joined;
 mod made;
 mod made_audit;

@@ -12,6 +12,7 @@ ghost use Rattle.audit.specs.Kinds.{IsOneOf};
 ghost use Rattle.audit.specs.Kinds as kind;
 ghost use Rattle.audit.specs.Made.{IsMade, record_line, line_without, AreRecords, MakesRecords, BreaksMaking};
 
+use crate::finds::Finds;
 use crate::plain::AuditFault;
 use crate::reading::trace_from;
 use crate::telling::tell;
@@ -68,28 +69,6 @@ fn push_record(
     }
 }
 
-/// What was made for the last entry that has a record.
-pub(crate) fn found_last<'a>(
-    trace: &'a Trace,
-    last: &'a Option<(usize, Made)>,
-) -> Option<Found<'a>> {
-    match last {
-        Some((i, made)) if *i < trace.len() => Some(Found {
-            entry: trace.entry(*i),
-            steps: &made.steps,
-        }),
-        _ => None,
-    }
-}
-
-/// What was made for entry `i`, with its number.
-pub(crate) fn made_at(i: usize, made: Option<Made>) -> Option<(usize, Made)> {
-    match made {
-        Some(made) => Some((i, made)),
-        None => None,
-    }
-}
-
 /// The text of the records for a trace, and the lines of the entries that the maker gave up.
 fn records_of(alloc: Global, trace: &Trace) -> Result<(String, Vec<u64>), AllocError>
     ensures { IfOk result (λ r. AreRecords trace.now (string_bytes r.0) r.1.items) }
@@ -97,12 +76,13 @@ fn records_of(alloc: Global, trace: &Trace) -> Result<(String, Vec<u64>), AllocE
     let mut text = String::new(alloc);
     let mut given_up = Vec::new(alloc);
     let mut maker = Maker::new(alloc, trace);
-    let mut last = None;
+    let mut finds = Finds::new(alloc);
     // bounded by the lines of the trace, and for each entry by the limits of the search
     for i in 0..trace.len() {
-        let made = made_for(&mut maker, i, found_last(trace, &last))?;
-        push_record(trace.entry(i).line, made.as_ref(), &mut text, &mut given_up)?;
-        last = made_at(i, made);
+        let entry = trace.entry(i);
+        let made = made_for(&mut maker, i, finds.found(trace, entry))?;
+        push_record(entry.line, made.as_ref(), &mut text, &mut given_up)?;
+        finds.keep(entry, i, made)?;
     }
     Ok((text, given_up))
 }

@@ -16,7 +16,8 @@ ghost use Rattle.audit.specs.MadeAudit.{IsJudgedMade, IsFoundMade};
 ghost use Rattle.audit.specs.Shared.{has_finding, are_within_limits};
 ghost use Rattle.audit.specs.declared.plain.AuditFault.TheVariants as faults;
 
-use crate::made::{found_last, made_at, made_for};
+use crate::finds::Finds;
+use crate::made::made_for;
 use crate::plain::{AuditFault, Verdict};
 use crate::reading::trace_by;
 use crate::shared::{Crew, Found, gather, is_any, reports_by};
@@ -61,12 +62,12 @@ impl<'t, 'a> Check for MakingCheck<'t, 'a> {
 
     fn check(&self, entry: usize) -> Result<Found, AllocError> {
         let mut maker = Maker::new(*self.alloc, self.trace);
-        let (found, _) = found_making(&mut maker, self.trace, entry, &None)?;
-        Ok(found)
+        let mut finds = Finds::new(*self.alloc);
+        found_making(&mut maker, self.trace, entry, &mut finds)
     }
 
     // One maker for all of them, so that a rule of many places is begun once for a slice and not for each entry; and
-    // what was made for the entry before is tried first.
+    // what was made for those before is tried first.
     fn check_run(
         &self,
         alloc: Global,
@@ -75,12 +76,11 @@ impl<'t, 'a> Check for MakingCheck<'t, 'a> {
     ) -> Result<Vec<Found>, AllocError> {
         let mut maker = Maker::new(alloc, self.trace);
         let mut reports = Vec::new(alloc);
-        let mut last = None;
+        let mut finds = Finds::new(alloc);
         // bounded by the entries of a slice, and for each by the limits of the search
         for k in 0..count {
-            let (found, made) = found_making(&mut maker, self.trace, from + k, &last)?;
+            let found = found_making(&mut maker, self.trace, from + k, &mut finds)?;
             reports.push(found)?;
-            last = made_at(from + k, made);
         }
         Ok(reports)
     }
@@ -90,22 +90,26 @@ impl<'t, 'a> Check for MakingCheck<'t, 'a> {
     }
 }
 
-/// What is found on entry `i` by evidence that is made for it, and that. What was made for another is tried first.
+/// What is found on entry `i` by evidence that is made for it. What was made for others is tried first, and this is kept with that.
 fn found_making(
     maker: &mut Maker<'_>,
     trace: &Trace,
     i: usize,
-    last: &Option<(usize, Made)>,
-) -> Result<(Found, Option<Made>), AllocError>
+    finds: &mut Finds,
+) -> Result<Found, AllocError>
     requires maker { maker.old ≡ trace.now }
     requires entry { i < length trace.now.entries }
     ensures maker { maker.new ≡ maker.old }
-    ensures found { IfOk result (λ r. IsFoundMade trace.now i r.0) }
+    ensures found { IfOk result (IsFoundMade trace.now i) }
 {
-    let (judged, made) = judgement_made(maker, i, found_last(trace, last))?;
+    let entry = trace.entry(i);
+    let (judged, made) = judgement_made(maker, i, finds.found(trace, entry))?;
     let what = found_where(trace, i, judged);
-    let line = trace.entry(i).line;
-    Ok((Found { line, what }, made))
+    finds.keep(entry, i, made)?;
+    Ok(Found {
+        line: entry.line,
+        what,
+    })
 }
 
 /// How evidence that is made for entry `i` judges it, and that.

@@ -25,7 +25,7 @@ lent_shown None = refl
 
 pub loop-i-preserved : goal.loop-i-preserved
 loop-i-preserved c =
-    let e = entry_value c.entry.result.now in
+    let e = entry_value c.entry-entry.result.now in
     let lent = c.as_ref.result in
     let same : option_copied lent ≡ c.in_ok-made.made = c.as_ref.ensures.value in
     let made = rw c.loop-i.invariant.maker at c.in_ok-made.ensures.made in
@@ -34,7 +34,7 @@ loop-i-preserved c =
       made =
           one_more c.args.trace.now (string_bytes c.loop-i.text) c.loop-i.given_up.items c.loop-i.i e
           (shown c.in_ok-made.made) (string_bytes c.push_record.new.text) c.push_record.new.given_up.items
-          c.entry.ensures.value c.loop-i.invariant.made (made e c.entry.ensures.value) c.push_record.ensures.fits
+          c.entry-entry.ensures.value c.loop-i.invariant.made (made e c.entry-entry.ensures.value) c.push_record.ensures.fits
           (rw same at (of_lent (IsTaken e.line) lent c.in_ok-push_record.ensures.taken))
           (rw (lent_shown lent, same) at c.in_ok-push_record.ensures.text)
           (rw (lent_shown lent, same) at c.in_ok-push_record.ensures.given_up);

@@ -1,0 +1,86 @@
+//! What was made for entries, to be tried for others of the same userset and reply.
+//!
+//! What is tried is judged like any steps, so no contract speaks of it.
+
+use evidence_check::Step;
+use evidence_maker::{Found, Made};
+use marks::MarkedSet;
+use std::alloc::{AllocError, Global};
+use std::collections::BTreeMap;
+use trace_lines::{Entry, Trace};
+
+/// How many facts the steps may name that are kept: some megabytes of them.
+const MOST_FACTS: usize = 1 << 15;
+
+fn facts_of(made: &Made) -> usize {
+    let mut facts = 0usize;
+    for step in &made.steps {
+        let of_step = match step {
+            Step::Yes(_) => 1,
+            Step::No(facts) => facts.len(),
+        };
+        facts = facts.saturating_add(of_step);
+    }
+    facts
+}
+
+/// The mark of the entry's userset, another one for each reply.
+fn key_of(entry: &Entry) -> u64 {
+    let mark = MarkedSet::of(entry.goal.set()).mark;
+    if entry.reply { mark } else { !mark }
+}
+
+/// For each userset and reply what was made for the last entry that has them. Those of one mark share a place. Where the steps name too many
+/// facts together, all is forgotten.
+#[derive(Drop)]
+pub(crate) struct Finds {
+    alloc: Global,
+    made: BTreeMap<u64, (usize, Made)>,
+    facts: usize,
+}
+
+impl Finds {
+    pub(crate) fn new(alloc: Global) -> Finds {
+        Finds {
+            alloc,
+            made: BTreeMap::new(alloc),
+            facts: 0,
+        }
+    }
+
+    /// What was made for an entry of the userset and reply of this one.
+    pub(crate) fn found<'a>(&'a self, trace: &'a Trace, entry: &Entry) -> Option<Found<'a>> {
+        match self.made.get(&key_of(entry)) {
+            Some((i, made)) if *i < trace.len() => Some(Found {
+                entry: trace.entry(*i),
+                steps: &made.steps,
+            }),
+            _ => None,
+        }
+    }
+
+    /// Keeps what was made for entry `i` in place of what was made before for one of its userset and reply: that was tried for it, and is
+    /// tried no more.
+    pub(crate) fn keep(
+        &mut self,
+        entry: &Entry,
+        i: usize,
+        made: Option<Made>,
+    ) -> Result<(), AllocError> {
+        let key = key_of(entry);
+        if let Some((_, before)) = self.made.remove(&key) {
+            self.facts = self.facts.saturating_sub(facts_of(&before));
+        }
+        let Some(made) = made else {
+            return Ok(());
+        };
+        let facts = facts_of(&made);
+        if self.facts.saturating_add(facts) > MOST_FACTS {
+            self.made = BTreeMap::new(self.alloc);
+            self.facts = 0;
+        }
+        self.facts = self.facts.saturating_add(facts);
+        let _ = self.made.insert(key, (i, made))?;
+        Ok(())
+    }
+}
