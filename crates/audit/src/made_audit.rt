@@ -222,10 +222,10 @@ fn audit_made_by<A: Source, W: Sink, R: Threads + Wait + Sync>(
 /// that is out of reach, and `F8` and `F9` nowhere. So it is whatever evidence is made.
 ///
 /// 1 to 16 workers, the calling thread among them, share the entries, in slices of `slice` entries, 1 to 4,096, or of
-/// more where a trace has so many that each worker would take over 16. Each makes the evidence for an entry, judges
-/// the entry by it and lets it go, so that no more of it stands in memory than one entry's for each worker; what it
-/// asked of rules of many places it keeps up to the end of the slice. No clause speaks of threads or
-/// of memory.
+/// more where a trace has so many that each worker would take over 16. Each makes the evidence for an entry, and judges
+/// the entry by it. Up to the end of the slice it keeps what it asked of rules of many places, and of the evidence what
+/// it made last for each userset and reply, of 32,768 facts at most or of one entry. No clause speaks of threads or of
+/// memory.
 ///
 /// `Limits` is answered where there are other numbers of workers or entries in a slice, and then nothing is read or
 /// written. A trace is refused as by [`audit`](crate::audit), and nothing is written where it is or memory runs out.
