@@ -50,6 +50,9 @@ impl Finds {
 
     /// What was made for an entry of the userset and reply of this one.
     pub(crate) fn found<'a>(&'a self, trace: &'a Trace, entry: &Entry) -> Option<Found<'a>> {
+        if self.made.is_empty() {
+            return None;
+        }
         match self.made.get(&key_of(entry)) {
             Some((i, made)) if *i < trace.len() => Some(Found {
                 entry: trace.entry(*i),
@@ -59,22 +62,13 @@ impl Finds {
         }
     }
 
-    /// Keeps what was made for entry `i` in place of what was made before for one of its userset and reply: that was tried for it, and is
-    /// tried no more.
-    pub(crate) fn keep(
-        &mut self,
-        entry: &Entry,
-        i: usize,
-        made: Option<Made>,
-    ) -> Result<(), AllocError> {
-        let key = key_of(entry);
+    fn forget(&mut self, key: u64) {
         if let Some((_, before)) = self.made.remove(&key) {
             self.facts = self.facts.saturating_sub(facts_of(&before));
         }
-        let Some(made) = made else {
-            return Ok(());
-        };
-        let facts = facts_of(&made);
+    }
+
+    fn put(&mut self, key: u64, i: usize, made: Made, facts: usize) -> Result<(), AllocError> {
         if self.facts.saturating_add(facts) > MOST_FACTS {
             self.made = BTreeMap::new(self.alloc);
             self.facts = 0;
@@ -82,5 +76,30 @@ impl Finds {
         self.facts = self.facts.saturating_add(facts);
         let _ = self.made.insert(key, (i, made))?;
         Ok(())
+    }
+
+    /// Keeps what was made for entry `i` in place of what was made before for one of its userset and reply: that was tried for it, and is
+    /// tried no more. A step of one fact is not kept, since it is tried for each entry.
+    pub(crate) fn keep(
+        &mut self,
+        entry: &Entry,
+        i: usize,
+        made: Option<Made>,
+    ) -> Result<(), AllocError> {
+        match made {
+            Some(made) => {
+                let facts = facts_of(&made);
+                if facts < 2 {
+                    return Ok(());
+                }
+                let key = key_of(entry);
+                self.forget(key);
+                self.put(key, i, made, facts)
+            }
+            None => {
+                self.forget(key_of(entry));
+                Ok(())
+            }
+        }
     }
 }
