@@ -1,11 +1,11 @@
 -- What is told, without where it lies in memory.
-use Rattle.std.specs.Prelude.{◌≡◌, ◌⊎◌, ◌-◌, length, ℕ, List, [], ◌∷◌, ⊤, IfOk, true, map, Result, Ok, Err}
+use Rattle.std.specs.Prelude.{◌≡◌, ◌⊎◌, ◌+◌, ◌-◌, ◌^◌, ◌<◌, ◌≤◌, length, ℕ, List, [], ◌∷◌, ⊤, IfOk, IfErr, true, map, Result, Ok, Err}
 use Rattle.std.specs.declared.alloc.AllocError.{AllocError}
 use Rattle.json_lines.specs.declared.lines.InputFault.TheVariants.{OutOfMemory, TooLong}
 use Rattle.json_lines.specs.declared.reading.LineFault.{LineFault}
 use Rattle.json_lines.specs.declared.reading.Stop.TheVariants.{Input}
-use Rattle.line_blocks.specs.Blocks.{has_whole_lines, joined, lines_of}
-use Rattle.line_blocks.specs.Parts.{PartTold, lines_told}
+use Rattle.line_blocks.specs.Blocks.{has_whole_lines, joined, lines_in, lines_of}
+use Rattle.line_blocks.specs.Parts.{PartTold, lines_told, put_parts}
 use Rattle.line_blocks.specs.declared.blocks.Block.{Block}
 use Rattle.line_blocks.specs.declared.telling.Told.{Told}
 
@@ -46,3 +46,15 @@ IsCut room bytes bs = (joined (bytes_in bs) ≡ bytes) × AreBlocks room bs
 abbrev pub PutsAs : {S T C : Type 0} → Result T (LineFault C) → S → Result S (LineFault C) → Type 0
 PutsAs (Ok u) s put = put ≡ Ok s
 PutsAs (Err e) s put = (e.stop ≡ Input OutOfMemory) ⊎ (put ≡ Err e)
+
+-- What was answered, the number of the next line, and made of the value is what the lines of blocks say, put in.
+pub record PutsTold {S V C : Type 0} (told : List ℕ → Result V C) (put : ℕ → S → V → Result S C) (first : ℕ) (old : S)
+    (bs : List Block) (result : Result ℕ (LineFault C)) (new : S) : Type 0 where
+  pub puts : PutsAs result new (put_parts put first old (map (block_told told) bs))
+  pub next : IfOk result (λ n. n ≡ first + lines_in (bytes_in bs))
+  pub line : IfErr result (λ e. e.line ≤ first + lines_in (bytes_in bs))
+
+-- what was told of blocks whose lines have numbers, from n on
+abbrev pub AreNumbered : {V C : Type 0} → ℕ → List (Result (Told V C) AllocError) → Type 0
+AreNumbered {V} {C} n rs = (told : List ℕ → Result V C) × (bs : List Block) × AreTold told rs bs
+    × (n + lines_in (bytes_in bs) < 2 ^ 64)

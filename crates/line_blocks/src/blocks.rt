@@ -49,22 +49,20 @@ fn cut_at(lines: &[u8], size: usize) -> (&[u8], &[u8])
     }
 }
 
-/// Whole lines in blocks of about one size, up to so many.
+/// Whole lines in blocks of about this size.
 pub(crate) fn cut_blocks(
     alloc: Global,
     lines: &[u8],
     room: usize,
-    count: usize,
+    size: usize,
 ) -> Result<Vec<Block<'_>>, AllocError>
-    requires whole { has_whole_lines lines.now ≡ true }
-    requires some { 0 < count }
+    requires { has_whole_lines lines.now ≡ true }
     ensures { IfOk result (λ v. IsCut room lines.now v.items) }
 {
-    let size = lines.len() / count;
     let mut blocks = Vec::new(alloc);
     let mut rest = lines;
     let mut left = room;
-    // bounded by the count: each block but the last has more bytes than the size
+    // bounded by the bytes: each block but the last has more than the size
     while !rest.is_empty() {
         let (bytes, after) = cut_at(rest, size);
         blocks.push(Block { bytes, room: left })?;

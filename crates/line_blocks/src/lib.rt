@@ -20,5 +20,5 @@ mod reading;
 mod telling;
 
 pub use putting::PutTold;
-pub use reading::{BLOCK, read_blocks};
+pub use reading::read_blocks;
 pub use telling::TellLine;

@@ -1,16 +1,18 @@
 //! What the lines of blocks make of a value.
 
-ghost use Rattle.std.specs.Prelude.{◌≡◌, ℕ, ◌+◌, ◌^◌, ◌<◌, ◌≤◌, length, vec_len, map, Result, Ok, IfOk, IfErr, OnOk};
+ghost use Rattle.std.specs.Prelude.{◌≡◌, ℕ, ◌+◌, ◌^◌, ◌<◌, ◌≤◌, List, length, vec_len, map, Result, Ok, IfOk, IfErr, OnOk};
 ghost use Rattle.json_lines.specs.Reading.{Refuses};
 ghost use Rattle.line_blocks.specs.Blocks.{joined, lines_in};
 ghost use Rattle.line_blocks.specs.Parts.{put_part, put_parts};
-ghost use Rattle.line_blocks.specs.Values.{AreBlocks, PutsAs, block_told, bytes_in, no_memory, told_value};
+ghost use Rattle.line_blocks.specs.Values.{AreBlocks, AreNumbered, AreTold, PutsAs, PutsTold, block_told, bytes_in, no_memory, told_value};
+ghost use Rattle.line_blocks.specs.declared.blocks.Block.{Block};
 
 use crate::blocks::Block;
 use crate::telling::{TellLine, Told, tell_blocks};
 use json_lines::{InputFault, LineFault, Stop};
-use std::alloc::Global;
-use std::thread::Threads;
+use std::alloc::{AllocError, Global};
+use std::mem;
+use std::thread::{Threads, join_mut};
 
 /// A value that what lines say is put into, one line after the other.
 pub trait PutTold<J: TellLine> {
@@ -64,28 +66,19 @@ fn put_told<J: TellLine, P: PutTold<J>>(
     }
 }
 
-/// Puts what the lines of blocks say into a value, one block after the other, and answers the number of the next
-/// line. Threads tell what the lines say.
-pub(crate) fn put_blocks<J: TellLine + Sync, P: PutTold<J>, T: Threads + Sync>(
-    rt: &T,
-    alloc: Global,
-    teller: &J,
+/// Puts what was told of blocks into a value, one block after the other, from line `first` on, and answers the number of the
+/// next line.
+fn put_each<J: TellLine, P: PutTold<J>>(
     value: &mut P,
     first: u64,
-    blocks: &[Block<'_>],
+    parts: Vec<Result<Told<J::Value, J::Cause>, AllocError>>,
 ) -> Result<u64, LineFault<J::Cause>>
-    requires blocks { (room : ℕ) × AreBlocks room blocks.now }
-    requires few { first + length (joined (bytes_in blocks.now)) < 2 ^ 64 }
+    requires few { AreNumbered first parts.items }
     requires place { P.next value.old ≤ first }
-    ensures put { PutsAs result value.new
-        (put_parts P.put first value.old (map (block_told (J.told teller.now)) blocks.now)) }
+    ensures put { (told : List ℕ → Result J.Value J.Cause) (bs : List Block) → AreTold told parts.items bs
+        → PutsTold told P.put first value.old bs result value.new }
     ensures further { IfOk result (λ n. P.next value.new ≤ n) }
-    ensures next { IfOk result (λ n. n ≡ first + lines_in (bytes_in blocks.now)) }
-    ensures line { IfErr result (λ e. e.line ≤ first + lines_in (bytes_in blocks.now)) }
 {
-    let Ok(parts) = tell_blocks(rt, alloc, teller, blocks) else {
-        return Err(out_of_memory(first));
-    };
     let mut number = first;
     for part in parts {
         let Ok(told) = part else {
@@ -97,4 +90,104 @@ pub(crate) fn put_blocks<J: TellLine + Sync, P: PutTold<J>, T: Threads + Sync>(
         }
     }
     Ok(number)
+}
+
+/// What was told of blocks and is to be put in.
+#[derive(Drop)]
+struct Pending<V, C> {
+    /// The number of the next line.
+    number: u64,
+    parts: Vec<Result<Told<V, C>, AllocError>>,
+}
+
+/// Puts in what is pending, and answers the number of the next line.
+fn put_pending<J: TellLine, P: PutTold<J>>(
+    pending: &mut Pending<J::Value, J::Cause>,
+    value: &mut P,
+) -> Result<u64, LineFault<J::Cause>>
+    requires few { AreNumbered pending.old.number pending.old.parts.items }
+    requires place { P.next value.old ≤ pending.old.number }
+    ensures put { (told : List ℕ → Result J.Value J.Cause) (bs : List Block) → AreTold told pending.old.parts.items bs
+        → PutsTold told P.put pending.old.number value.old bs result value.new }
+    ensures further { IfOk result (λ n. P.next value.new ≤ n) }
+{
+    let alloc = *pending.parts.allocator();
+    let parts = mem::replace(&mut pending.parts, Vec::new(alloc));
+    put_each(value, pending.number, parts)
+}
+
+/// Puts in what is pending, while other threads tell what the blocks ahead say.
+fn put_and_tell<J: TellLine + Sync, P: PutTold<J>, T: Threads + Sync>(
+    rt: &T,
+    alloc: Global,
+    teller: &J,
+    ahead: &[Block<'_>],
+    pending: &mut Pending<J::Value, J::Cause>,
+    value: &mut P,
+) -> (
+    Result<Vec<Result<Told<J::Value, J::Cause>, AllocError>>, AllocError>,
+    Result<u64, LineFault<J::Cause>>,
+)
+    requires few { AreNumbered pending.old.number pending.old.parts.items }
+    requires place { P.next value.old ≤ pending.old.number }
+    ensures told { IfOk result.0 (λ v. AreTold (J.told teller.now) v.items ahead.now) }
+    ensures put { (told : List ℕ → Result J.Value J.Cause) (bs : List Block) → AreTold told pending.old.parts.items bs
+        → PutsTold told P.put pending.old.number value.old bs result.1 value.new }
+    ensures further { IfOk result.1 (λ n. P.next value.new ≤ n) }
+{
+    join_mut(
+        rt,
+        &mut || tell_blocks(rt, alloc, teller, ahead),
+        &mut || -> Result<u64, LineFault<J::Cause>>
+            requires { AreNumbered pending.now.number pending.now.parts.items × (P.next value.now ≤ pending.now.number) }
+            ensures { ((told : List ℕ → Result J.Value J.Cause) (bs : List Block)
+                → AreTold told pending.entry.now.parts.items bs
+                → PutsTold told P.put pending.entry.now.number value.entry.now bs result value.exit.now)
+                × IfOk result (λ n. P.next value.exit.now ≤ n) }
+        { put_pending(pending, value) },
+    )
+}
+
+/// Puts what the lines of blocks say into a value, one block after the other, and answers the number of the next
+/// line. So many threads tell what the lines of some blocks say, while those before are put in.
+pub(crate) fn put_blocks<J: TellLine + Sync, P: PutTold<J>, T: Threads + Sync>(
+    rt: &T,
+    alloc: Global,
+    teller: &J,
+    value: &mut P,
+    first: u64,
+    blocks: &[Block<'_>],
+    workers: usize,
+) -> Result<u64, LineFault<J::Cause>>
+    requires some { 0 < workers }
+    requires blocks { (room : ℕ) × AreBlocks room blocks.now }
+    requires few { first + length (joined (bytes_in blocks.now)) < 2 ^ 64 }
+    requires place { P.next value.old ≤ first }
+    ensures put { PutsAs result value.new
+        (put_parts P.put first value.old (map (block_told (J.told teller.now)) blocks.now)) }
+    ensures further { IfOk result (λ n. P.next value.new ≤ n) }
+    ensures next { IfOk result (λ n. n ≡ first + lines_in (bytes_in blocks.now)) }
+    ensures line { IfErr result (λ e. e.line ≤ first + lines_in (bytes_in blocks.now)) }
+{
+    let mut pending = Pending {
+        number: first,
+        parts: Vec::new(alloc),
+    };
+    let mut told = 0;
+    // bounded by the blocks: each turn tells some
+    while told < blocks.len() {
+        let end = told + workers.min(blocks.len() - told);
+        let ahead = &blocks[told..end];
+        let (next, put) = put_and_tell(rt, alloc, teller, ahead, &mut pending, value);
+        let number = match put {
+            Ok(number) => number,
+            Err(fault) => return Err(fault),
+        };
+        let Ok(parts) = next else {
+            return Err(out_of_memory(number));
+        };
+        pending = Pending { number, parts };
+        told = end;
+    }
+    put_pending(&mut pending, value)
 }

@@ -22,8 +22,8 @@ use json_lines::{CHUNK, InputFault, LineFault, MAX_INPUT, MAX_LINE, Stop};
 use std::alloc::{AllocError, Global};
 use std::thread::Threads;
 
-/// About how many bytes a block has.
-pub const BLOCK: usize = 1 << 20;
+/// How many bytes for each worker a reader is asked for at a time.
+const SHARE: usize = 1 << 20;
 
 /// The number of the next line, and how many bytes may come from it on.
 #[derive(Clone, Copy, Drop)]
@@ -105,10 +105,11 @@ fn take_whole<J: TellLine + Sync, P: PutTold<J>, T: Threads + Sync>(
     ensures takes { TakesWhole (taken_by (J.told teller.now) P.put) place value.old lines.now result value.new }
     ensures further { IfOk result (λ to. P.next value.new ≤ to.number) }
 {
-    let Ok(blocks) = cut_blocks(alloc, lines, place.room, workers) else {
+    let size = (lines.len() / workers).min(J::BLOCK);
+    let Ok(blocks) = cut_blocks(alloc, lines, place.room, size) else {
         return Err(out_of_memory(place.number));
     };
-    match put_blocks(rt, alloc, teller, value, place.number, &blocks) {
+    match put_blocks(rt, alloc, teller, value, place.number, &blocks, workers) {
         Ok(number) => Ok(Place {
             number,
             room: place.room.saturating_sub(lines.len()),
@@ -193,7 +194,7 @@ pub fn read_blocks<R: Source, J: TellLine + Sync, P: PutTold<J>, T: Threads + Sy
     ensures { LinesRead R.given R.ends R.failures R.remaining (taken_by (J.told teller.now) P.put)
         reader.old reader.new value.old value.new result }
 {
-    let Ok(mut chunk) = vec![in alloc; 0u8; workers * BLOCK] else {
+    let Ok(mut chunk) = vec![in alloc; 0u8; workers * SHARE] else {
         return Err(out_of_memory(1));
     };
     let mut bytes = Vec::new(alloc);

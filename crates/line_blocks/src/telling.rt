@@ -19,8 +19,11 @@ pub trait TellLine {
 
     type Cause: Send + Drop;
 
-    /// What a thread keeps from one line to the next.
+    /// What a thread keeps from one line of a block to the next.
     type Scratch: Send + Drop;
+
+    /// About how many bytes of a long input a block has.
+    const BLOCK: usize;
 
     ghost told: { Self → List ℕ → Result Self.Value Self.Cause };
 

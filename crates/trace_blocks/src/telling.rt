@@ -22,6 +22,9 @@ impl TellLine for TraceLines {
 
     type Scratch = Scratch;
 
+    // What lines say is put in meanwhile, which takes about half as long as telling it: so there are many blocks.
+    const BLOCK: usize = 1 << 17;
+
     ghost told = { λ _ line. line_told line };
 
     ghost suits = { λ _ _. ⊤ };

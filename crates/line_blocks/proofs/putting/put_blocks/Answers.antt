@@ -1,87 +1,67 @@
-use Rattle.std.proofs.Common.{◌≡◌, ◌+◌, inl, inr, subst, refl, map, length, arith}
-use Rattle.std.specs.Vec.Iter.{into_iter_items}
-use Rattle.line_blocks.specs.Blocks.{lines_in}
-use Rattle.line_blocks.specs.Parts.{put_parts}
-use Rattle.line_blocks.specs.Values.{block_told, bytes_in}
-use Rattle.line_blocks.proofs.AllTold.{Left, are_told, few_left, goes_on, refused}
+use Rattle.std.proofs.Common.{◌+◌, ◌≤◌, [], IfOk, ap, arith, refl, subst, sym}
+use Rattle.std.specs.Prelude.{slice_range}
+use Rattle.line_blocks.specs.Values.{AreTold, PutsTold}
+use Rattle.line_blocks.proofs.AllTold.{next_wave, refused_wave, wave_fits}
 use Rattle.line_blocks.proofs.Parts.{lines_few}
 use Rattle.line_blocks.proofs.putting.put_blocks.Goals as goal
 
-pub loop-part-init : goal.loop-part-init
-loop-part-init g c =
-    let len : length c.in-Ok.parts.items ≡ length c.args.blocks.now =
-    omega (arith, c.in-Ok.parts.ok.0, c.in-Ok.ensures.count) in
-    let all =
-    are_told (g.J.TellLine.told c.args.teller.now) c.in-Ok.parts.items c.args.blocks.now len
-    (λ i d b lt. c.in-Ok.ensures.told i d b lt) in (
-      (
-        c.args.blocks.now,
-        c.requires.blocks.0,
-        c.requires.blocks.1,
-        rw c.into_iter-part-iterator.ensures.into_iter_gives.0 all,
-        refl,
-        refl,
-      ),
-      c.requires.place,
-    )
+pub loop-told-init : goal.loop-told-init
+loop-told-init g c = (
+  record { wave = []; are = subst (λ rs. AreTold (g.J.TellLine.told c.args.teller.now) rs []) (sym c.new.ensures.items) tt; all = refl; lines = refl },
+  c.requires.place,
+)
 
-pub put_told-requires-clause-few : goal.put_told-requires-clause-few
-put_told-requires-clause-few g c =
-    let told = g.J.TellLine.told c.args.teller.now in
-    let put = g.P.PutTold.put in
-    let all = put_parts put c.args.first c.args.value.now (map (block_told told) c.args.blocks.now) in
-    let last = c.args.first + lines_in (bytes_in c.args.blocks.now) in
-    let inv =
-    subst (λ rs. Left told put all last rs c.loop-part.number c.loop-part.value) c.in-Some.ensures.steps.0
-    c.loop-part.invariant.0 in
-    let few =
-    few_left told put all last c.loop-part.number c.loop-part.value c.in-Ok-part.told c.in-Some.part
-    (into_iter_items c.next.new.self) c.in-Ok-part.is inv in
-    let within = lines_few c.requires.blocks.0 c.args.blocks.now c.requires.blocks.1 in
-    omega (arith, few, within, c.requires.few, c.in-Ok-part.told.values.ok.0)
+pub put_and_tell-next-requires-clause-few : goal.put_and_tell-next-requires-clause-few
+put_and_tell-next-requires-clause-few g c κs within =
+    let known = c.loop-told.invariant.0 in
+    let few = lines_few c.requires.blocks.0 c.args.blocks.now c.requires.blocks.1 in
+    (g.J.TellLine.told c.args.teller.now, known.wave, known.are, omega (arith, few, c.requires.few, wave_fits _ _ _ _ _ _ _ _ _ known))
 
-pub loop-part-preserved : goal.loop-part-preserved
-loop-part-preserved g c =
-    let told = g.J.TellLine.told c.args.teller.now in
-    let put = g.P.PutTold.put in
-    let all = put_parts put c.args.first c.args.value.now (map (block_told told) c.args.blocks.now) in
-    let last = c.args.first + lines_in (bytes_in c.args.blocks.now) in
-    let inv =
-    subst (λ rs. Left told put all last rs c.loop-part.number c.loop-part.value) c.in-Some.ensures.steps.0
-    c.loop-part.invariant.0 in (
-      goes_on told put all last c.loop-part.number c.loop-part.value c.in-Ok-part.told c.in-Some.part
-          (into_iter_items c.next.new.self) c.in-Ok-put_told.next c.put_told.new.value c.in-Ok-part.is inv
-          c.in-Ok-put_told.ensures.put
-          (omega (arith, c.in-Ok-put_told.ensures.next, c.in-Ok-part.told.values.ok.0)),
-      c.in-Ok-put_told.ensures.further,
-    )
+pub put_pending-requires-clause-few : goal.put_pending-requires-clause-few
+put_pending-requires-clause-few g c κs within =
+    let known = c.loop-told.invariant.0 in
+    let few = lines_few c.requires.blocks.0 c.args.blocks.now c.requires.blocks.1 in
+    (g.J.TellLine.told c.args.teller.now, known.wave, known.are, omega (arith, few, c.requires.few, wave_fits _ _ _ _ _ _ _ _ _ known))
 
 pub returns-in-Err-clause-put : goal.returns-in-Err-clause-put
 returns-in-Err-clause-put g c =
     let told = g.J.TellLine.told c.args.teller.now in
-    let put = g.P.PutTold.put in
-    let all = put_parts put c.args.first c.args.value.now (map (block_told told) c.args.blocks.now) in
-    let last = c.args.first + lines_in (bytes_in c.args.blocks.now) in
-    let inv =
-    subst (λ rs. Left told put all last rs c.loop-part.number c.loop-part.value) c.in-Some.ensures.steps.0
-    c.loop-part.invariant.0 in
-    elim c.in-Err.ensures.put [
-      | inl memory ↦ inl memory
-      | inr put_in ↦
-          inr (refused told put all last c.loop-part.number c.loop-part.value c.in-Ok-part.told c.in-Some.part
-          (into_iter_items c.next.new.self) c.in-Err.fault c.in-Ok-part.is inv put_in)
-    ]
+    let known = c.loop-told.invariant.0 in
+    let puts =
+    subst (λ r. PutsTold told g.P.PutTold.put c.loop-told.pending.number c.loop-told.value known.wave r
+    c.put_and_tell-next.new.value) c.in-Err.is (c.put_and_tell-next.ensures.put told known.wave known.are) in
+    refused_wave _ _ _ _ _ _ _ _ _ known c.in-Err.fault _ puts
 
 pub returns-in-Err-clause-line : goal.returns-in-Err-clause-line
 returns-in-Err-clause-line g c =
     let told = g.J.TellLine.told c.args.teller.now in
-    let put = g.P.PutTold.put in
-    let all = put_parts put c.args.first c.args.value.now (map (block_told told) c.args.blocks.now) in
-    let last = c.args.first + lines_in (bytes_in c.args.blocks.now) in
-    let inv =
-    subst (λ rs. Left told put all last rs c.loop-part.number c.loop-part.value) c.in-Some.ensures.steps.0
-    c.loop-part.invariant.0 in
-    let few =
-    few_left told put all last c.loop-part.number c.loop-part.value c.in-Ok-part.told c.in-Some.part
-    (into_iter_items c.next.new.self) c.in-Ok-part.is inv in
-    omega (arith, few, c.in-Err.ensures.line, c.in-Ok-part.told.values.ok.0)
+    let known = c.loop-told.invariant.0 in
+    let puts =
+    subst (λ r. PutsTold told g.P.PutTold.put c.loop-told.pending.number c.loop-told.value known.wave r
+    c.put_and_tell-next.new.value) c.in-Err.is (c.put_and_tell-next.ensures.put told known.wave known.are) in
+    omega (arith, puts.line, wave_fits _ _ _ _ _ _ _ _ _ known)
+
+pub returns-in_default-clause-line : goal.returns-in_default-clause-line
+returns-in_default-clause-line g c =
+    let told = g.J.TellLine.told c.args.teller.now in
+    let known = c.loop-told.invariant.0 in
+    let puts =
+    subst (λ r. PutsTold told g.P.PutTold.put c.loop-told.pending.number c.loop-told.value known.wave r
+    c.put_and_tell-next.new.value) c.in-Ok.is (c.put_and_tell-next.ensures.put told known.wave known.are) in
+    omega (arith, puts.next, wave_fits _ _ _ _ _ _ _ _ _ known, ap (λ e. e.line) c.out_of_memory.ensures)
+
+pub loop-told-preserved : goal.loop-told-preserved
+loop-told-preserved g c =
+    let told = g.J.TellLine.told c.args.teller.now in
+    let known = c.loop-told.invariant.0 in
+    let puts =
+    subst (λ r. PutsTold told g.P.PutTold.put c.loop-told.pending.number c.loop-told.value known.wave r
+    c.put_and_tell-next.new.value) c.in-Ok.is (c.put_and_tell-next.ensures.put told known.wave known.are) in
+    let wave = slice_range c.args.blocks.now c.loop-told.told (c.loop-told.told + c.min.result) in
+    let are =
+    subst (λ r. IfOk r (λ v. AreTold told v.items wave)) c.in-Ok-next.is c.put_and_tell-next.ensures.told in (
+      next_wave _ _ _ _ _ _ _ _ _ known (c.loop-told.told + c.min.result) c.in-Ok.number
+          c.put_and_tell-next.new.value c.in-Ok-next.parts.items wave (omega arith) refl puts are,
+      subst (λ r. IfOk r (λ n. g.P.PutTold.next c.put_and_tell-next.new.value ≤ n)) c.in-Ok.is
+          c.put_and_tell-next.ensures.further,
+    )
