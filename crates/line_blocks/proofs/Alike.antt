@@ -1,9 +1,8 @@
 -- What was read by one way of taking lines, where another makes the same of them.
-use Rattle.std.proofs.Common.{◌≡◌, ℕ, ◌+◌, ◌-◌, ◌^◌, Bool, true, false, not, ◌&&◌, eqb, cond, List, [], ◌∷◌, ◌++◌, length, Option, Result, Ok, Err, IfErr, refl, sym, ap, subst, ◌∙◌}
+use Rattle.std.proofs.Common.{◌≡◌, ℕ, ◌+◌, ◌-◌, ◌^◌, Bool, true, false, not, ◌&&◌, eqb, cond, List, [], ◌∷◌, ◌++◌, length, Option, Result, Ok, Err, refl, sym, ap, subst, ◌∙◌}
 use Rattle.refusals.specs.Refusals.{◌>>=◌}
-use Rattle.devices.specs.Given.{OfBytes}
 use Rattle.json_lines.specs.InputRead.{LinesRead}
-use Rattle.json_lines.specs.Reading.{at_line, parts, passes_limit, read_all, read_from, Fails, IsOfSomeLine, IsReadFault, Reads}
+use Rattle.json_lines.specs.Reading.{at_line, parts, passes_limit, read_all, read_from, Fails, IsOfSomeLine}
 use Rattle.json_lines.specs.declared.lines.InputFault.TheVariants.{Read, TooLong}
 use Rattle.json_lines.specs.declared.reading.LineFault.{LineFault}
 use Rattle.json_lines.specs.declared.reading.Stop.{Stop}

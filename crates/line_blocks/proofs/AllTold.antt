@@ -1,5 +1,6 @@
 -- What several threads told, block after block.
-use Rattle.std.proofs.Common.{◌≡◌, ℕ, suc, ◌+◌, ◌-◌, ◌<◌, ◌≤◌, ◌⊎◌, inl, inr, List, [], ◌∷◌, ◌++◌, length, take, drop, Result, Ok, Err, IfOk, Vec, vec_len, map, slice_index_or, arith, sym, ap, ◌∙◌}
+use Rattle.std.proofs.Common.{◌≡◌, ℕ, suc, ◌+◌, ◌-◌, ◌<◌, ◌≤◌, inl, inr, List, [], ◌∷◌, ◌++◌, length, drop, Result, Ok, Err, IfOk, Vec, vec_len, map, slice_index_or, arith, refl, sym, ap, subst, ◌∙◌}
+use Rattle.std.specs.Prelude.{slice_range}
 use Rattle.std.proofs.lemmas.List.{drop-drop, take-append-drop}
 use Rattle.std.specs.declared.alloc.AllocError.{AllocError}
 use Rattle.refusals.specs.Refusals.{◌>>=◌}
@@ -31,62 +32,91 @@ told_all told (Ok v) bs len each = are_told told v.items bs (omega (arith, v.ok.
 told_all told (Err e) bs len each = tt
 
 -- what is known before a block is put in
-abbrev pub Left : {S V C : Type 0} → (List ℕ → Result V C) → (ℕ → S → V → Result S C) → Result S (LineFault C) → ℕ
-    → List (Result (Told V C) AllocError) → ℕ → S → Type 0
-Left told put goal last rs n s =
-    (rest : List Block) × AreTold told rs rest × (goal ≡ put_parts put n s (map (block_told told) rest))
-    × (n + lines_in (bytes_in rest) ≡ last)
+pub record Left {S V C : Type 0} (told : List ℕ → Result V C) (put : ℕ → S → V → Result S C)
+    (goal : Result S (LineFault C)) (last : ℕ) (rs : List (Result (Told V C) AllocError)) (n : ℕ) (s : S) : Type 0 where
+  pub rest : List Block
+  pub are : AreTold told rs rest
+  pub all : goal ≡ put_parts put n s (map (block_told told) rest)
+  pub lines : n + lines_in (bytes_in rest) ≡ last
 
-module _ {S V C : Type 0} (told : List ℕ → Result V C) (put : ℕ → S → V → Result S C) (goal : Result S (LineFault C))
-    (last n : ℕ) (s : S) where
-  -- a block's part has no more values than the lines that are left
-  pub few_left : (t : Told V C) (r : Result (Told V C) AllocError) (rs : List (Result (Told V C) AllocError))
-      → r ≡ Ok t → Left told put goal last (r ∷ rs) n s → n + length t.values.items ≤ last
-  few_left t r rs is ([], all, e, count) = absurd all
-  few_left t r rs is (b ∷ bs, all, e, count) =
-      let same : told_value t ≡ block_told told b = rw is at all.0 in
-      let few = (told_counts told b.room (lines_of b.bytes.now)).few in
-      omega (arith, few, ap (λ (p : PartTold V C). length p.values) same, count)
+-- the block that was told first, and those behind it
+first_told : {V C : Type 0} (told : List ℕ → Result V C) (t : Told V C) (r : Result (Told V C) AllocError)
+    (behind : List (Result (Told V C) AllocError)) (rest : List Block) → r ≡ Ok t → AreTold told (r ∷ behind) rest
+    → (b : Block) × (bs : List Block) × (rest ≡ b ∷ bs) × (told_value t ≡ block_told told b) × AreTold told behind bs
+first_told told t r behind [] is are = absurd are
+first_told told t r behind (b ∷ bs) is are = (b, bs, refl, rw is at are.0, are.1)
 
-  -- it was put in
-  pub goes_on : (t : Told V C) (r : Result (Told V C) AllocError) (rs : List (Result (Told V C) AllocError)) (m : ℕ)
-      (now : S) → r ≡ Ok t → Left told put goal last (r ∷ rs) n s
-      → put_part put n s (told_value t) ≡ Ok now → m ≡ n + length t.values.items → Left told put goal last rs m now
-  goes_on t r rs m now is ([], all, e, count) put_in next = absurd all
-  goes_on t r rs m now is (b ∷ bs, all, e, count) put_in next =
-      let same : told_value t ≡ block_told told b = rw is at all.0 in
-      let none = put_ok put n s now t.values.items t.fault put_in in
-      let lines : length t.values.items ≡ length (lines_of b.bytes.now) =
-      ap (λ (p : PartTold V C). length p.values) same
-      ∙ (told_counts told b.room (lines_of b.bytes.now)).all (ap (λ (p : PartTold V C). p.fault) (sym same) ∙ none) in (
-        bs,
-        all.1,
-        e
-            ∙ ap (λ (p : PartTold V C). put_part put n s p
-            >>= (λ (u : S). put_parts put (n + length p.values) u (map (block_told told) bs))) (sym same)
-            ∙ ap (λ (x : Result S (LineFault C)). x
-            >>= (λ (u : S). put_parts put (n + length t.values.items) u (map (block_told told) bs))) put_in
-            ∙ ap (λ (k : ℕ). put_parts put k now (map (block_told told) bs)) (sym next),
-        omega (arith, next, lines, count),
-      )
+module _ {S V C : Type 0} {told : List ℕ → Result V C} {put : ℕ → S → V → Result S C} {goal : Result S (LineFault C)}
+    {last : ℕ} {rs : List (Result (Told V C) AllocError)} {n : ℕ} {s : S} (left : Left told put goal last rs n s) where
+  module _ {r : Result (Told V C) AllocError} {behind : List (Result (Told V C) AllocError)} (t : Told V C)
+      (next : rs ≡ r ∷ behind) (is : r ≡ Ok t) where
+    first : (b : Block) × (bs : List Block) × (left.rest ≡ b ∷ bs) × (told_value t ≡ block_told told b)
+        × AreTold told behind bs
+    first = first_told told t r behind left.rest is (subst (λ xs. AreTold told xs left.rest) next left.are)
 
-  -- it was refused
-  pub refused : (t : Told V C) (r : Result (Told V C) AllocError) (rs : List (Result (Told V C) AllocError))
-      (fault : LineFault C) → r ≡ Ok t → Left told put goal last (r ∷ rs) n s
-      → put_part put n s (told_value t) ≡ Err fault → goal ≡ Err fault
-  refused t r rs fault is ([], all, e, count) put_in = absurd all
-  refused t r rs fault is (b ∷ bs, all, e, count) put_in =
-      let same : told_value t ≡ block_told told b = rw is at all.0 in
-      e
-      ∙ ap (λ (p : PartTold V C). put_part put n s p
-      >>= (λ (u : S). put_parts put (n + length p.values) u (map (block_told told) bs))) (sym same)
-      ∙ ap (λ (x : Result S (LineFault C)). x
-      >>= (λ (u : S). put_parts put (n + length t.values.items) u (map (block_told told) bs))) put_in
+    b : Block
+    b = first.0
+
+    bs : List Block
+    bs = first.1
+
+    count : n + (length (lines_of b.bytes.now) + lines_in (bytes_in bs)) ≡ last
+    unfolding b bs
+    count = omega (arith, left.lines, ap (λ xs. lines_in (bytes_in xs)) first.2)
+
+    -- its part is the first to be put in
+    goal_now : goal ≡ (put_part put n s (told_value t)
+        >>= λ u. put_parts put (n + length t.values.items) u (map (block_told told) bs))
+    unfolding b bs
+    goal_now =
+        left.all ∙ ap (λ (xs : List Block). put_parts put n s (map (block_told told) xs)) first.2
+        ∙ ap (λ (p : PartTold V C). put_part put n s p
+        >>= (λ (u : S). put_parts put (n + length p.values) u (map (block_told told) bs))) (sym first.3)
+
+    -- it has no more values than the lines that are left
+    pub few_left : n + length t.values.items ≤ last
+    unfolding b bs
+    few_left =
+        omega (
+          arith,
+          (told_counts told b.room (lines_of b.bytes.now)).few,
+          ap (λ (p : PartTold V C). length p.values) first.3,
+          count,
+        )
+
+    -- it was put in
+    pub goes_on : {now : S} (m : ℕ) → put_part put n s (told_value t) ≡ Ok now → m ≡ n + length t.values.items
+        → Left told put goal last behind m now
+    unfolding b bs
+    goes_on {now} m put_in to =
+        let none = put_ok put n s now t.values.items t.fault put_in in
+        let lines : length t.values.items ≡ length (lines_of b.bytes.now) =
+        ap (λ (p : PartTold V C). length p.values) first.3
+        ∙ (told_counts told b.room (lines_of b.bytes.now)).all
+        (ap (λ (p : PartTold V C). p.fault) (sym first.3) ∙ none) in
+        record {
+          rest = bs;
+          are = first.4;
+          all = goal_now ∙ ap (λ (x : Result S (LineFault C)). x
+              >>= (λ (u : S). put_parts put (n + length t.values.items) u (map (block_told told) bs))) put_in
+              ∙ ap (λ (k : ℕ). put_parts put k now (map (block_told told) bs)) (sym to);
+          lines = omega (arith, to, lines, count);
+        }
+
+    -- it was refused
+    pub refused : (fault : LineFault C) → put_part put n s (told_value t) ≡ Err fault → goal ≡ Err fault
+    refused fault put_in =
+        goal_now ∙ ap (λ (x : Result S (LineFault C)). x
+        >>= (λ (u : S). put_parts put (n + length t.values.items) u (map (block_told told) bs))) put_in
 
   -- all were put in
-  pub none_left : Left told put goal last [] n s → (goal ≡ Ok s) × (n ≡ last)
-  none_left ([], all, e, count) = (e, omega (arith, count))
-  none_left (b ∷ bs, all, e, count) = absurd all
+  pub none_left : rs ≡ [] → (goal ≡ Ok s) × (n ≡ last)
+  none_left none = at left.rest (subst (λ xs. AreTold told xs left.rest) none left.are) left.all left.lines
+    where
+      at : (rest : List Block) → AreTold told [] rest → goal ≡ put_parts put n s (map (block_told told) rest)
+          → n + lines_in (bytes_in rest) ≡ last → (goal ≡ Ok s) × (n ≡ last)
+      at [] are all lines = (all, omega (arith, lines))
+      at (c ∷ cs) are all lines = absurd are
 
 pub lines_in_both : (bs rest : List Block)
     → lines_in (bytes_in (bs ++ rest)) ≡ lines_in (bytes_in bs) + lines_in (bytes_in rest)
@@ -142,44 +172,53 @@ pub record Ahead {S V C : Type 0} (told : List ℕ → Result V C) (put : ℕ �
   pub all : goal ≡ put_parts put n s (map (block_told told) (wave ++ drop count blocks))
   pub lines : n + lines_in (bytes_in (wave ++ drop count blocks)) ≡ last
 
-module _ {S V C : Type 0} (told : List ℕ → Result V C) (put : ℕ → S → V → Result S C) (goal : Result S (LineFault C))
-    (last : ℕ) (blocks : List Block) (count : ℕ) (rs : List (Result (Told V C) AllocError)) (n : ℕ) (s : S)
+module _ {S V C : Type 0} {told : List ℕ → Result V C} {put : ℕ → S → V → Result S C} {goal : Result S (LineFault C)}
+    {last : ℕ} {blocks : List Block} {count : ℕ} {rs : List (Result (Told V C) AllocError)} {n : ℕ} {s : S}
     (known : Ahead told put goal last blocks count rs n s) where
   pub wave_fits : n + lines_in (bytes_in known.wave) ≤ last
   wave_fits = omega (arith, known.lines, lines_in_both known.wave (drop count blocks))
 
-  -- the wave was put in, and the next one told
-  pub next_wave : (to m : ℕ) (now : S) (next : List (Result (Told V C) AllocError)) (wave : List Block)
-      → count ≤ to → wave ≡ take (to - count) (drop count blocks)
-      → PutsTold told put n s known.wave (Ok m) now → AreTold told next wave
-      → Ahead told put goal last blocks to next m now
-  next_wave to m now next wave le is puts are =
-      let end : count + (to - count) ≡ to = omega arith in
-      let rest : drop count blocks ≡ wave ++ drop to blocks =
-      sym (take-append-drop (to - count) (drop count blocks))
-      ∙ ap (λ (xs : List Block). xs ++ drop (to - count) (drop count blocks)) (sym is)
-      ∙ ap (λ (xs : List Block). wave ++ xs) (drop-drop (to - count) count blocks)
-      ∙ ap (λ (k : ℕ). wave ++ drop k blocks) end in
-      record {
-        wave = wave;
-        are = are;
-        all = known.all ∙ put_before told put n s now known.wave (drop count blocks) puts.puts
-            ∙ ap (λ (k : ℕ). put_parts put k now (map (block_told told) (drop count blocks))) (sym puts.next)
-            ∙ ap (λ (xs : List Block). put_parts put m now (map (block_told told) xs)) rest;
-        lines = omega (
-          arith,
-          known.lines,
-          lines_in_both known.wave (drop count blocks),
-          puts.next,
-          ap (λ (xs : List Block). lines_in (bytes_in xs)) rest,
-        );
-      }
+  module _ {now : S} {r : Result ℕ (LineFault C)} (puts : PutsTold told put n s known.wave r now) where
+    -- the wave was put in, up to this line
+    pub reached : (m : ℕ) → r ≡ Ok m → m ≤ last
+    reached m is = let next : m ≡ n + lines_in (bytes_in known.wave) = rw is at puts.next in omega (arith, next, wave_fits)
 
-  -- something of the wave was refused
-  pub refused_wave : (fault : LineFault C) (now : S) → PutsTold told put n s known.wave (Err fault) now
-      → PutsAs {T = ℕ} (Err fault) now goal
-  refused_wave fault now puts =
-      elim puts.puts [
-        | inl memory ↦ inl memory
-        | inr is ↦ inr (known.all ∙ refused_before told put n s fault known.wave (drop count blocks) is)
-      ]
+    -- and the next one told
+    pub next_wave : (m to : ℕ) (next : List (Result (Told V C) AllocError)) → r ≡ Ok m → count ≤ to
+        → AreTold told next (slice_range blocks count to) → Ahead told put goal last blocks to next m now
+    next_wave m to next is le are =
+        let wave : List Block = slice_range blocks count to in
+        let all : put_parts put n s (map (block_told told) known.wave) ≡ Ok now = rw is at puts.puts in
+        let behind : m ≡ n + lines_in (bytes_in known.wave) = rw is at puts.next in
+        let end : count + (to - count) ≡ to = omega arith in
+        let rest : drop count blocks ≡ wave ++ drop to blocks =
+        sym (take-append-drop (to - count) (drop count blocks))
+        ∙ ap (λ (xs : List Block). wave ++ xs) (drop-drop (to - count) count blocks)
+        ∙ ap (λ (k : ℕ). wave ++ drop k blocks) end in
+        record {
+          wave = wave;
+          are = are;
+          all = known.all ∙ put_before told put n s now known.wave (drop count blocks) all
+              ∙ ap (λ (k : ℕ). put_parts put k now (map (block_told told) (drop count blocks))) (sym behind)
+              ∙ ap (λ (xs : List Block). put_parts put m now (map (block_told told) xs)) rest;
+          lines = omega (
+            arith,
+            known.lines,
+            lines_in_both known.wave (drop count blocks),
+            behind,
+            ap (λ (xs : List Block). lines_in (bytes_in xs)) rest,
+          );
+        }
+
+    -- something of the wave was refused
+    pub refused_wave : (fault : LineFault C) → r ≡ Err fault → PutsAs {T = ℕ} (Err fault) now goal × (fault.line ≤ last)
+    refused_wave fault is =
+        let line : fault.line ≤ n + lines_in (bytes_in known.wave) = rw is at puts.line in
+        let said : PutsAs {T = ℕ} (Err fault) now (put_parts put n s (map (block_told told) known.wave)) =
+        rw is at puts.puts in (
+          elim said [
+            | inl memory ↦ inl memory
+            | inr all ↦ inr (known.all ∙ refused_before told put n s fault known.wave (drop count blocks) all)
+          ],
+          omega (arith, line, wave_fits),
+        )

@@ -1,6 +1,5 @@
 -- What reading by blocks answers, from where it has come to.
-use Rattle.std.proofs.Common.{◌≡◌, ◌≢◌, ℕ, ◌+◌, ◌^◌, ◌<◌, ◌≤◌, min, true, false, ◌==◌, List, [], ◌++◌, length, Option, Result, Ok, Err, IfErr, OnOk, arith, refl, sym, ap, subst, ◌∙◌, append_assoc, append-nil, length-append}
-use Rattle.std.proofs.lemmas.List.Splits.{length-slice_split}
+use Rattle.std.proofs.Common.{◌≡◌, ◌≢◌, ℕ, ◌+◌, ◌^◌, ◌<◌, ◌≤◌, min, true, false, List, [], ◌++◌, length, Option, Result, Ok, Err, IfErr, OnOk, arith, refl, sym, ap, subst, ◌∙◌, append_assoc, append-nil, length-append}
 use Rattle.devices.specs.Given.{OfBytes, AreNext}
 use Rattle.json_lines.specs.InputRead.{LinesRead}
 use Rattle.json_lines.specs.Lines.{ComeAtMost, Takes, lacks}

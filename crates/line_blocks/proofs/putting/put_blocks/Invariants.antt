@@ -1,4 +1,4 @@
-use Rattle.std.proofs.Common.{ℕ, ◌+◌, ◌-◌, ◌≤◌, length, map}
+use Rattle.std.proofs.Common.{◌+◌, ◌-◌, ◌≤◌, length, map}
 use Rattle.line_blocks.specs.Blocks.{lines_in}
 use Rattle.line_blocks.specs.Parts.{put_parts}
 use Rattle.line_blocks.specs.Values.{block_told, bytes_in}
