@@ -1,9 +1,9 @@
 -- What a run says, from what its command does.
-use Rattle.std.proofs.Common.{◌≡◌, ◌⊎◌, inl, inr, ℕ, ◌+◌, ◌<◌, ◌≤◌, true, List, [], ◌∷◌, Option, Some, None, codes, refl, sym, subst, map, ◌∙◌, arith, Bool, Bor, option_map, false}
+use Rattle.std.proofs.Common.{◌≡◌, ◌≢◌, ◌⊎◌, inl, inr, ℕ, ◌+◌, ◌<◌, ◌≤◌, true, List, [], ◌∷◌, Option, Some, None, codes, refl, sym, subst, map, ◌∙◌, arith, Bool, Bor, option_map, false}
 use Rattle.std.specs.Prelude.{IfSome, slice_get}
 use Rattle.audit.specs.Devices.{Reader, Reading, Writer, Writing, ReaderFailed, WriterFailed, WriterNeverFailed, StandsBehind}
 use Rattle.audit.proofs.Readers.{few_at_rest, next_at_rest}
-use Rattle.command_line.specs.Asked.{Asked, command_of, is_plain_word}
+use Rattle.command_line.specs.Asked.{Asked, IsAskedBy, command_of, is_plain_word}
 use Rattle.command_line.specs.Asked as asked
 use Rattle.new_enemy.specs.Outcomes.{HasSucceeded, HasFoundDirty, HasRefused}
 use Rattle.new_enemy.specs.Runs.{RunsJoined, RunsFiles, SaysOfRun}
@@ -128,7 +128,8 @@ module _ {F : Type 0} (r : Reader) where
 
 -- of an audit, whether its evidence is named or not
 pub asked_of_audit : {F : Type 0} (t : List ℕ) (e : Option (Bor (List ℕ))) (workers slice : ℕ) (early : Bool)
-    (old new : List ℕ) (s : ℕ) (run : Ran F) → IfSome e (λ _. RanAudit s run) → (e ≡ None → RanAuditAlone s run)
+    (old new : List ℕ) (s : ℕ) (run : Ran F) → IfSome e (λ _. RanAudit workers slice s run)
+    → (e ≡ None → RanAuditAlone workers slice s run)
     → RanAsked (asked.audits t (option_map (λ x. x.now) e) workers slice early) old new s run
 asked_of_audit t (Some e) workers slice early old new s run named alone = named
 asked_of_audit t None workers slice early old new s run named alone = alone refl
@@ -153,6 +154,13 @@ module _ {F : Type 0} (old new : List ℕ) (s : ℕ) (run : Ran F) where
       → IfSome o (λ a. IsOfCommand (command_of a) run) → (o ≡ None → run ≡ ran.Nothing) → IsOfCommand word run
   named_run word (Some a) names by none = subst (λ (w : Option (List ℕ)). IsOfCommand w run) (sym names) by
   named_run word None names by none = subst (λ (r : Ran F). IsOfCommand word r) (sym (none refl)) tt
+
+  -- where something was read, words that ask for it are found
+  found_asked : (words : List (List ℕ)) (o : Option Asked) → IfSome o (IsAskedBy words)
+      → IfSome o (λ a. RanAsked a old new s run) → (o ≡ None → run ≡ ran.Nothing) → run ≢ ran.Nothing
+      → (a : Asked) × IsAskedBy words a × RanAsked a old new s run
+  found_asked words (Some a) asks by none read = (a, asks, by)
+  found_asked words None asks by none read = absurd (read (none refl))
 
   -- what holds of what is asked for
   asked_is : (o : Option Asked) (a : Asked) (P : Asked → Type 0) → o ≡ Some a → IfSome o P → P a
@@ -181,8 +189,9 @@ module _ {F : Type 0} (old new : List ℕ) (s : ℕ) (run : Ran F) where
           → ((t u : List ℕ) → words ≡ codes "history" ∷ t ∷ u ∷ [] → is_plain_word t ≡ true → is_plain_word u ≡ true
           → o ≡ Some (asked.tells t u))
           → IfSome o (λ a. slice_get words 0 ≡ command_of a)
-          → IfSome o (λ a. IsOfCommand (command_of a) run) → IsAsked words old new s run
-      words_asked words audit audit_made make history first command =
+          → IfSome o (IsAskedBy words) → IfSome o (λ a. IsOfCommand (command_of a) run)
+          → IsAsked words old new s run
+      words_asked words audit audit_made make history first asks command =
           let P = λ (a : Asked). RanAsked a old new s run in
           record {
             audit = λ t e is p q. asked_is o (asked.audits t (Some e) 1 64 false) P (audit t e is p q) by;
@@ -190,4 +199,5 @@ module _ {F : Type 0} (old new : List ℕ) (s : ℕ) (run : Ran F) where
             make = λ t is p. asked_is o (asked.makes t false) P (make t is p) by;
             history = λ t u is p q. asked_is o (asked.tells t u) P (history t u is p q) by;
             first = named_run (slice_get words 0) o first command none;
+            found = found_asked words o asks by none;
           }

@@ -1,10 +1,11 @@
 -- Which words ask for which run.
-use Rattle.std.specs.Prelude.{◌≡◌, ◌⊎◌, ℕ, true, List, [], ◌∷◌, Option, Some, None, Ok, Err, codes, slice_get, ⊤}
+use Rattle.std.specs.Prelude.{◌≡◌, ◌≢◌, ◌↔◌, ◌⊎◌, ℕ, true, false, List, [], ◌∷◌, Option, Some, None, Ok, Err, codes, slice_get, ⊤}
 use Rattle.tuple_text.specs.Reading.{tuple_at}
 use Rattle.tuple_text.specs.Tuples.{TupleValue}
 use Rattle.tuple_text.specs.declared.fault.TupleFault.{TupleFault}
-use Rattle.command_line.specs.Asked.{Asked, is_plain_word}
+use Rattle.command_line.specs.Asked.{Asked, IsAskedBy, is_plain_word}
 use Rattle.command_line.specs.Asked as asked
+use Rattle.audit.specs.Shared.{are_within_limits}
 use Rattle.new_enemy.specs.Files.{IsToldHistory}
 use Rattle.new_enemy.specs.declared.run.Ran.{Ran}
 use Rattle.new_enemy.specs.declared.run.Ran.TheVariants as ran
@@ -13,17 +14,22 @@ use Rattle.new_enemy.specs.declared.run.Ran.TheVariants as ran
 abbrev pub IsHindered : ℕ → Type 0
 IsHindered status = (status ≡ 4) ⊎ (status ≡ 5)
 
--- a trace was audited by evidence from a file, or that was hindered
-abbrev pub RanAudit : {F : Type 0} → ℕ → Ran F → Type 0
-RanAudit status (ran.Audited trace evidence) = ⊤
-RanAudit status ran.Nothing = IsHindered status
-RanAudit status _ = ⊥
+-- the files of an audit were opened: it is refused, with status 3, exactly where a number is outside its limits
+abbrev pub KeepsLimits : (workers slice status : ℕ) → Type 0
+KeepsLimits workers slice status = status ≡ 3 ↔ (are_within_limits workers slice ≡ false)
+
+-- a trace was audited by evidence from a file, with these numbers of workers and of entries in a slice, or that was
+-- hindered
+abbrev pub RanAudit : {F : Type 0} → (workers slice status : ℕ) → Ran F → Type 0
+RanAudit workers slice status (ran.Audited trace evidence) = KeepsLimits workers slice status
+RanAudit workers slice status ran.Nothing = IsHindered status
+RanAudit workers slice status _ = ⊥
 
 -- a trace was audited by evidence that was made for it
-abbrev pub RanAuditAlone : {F : Type 0} → ℕ → Ran F → Type 0
-RanAuditAlone status (ran.AuditedAlone trace) = ⊤
-RanAuditAlone status ran.Nothing = IsHindered status
-RanAuditAlone status _ = ⊥
+abbrev pub RanAuditAlone : {F : Type 0} → (workers slice status : ℕ) → Ran F → Type 0
+RanAuditAlone workers slice status (ran.AuditedAlone trace) = KeepsLimits workers slice status
+RanAuditAlone workers slice status ran.Nothing = IsHindered status
+RanAuditAlone workers slice status _ = ⊥
 
 -- evidence was made for a trace
 abbrev pub RanMake : {F : Type 0} → ℕ → Ran F → Type 0
@@ -42,8 +48,10 @@ RanHistory text old new status _ = ⊥
 -- the run is what a request asks for
 abbrev pub RanAsked : {F : Type 0} → Asked → (old new : List ℕ) → ℕ → Ran F → Type 0
 RanAsked asked.joined old new status run = run ≡ ran.Joined
-RanAsked (asked.audits t (Some e) workers slice early) old new status run = RanAudit status run
-RanAsked (asked.audits t None workers slice early) old new status run = RanAuditAlone status run
+RanAsked (asked.audits t (Some e) workers slice early) old new status run =
+    RanAudit workers slice status run
+RanAsked (asked.audits t None workers slice early) old new status run =
+    RanAuditAlone workers slice status run
 RanAsked (asked.makes t list) old new status run = RanMake status run
 RanAsked (asked.tells t u) old new status run = RanHistory u old new status run
 
@@ -57,14 +65,16 @@ IsOfCommand word (ran.Told trace) = word ≡ Some (codes "history")
 IsOfCommand word ran.Nothing = ⊤
 
 -- The run is what its words ask for: a writer took `new` in all, of which it had `old` before. A plain word does not
--- begin with a hyphen.
+-- begin with a hyphen; without options there are one worker and slices of 64 entries.
 pub record IsAsked {F : Type 0} (words : List (List ℕ)) (old new : List ℕ) (status : ℕ) (run : Ran F) : Type 0 where
   pub audit : (t e : List ℕ) → words ≡ codes "audit" ∷ t ∷ e ∷ [] → is_plain_word t ≡ true → is_plain_word e ≡ true
-      → RanAudit status run
+      → RanAudit 1 64 status run
   pub audit_made : (t : List ℕ) → words ≡ codes "audit" ∷ t ∷ codes "--make" ∷ [] → is_plain_word t ≡ true
-      → RanAuditAlone status run
+      → RanAuditAlone 1 64 status run
   pub make : (t : List ℕ) → words ≡ codes "make" ∷ t ∷ [] → is_plain_word t ≡ true → RanMake status run
   pub history : (t u : List ℕ) → words ≡ codes "history" ∷ t ∷ u ∷ [] → is_plain_word t ≡ true → is_plain_word u ≡ true
       → RanHistory u old new status run
   -- of all words whatever
   pub first : IsOfCommand (slice_get words 0) run
+  -- and where something was read, what was run is what clap finds in the words, with the tuple and the numbers there
+  pub found : run ≢ ran.Nothing → (a : Asked) × IsAskedBy words a × RanAsked a old new status run

@@ -67,8 +67,8 @@ fn audit_paths<W: Sink, E: Sink, P: Files + Threads + Wait + Sync>(
 ) -> (u8, Ran<P::File>)
     ensures runs { RunsFiles (codes "audit")
         (writes W.taken W.flushes W.failures W.idle W.contents out.old out.new) result.0 result.1 }
-    ensures ran { IfSome paths.entry.1 (λ _. RanAudit result.0 result.1) }
-    ensures ran_alone { paths.entry.1 ≡ None → RanAuditAlone result.0 result.1 }
+    ensures ran { IfSome paths.entry.1 (λ _. RanAudit sharing.workers sharing.slice result.0 result.1) }
+    ensures ran_alone { paths.entry.1 ≡ None → RanAuditAlone sharing.workers sharing.slice result.0 result.1 }
     ensures limits { result.0 ≡ 3 → are_within_limits sharing.workers sharing.slice ≡ false }
 {
     let (trace, evidence) = paths;

@@ -24,4 +24,4 @@ returns-in-Ok-clause-asked g c =
     words_asked (g.W.Sink.taken c.args.out.now) (g.W.Sink.taken c.run_answer.new.out) c.run_answer.result.0
     c.run_answer.result.1 (asked_in c.in-Ok.answer) done.asked done.none (map string_bytes c.args.words.now)
     c.in-Ok.ensures.audit c.in-Ok.ensures.audit_made c.in-Ok.ensures.make c.in-Ok.ensures.history c.in-Ok.ensures.first
-    done.command
+    c.in-Ok.ensures.asked done.command
