@@ -43,6 +43,8 @@ impl<'t> TellLine for Records<'t> {
     // Few, since what was asked of rules is kept for one; putting a verdict in takes next to nothing.
     const BLOCK: usize = 1 << 20;
 
+    const PUTTERS: usize = 0;
+
     ghost told = { λ r line. verdict_told r.trace.now r.lines line };
 
     ghost suits = { λ r desk. desk.asked ≡ r.trace.now };

@@ -55,7 +55,11 @@ module _ {R T E : Type 0} (IsRead : E → Type 0) (line_of : E → ℕ) (Gives :
         ended = tt;
         most = ([], sym (append-nil (given old)), omega arith);
         known = next-refl given ends remaining old;
-        line = ([], sym (append-nil (given old)), omega (arith, first, length-slice_split (λ b. eqb b 10) []));
+        line = (
+          [],
+          sym (append-nil (given old)),
+          (omega (arith, first), omega (arith, first, length-slice_split (λ b. eqb b 10) [])),
+        );
         counted = λ is. absurd (other is);
         kept = tt;
         unfailed = λ _. refl;

@@ -180,8 +180,10 @@ module _ {S V C : Type 0} {told : List ℕ → Result V C} {put : ℕ → S → 
 
   module _ {now : S} {r : Result ℕ (LineFault C)} (puts : PutsTold told put n s known.wave r now) where
     -- the wave was put in, up to this line
-    pub reached : (m : ℕ) → r ≡ Ok m → m ≤ last
-    reached m is = let next : m ≡ n + lines_in (bytes_in known.wave) = rw is at puts.next in omega (arith, next, wave_fits)
+    pub reached : (m : ℕ) → r ≡ Ok m → (n ≤ m) × (m ≤ last)
+    reached m is =
+        let next : m ≡ n + lines_in (bytes_in known.wave) = rw is at puts.next in
+        (omega (arith, next), omega (arith, next, wave_fits))
 
     -- and the next one told
     pub next_wave : (m to : ℕ) (next : List (Result (Told V C) AllocError)) → r ≡ Ok m → count ≤ to
@@ -211,14 +213,16 @@ module _ {S V C : Type 0} {told : List ℕ → Result V C} {put : ℕ → S → 
         }
 
     -- something of the wave was refused
-    pub refused_wave : (fault : LineFault C) → r ≡ Err fault → PutsAs {T = ℕ} (Err fault) now goal × (fault.line ≤ last)
+    pub refused_wave : (fault : LineFault C) → r ≡ Err fault
+        → PutsAs {T = ℕ} (Err fault) now goal × (n ≤ fault.line) × (fault.line ≤ last)
     refused_wave fault is =
-        let line : fault.line ≤ n + lines_in (bytes_in known.wave) = rw is at puts.line in
+        let line : (n ≤ fault.line) × (fault.line ≤ n + lines_in (bytes_in known.wave)) = rw is at puts.line in
         let said : PutsAs {T = ℕ} (Err fault) now (put_parts put n s (map (block_told told) known.wave)) =
         rw is at puts.puts in (
           elim said [
             | inl memory ↦ inl memory
             | inr all ↦ inr (known.all ∙ refused_before told put n s fault known.wave (drop count blocks) all)
           ],
-          omega (arith, line, wave_fits),
+          line.0,
+          omega (arith, line.1, wave_fits),
         )

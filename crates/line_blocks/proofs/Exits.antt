@@ -3,13 +3,13 @@ use Rattle.std.proofs.Common.{◌≡◌, ◌≢◌, ℕ, ◌+◌, ◌^◌, ◌<�
 use Rattle.devices.specs.Given.{OfBytes, AreNext}
 use Rattle.json_lines.specs.InputRead.{LinesRead}
 use Rattle.json_lines.specs.Lines.{ComeAtMost, Takes, lacks}
-use Rattle.json_lines.specs.Reading.{parts, passes_limit, read_all, read_from, Fails, IsReadFault, Refuses}
+use Rattle.json_lines.specs.Reading.{parts, passes_limit, read_all, read_from, Fails, IsLineOf, IsReadFault, Refuses}
 use Rattle.json_lines.specs.declared.lines.InputFault.{InputFault}
 use Rattle.json_lines.specs.declared.lines.InputFault.TheVariants.{OutOfMemory, Read, TooLong}
 use Rattle.json_lines.specs.declared.reading.LineFault.{LineFault}
 use Rattle.json_lines.specs.declared.reading.Stop.{Stop}
 use Rattle.json_lines.specs.declared.reading.Stop.TheVariants.{Input, Line}
-use Rattle.json_lines.proofs.Folds.{GoesFrom, came_in_all, cut_ends, goes_first, last_ends, line_came, read_fails, step_cut, within_from}
+use Rattle.json_lines.proofs.Folds.{GoesFrom, came_in_all, cut_ends, from_one, goes_first, last_ends, line_came, read_fails, step_cut, within_from}
 use Rattle.devices.proofs.Given.{next-refl, next-trans}
 use Rattle.json_lines.proofs.InputReads.{unread}
 use Rattle.line_blocks.specs.Reads.{LeadsTo, StopsAt}
@@ -64,7 +64,7 @@ module _ {R S C : Type 0} (given : R → List ℕ) (ends failures : R → ℕ) (
     came_next : AreNext given ends remaining old new
     came_next = next-trans given ends remaining old reader new a.known next
 
-    line_there : OfBytes given old new (λ came. place.number ≤ length (parts came))
+    line_there : OfBytes given old new (λ came. IsLineOf came place.number)
     line_there =
         let b =
         most (given old ++ a.used) a.came in line_came taken start given old new place.number place.room value a.used
@@ -122,7 +122,10 @@ module _ {R S C : Type 0} (given : R → List ℕ) (ends failures : R → ℕ) (
             line = (
               a.used ++ all,
               now_there ∙ append_assoc (given old) a.used all,
-              omega (arith, a.goes.counted all, h.line [], ap (λ (l : List ℕ). length (parts l)) (append-nil all)),
+              (
+                omega (arith, h.begins, from_one taken start place.number place.room value a.used a.goes),
+                omega (arith, a.goes.counted all, h.line [], ap (λ (l : List ℕ). length (parts l)) (append-nil all)),
+              ),
             );
             counted = λ read. absurd (h.of_no_reader read);
             kept = tt;

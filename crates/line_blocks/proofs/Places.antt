@@ -1,5 +1,5 @@
 -- Where whole lines lead to, and where they stop.
-use Rattle.std.proofs.Common.{◌≡◌, ℕ, ◌+◌, ◌-◌, ◌^◌, ◌≤◌, inl, inr, Bool, true, List, [], ◌++◌, length, map, Result, Ok, Err, arith, sym, ap, subst, ◌∙◌, append_assoc, append-nil}
+use Rattle.std.proofs.Common.{◌≡◌, ℕ, ◌+◌, ◌-◌, ◌^◌, ◌≤◌, inl, inr, Bool, true, List, [], ◌++◌, length, map, Result, Ok, Err, arith, sym, ap, refl, subst, ◌∙◌, append_assoc, append-nil}
 use Rattle.refusals.specs.Refusals.{◌>>=◌}
 use Rattle.json_lines.specs.Reading.{parts, read_from, Fails}
 use Rattle.json_lines.specs.declared.lines.InputFault.TheVariants.{OutOfMemory, Read, TooLong}
@@ -63,12 +63,13 @@ module _ {S V C : Type 0} (told : List ℕ → Result V C) (put : ℕ → S → 
 
   pub stops : (t : S) (e : LineFault C)
       → PutsAs {T = ℕ} (Err e) t (put_parts put from.number s (map (block_told told) bs))
-      → e.line ≤ from.number + lines_in (bytes_in bs)
+      → (from.number ≤ e.line) × (e.line ≤ from.number + lines_in (bytes_in bs))
       → StopsAt (taken_by told put) from s lines e
   stops t e (inl memory) line =
       record {
         fails = λ ys. memory_fails e.stop e _ memory;
-        line = λ ys. omega (arith, line, lines_here ys, some_part ys);
+        begins = line.0;
+        line = λ ys. omega (arith, line.1, lines_here ys, some_part ys);
         of_no_reader = λ h. cc (memory, h);
       }
   stops t e (inr is) line =
@@ -77,7 +78,8 @@ module _ {S V C : Type 0} (told : List ℕ → Result V C) (put : ℕ → S → 
             (in_blocks true ys ∙ ap (λ (x : Result S (LineFault C)). x
             >>= (λ (u : S). read_from (taken_by told put) true (from.number + lines_in (bytes_in bs))
             (from.room - length (joined (bytes_in bs))) u (parts ys))) is);
-        line = λ ys. omega (arith, line, lines_here ys, some_part ys);
+        begins = line.0;
+        line = λ ys. omega (arith, line.1, lines_here ys, some_part ys);
         of_no_reader = blocks_stop told put from.number from.room s bs e cut.1 is;
       }
 
@@ -85,7 +87,12 @@ module _ {S C : Type 0} (taken : ℕ → S → List ℕ → Result S C) (from : 
   -- memory ran out at the first line
   pub no_memory_first : (bytes : List ℕ) → StopsAt taken from s bytes (no_memory from.number)
   no_memory_first bytes =
-      record { fails = λ ys. tt; line = λ ys. omega (arith, some_part (bytes ++ ys)); of_no_reader = λ h. cc }
+      record {
+        fails = λ ys. tt;
+        begins = omega arith;
+        line = λ ys. omega (arith, some_part (bytes ++ ys));
+        of_no_reader = λ h. cc;
+      }
 
   -- or behind whole lines
   pub no_memory_behind : (bytes lines left : List ℕ) (to : Place) (t : S) → bytes ≡ lines ++ left
@@ -93,6 +100,8 @@ module _ {S C : Type 0} (taken : ℕ → S → List ℕ → Result S C) (from : 
   no_memory_behind bytes lines left to t is leads =
       record {
         fails = λ ys. tt;
+        begins =
+            let none : length (parts []) ≡ 1 = refl in omega (arith, leads.counted [], some_part (lines ++ []), none);
         line = λ ys.
             let all : length (parts (bytes ++ ys)) ≡ length (parts (lines ++ (left ++ ys))) =
             ap (λ (l : List ℕ). length (parts (l ++ ys))) is
@@ -111,6 +120,7 @@ module _ {S C : Type 0} (taken : ℕ → S → List ℕ → Result S C) (from : 
         fails =
             λ ys. subst (λ (l : List ℕ). Fails e.stop e (read_from taken true from.number from.room s (parts l)))
             (all ys) (h.fails (left ++ ys));
+        begins = h.begins;
         line = λ ys. omega (arith, h.line (left ++ ys), ap (λ (l : List ℕ). length (parts l)) (all ys));
         of_no_reader = h.of_no_reader;
       }

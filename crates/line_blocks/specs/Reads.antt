@@ -20,6 +20,7 @@ pub record LeadsTo {S C : Type 0} (taken : ℕ → S → List ℕ → Result S C
 pub record StopsAt {S C : Type 0} (taken : ℕ → S → List ℕ → Result S C) (from : Place) (s : S) (bytes : List ℕ)
     (e : LineFault C) : Type 0 where
   pub fails : (ys : List ℕ) → Fails e.stop e (read_from taken true from.number from.room s (parts (bytes ++ ys)))
+  pub begins : from.number ≤ e.line
   pub line : (ys : List ℕ) → e.line + 1 ≤ from.number + length (parts (bytes ++ ys))
   pub of_no_reader : e.stop ≢ Input Read
 

@@ -52,7 +52,13 @@ pub record PutsTold {S V C : Type 0} (told : List ℕ → Result V C) (put : ℕ
     (bs : List Block) (result : Result ℕ (LineFault C)) (new : S) : Type 0 where
   pub puts : PutsAs result new (put_parts put first old (map (block_told told) bs))
   pub next : IfOk result (λ n. n ≡ first + lines_in (bytes_in bs))
-  pub line : IfErr result (λ e. e.line ≤ first + lines_in (bytes_in bs))
+  pub line : IfErr result (λ e. (first ≤ e.line) × (e.line ≤ first + lines_in (bytes_in bs)))
+
+-- so it is of blocks, whichever these are, of which this was told
+abbrev pub PutsParts : {S V C : Type 0} → (ℕ → S → V → Result S C) → ℕ → S → List (Result (Told V C) AllocError)
+    → Result ℕ (LineFault C) → S → Type 0
+PutsParts {S} {V} {C} put first old parts result new = (told : List ℕ → Result V C) (bs : List Block)
+    → AreTold told parts bs → PutsTold told put first old bs result new
 
 -- what was told of blocks whose lines have numbers, from n on
 abbrev pub AreNumbered : {V C : Type 0} → ℕ → List (Result (Told V C) AllocError) → Type 0

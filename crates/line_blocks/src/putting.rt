@@ -4,7 +4,7 @@ ghost use Rattle.std.specs.Prelude.{◌≡◌, ℕ, ◌+◌, ◌^◌, ◌<◌, �
 ghost use Rattle.json_lines.specs.Reading.{Refuses};
 ghost use Rattle.line_blocks.specs.Blocks.{joined, lines_in};
 ghost use Rattle.line_blocks.specs.Parts.{put_part, put_parts};
-ghost use Rattle.line_blocks.specs.Values.{AreBlocks, AreNumbered, AreTold, PutsAs, PutsTold, block_told, bytes_in, no_memory, told_value};
+ghost use Rattle.line_blocks.specs.Values.{AreBlocks, AreNumbered, AreTold, PutsAs, PutsParts, block_told, bytes_in, no_memory, told_value};
 ghost use Rattle.line_blocks.specs.declared.blocks.Block.{Block};
 
 use crate::blocks::Block;
@@ -51,7 +51,7 @@ fn put_told<J: TellLine, P: PutTold<J>>(
     ensures put { PutsAs result value.new (put_part P.put first value.old (told_value told)) }
     ensures further { IfOk result (λ n. P.next value.new ≤ n) }
     ensures next { IfOk result (λ n. n ≡ first + vec_len told.values) }
-    ensures line { IfErr result (λ e. e.line ≤ first + vec_len told.values) }
+    ensures line { IfErr result (λ e. (first ≤ e.line) × (e.line ≤ first + vec_len told.values)) }
 {
     let mut number = first;
     for said in told.values {
@@ -75,8 +75,7 @@ fn put_each<J: TellLine, P: PutTold<J>>(
 ) -> Result<u64, LineFault<J::Cause>>
     requires few { AreNumbered first parts.items }
     requires place { P.next value.old ≤ first }
-    ensures put { (told : List ℕ → Result J.Value J.Cause) (bs : List Block) → AreTold told parts.items bs
-        → PutsTold told P.put first value.old bs result value.new }
+    ensures put { PutsParts P.put first value.old parts.items result value.new }
     ensures further { IfOk result (λ n. P.next value.new ≤ n) }
 {
     let mut number = first;
@@ -107,8 +106,7 @@ fn put_pending<J: TellLine, P: PutTold<J>>(
 ) -> Result<u64, LineFault<J::Cause>>
     requires few { AreNumbered pending.old.number pending.old.parts.items }
     requires place { P.next value.old ≤ pending.old.number }
-    ensures put { (told : List ℕ → Result J.Value J.Cause) (bs : List Block) → AreTold told pending.old.parts.items bs
-        → PutsTold told P.put pending.old.number value.old bs result value.new }
+    ensures put { PutsParts P.put pending.old.number value.old pending.old.parts.items result value.new }
     ensures further { IfOk result (λ n. P.next value.new ≤ n) }
 {
     let alloc = *pending.parts.allocator();
@@ -131,8 +129,7 @@ fn put_and_tell<J: TellLine + Sync, P: PutTold<J>, T: Threads + Sync>(
     requires few { AreNumbered pending.old.number pending.old.parts.items }
     requires place { P.next value.old ≤ pending.old.number }
     ensures told { IfOk result.0 (λ v. AreTold (J.told teller.now) v.items ahead.now) }
-    ensures put { (told : List ℕ → Result J.Value J.Cause) (bs : List Block) → AreTold told pending.old.parts.items bs
-        → PutsTold told P.put pending.old.number value.old bs result.1 value.new }
+    ensures put { PutsParts P.put pending.old.number value.old pending.old.parts.items result.1 value.new }
     ensures further { IfOk result.1 (λ n. P.next value.new ≤ n) }
 {
     join_mut(
@@ -140,16 +137,14 @@ fn put_and_tell<J: TellLine + Sync, P: PutTold<J>, T: Threads + Sync>(
         &mut || tell_blocks(rt, alloc, teller, ahead),
         &mut || -> Result<u64, LineFault<J::Cause>>
             requires { AreNumbered pending.now.number pending.now.parts.items × (P.next value.now ≤ pending.now.number) }
-            ensures { ((told : List ℕ → Result J.Value J.Cause) (bs : List Block)
-                → AreTold told pending.entry.now.parts.items bs
-                → PutsTold told P.put pending.entry.now.number value.entry.now bs result value.exit.now)
+            ensures { PutsParts P.put pending.entry.now.number value.entry.now pending.entry.now.parts.items result value.exit.now
                 × IfOk result (λ n. P.next value.exit.now ≤ n) }
         { put_pending(pending, value) },
     )
 }
 
 /// Puts what the lines of blocks say into a value, one block after the other, and answers the number of the next
-/// line. So many threads tell what the lines of some blocks say, while those before are put in.
+/// line. The workers tell what the lines of some blocks say, while those before are put in.
 pub(crate) fn put_blocks<J: TellLine + Sync, P: PutTold<J>, T: Threads + Sync>(
     rt: &T,
     alloc: Global,
@@ -159,7 +154,6 @@ pub(crate) fn put_blocks<J: TellLine + Sync, P: PutTold<J>, T: Threads + Sync>(
     blocks: &[Block<'_>],
     workers: usize,
 ) -> Result<u64, LineFault<J::Cause>>
-    requires some { 0 < workers }
     requires blocks { (room : ℕ) × AreBlocks room blocks.now }
     requires few { first + length (joined (bytes_in blocks.now)) < 2 ^ 64 }
     requires place { P.next value.old ≤ first }
@@ -167,16 +161,17 @@ pub(crate) fn put_blocks<J: TellLine + Sync, P: PutTold<J>, T: Threads + Sync>(
         (put_parts P.put first value.old (map (block_told (J.told teller.now)) blocks.now)) }
     ensures further { IfOk result (λ n. P.next value.new ≤ n) }
     ensures next { IfOk result (λ n. n ≡ first + lines_in (bytes_in blocks.now)) }
-    ensures line { IfErr result (λ e. e.line ≤ first + lines_in (bytes_in blocks.now)) }
+    ensures line { IfErr result (λ e. (first ≤ e.line) × (e.line ≤ first + lines_in (bytes_in blocks.now))) }
 {
     let mut pending = Pending {
         number: first,
         parts: Vec::new(alloc),
     };
+    let tellers = workers.saturating_sub(J::PUTTERS).max(1);
     let mut told = 0;
     // bounded by the blocks: each turn tells some
     while told < blocks.len() {
-        let end = told + workers.min(blocks.len() - told);
+        let end = told + tellers.min(blocks.len() - told);
         let ahead = &blocks[told..end];
         let (next, put) = put_and_tell(rt, alloc, teller, ahead, &mut pending, value);
         let number = match put {

@@ -25,6 +25,9 @@ pub trait TellLine {
     /// About how many bytes of a long input a block has.
     const BLOCK: usize;
 
+    /// How many of the workers tell nothing, since putting in what the others tell takes one of them all its time: 1 or 0.
+    const PUTTERS: usize;
+
     ghost told: { Self → List ℕ → Result Self.Value Self.Cause };
 
     // the scratch is one for this teller

@@ -14,6 +14,7 @@ loop-told-init g c = (
     lines = refl;
   },
   c.requires.place,
+  omega arith,
 )
 
 pub put_and_tell-next-requires-clause-few : goal.put_and_tell-next-requires-clause-few
@@ -36,13 +37,15 @@ returns-in-Err-clause-put g c =
 pub returns-in-Err-clause-line : goal.returns-in-Err-clause-line
 returns-in-Err-clause-line g c =
     let known = c.loop-told.invariant.0 in
-    (refused_wave known (c.put_and_tell-next.ensures.put _ known.wave known.are) c.in-Err.fault c.in-Err.is).1
+    let there = refused_wave known (c.put_and_tell-next.ensures.put _ known.wave known.are) c.in-Err.fault c.in-Err.is in
+    (omega (arith, c.loop-told.invariant.2, there.1), there.2)
 
 pub returns-in_default-clause-line : goal.returns-in_default-clause-line
 returns-in_default-clause-line g c =
     let known = c.loop-told.invariant.0 in
     let here = reached known (c.put_and_tell-next.ensures.put _ known.wave known.are) c.in-Ok.number c.in-Ok.is in
-    omega (arith, here, ap (λ e. e.line) c.out_of_memory.ensures)
+    let line = ap (λ e. e.line) c.out_of_memory.ensures in
+    (omega (arith, c.loop-told.invariant.2, here.0, line), omega (arith, here.1, line))
 
 pub loop-told-preserved : goal.loop-told-preserved
 loop-told-preserved g c =
@@ -55,4 +58,9 @@ loop-told-preserved g c =
           c.in-Ok-next.parts.items c.in-Ok.is (omega arith) are,
       subst (λ r. IfOk r (λ n. g.P.PutTold.next c.put_and_tell-next.new.value ≤ n)) c.in-Ok.is
           c.put_and_tell-next.ensures.further,
+      omega (
+        arith,
+        c.loop-told.invariant.2,
+        (reached known (c.put_and_tell-next.ensures.put _ known.wave known.are) c.in-Ok.number c.in-Ok.is).0,
+      ),
     )

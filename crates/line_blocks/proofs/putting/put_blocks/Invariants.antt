@@ -10,7 +10,7 @@ invariant-loop-told g l =
     Ahead (g.J.TellLine.told l.fn.teller) g.P.PutTold.put
     (put_parts g.P.PutTold.put l.fn.first l.fn.value (map (block_told (g.J.TellLine.told l.fn.teller)) l.fn.blocks))
     (l.fn.first + lines_in (bytes_in l.fn.blocks)) l.fn.blocks l.told l.pending.parts.items l.pending.number l.value
-    × (g.P.PutTold.next l.value ≤ l.pending.number)
+    × (g.P.PutTold.next l.value ≤ l.pending.number) × (l.fn.first ≤ l.pending.number)
 
 abbrev pub decreases-loop-told : goal.decreases-loop-told
 decreases-loop-told g l = length l.blocks - l.told

@@ -16,6 +16,7 @@ loop-part-preserved g c = (
       c.in-Ok-put_told.next c.in-Ok-put_told.ensures.put
       (omega (arith, c.in-Ok-put_told.ensures.next, c.in-Ok.told.values.ok.0)),
   c.in-Ok-put_told.ensures.further,
+  omega (arith, c.loop-part.invariant.2, c.in-Ok-put_told.ensures.next),
 )
 
 pub returns-in-Err-clause-put : goal.returns-in-Err-clause-put
@@ -28,7 +29,10 @@ returns-in-Err-clause-put g c = λ told bs are.
         | inr is ↦ inr (refused left c.in-Ok.told c.in-Some.ensures.steps.0 c.in-Ok.is c.in-Err.fault is)
       ];
       next = tt;
-      line = omega (arith, here, c.in-Err.ensures.line, c.in-Ok.told.values.ok.0);
+      line = (
+        omega (arith, c.loop-part.invariant.2, c.in-Err.ensures.line.0),
+        omega (arith, here, c.in-Err.ensures.line.1, c.in-Ok.told.values.ok.0),
+      );
     }
 
 pub returns-clause-put : goal.returns-clause-put

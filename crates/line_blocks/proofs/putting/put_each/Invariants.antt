@@ -12,4 +12,4 @@ invariant-loop-part g l =
     ((told : List ℕ → Result g.row.J-Value.Denot g.row.J-Cause.Denot) (bs : List Block) → AreTold told l.fn.parts.items bs
     → Left told g.P.PutTold.put (put_parts g.P.PutTold.put l.fn.first l.fn.value (map (block_told told) bs))
     (l.fn.first + lines_in (bytes_in bs)) (into_iter_items l.part-iterator) l.number l.value)
-    × (g.P.PutTold.next l.value ≤ l.number)
+    × (g.P.PutTold.next l.value ≤ l.number) × (l.fn.first ≤ l.number)

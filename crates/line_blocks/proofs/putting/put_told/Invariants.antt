@@ -9,4 +9,4 @@ invariant-loop-said g l =
     (put_part g.P.PutTold.put l.fn.first l.fn.value (told_value l.fn.told) ≡ put_values g.P.PutTold.put l.number
     l.value (into_iter_items l.said-iterator) l.fn.told.fault)
     × (l.number + length (into_iter_items l.said-iterator) ≡ l.fn.first + length l.fn.told.values.items)
-    × (g.P.PutTold.next l.value ≤ l.number)
+    × (l.fn.first ≤ l.number) × (g.P.PutTold.next l.value ≤ l.number)
