@@ -1,11 +1,7 @@
 //! Judging by the evidence behind the marker of joined input.
 
-ghost use Rattle.std.specs.Prelude.{◌≡◌, ◌≢◌, ◌+◌, ◌≤◌, length, true, Err, IfOk, IfErr, OnOk};
-ghost use Rattle.devices.specs.Given.{AreNext};
-ghost use Rattle.json_lines.specs.Joined.{IsTaken, ComesPast, ends_left};
-ghost use Rattle.json_lines.specs.Lines.{ComeAtMost};
-ghost use Rattle.json_lines.specs.declared.lines.TheConstants.{CHUNK};
-ghost use Rattle.json_lines.specs.declared.lines.InputFault.TheVariants as input;
+ghost use Rattle.std.specs.Prelude.{◌≢◌, ◌≤◌, length, true, IfOk, IfErr};
+ghost use Rattle.json_lines.specs.Joined.{IsTaken, RestRead};
 ghost use Rattle.evidence_check.specs.Judging.{GivesJudged};
 ghost use Rattle.evidence_check.specs.Reading.{evidence_of};
 ghost use Rattle.evidence_check.specs.declared.cause.EvidenceCause.TheVariants.{Read};
@@ -32,16 +28,7 @@ pub fn judge_evidence_behind<R: Source>(
     ensures exact { IfOk result (λ judged. IsTaken (R.given reader.old) (R.given reader.new) rest.at_hand (λ b. (length b ≤ rest.room)
         × GivesJudged trace.now judged (evidence_of trace.now.entries true b))) }
     ensures refused { IfOk result (λ judged. IfErr judged (λ e. e.cause ≢ Read)) }
-    ensures ended { OnOk result (R.ends reader.new ≡ R.ends reader.old + ends_left rest.ended) }
-    // A reader that was at its end is not asked again.
-    ensures over { rest.ended ≡ true → R.given reader.new ≡ R.given reader.old }
-    ensures long { result ≡ Err input.TooLong → ComesPast rest.room (R.given reader.old) (R.given reader.new) rest.at_hand }
-    // Also of a reader that never ends.
-    ensures most { ComeAtMost (rest.room + CHUNK) (R.given reader.old) (R.given reader.new) rest.at_hand }
-    ensures known { AreNext R.given R.ends R.remaining reader.old reader.new }
-    // A reader's failure alone gives this error.
-    ensures failed { result ≡ Err input.Read → R.failures reader.new ≡ R.failures reader.old + 1 }
-    ensures kept { result ≢ Err input.Read → R.failures reader.new ≡ R.failures reader.old }
+    ensures read { RestRead rest R.given R.ends R.failures R.remaining reader.old reader.new result }
 {
     let Ok(mut judging) = Judging::new(alloc, trace) else {
         return Err(InputFault::OutOfMemory);

@@ -76,6 +76,12 @@ pub ended_all : (all now : ℕ) (ended : Bool) → now + ends_left ended ≡ all
 ended_all all now true is ended = omega (arith, is)
 ended_all all now false is ended = absurd cc
 
+pub ended_within : (old new : ℕ) (before after : Bool) → new + ends_left after ≡ old + 1 → after ≡ true
+    → before ≡ false → new ≡ old + ends_left before
+ended_within old new true after is ended unended = absurd cc
+ended_within old new false true is ended unended = omega (arith, is)
+ended_within old new false false is ended unended = absurd cc
+
 pub ended_by : (more : Bool) (before now new : ℕ) → new ≡ now + end_count {E = InputFault} (Ok more) → now ≡ before → new + ends_left (not more) ≡ before + 1
 ended_by true before now new is same = omega (arith, is, same)
 ended_by false before now new is same = omega (arith, is, same)

@@ -8,7 +8,7 @@ use Rattle.std.proofs.lemmas.List.Splits.{slice_split_at, slice_split_none, leng
 use Rattle.refusals.specs.Refusals.{◌>>=◌}
 use Rattle.devices.specs.Given.{OfBytes, OfInput}
 use Rattle.json_lines.specs.Lines.{lacks, first_line, after_line, has_newline, line_ending}
-use Rattle.json_lines.specs.Reading.{at_line, passes_limit, parts, read_from, read_all, Fails, IsLineOf, Refuses}
+use Rattle.json_lines.specs.Reading.{at_line, passes_limit, parts, read_from, read_all, Fails, HasLine, Refuses}
 use Rattle.json_lines.specs.declared.lines.InputFault.{InputFault}
 use Rattle.json_lines.specs.declared.lines.InputFault.TheVariants.{TooLong, Read, OutOfMemory}
 use Rattle.json_lines.specs.declared.reading.Stop.{Stop}
@@ -123,7 +123,7 @@ module _ {S C : Type 0} (taken : ℕ → S → List ℕ → Result S C) (start :
 
   -- the next line is one of those that came
   pub line_came : {R : Type 0} (given : R → List ℕ) (old new : R) (n room : ℕ) (s : S) (used bytes : List ℕ) → GoesFrom n room s used → given new ≡ (given old ++ used) ++ bytes
-      → OfBytes given old new (λ came. IsLineOf came n)
+      → OfBytes given old new (λ came. HasLine came n)
   line_came given old new n room s used bytes from is = (
     used ++ bytes,
     is ∙ append_assoc (given old) used bytes,

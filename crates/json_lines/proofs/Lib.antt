@@ -13,5 +13,6 @@ pub mod InRange
 pub mod InputReads
 pub mod ReadFaults
 pub mod RestLines
+pub mod RestReads
 pub mod Simulated
 pub mod Steps

@@ -337,3 +337,10 @@ pub part_is_all : {S C T : Type 0} (taken : ℕ → S → List ℕ → Result S 
     → IsPart taken a b old new start s false read found → IsTaken a b old.at_hand (λ input. (length input ≤ old.room) × Reads read s (read_all taken true start input))
 part_is_all taken a b old new start s read true p = absurd (true≢false (sym (p.sought refl)))
 part_is_all taken a b old new start s read false p = let end = p.at_end refl in (p.passed, rw end.2 at p.takes, (omega (arith, p.size), rw end.0 at p.reads))
+
+-- and the reader is at its end behind it
+pub part_is_last : {S C T : Type 0} (taken : ℕ → S → List ℕ → Result S C) (a b : List ℕ) (old new : RestValue)
+    (start s : S) (read : Result T (LineFault C)) (found : Bool)
+    → IsPart taken a b old new start s false read found → new.ended ≡ true
+part_is_last taken a b old new start s read true p = absurd (true≢false (sym (p.sought refl)))
+part_is_last taken a b old new start s read false p = (p.at_end refl).1

@@ -1,7 +1,7 @@
 -- What reading an input comes to, whole or up to its first fault.
 use Rattle.std.specs.Prelude.{◌≡◌, ℕ, ◌+◌, ◌≤◌, true, false, List, length, Option, Result, Err, IfErr, OnOk}
 use Rattle.devices.specs.Given.{OfBytes, OfInput, AreNext}
-use Rattle.json_lines.specs.Reading.{read_all, IsLineOf, IsReadFault, Reads}
+use Rattle.json_lines.specs.Reading.{read_all, HasLine, IsReadFault, Reads}
 use Rattle.json_lines.specs.declared.lines.TheConstants.{CHUNK}
 use Rattle.json_lines.specs.declared.reading.LineFault.{LineFault}
 use Rattle.json_lines.specs.declared.reading.TheConstants.{MAX_INPUT}
@@ -21,7 +21,7 @@ pub record InputRead {R T E : Type 0} (IsRead : E → Type 0) (line_of : E → �
   pub most : OfBytes given old new (λ came. length came ≤ MAX_INPUT + CHUNK)
   pub known : AreNext given ends remaining old new
   -- a line is one of those that came, also where memory ran out
-  pub line : IfErr result (λ e. OfBytes given old new (λ came. IsLineOf came (line_of e)))
+  pub line : IfErr result (λ e. OfBytes given old new (λ came. HasLine came (line_of e)))
   -- a reader's failure is told, and nothing else is called one
   pub counted : IfErr result (λ e. IsRead e → failures new ≡ failures old + 1)
   pub kept : OnOk result (failures new ≡ failures old)

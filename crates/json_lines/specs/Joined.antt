@@ -1,9 +1,12 @@
 -- The two parts of joined input, and what reading takes of them.
-use Rattle.std.specs.Prelude.{◌≡◌, ℕ, ◌+◌, ◌^◌, ◌<◌, ◌≤◌, Bool, not, true, false, List, [], ◌∷◌, ◌++◌, length, Option, None, Some, option_map, codes, bytes_eq, if◌then◌else◌, Result, Err}
+use Rattle.std.specs.Prelude.{◌≡◌, ◌≢◌, ℕ, ◌+◌, ◌^◌, ◌<◌, ◌≤◌, Bool, not, true, false, List, [], ◌∷◌, ◌++◌, length, Option, None, Some, option_map, codes, bytes_eq, if◌then◌else◌, Result, Err, OnOk}
 use Rattle.std.specs.List.{flat_map, join_with_byte}
-use Rattle.json_lines.specs.Lines.{Takes, lacks, line_ending}
+use Rattle.devices.specs.Given.{AreNext}
+use Rattle.json_lines.specs.Lines.{ComeAtMost, Takes, lacks, line_ending}
 use Rattle.json_lines.specs.Reading.{parts, at_line, read_all, Reads}
-use Rattle.json_lines.specs.declared.lines.InputFault.TheVariants.{TooLong}
+use Rattle.json_lines.specs.declared.lines.InputFault.{InputFault}
+use Rattle.json_lines.specs.declared.lines.InputFault.TheVariants.{Read, TooLong}
+use Rattle.json_lines.specs.declared.lines.TheConstants.{CHUNK}
 use Rattle.json_lines.specs.declared.reading.Stop.TheVariants.{Input}
 use Rattle.json_lines.specs.declared.reading.LineFault.{LineFault}
 
@@ -54,6 +57,25 @@ ComesPast room given now at_hand = (before : List ℕ) → given ≡ before ++ a
 abbrev pub ends_left : Bool → ℕ
 ends_left true = 0
 ends_left false = 1
+
+-- A reader was asked for what is left of an input, or for some of it.
+pub record AsksFor {R T : Type 0} (rest : RestValue) (given : R → List ℕ) (ends failures : R → ℕ)
+    (remaining : R → Option (List ℕ)) (old new : R) (result : Result T InputFault) : Type 0 where
+  -- more came than there is room for
+  pub long : result ≡ Err TooLong → ComesPast rest.room (given old) (given new) rest.at_hand
+  -- also of a reader that never ends
+  pub most : ComeAtMost (rest.room + CHUNK) (given old) (given new) rest.at_hand
+  pub known : AreNext given ends remaining old new
+  -- a reader's failure alone gives this error
+  pub failed : result ≡ Err Read → failures new ≡ failures old + 1
+  pub kept : result ≢ Err Read → failures new ≡ failures old
+
+-- It was asked for all of it, to its end. One that was there already is not asked again.
+pub record RestRead {R T : Type 0} (rest : RestValue) (given : R → List ℕ) (ends failures : R → ℕ)
+    (remaining : R → Option (List ℕ)) (old new : R) (result : Result T InputFault) : Type 0 where
+  pub asked : AsksFor rest given ends failures remaining old new result
+  pub ended : OnOk result (ends new ≡ ends old + ends_left rest.ended)
+  pub over : rest.ended ≡ true → given new ≡ given old
 
 -- a line is all there, or has more bytes than a line may have
 abbrev pub IsHeld : (whole : Bool) → (bytes line : List ℕ) → Type 0

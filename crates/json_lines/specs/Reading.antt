@@ -27,9 +27,9 @@ read_from taken whole n room s (line ∷ lines) = if passes_limit room line (not
 abbrev pub parts : List ℕ → List (List ℕ)
 parts input = slice_split (λ b. b == 10) input
 
--- the number of a line of these bytes; lines count from 1
-abbrev pub IsLineOf : List ℕ → ℕ → Type 0
-IsLineOf input n = (1 ≤ n) × (n ≤ length (parts input))
+-- these bytes have a line of this number; lines count from 1
+abbrev pub HasLine : List ℕ → ℕ → Type 0
+HasLine input n = (1 ≤ n) × (n ≤ length (parts input))
 
 unfoldable pub read_all : {S C : Type 0} → (ℕ → S → List ℕ → Result S C) → Bool → S → List ℕ → Result S (LineFault C)
 read_all taken whole s input = read_from taken whole 1 (2 ^ 30) s (parts input)

@@ -2,9 +2,8 @@
 
 ghost use Rattle.std.specs.Prelude.{◌≡◌, ◌≢◌, ◌+◌, ◌≤◌, ◌<◌, ℕ, length, Option, None, Some, Ok, Err, IfOk, IfErr, OnOk, IfSome, true, false, ◌&&◌};
 ghost use Rattle.devices.specs.Given.{OfBytes, OfWhole, AreNext};
-ghost use Rattle.json_lines.specs.Joined.{is_marker, joined_of, line_taken, IsTaken, IsFront, IsNextLine, IsPart, ComesPast, ends_left};
+ghost use Rattle.json_lines.specs.Joined.{is_marker, joined_of, line_taken, IsTaken, IsFront, IsNextLine, IsPart, AsksFor, RestRead, ends_left};
 ghost use Rattle.json_lines.specs.Json.{taken_line};
-ghost use Rattle.json_lines.specs.Lines.{ComeAtMost};
 ghost use Rattle.json_lines.specs.Reading.{read_all, Reads, IsOfSomeLine, IsOfLine};
 ghost use Rattle.json_lines.specs.declared.lines.InputFault.TheVariants.{Read, TooLong, OutOfMemory};
 
@@ -133,16 +132,7 @@ impl Rest {
         ensures exact { IfOk result (λ read. IsTaken (R.given reader.old) (R.given reader.new) self.at_hand (λ input. (length input ≤ self.room)
             × Reads read value.new (read_all (taken_line T.Cause.not_json T.taken) true value.old input))) }
         ensures refused { IfOk result (λ read. IfErr read (λ e. IsOfLine e.stop × IsOfSomeLine (taken_line T.Cause.not_json T.taken) e)) }
-        ensures ended { OnOk result (R.ends reader.new ≡ R.ends reader.old + ends_left self.ended) }
-        // A reader that was at its end is not asked again.
-        ensures over { self.ended ≡ true → R.given reader.new ≡ R.given reader.old }
-        ensures long { result ≡ Err TooLong → ComesPast self.room (R.given reader.old) (R.given reader.new) self.at_hand }
-        // Also of a reader that never ends.
-        ensures most { ComeAtMost (self.room + CHUNK) (R.given reader.old) (R.given reader.new) self.at_hand }
-        ensures known { AreNext R.given R.ends R.remaining reader.old reader.new }
-        // A reader's failure alone gives this error.
-        ensures failed { result ≡ Err Read → R.failures reader.new ≡ R.failures reader.old + 1 }
-        ensures kept { result ≢ Err Read → R.failures reader.new ≡ R.failures reader.old }
+        ensures read { RestRead self R.given R.ends R.failures R.remaining reader.old reader.new result }
     {
         if self.ended {
             return Ok(Ok(()));
@@ -154,13 +144,7 @@ impl Rest {
     /// Passes over what stands behind the marker, to the reader's end. The errors are those of [`Rest::read`].
     pub fn pass<R: Source>(mut self, alloc: Global, reader: &mut R) -> Result<(), InputFault>
         ensures taken { OnOk result (IsTaken (R.given reader.old) (R.given reader.new) self.at_hand (λ input. length input ≤ self.room)) }
-        ensures ended { OnOk result (R.ends reader.new ≡ R.ends reader.old + ends_left self.ended) }
-        ensures over { self.ended ≡ true → R.given reader.new ≡ R.given reader.old }
-        ensures long { result ≡ Err TooLong → ComesPast self.room (R.given reader.old) (R.given reader.new) self.at_hand }
-        ensures most { ComeAtMost (self.room + CHUNK) (R.given reader.old) (R.given reader.new) self.at_hand }
-        ensures known { AreNext R.given R.ends R.remaining reader.old reader.new }
-        ensures failed { result ≡ Err Read → R.failures reader.new ≡ R.failures reader.old + 1 }
-        ensures kept { result ≢ Err Read → R.failures reader.new ≡ R.failures reader.old }
+        ensures read { RestRead self R.given R.ends R.failures R.remaining reader.old reader.new result }
     {
         let mut line = Vec::new(alloc);
         while !self.ended {
@@ -173,12 +157,8 @@ impl Rest {
     fn next<R: Source>(&mut self, reader: &mut R, line: &mut Vec<u8>) -> Result<bool, InputFault>
         requires { self.old.ended ≡ false }
         ensures line { IfOk result (λ whole. IsNextLine (R.given reader.old) (R.given reader.new) self.old self.new whole line.new.items) }
-        ensures long { result ≡ Err TooLong → ComesPast self.old.room (R.given reader.old) (R.given reader.new) self.old.at_hand }
-        ensures most { ComeAtMost (self.old.room + CHUNK) (R.given reader.old) (R.given reader.new) self.old.at_hand }
         ensures ended { OnOk result (R.ends reader.new + ends_left self.new.ended ≡ R.ends reader.old + 1) }
-        ensures known { AreNext R.given R.ends R.remaining reader.old reader.new }
-        ensures failed { result ≡ Err Read → R.failures reader.new ≡ R.failures reader.old + 1 }
-        ensures kept { result ≢ Err Read → R.failures reader.new ≡ R.failures reader.old }
+        ensures asked { AsksFor self.old R.given R.ends R.failures R.remaining reader.old reader.new result }
     {
         let mut whole = true;
         'pieces: loop {
@@ -217,11 +197,7 @@ impl Rest {
         ensures part { IfOk result (λ p. IsPart (taken_line T.Cause.not_json T.taken) (R.given reader.old) (R.given reader.new) self.old self.new value.old value.new marked p.0 p.1) }
         ensures refused { IfOk result (λ p. IfErr p.0 (λ e. IsOfLine e.stop × IsOfSomeLine (taken_line T.Cause.not_json T.taken) e)) }
         ensures ended { OnOk result (R.ends reader.new + ends_left self.new.ended ≡ R.ends reader.old + 1) }
-        ensures long { result ≡ Err TooLong → ComesPast self.old.room (R.given reader.old) (R.given reader.new) self.old.at_hand }
-        ensures most { ComeAtMost (self.old.room + CHUNK) (R.given reader.old) (R.given reader.new) self.old.at_hand }
-        ensures known { AreNext R.given R.ends R.remaining reader.old reader.new }
-        ensures failed { result ≡ Err Read → R.failures reader.new ≡ R.failures reader.old + 1 }
-        ensures kept { result ≢ Err Read → R.failures reader.new ≡ R.failures reader.old }
+        ensures asked { AsksFor self.old R.given R.ends R.failures R.remaining reader.old reader.new result }
     {
         let mut line = Vec::new(alloc);
         let mut desk = Desk::new(alloc);

@@ -3,7 +3,7 @@ use Rattle.std.proofs.Common.{◌≡◌, ◌≢◌, ℕ, ◌+◌, ◌^◌, ◌<�
 use Rattle.devices.specs.Given.{OfBytes, AreNext}
 use Rattle.json_lines.specs.InputRead.{LinesRead}
 use Rattle.json_lines.specs.Lines.{ComeAtMost, Takes, lacks}
-use Rattle.json_lines.specs.Reading.{parts, passes_limit, read_all, read_from, Fails, IsLineOf, IsReadFault, Refuses}
+use Rattle.json_lines.specs.Reading.{parts, passes_limit, read_all, read_from, Fails, HasLine, IsReadFault, Refuses}
 use Rattle.json_lines.specs.declared.lines.InputFault.{InputFault}
 use Rattle.json_lines.specs.declared.lines.InputFault.TheVariants.{OutOfMemory, Read, TooLong}
 use Rattle.json_lines.specs.declared.reading.LineFault.{LineFault}
@@ -64,7 +64,7 @@ module _ {R S C : Type 0} (given : R → List ℕ) (ends failures : R → ℕ) (
     came_next : AreNext given ends remaining old new
     came_next = next-trans given ends remaining old reader new a.known next
 
-    line_there : OfBytes given old new (λ came. IsLineOf came place.number)
+    line_there : OfBytes given old new (λ came. HasLine came place.number)
     line_there =
         let b =
         most (given old ++ a.used) a.came in line_came taken start given old new place.number place.room value a.used

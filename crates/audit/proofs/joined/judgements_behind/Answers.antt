@@ -5,7 +5,7 @@ use Rattle.audit.proofs.joined.judgements_behind.Goals as goal
 
 pub returns-in-Err : goal.returns-in-Err
 returns-in-Err g c =
-    let read = c.judge_evidence_behind.ensures in
+    let read = c.judge_evidence_behind.ensures.read.asked in
     behind_stopped c.args.trace.now c.args.rest _ read.most read.known c.in-Err.stop c.from.result c.from.ensures
     (λ is. read.long (c.in-Err.is ∙ ap (λ (x : InputFault). Err x) is))
     (λ is. read.failed (c.in-Err.is ∙ ap (λ (x : InputFault). Err x) is))

@@ -35,17 +35,18 @@ returns-in-Ok-pass g c =
     front_refused (at c.args.input.now) (at c.read_trace_front.new.reader) c.in-Ok.front.trace c.in-Ok.front.rest
     c.in-Some.rest c.in-Some.is c.in-Ok.ensures.front c.in-Ok.ensures.ended c.read_trace_front.ensures.known
     (c.in-Ok.ensures.kept (λ is. absurd (cc (is)))) c.in-Err-trace.fault c.in-Err-trace.is c.in-Ok.ensures.refused
-    (at c.pass.new.reader) c.pass.ensures.most c.pass.ensures.known c.of_trace.result
-    c.in-Ok-pass.ensures.taken c.in-Ok-pass.ensures.ended c.pass.ensures.over
-    (c.in-Ok-pass.ensures.kept (λ is. absurd (cc (is)))) c.of_trace.ensures.same c.of_trace.ensures.kinds
+    (at c.pass.new.reader) c.pass.ensures.read.asked.most c.pass.ensures.read.asked.known c.of_trace.result
+    c.in-Ok-pass.ensures.taken c.in-Ok-pass.ensures.read.ended c.pass.ensures.read.over
+    (c.in-Ok-pass.ensures.read.asked.kept (λ is. absurd (cc (is)))) c.of_trace.ensures.same c.of_trace.ensures.kinds
 
 pub returns-in-Err-pass : goal.returns-in-Err-pass
 returns-in-Err-pass g c =
     let at = reader g.R.Source.given g.R.Source.ends g.R.Source.failures g.R.Read.remaining in
+    let read = c.pass.ensures.read.asked in
     front_passed (at c.args.input.now) (at c.read_trace_front.new.reader) c.in-Ok.front.trace c.in-Ok.front.rest
     c.in-Some.rest c.in-Some.is c.in-Ok.ensures.front c.in-Ok.ensures.ended c.read_trace_front.ensures.known
     (c.in-Ok.ensures.kept (λ is. absurd (cc (is)))) c.in-Err-trace.fault c.in-Err-trace.is c.in-Ok.ensures.refused
-    (at c.pass.new.reader) c.pass.ensures.most c.pass.ensures.known c.in-Err-pass.stop c.from-in-Err-pass.result
-    c.from-in-Err-pass.ensures (λ is. c.pass.ensures.long (c.in-Err-pass.is ∙ ap (λ (x : InputFault). Err x) is))
-    (λ is. c.pass.ensures.failed (c.in-Err-pass.is ∙ ap (λ (x : InputFault). Err x) is))
-    (λ other. c.pass.ensures.kept (λ is. other (cc (c.in-Err-pass.is, is))))
+    (at c.pass.new.reader) read.most read.known c.in-Err-pass.stop c.from-in-Err-pass.result
+    c.from-in-Err-pass.ensures (λ is. read.long (c.in-Err-pass.is ∙ ap (λ (x : InputFault). Err x) is))
+    (λ is. read.failed (c.in-Err-pass.is ∙ ap (λ (x : InputFault). Err x) is))
+    (λ other. read.kept (λ is. other (cc (c.in-Err-pass.is, is))))

@@ -19,30 +19,11 @@ other_fault fault is e =
     let same : not (sameb the_type fault TooLong) ≡ false = rw is refl in
     cc (e, same)
 
-pub returns-then-is_over-clause-long : goal.returns-then-is_over-clause-long
-returns-then-is_over-clause-long g c = λ _.
-    let len : length c.next.new.line.items ≡ c.len.result = omega (arith, c.len.ensures, c.next.new.line.ok.0) in
-    passed_over _ _ _ _ _ c.pieces.self-inside.lines c.next.new.self c.next.new.line.items c.pieces.self-inside.room c.pieces.whole c.in-Ok.more c.pieces.invariant.passed c.in-Ok.ensures.line.1
-    (rw len (sym c.is_over.ensures ∙ c.if-is_over.true))
-
 pub returns-then-is_over-clause-line : goal.returns-then-is_over-clause-line
 returns-then-is_over-clause-line g c = tt
 
 pub returns-then-is_over-clause-ended : goal.returns-then-is_over-clause-ended
 returns-then-is_over-clause-ended g c = tt
-
-pub returns-then-is_over-clause-known : goal.returns-then-is_over-clause-known
-returns-then-is_over-clause-known g c = next-trans g.R.Source.given g.R.Source.ends g.R.Read.remaining c.args.reader.now c.pieces.reader c.next.new.reader c.pieces.invariant.known c.next.ensures.known
-
-pub returns-then-is_over-clause-failed : goal.returns-then-is_over-clause-failed
-returns-then-is_over-clause-failed g c = λ e. absurd (long_is_not_read _ refl e)
-
-pub returns-then-is_over-clause-kept : goal.returns-then-is_over-clause-kept
-returns-then-is_over-clause-kept g c = λ _. c.next.ensures.kept (λ e. no_error _ _ _ c.in-Ok.is e) ∙ c.pieces.invariant.kept
-
-pub returns-then-is_over-clause-most : goal.returns-then-is_over-clause-most
-returns-then-is_over-clause-most g c =
-    most_behind _ _ _ _ c.pieces.self-inside.lines c.pieces.invariant.passed.bytes _ c.pieces.self-inside.room c.min.result 65536 c.pieces.invariant.passed.takes c.pieces.invariant.passed.size (omega (arith, c.min.ensures)) c.next.ensures.most
 
 pub returns-in-Ok-clause-line : goal.returns-in-Ok-clause-line
 returns-in-Ok-clause-line g c =
@@ -53,24 +34,49 @@ returns-in-Ok-clause-line g c =
     passed_line _ _ _ _ _ c.pieces.self-inside.lines c.next.new.self c.next.new.line.items c.pieces.self-inside.room c.pieces.whole c.in-Ok.more (c.pieces.self-inside.room - (c.len-in-Ok.result + c.from.result)) c.pieces.invariant.passed c.in-Ok.ensures.line.1 c.in-Ok.ensures.line.0
     (omega (arith, c.in-Ok.ensures.reached, c.next.new.line.ok.0)) (omega (arith, bound, c.min.ensures)) (omega (arith, after.0, after.1, size)) c.args.self.now refl refl
 
-pub returns-in-Ok-clause-long : goal.returns-in-Ok-clause-long
-returns-in-Ok-clause-long g c = λ e. absurd (no_error _ _ _ refl e)
-
 pub returns-in-Ok-clause-ended : goal.returns-in-Ok-clause-ended
 returns-in-Ok-clause-ended g c = ended_by c.in-Ok.more _ _ _ c.in-Ok.ensures.ends c.pieces.invariant.going
 
-pub returns-in-Ok-clause-failed : goal.returns-in-Ok-clause-failed
-returns-in-Ok-clause-failed g c = λ e. absurd (no_error _ _ _ refl e)
+pub returns-then-is_over-clause-asked : goal.returns-then-is_over-clause-asked
+returns-then-is_over-clause-asked g c =
+    record {
+      long = λ _.
+    let len : length c.next.new.line.items ≡ c.len.result = omega (arith, c.len.ensures, c.next.new.line.ok.0) in
+    passed_over _ _ _ _ _ c.pieces.self-inside.lines c.next.new.self c.next.new.line.items c.pieces.self-inside.room c.pieces.whole c.in-Ok.more c.pieces.invariant.passed c.in-Ok.ensures.line.1
+    (rw len (sym c.is_over.ensures ∙ c.if-is_over.true));
+      most = most_behind _ _ _ _ c.pieces.self-inside.lines c.pieces.invariant.passed.bytes _ c.pieces.self-inside.room c.min.result 65536 c.pieces.invariant.passed.takes c.pieces.invariant.passed.size (omega (arith, c.min.ensures)) c.next.ensures.most;
+      known = next-trans g.R.Source.given g.R.Source.ends g.R.Read.remaining c.args.reader.now c.pieces.reader c.next.new.reader c.pieces.invariant.known c.next.ensures.known;
+      failed = λ e. absurd (long_is_not_read _ refl e);
+      kept = λ _. c.next.ensures.kept (λ e. no_error _ _ _ c.in-Ok.is e) ∙ c.pieces.invariant.kept;
+    }
 
-pub returns-in-Ok-clause-kept : goal.returns-in-Ok-clause-kept
-returns-in-Ok-clause-kept g c = λ _. c.next.ensures.kept (λ e. no_error _ _ _ c.in-Ok.is e) ∙ c.pieces.invariant.kept
+pub returns-in-Ok-clause-asked : goal.returns-in-Ok-clause-asked
+returns-in-Ok-clause-asked g c =
+    record {
+      long = λ e. absurd (no_error _ _ _ refl e);
+      most = most_behind _ _ _ _ c.pieces.self-inside.lines c.pieces.invariant.passed.bytes _ c.pieces.self-inside.room c.min.result 65536 c.pieces.invariant.passed.takes c.pieces.invariant.passed.size (omega (arith, c.min.ensures)) c.next.ensures.most;
+      known = next-trans g.R.Source.given g.R.Source.ends g.R.Read.remaining c.args.reader.now c.pieces.reader c.next.new.reader c.pieces.invariant.known c.next.ensures.known;
+      failed = λ e. absurd (no_error _ _ _ refl e);
+      kept = λ _. c.next.ensures.kept (λ e. no_error _ _ _ c.in-Ok.is e) ∙ c.pieces.invariant.kept;
+    }
 
-pub returns-in-Ok-clause-most : goal.returns-in-Ok-clause-most
-returns-in-Ok-clause-most g c =
-    most_behind _ _ _ _ c.pieces.self-inside.lines c.pieces.invariant.passed.bytes _ c.pieces.self-inside.room c.min.result 65536 c.pieces.invariant.passed.takes c.pieces.invariant.passed.size (omega (arith, c.min.ensures)) c.next.ensures.most
-
-pub returns-in-Ok-clause-known : goal.returns-in-Ok-clause-known
-returns-in-Ok-clause-known g c = next-trans g.R.Source.given g.R.Source.ends g.R.Read.remaining c.args.reader.now c.pieces.reader c.next.new.reader c.pieces.invariant.known c.next.ensures.known
+pub returns-then-ne-clause-asked : goal.returns-then-ne-clause-asked
+returns-then-ne-clause-asked g c =
+    record {
+      long = λ e.
+    let is : c.in-Err.fault ≡ TooLong = same_error _ _ _ refl e in
+    let low : c.pieces.self-inside.room ≤ c.min.result =
+    elim c.then-ne.branch [
+      | then-ne-via-then-ne w ↦ absurd (other_fault c.in-Err.fault is (sym c.ne.ensures ∙ w.if-ne.true))
+      | then-ne-via-else-ne+then-self-lt-MAX_LINE w ↦ omega (arith, c.min.ensures, w.if-self-lt-MAX_LINE.true)
+    ]
+    in
+    passed_long _ _ _ _ _ c.pieces.self-inside.lines c.pieces.self-inside.room c.min.result c.pieces.whole c.pieces.invariant.passed (c.next.ensures.long (c.in-Err.is ∙ ap Err is)) low;
+      most = most_behind _ _ _ _ c.pieces.self-inside.lines c.pieces.invariant.passed.bytes _ c.pieces.self-inside.room c.min.result 65536 c.pieces.invariant.passed.takes c.pieces.invariant.passed.size (omega (arith, c.min.ensures)) c.next.ensures.most;
+      known = next-trans g.R.Source.given g.R.Source.ends g.R.Read.remaining c.args.reader.now c.pieces.reader c.next.new.reader c.pieces.invariant.known c.next.ensures.known;
+      failed = λ e. c.next.ensures.failed (c.in-Err.is ∙ e) ∙ ap (λ (n : ℕ). n + 1) c.pieces.invariant.kept;
+      kept = λ other. c.next.ensures.kept (λ e. other (sym c.in-Err.is ∙ e)) ∙ c.pieces.invariant.kept;
+    }
 
 pub pieces-preserved : goal.pieces-preserved
 pieces-preserved g c =
@@ -88,32 +94,9 @@ pieces-preserved g c =
       kept = c.next.ensures.kept (λ e. long_is_not_read _ long e) ∙ c.pieces.invariant.kept;
     }
 
-pub returns-then-ne-clause-long : goal.returns-then-ne-clause-long
-returns-then-ne-clause-long g c = λ e.
-    let is : c.in-Err.fault ≡ TooLong = same_error _ _ _ refl e in
-    let low : c.pieces.self-inside.room ≤ c.min.result =
-    elim c.then-ne.branch [
-      | then-ne-via-then-ne w ↦ absurd (other_fault c.in-Err.fault is (sym c.ne.ensures ∙ w.if-ne.true))
-      | then-ne-via-else-ne+then-self-lt-MAX_LINE w ↦ omega (arith, c.min.ensures, w.if-self-lt-MAX_LINE.true)
-    ]
-    in
-    passed_long _ _ _ _ _ c.pieces.self-inside.lines c.pieces.self-inside.room c.min.result c.pieces.whole c.pieces.invariant.passed (c.next.ensures.long (c.in-Err.is ∙ ap Err is)) low
-
-pub returns-then-ne-clause-most : goal.returns-then-ne-clause-most
-returns-then-ne-clause-most g c =
-    most_behind _ _ _ _ c.pieces.self-inside.lines c.pieces.invariant.passed.bytes _ c.pieces.self-inside.room c.min.result 65536 c.pieces.invariant.passed.takes c.pieces.invariant.passed.size (omega (arith, c.min.ensures)) c.next.ensures.most
-
 pub returns-then-ne-clause-line : goal.returns-then-ne-clause-line
 returns-then-ne-clause-line g c = tt
 
 pub returns-then-ne-clause-ended : goal.returns-then-ne-clause-ended
 returns-then-ne-clause-ended g c = tt
 
-pub returns-then-ne-clause-known : goal.returns-then-ne-clause-known
-returns-then-ne-clause-known g c = next-trans g.R.Source.given g.R.Source.ends g.R.Read.remaining c.args.reader.now c.pieces.reader c.next.new.reader c.pieces.invariant.known c.next.ensures.known
-
-pub returns-then-ne-clause-failed : goal.returns-then-ne-clause-failed
-returns-then-ne-clause-failed g c = λ e. c.next.ensures.failed (c.in-Err.is ∙ e) ∙ ap (λ (n : ℕ). n + 1) c.pieces.invariant.kept
-
-pub returns-then-ne-clause-kept : goal.returns-then-ne-clause-kept
-returns-then-ne-clause-kept g c = λ other. c.next.ensures.kept (λ e. other (sym c.in-Err.is ∙ e)) ∙ c.pieces.invariant.kept

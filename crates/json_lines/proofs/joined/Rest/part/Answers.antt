@@ -6,6 +6,7 @@ use Rattle.json_lines.specs.declared.lines.InputFault.TheVariants.{Read, TooLong
 use Rattle.json_lines.proofs.Exits.{exit_is, no_error, exit_ok, exit_done, exit_gives, memory_is_not_long, memory_is_not_read, ended_on}
 use Rattle.devices.proofs.Given.{next-refl, next-trans}
 use Rattle.json_lines.proofs.RestLines.{used_all_most, used_most, used_past, one_less, of_line_alone, sought_is, not_sought, going_first, going_on, going_past, part_ended, part_found}
+use Rattle.json_lines.proofs.RestReads.{asked_all, asked_behind, handed_on, no_memory_behind, went_well}
 use Rattle.json_lines.proofs.joined.Rest.part.Goals as goal
 use Rattle.json_lines.proofs.joined.Rest.part.Goals.{else-marked-via-then-marked+else-is_marker, else-marked-via-else-marked}
 
@@ -21,12 +22,6 @@ loop-self-init g c = record {
   kept = refl;
 }
 
-pub returns-in_err-whole-clause-long : goal.returns-in_err-whole-clause-long
-returns-in_err-whole-clause-long g c =
-    let p = err_from_is_err_and c.from_residual.result c.from_residual.ensures.1 in λ e.
-    let same : c.next.result ≡ Err TooLong = exit_is c.from_residual.result c.next.result p.0 c.in_err-whole.field-0.0 TooLong p.1 p.2 c.in_err-whole.was e in
-    used_past _ _ _ _ _ c.loop-self.invariant.going.used (c.next.ensures.long same)
-
 pub returns-in_err-whole-clause-part : goal.returns-in_err-whole-clause-part
 returns-in_err-whole-clause-part g c = let p = err_from_is_err_and c.from_residual.result c.from_residual.ensures.1 in exit_ok _ _ _ p.1
 
@@ -35,18 +30,6 @@ returns-in_err-whole-clause-refused g c = let p = err_from_is_err_and c.from_res
 
 pub returns-in_err-whole-clause-ended : goal.returns-in_err-whole-clause-ended
 returns-in_err-whole-clause-ended g c = let p = err_from_is_err_and c.from_residual.result c.from_residual.ensures.1 in exit_done _ _ _ p.1
-
-pub returns-in_err-whole-clause-known : goal.returns-in_err-whole-clause-known
-returns-in_err-whole-clause-known g c = next-trans g.R.Source.given g.R.Source.ends g.R.Read.remaining c.args.reader.now c.loop-self.reader c.next.new.reader c.loop-self.invariant.known c.next.ensures.known
-
-pub returns-in_err-whole-clause-failed : goal.returns-in_err-whole-clause-failed
-returns-in_err-whole-clause-failed g c = let p = err_from_is_err_and c.from_residual.result c.from_residual.ensures.1 in λ e. c.next.ensures.failed (exit_is c.from_residual.result c.next.result p.0 c.in_err-whole.field-0.0 Read p.1 p.2 c.in_err-whole.was e) ∙ ap (λ (n : ℕ). n + 1) c.loop-self.invariant.kept
-
-pub returns-in_err-whole-clause-kept : goal.returns-in_err-whole-clause-kept
-returns-in_err-whole-clause-kept g c = let p = err_from_is_err_and c.from_residual.result c.from_residual.ensures.1 in λ other. c.next.ensures.kept (λ e. other (exit_gives c.from_residual.result c.next.result p.0 c.in_err-whole.field-0.0 Read p.1 p.2 c.in_err-whole.was e)) ∙ c.loop-self.invariant.kept
-
-pub returns-in_err-whole-clause-most : goal.returns-in_err-whole-clause-most
-returns-in_err-whole-clause-most g c = used_most _ _ _ _ _ 65536 c.loop-self.invariant.going.used c.next.ensures.most
 
 pub returns-then-is_marker-clause-part : goal.returns-then-is_marker-clause-part
 returns-then-is_marker-clause-part g c =
@@ -60,21 +43,6 @@ returns-then-is_marker-clause-refused g c = c.loop-self.invariant.refused
 pub returns-then-is_marker-clause-ended : goal.returns-then-is_marker-clause-ended
 returns-then-is_marker-clause-ended g c = let unended : c.loop-self.self.ended ≡ false = sym (ap (λ (r : RestValue). r.ended) c.self.view_is) ∙ c.loop-self-test.true in ended_on _ _ _ _ c.loop-self.self.ended c.loop-self.invariant.ended unended c.in_ok-whole.ensures.ended
 
-pub returns-then-is_marker-clause-long : goal.returns-then-is_marker-clause-long
-returns-then-is_marker-clause-long g c = λ e. absurd (no_error _ _ _ refl e)
-
-pub returns-then-is_marker-clause-known : goal.returns-then-is_marker-clause-known
-returns-then-is_marker-clause-known g c = next-trans g.R.Source.given g.R.Source.ends g.R.Read.remaining c.args.reader.now c.loop-self.reader c.next.new.reader c.loop-self.invariant.known c.next.ensures.known
-
-pub returns-then-is_marker-clause-failed : goal.returns-then-is_marker-clause-failed
-returns-then-is_marker-clause-failed g c = λ e. absurd (no_error _ _ _ refl e)
-
-pub returns-then-is_marker-clause-kept : goal.returns-then-is_marker-clause-kept
-returns-then-is_marker-clause-kept g c = λ _. c.next.ensures.kept (λ e. no_error _ _ _ c.in_ok-whole.was e) ∙ c.loop-self.invariant.kept
-
-pub returns-then-is_marker-clause-most : goal.returns-then-is_marker-clause-most
-returns-then-is_marker-clause-most g c = used_most _ _ _ _ _ 65536 c.loop-self.invariant.going.used c.next.ensures.most
-
 pub returns-in_err-read-clause-part : goal.returns-in_err-read-clause-part
 returns-in_err-read-clause-part g c = let p = err_from_is_err_and c.from_residual-in_err-read.result c.from_residual-in_err-read.ensures.1 in exit_ok _ _ _ p.1
 
@@ -84,20 +52,43 @@ returns-in_err-read-clause-refused g c = let p = err_from_is_err_and c.from_resi
 pub returns-in_err-read-clause-ended : goal.returns-in_err-read-clause-ended
 returns-in_err-read-clause-ended g c = let p = err_from_is_err_and c.from_residual-in_err-read.result c.from_residual-in_err-read.ensures.1 in exit_done _ _ _ p.1
 
-pub returns-in_err-read-clause-long : goal.returns-in_err-read-clause-long
-returns-in_err-read-clause-long g c = let p = err_from_is_err_and c.from_residual-in_err-read.result c.from_residual-in_err-read.ensures.1 in λ e. absurd (memory_is_not_long _ p.0 c.in_err-read.field-0.0 p.1 p.2 c.in_err-read.ensures.memory e)
+pub returns-in_err-whole-clause-asked : goal.returns-in_err-whole-clause-asked
+returns-in_err-whole-clause-asked g c =
+    let p = err_from_is_err_and c.from_residual.result c.from_residual.ensures.1 in
+    let asked =
+    asked_behind g.R.Source.given g.R.Source.ends g.R.Source.failures g.R.Read.remaining c.args.self.now
+    c.args.reader.now c.next.new.reader c.loop-self.reader c.loop-self.self c.next.result
+    c.loop-self.invariant.going.used c.loop-self.invariant.known c.loop-self.invariant.kept c.next.ensures.asked in
+    handed_on g.R.Source.given g.R.Source.ends g.R.Source.failures g.R.Read.remaining c.args.self.now
+    c.args.reader.now c.next.new.reader c.from_residual.result c.next.result asked
+    p.0 c.in_err-whole.field-0.0 p.1 p.2 c.in_err-whole.was
 
-pub returns-in_err-read-clause-known : goal.returns-in_err-read-clause-known
-returns-in_err-read-clause-known g c = next-trans g.R.Source.given g.R.Source.ends g.R.Read.remaining c.args.reader.now c.loop-self.reader c.next.new.reader c.loop-self.invariant.known c.next.ensures.known
+pub returns-then-is_marker-clause-asked : goal.returns-then-is_marker-clause-asked
+returns-then-is_marker-clause-asked g c =
+    let asked =
+    asked_behind g.R.Source.given g.R.Source.ends g.R.Source.failures g.R.Read.remaining c.args.self.now
+    c.args.reader.now c.next.new.reader c.loop-self.reader c.loop-self.self c.next.result
+    c.loop-self.invariant.going.used c.loop-self.invariant.known c.loop-self.invariant.kept c.next.ensures.asked in
+    went_well g.R.Source.given g.R.Source.ends g.R.Source.failures g.R.Read.remaining c.args.self.now
+    c.args.reader.now c.next.new.reader _ c.next.result asked _ _ c.in_ok-whole.was refl
 
-pub returns-in_err-read-clause-failed : goal.returns-in_err-read-clause-failed
-returns-in_err-read-clause-failed g c = let p = err_from_is_err_and c.from_residual-in_err-read.result c.from_residual-in_err-read.ensures.1 in λ e. absurd (memory_is_not_read _ p.0 c.in_err-read.field-0.0 p.1 p.2 c.in_err-read.ensures.memory e)
+pub returns-in_err-read-clause-asked : goal.returns-in_err-read-clause-asked
+returns-in_err-read-clause-asked g c =
+    let p = err_from_is_err_and c.from_residual-in_err-read.result c.from_residual-in_err-read.ensures.1 in
+    let asked =
+    asked_behind g.R.Source.given g.R.Source.ends g.R.Source.failures g.R.Read.remaining c.args.self.now
+    c.args.reader.now c.next.new.reader c.loop-self.reader c.loop-self.self c.next.result
+    c.loop-self.invariant.going.used c.loop-self.invariant.known c.loop-self.invariant.kept c.next.ensures.asked in
+    no_memory_behind g.R.Source.given g.R.Source.ends g.R.Source.failures g.R.Read.remaining c.args.self.now
+    c.args.reader.now c.next.new.reader c.from_residual-in_err-read.result
+    c.next.result asked _ p.0 c.in_err-read.field-0.0 c.in_ok-whole.was p.1 p.2 c.in_err-read.ensures.memory
 
-pub returns-in_err-read-clause-kept : goal.returns-in_err-read-clause-kept
-returns-in_err-read-clause-kept g c = λ _. c.next.ensures.kept (λ e. no_error _ _ _ c.in_ok-whole.was e) ∙ c.loop-self.invariant.kept
-
-pub returns-in_err-read-clause-most : goal.returns-in_err-read-clause-most
-returns-in_err-read-clause-most g c = used_most _ _ _ _ _ 65536 c.loop-self.invariant.going.used c.next.ensures.most
+pub returns-clause-asked : goal.returns-clause-asked
+returns-clause-asked g c =
+    asked_all g.R.Source.given g.R.Source.ends g.R.Source.failures g.R.Read.remaining c.args.self.now c.args.reader.now
+    c.loop-self.reader c.loop-self.self _ c.loop-self.invariant.going.used
+    (sym (ap (λ (r : RestValue). r.at_hand) c.self.view_is) ∙ c.self.invariant.0 c.loop-self-test.false)
+    c.loop-self.invariant.known c.loop-self.invariant.kept
 
 pub loop-self-preserved-then-is_ok : goal.loop-self-preserved-then-is_ok
 loop-self-preserved-then-is_ok g c =
@@ -117,8 +108,8 @@ loop-self-preserved-then-is_ok g c =
       number = one_less _ _ c.loop-self.self c.next.new.self c.in_ok-whole.whole c.next.new.line.items c.loop-self.number (2 ^ 30 + 2) c.in_ok-whole.ensures.line unended c.loop-self.invariant.number;
       refused = c.in_ok-read.ensures.refused;
       ended = ended_on _ _ _ _ c.loop-self.self.ended c.loop-self.invariant.ended unended c.in_ok-whole.ensures.ended;
-      known = next-trans g.R.Source.given g.R.Source.ends g.R.Read.remaining c.args.reader.now c.loop-self.reader c.next.new.reader c.loop-self.invariant.known c.next.ensures.known;
-      kept = c.next.ensures.kept (λ e. no_error _ _ _ c.in_ok-whole.was e) ∙ c.loop-self.invariant.kept;
+      known = next-trans g.R.Source.given g.R.Source.ends g.R.Read.remaining c.args.reader.now c.loop-self.reader c.next.new.reader c.loop-self.invariant.known c.next.ensures.asked.known;
+      kept = c.next.ensures.asked.kept (λ e. no_error _ _ _ c.in_ok-whole.was e) ∙ c.loop-self.invariant.kept;
     }
 
 pub loop-self-preserved : goal.loop-self-preserved
@@ -138,8 +129,8 @@ loop-self-preserved g c =
       number = omega (arith, one_less _ _ c.loop-self.self c.next.new.self c.in_ok-whole.whole c.next.new.line.items c.loop-self.number (2 ^ 30 + 2) c.in_ok-whole.ensures.line unended c.loop-self.invariant.number);
       refused = c.loop-self.invariant.refused;
       ended = ended_on _ _ _ _ c.loop-self.self.ended c.loop-self.invariant.ended unended c.in_ok-whole.ensures.ended;
-      known = next-trans g.R.Source.given g.R.Source.ends g.R.Read.remaining c.args.reader.now c.loop-self.reader c.next.new.reader c.loop-self.invariant.known c.next.ensures.known;
-      kept = c.next.ensures.kept (λ e. no_error _ _ _ c.in_ok-whole.was e) ∙ c.loop-self.invariant.kept;
+      known = next-trans g.R.Source.given g.R.Source.ends g.R.Read.remaining c.args.reader.now c.loop-self.reader c.next.new.reader c.loop-self.invariant.known c.next.ensures.asked.known;
+      kept = c.next.ensures.asked.kept (λ e. no_error _ _ _ c.in_ok-whole.was e) ∙ c.loop-self.invariant.kept;
     }
 
 pub returns-clause-part : goal.returns-clause-part
@@ -154,17 +145,3 @@ returns-clause-refused g c = c.loop-self.invariant.refused
 pub returns-clause-ended : goal.returns-clause-ended
 returns-clause-ended g c = c.loop-self.invariant.ended
 
-pub returns-clause-long : goal.returns-clause-long
-returns-clause-long g c = λ e. absurd (no_error _ _ _ refl e)
-
-pub returns-clause-most : goal.returns-clause-most
-returns-clause-most g c = used_all_most _ _ _ _ 65536 c.loop-self.invariant.going.used (sym (ap (λ (r : RestValue). r.at_hand) c.self.view_is) ∙ c.self.invariant.0 c.loop-self-test.false)
-
-pub returns-clause-known : goal.returns-clause-known
-returns-clause-known g c = c.loop-self.invariant.known
-
-pub returns-clause-failed : goal.returns-clause-failed
-returns-clause-failed g c = λ e. absurd (no_error _ _ _ refl e)
-
-pub returns-clause-kept : goal.returns-clause-kept
-returns-clause-kept g c = λ _. c.loop-self.invariant.kept
