@@ -41,9 +41,9 @@ pub returns-then-is_over-clause-asked : goal.returns-then-is_over-clause-asked
 returns-then-is_over-clause-asked g c =
     record {
       long = λ _.
-    let len : length c.next.new.line.items ≡ c.len.result = omega (arith, c.len.ensures, c.next.new.line.ok.0) in
-    passed_over _ _ _ _ _ c.pieces.self-inside.lines c.next.new.self c.next.new.line.items c.pieces.self-inside.room c.pieces.whole c.in-Ok.more c.pieces.invariant.passed c.in-Ok.ensures.line.1
-    (rw len (sym c.is_over.ensures ∙ c.if-is_over.true));
+          let len : length c.next.new.line.items ≡ c.len.result = omega (arith, c.len.ensures, c.next.new.line.ok.0) in
+          passed_over _ _ _ _ _ c.pieces.self-inside.lines c.next.new.self c.next.new.line.items c.pieces.self-inside.room c.pieces.whole c.in-Ok.more c.pieces.invariant.passed c.in-Ok.ensures.line.1
+          (rw len (sym c.is_over.ensures ∙ c.if-is_over.true));
       most = most_behind _ _ _ _ c.pieces.self-inside.lines c.pieces.invariant.passed.bytes _ c.pieces.self-inside.room c.min.result 65536 c.pieces.invariant.passed.takes c.pieces.invariant.passed.size (omega (arith, c.min.ensures)) c.next.ensures.most;
       known = next-trans g.R.Source.given g.R.Source.ends g.R.Read.remaining c.args.reader.now c.pieces.reader c.next.new.reader c.pieces.invariant.known c.next.ensures.known;
       failed = λ e. absurd (long_is_not_read _ refl e);
@@ -64,14 +64,14 @@ pub returns-then-ne-clause-asked : goal.returns-then-ne-clause-asked
 returns-then-ne-clause-asked g c =
     record {
       long = λ e.
-    let is : c.in-Err.fault ≡ TooLong = same_error _ _ _ refl e in
-    let low : c.pieces.self-inside.room ≤ c.min.result =
-    elim c.then-ne.branch [
-      | then-ne-via-then-ne w ↦ absurd (other_fault c.in-Err.fault is (sym c.ne.ensures ∙ w.if-ne.true))
-      | then-ne-via-else-ne+then-self-lt-MAX_LINE w ↦ omega (arith, c.min.ensures, w.if-self-lt-MAX_LINE.true)
-    ]
-    in
-    passed_long _ _ _ _ _ c.pieces.self-inside.lines c.pieces.self-inside.room c.min.result c.pieces.whole c.pieces.invariant.passed (c.next.ensures.long (c.in-Err.is ∙ ap Err is)) low;
+          let is : c.in-Err.fault ≡ TooLong = same_error _ _ _ refl e in
+          let low : c.pieces.self-inside.room ≤ c.min.result =
+          elim c.then-ne.branch [
+            | then-ne-via-then-ne w ↦ absurd (other_fault c.in-Err.fault is (sym c.ne.ensures ∙ w.if-ne.true))
+            | then-ne-via-else-ne+then-self-lt-MAX_LINE w ↦ omega (arith, c.min.ensures, w.if-self-lt-MAX_LINE.true)
+          ]
+          in
+          passed_long _ _ _ _ _ c.pieces.self-inside.lines c.pieces.self-inside.room c.min.result c.pieces.whole c.pieces.invariant.passed (c.next.ensures.long (c.in-Err.is ∙ ap Err is)) low;
       most = most_behind _ _ _ _ c.pieces.self-inside.lines c.pieces.invariant.passed.bytes _ c.pieces.self-inside.room c.min.result 65536 c.pieces.invariant.passed.takes c.pieces.invariant.passed.size (omega (arith, c.min.ensures)) c.next.ensures.most;
       known = next-trans g.R.Source.given g.R.Source.ends g.R.Read.remaining c.args.reader.now c.pieces.reader c.next.new.reader c.pieces.invariant.known c.next.ensures.known;
       failed = λ e. c.next.ensures.failed (c.in-Err.is ∙ e) ∙ ap (λ (n : ℕ). n + 1) c.pieces.invariant.kept;
@@ -99,4 +99,3 @@ returns-then-ne-clause-line g c = tt
 
 pub returns-then-ne-clause-ended : goal.returns-then-ne-clause-ended
 returns-then-ne-clause-ended g c = tt
-

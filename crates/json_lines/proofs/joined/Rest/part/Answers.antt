@@ -1,11 +1,10 @@
-use Rattle.std.proofs.Common.{ℕ, Bool, ◌≡◌, ◌∙◌, ◌+◌, ◌^◌, ◌&&◌, true, false, Err, ap, arith, refl, sym}
+use Rattle.std.proofs.Common.{Bool, ◌≡◌, ◌∙◌, ◌+◌, ◌^◌, ◌&&◌, true, false, ap, arith, refl, sym}
 use Rattle.std.proofs.lemmas.Result.{err_from_is_err_and}
 use Rattle.json_lines.specs.Joined.{is_marker, ends_left, RestValue}
 use Rattle.json_lines.specs.Json.{taken_line}
-use Rattle.json_lines.specs.declared.lines.InputFault.TheVariants.{Read, TooLong}
-use Rattle.json_lines.proofs.Exits.{exit_is, no_error, exit_ok, exit_done, exit_gives, memory_is_not_long, memory_is_not_read, ended_on}
+use Rattle.json_lines.proofs.Exits.{no_error, exit_ok, exit_done, ended_on}
 use Rattle.devices.proofs.Given.{next-refl, next-trans}
-use Rattle.json_lines.proofs.RestLines.{used_all_most, used_most, used_past, one_less, of_line_alone, sought_is, not_sought, going_first, going_on, going_past, part_ended, part_found}
+use Rattle.json_lines.proofs.RestLines.{one_less, of_line_alone, sought_is, not_sought, going_first, going_on, going_past, part_ended, part_found}
 use Rattle.json_lines.proofs.RestReads.{asked_all, asked_behind, handed_on, no_memory_behind, went_well}
 use Rattle.json_lines.proofs.joined.Rest.part.Goals as goal
 use Rattle.json_lines.proofs.joined.Rest.part.Goals.{else-marked-via-then-marked+else-is_marker, else-marked-via-else-marked}
@@ -144,4 +143,3 @@ returns-clause-refused g c = c.loop-self.invariant.refused
 
 pub returns-clause-ended : goal.returns-clause-ended
 returns-clause-ended g c = c.loop-self.invariant.ended
-

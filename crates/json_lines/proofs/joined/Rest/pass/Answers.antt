@@ -1,11 +1,10 @@
-use Rattle.std.proofs.Common.{ℕ, ◌≡◌, ◌+◌, ◌∙◌, Err, ap, refl, sym}
+use Rattle.std.proofs.Common.{◌≡◌, ◌∙◌, ap, sym}
 use Rattle.std.proofs.lemmas.Bool.{true≢false}
 use Rattle.std.proofs.lemmas.Result.{err_from_is_err_and}
 use Rattle.json_lines.specs.Joined.{RestValue}
-use Rattle.json_lines.specs.declared.lines.InputFault.TheVariants.{Read, TooLong}
-use Rattle.json_lines.proofs.Exits.{exit_is, no_error, exit_done, exit_gives, ended_on, ended_all}
+use Rattle.json_lines.proofs.Exits.{no_error, exit_done, ended_on, ended_all}
 use Rattle.devices.proofs.Given.{next-trans}
-use Rattle.json_lines.proofs.RestLines.{used_all, used_all_most, used_on, used_most, used_past}
+use Rattle.json_lines.proofs.RestLines.{used_all, used_on}
 use Rattle.json_lines.proofs.RestReads.{asked_all, asked_behind, handed_on}
 use Rattle.json_lines.proofs.joined.Rest.pass.Goals as goal
 

@@ -3,7 +3,6 @@ use Rattle.std.proofs.lemmas.Bool.{true≢false}
 use Rattle.json_lines.specs.Joined.{RestValue}
 use Rattle.json_lines.specs.Json.{taken_line}
 use Rattle.std.proofs.lemmas.Result.{err_from_is_err_and}
-use Rattle.json_lines.specs.declared.lines.InputFault.TheVariants.{Read, TooLong}
 use Rattle.json_lines.proofs.Exits.{ended_within, exit_done, exit_ok}
 use Rattle.devices.proofs.Given.{next-refl}
 use Rattle.json_lines.proofs.RestLines.{part_is_all, part_is_last, reads_nothing, used_start}
