@@ -253,9 +253,10 @@ fn first_stage() -> Stage {
 
 impl<'t> WideRule<'t> {
     pub(crate) fn new(alloc: Global, rule: &'t PartedRule) -> Result<WideRule<'t>, AllocError> {
-        let groups = Groups::of(alloc, &rule.parts)?;
         let mut stages = Vec::new(alloc);
         stages.push(first_stage())?;
+        let open = vec![in alloc; 0usize; rule.parts.len()]?;
+        let groups = Groups::of(alloc, &rule.parts)?;
         let open_groups = vec![in alloc; 0usize; groups.len().saturating_add(1)]?;
         Ok(WideRule {
             rule,
@@ -263,7 +264,7 @@ impl<'t> WideRule<'t> {
             has_exclusions: has_exclusions(&rule.top),
             stages,
             turns: BTreeMap::new(alloc),
-            open: vec![in alloc; 0usize; rule.parts.len()]?,
+            open,
             open_groups,
         })
     }
