@@ -30,8 +30,9 @@ pub fn explore_by(
     ensures outgrown { result ≡ Err ConeFault.Outgrown →
         IsOutgrown MAX_USERSETS MAX_LINKS (rules_in snapshot.now) (tuples_in snapshot.now) goal.now }
 {
+    let first = goal.clone()?;
     let mut seen = Seen::new(alloc);
-    seen.add(goal.clone()?)?;
+    seen.add(first)?;
     let mut room = MAX_LINKS;
     for next in 0..MAX_USERSETS + 1 {
         let Some(fact) = seen.get(next) else {

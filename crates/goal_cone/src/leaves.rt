@@ -66,10 +66,12 @@ pub(crate) fn through_one(
 ) -> Result<Through, AllocError>
     ensures { IfOk result (λ t. each_shown t ≡ tuple_to (string_bytes tupleset.now) (string_bytes computed.now) ∷ []) }
 {
+    let tupleset = tupleset.clone()?;
+    let computed = computed.clone()?;
     let mut names = IndexMap::new(alloc);
-    let _ = names.insert(computed.clone()?, ())?;
+    let _ = names.insert(computed, ())?;
     Ok(Through {
-        tupleset: tupleset.clone()?,
+        tupleset,
         computed: names,
     })
 }

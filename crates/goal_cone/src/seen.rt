@@ -12,7 +12,6 @@ use std::marker::Model;
 use tuple_text::{Fact, SetRef};
 
 /// The facts that were seen, which contracts see as the list of them in the order in which they came.
-#[derive(Drop)]
 pub(crate) struct Seen {
     facts: Vec<Fact>,
     // by which they are found
@@ -32,6 +31,15 @@ impl Model for Seen {
     ghost view = { λ s. s.facts.items };
 
     ghost invariant = { λ s. s.marks ≡ map tuple_mark (map fact_tuple s.facts.items) };
+}
+
+// Written out, since one that is derived is a part of each function that lets the facts go.
+impl Drop for Seen {
+    fn drop(self) {
+        let Seen { facts, marks } = self;
+        drop(facts);
+        drop(marks);
+    }
 }
 
 /// The place of the fact of a userset and a user id, among the places that its mark names.
@@ -93,7 +101,8 @@ impl Seen {
     pub(crate) fn into_facts(self) -> Vec<Fact>
         ensures { result.items ≡ self }
     {
-        let Seen { facts, marks: _ } = self;
+        let Seen { facts, marks } = self;
+        drop(marks);
         facts
     }
 }

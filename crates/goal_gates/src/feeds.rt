@@ -29,20 +29,32 @@ fn push_feed(feeds: &mut Vec<Feed>, read: Read, from: Option<usize>) -> Result<(
 impl<'g, 't> Gates<'g, 't> {
     /// Links for all that a rule of many places reads for a fact.
     pub(crate) fn add_parts(&mut self, site: Site<'_>, reached: Reached) -> Result<(), AllocError> {
+        self.add_wide(site.gate, reached)?;
+        let feeds = self.feeds_of(site, reached.rule)?;
+        for feed in &feeds {
+            self.add_feed(site.gate, *feed)?;
+        }
+        Ok(())
+    }
+
+    /// From now on a gate is that of a fact of a rule of many places.
+    fn add_wide(&mut self, gate: usize, reached: Reached) -> Result<(), AllocError> {
         let number = small(self.wide.len())?;
         self.wide.push(WideFact {
-            gate: site.gate,
+            gate,
             reached,
             waits: false,
         })?;
-        if let Some(gate) = self.gates.get_mut(site.gate) {
+        if let Some(gate) = self.gates.get_mut(gate) {
             gate.wants = Wants::Parts(number);
         }
-        for feed in self.feeds_of(site, reached.rule)? {
-            self.feed(feed.from, site.gate, feed.read.group)?;
-            if feed.from.is_none() {
-                self.open_group(site.gate, feed.read.group)?;
-            }
+        Ok(())
+    }
+
+    fn add_feed(&mut self, gate: usize, feed: Feed) -> Result<(), AllocError> {
+        self.feed(feed.from, gate, feed.read.group)?;
+        if feed.from.is_none() {
+            self.open_group(gate, feed.read.group)?;
         }
         Ok(())
     }

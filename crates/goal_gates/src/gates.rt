@@ -47,6 +47,13 @@ pub(crate) struct Opened {
     pub(crate) by: Option<u32>,
 }
 
+/// Adds a gate that opened. How many have opened then.
+fn push_opened(open: &mut Vec<Opened>, gate: usize, by: Option<u32>) -> Result<u32, AllocError> {
+    let gate = small(gate)?;
+    open.push(Opened { gate, by })?;
+    small(open.len())
+}
+
 /// An exclusion: its own gate, that of its subtracted side, and the place of the fact whose rule it is in.
 #[derive(Clone, Copy, Drop)]
 pub(crate) struct Exclusion {
@@ -64,7 +71,6 @@ pub(crate) struct WideFact {
 }
 
 /// The gates of a cone. Those of its facts come first, each at its fact's place.
-#[derive(Drop)]
 pub struct Gates<'g, 't> {
     pub(crate) snapshot: &'g Snapshot<'t>,
     pub(crate) facts: ConeFacts<'g>,
@@ -81,6 +87,32 @@ pub struct Gates<'g, 't> {
     pub(crate) told: usize,
 }
 
+// Written out, since one that is derived is a part of each function that lets gates go, with all their parts.
+impl<'g, 't> Drop for Gates<'g, 't> {
+    fn drop(self) {
+        let Gates {
+            snapshot: _,
+            facts,
+            gates,
+            links,
+            exclusions,
+            rules: _,
+            wide,
+            waiting,
+            open,
+            fed: _,
+            told: _,
+        } = self;
+        drop(facts);
+        drop(gates);
+        drop(links);
+        drop(exclusions);
+        drop(wide);
+        drop(waiting);
+        drop(open);
+    }
+}
+
 impl<'g, 't> Gates<'g, 't> {
     /// The gates of a cone. The rules are those of the trace of the snapshot, with what was found of them for other goals; their leaves too.
     pub fn of(
@@ -93,10 +125,12 @@ impl<'g, 't> Gates<'g, 't> {
         ensures { leaves.new.declarations ≡ leaves.old.declarations }
     {
         rules.make_room();
+        let gates = Vec::with_capacity(alloc, cone.len())?;
+        let facts = ConeFacts::of(alloc, cone)?;
         let mut gates = Gates {
             snapshot,
-            facts: ConeFacts::of(alloc, cone)?,
-            gates: Vec::with_capacity(alloc, cone.len())?,
+            facts,
+            gates,
             links: Links::new(alloc),
             exclusions: Vec::new(alloc),
             rules,
@@ -106,13 +140,21 @@ impl<'g, 't> Gates<'g, 't> {
             fed: 0,
             told: 0,
         };
+        gates.add_facts(cone, leaves)?;
+        Ok(gates)
+    }
+
+    /// Gates of the facts, and those of their rules.
+    fn add_facts(&mut self, cone: &[Fact], leaves: &mut Leaves<'_>) -> Result<(), AllocError>
+        ensures { leaves.new.declarations ≡ leaves.old.declarations }
+    {
         for _ in 0..cone.len() {
-            gates.add(1, Wants::Some)?;
+            self.add(1, Wants::Some)?;
         }
         for place in 0..cone.len() {
-            gates.add_rule(place, &cone[place], leaves)?;
+            self.add_rule(place, &cone[place], leaves)?;
         }
-        Ok(gates)
+        Ok(())
     }
 
     /// Whether the gate of a fact is among those that are kept.
@@ -143,11 +185,7 @@ impl<'g, 't> Gates<'g, 't> {
         to: usize,
         group: usize,
     ) -> Result<(), AllocError> {
-        let feeder = match from {
-            Some(from) => Some(small(from)?),
-            None => None,
-        };
-        let number = self.links.add(feeder, small(to)?, small(group)?)?;
+        let number = self.links.add(from, to, group)?;
         if let Some(from) = from {
             if let Some(gate) = self.gates.get_mut(from) {
                 self.links.append(&mut gate.feeds, Way::Feeds, number);
@@ -163,11 +201,7 @@ impl<'g, 't> Gates<'g, 't> {
     pub(crate) fn lower(&mut self, gate: usize, by: Option<u32>) -> Result<(), AllocError> {
         if let Some(found) = self.gates.get_mut(gate) {
             if found.wanted == 1 {
-                self.open.push(Opened {
-                    gate: small(gate)?,
-                    by,
-                })?;
-                found.opened_at = small(self.open.len())?;
+                found.opened_at = push_opened(&mut self.open, gate, by)?;
             }
             found.wanted = found.wanted.saturating_sub(1);
         }

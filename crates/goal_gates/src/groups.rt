@@ -72,11 +72,16 @@ impl Groups {
             marks: Places::new(alloc),
             of_reads: Vec::new(alloc),
         };
-        for number in 0..parts.len() {
-            groups.add_part(parts, number, &parts[number])?;
-        }
-        groups.note_groups()?;
+        groups.add_parts(parts)?;
         Ok(groups)
+    }
+
+    /// Adds what each part reads, and notes the groups of all that.
+    fn add_parts(&mut self, parts: &[Part]) -> Result<(), AllocError> {
+        for number in 0..parts.len() {
+            self.add_part(parts, number, &parts[number])?;
+        }
+        self.note_groups()
     }
 
     /// How many groups there are.
@@ -187,18 +192,21 @@ impl Groups {
     /// Notes the groups of all that is read.
     fn note_groups(&mut self) -> Result<(), AllocError> {
         let mut has = vec![in *self.own.allocator(); false; self.groups.len()]?;
-        for read in &self.own {
-            note(&mut has, read.group);
-        }
-        for read in &self.through {
-            note(&mut has, read.group);
-        }
+        note_groups(&mut has, &self.own);
+        note_groups(&mut has, &self.through);
         for before in 0..has.len() {
             if has[before] {
                 self.of_reads.push(before + 1)?;
             }
         }
         Ok(())
+    }
+}
+
+/// Notes the groups of what is read.
+fn note_groups(has: &mut [bool], reads: &[Read]) {
+    for read in reads {
+        note(has, read.group);
     }
 }
 

@@ -8,8 +8,8 @@ use crate::premises::{Premise, Reading, premises_of};
 use goal_cone::{Leaves, ReadPart};
 use judgement::under;
 use marks::MarkedSet;
-use namespaces::RulePlace;
-use rewrites::{Part, Rewrite};
+use namespaces::{PlainRule, RulePlace};
+use rewrites::Rewrite;
 use snapshots::Snapshot;
 use std::alloc::AllocError;
 use tuple_text::{Fact, SetRef};
@@ -72,16 +72,25 @@ impl<'g, 't> Gates<'g, 't> {
             place,
             gate: place,
         };
-        let rules = snapshot.timeline.rules();
-        match rules.plain_in(stands) {
-            Some(rule) => match &rule.parted {
-                Some(parted) => {
-                    let reached = self.rules.start(stands, parted)?;
-                    self.add_parts(site, reached)
-                }
-                None => self.add_place(site, &rule.rewrite),
-            },
+        match snapshot.timeline.rules().plain_in(stands) {
+            Some(rule) => self.add_plain(stands, rule, site),
             None => Ok(()),
+        }
+    }
+
+    /// The same for a rule in its plain form, to the gate of the fact.
+    fn add_plain(
+        &mut self,
+        stands: RulePlace,
+        rule: &'t PlainRule,
+        site: Site<'_>,
+    ) -> Result<(), AllocError> {
+        match &rule.parted {
+            Some(parted) => {
+                let reached = self.rules.start(stands, parted)?;
+                self.add_parts(site, reached)
+            }
+            None => self.add_place(site, &rule.rewrite),
         }
     }
 
@@ -89,42 +98,18 @@ impl<'g, 't> Gates<'g, 't> {
     #[cycle(add_place)]
     fn add_place(&mut self, site: Site<'_>, rewrite: &Rewrite) -> Result<(), AllocError> {
         match rewrite {
-            Rewrite::This => {
-                let gate = self.add(1, Wants::Some)?;
-                self.feed(Some(gate), site.gate, 0)?;
-                if self.stores_user(site) {
-                    self.lower(gate, None)?;
-                }
-                self.add_stored(site.to(gate))
-            }
-            Rewrite::Computed(relation) => {
-                let set = under(site.fact.set(), relation.as_str());
-                self.add_premise(site, set)
-            }
-            Rewrite::TupleTo { tupleset, computed } => {
-                let gate = self.add(1, Wants::Some)?;
-                self.feed(Some(gate), site.gate, 0)?;
-                let reading = Reading {
-                    tupleset: tupleset.as_str(),
-                    relation: computed.as_str(),
-                };
-                self.add_read(site.to(gate), reading)
-            }
+            Rewrite::This => self.add_own(site),
+            Rewrite::Computed(relation) => self.add_computed(site, relation),
+            Rewrite::TupleTo { tupleset, computed } => self.add_read(site, tupleset, computed),
             Rewrite::Union(children) => self.add_places(site, children, 1, Wants::Some),
             Rewrite::Inter(children) => {
                 self.add_places(site, children, children.len(), Wants::Each)
             }
             Rewrite::Minus(base, subtract) => {
-                let outer = self.add(1, Wants::Some)?;
-                let gate = self.add(2, Wants::Without(small(outer)?))?;
-                self.feed(Some(gate), site.gate, 0)?;
-                self.add_place(site.to(gate), base)?;
-                self.add_place(site.to(outer), subtract)?;
-                self.exclusions.push(Exclusion {
-                    gate,
-                    subtract: outer,
-                    place: site.place,
-                })?;
+                let exclusion = self.add_exclusion(site)?;
+                self.add_place(site.to(exclusion.gate), base)?;
+                self.add_place(site.to(exclusion.subtract), subtract)?;
+                self.exclusions.push(exclusion)?;
                 Ok(())
             }
         }
@@ -139,12 +124,34 @@ impl<'g, 't> Gates<'g, 't> {
         wanted: usize,
         wants: Wants,
     ) -> Result<(), AllocError> {
-        let gate = self.add(wanted, wants)?;
-        self.feed(Some(gate), site.gate, 0)?;
+        let gate = self.add_below(site, wanted, wants)?;
         for child in children {
             self.add_place(site.to(gate), child)?;
         }
         Ok(())
+    }
+
+    /// A new gate that waits for so many openings, and feeds that of the site.
+    fn add_below(
+        &mut self,
+        site: Site<'_>,
+        wanted: usize,
+        wants: Wants,
+    ) -> Result<usize, AllocError> {
+        let gate = self.add(wanted, wants)?;
+        self.feed(Some(gate), site.gate, 0)?;
+        Ok(gate)
+    }
+
+    /// The gates of an exclusion, of which its own feeds that of the site.
+    fn add_exclusion(&mut self, site: Site<'_>) -> Result<Exclusion, AllocError> {
+        let subtract = self.add(1, Wants::Some)?;
+        let gate = self.add_below(site, 2, Wants::Without(small(subtract)?))?;
+        Ok(Exclusion {
+            gate,
+            subtract,
+            place: site.place,
+        })
     }
 
     /// Whether the fact's user is stored in its userset.
@@ -160,6 +167,15 @@ impl<'g, 't> Gates<'g, 't> {
         }
     }
 
+    /// The gate of what is stored in the fact's own userset, which feeds that of the site.
+    fn add_own(&mut self, site: Site<'_>) -> Result<(), AllocError> {
+        let gate = self.add_below(site, 1, Wants::Some)?;
+        if self.stores_user(site) {
+            self.lower(gate, None)?;
+        }
+        self.add_stored(site.to(gate))
+    }
+
     /// The gates of the usersets that are stored in the fact's own feed that of the site.
     fn add_stored(&mut self, site: Site<'_>) -> Result<(), AllocError> {
         let snapshot = self.snapshot;
@@ -170,11 +186,27 @@ impl<'g, 't> Gates<'g, 't> {
         Ok(())
     }
 
-    /// The gates of what is read as that through a tupleset feed that of the site. A rule of few places reads few relations so.
-    fn add_read(&mut self, site: Site<'_>, reading: Reading<'_>) -> Result<(), AllocError> {
+    /// The fact's object under a relation feeds the gate of the site.
+    fn add_computed(&mut self, site: Site<'_>, relation: &String) -> Result<(), AllocError> {
+        let set = under(site.fact.set(), relation.as_str());
+        self.add_premise(site, set)
+    }
+
+    /// The gate of what is read as that through a tupleset, which feeds that of the site. A rule of few places reads few relations so.
+    fn add_read(
+        &mut self,
+        site: Site<'_>,
+        tupleset: &String,
+        computed: &String,
+    ) -> Result<(), AllocError> {
+        let gate = self.add_below(site, 1, Wants::Some)?;
+        let reading = Reading {
+            tupleset: tupleset.as_str(),
+            relation: computed.as_str(),
+        };
         for premise in site.premises {
             if premise.reading == reading {
-                self.feed(Some(premise.place), site.gate, 0)?;
+                self.feed(Some(premise.place), gate, 0)?;
             }
         }
         Ok(())

@@ -35,6 +35,21 @@ pub(crate) struct Link {
 }
 
 impl Link {
+    /// A link that is in no list.
+    fn new(from: Option<usize>, to: usize, group: usize) -> Result<Link, AllocError> {
+        let from = match from {
+            Some(from) => small(from)?.checked_add(1).ok_or(AllocError)?,
+            None => 0,
+        };
+        Ok(Link {
+            from,
+            to: small(to)?,
+            group: small(group)?,
+            next_of_from: 0,
+            next_of_to: 0,
+        })
+    }
+
     /// The gate that feeds, or none where what is fed is open from the first.
     pub(crate) fn from(&self) -> Option<u32> {
         self.from.checked_sub(1)
@@ -112,21 +127,11 @@ impl Links {
     /// Adds a link, and gives its number.
     pub(crate) fn add(
         &mut self,
-        from: Option<u32>,
-        to: u32,
-        group: u32,
+        from: Option<usize>,
+        to: usize,
+        group: usize,
     ) -> Result<u32, AllocError> {
-        let from = match from {
-            Some(from) => from.checked_add(1).ok_or(AllocError)?,
-            None => 0,
-        };
-        self.links.push(Link {
-            from,
-            to,
-            group,
-            next_of_from: 0,
-            next_of_to: 0,
-        })?;
+        self.links.push(Link::new(from, to, group)?)?;
         small(self.links.len())
     }
 

@@ -19,6 +19,25 @@ struct Stage {
     opens_told: Option<bool>,
 }
 
+impl Stage {
+    /// Whether the rule is open, as far as that was found.
+    fn opens(&self, is_told: bool) -> Option<bool> {
+        if is_told {
+            self.opens_told
+        } else {
+            self.opens_untold
+        }
+    }
+
+    fn note(&mut self, is_told: bool, is_open: bool) {
+        if is_told {
+            self.opens_told = Some(is_open);
+        } else {
+            self.opens_untold = Some(is_open);
+        }
+    }
+}
+
 /// A group opens at a stage.
 #[derive(Clone, Copy)]
 pub(crate) struct Turn {
@@ -253,9 +272,10 @@ fn first_stage() -> Stage {
 
 impl<'t> WideRule<'t> {
     pub(crate) fn new(alloc: Global, rule: &'t PartedRule) -> Result<WideRule<'t>, AllocError> {
-        let groups = Groups::of(alloc, &rule.parts)?;
         let mut stages = Vec::new(alloc);
         stages.push(first_stage())?;
+        let open = vec![in alloc; 0usize; rule.parts.len()]?;
+        let groups = Groups::of(alloc, &rule.parts)?;
         let open_groups = vec![in alloc; 0usize; groups.len().saturating_add(1)]?;
         Ok(WideRule {
             rule,
@@ -263,7 +283,7 @@ impl<'t> WideRule<'t> {
             has_exclusions: has_exclusions(&rule.top),
             stages,
             turns: BTreeMap::new(alloc),
-            open: vec![in alloc; 0usize; rule.parts.len()]?,
+            open,
             open_groups,
         })
     }
@@ -391,23 +411,18 @@ impl<'t> WideRule<'t> {
         let Some(found) = self.stages.get(stage).copied() else {
             return false;
         };
-        let known = if is_told {
-            found.opens_told
-        } else {
-            found.opens_untold
-        };
-        if let Some(is_open) = known {
-            return is_open;
+        match found.opens(is_told) {
+            Some(is_open) => is_open,
+            None => self.find_opens(stage, is_told),
         }
+    }
+
+    fn find_opens(&mut self, stage: usize, is_told: bool) -> bool {
         self.set_groups(stage, true);
         let is_open = opens(&self.rule.top, self.sight(is_told));
         self.set_groups(stage, false);
         if let Some(found) = self.stages.get_mut(stage) {
-            if is_told {
-                found.opens_told = Some(is_open);
-            } else {
-                found.opens_untold = Some(is_open);
-            }
+            found.note(is_told, is_open);
         }
         is_open
     }

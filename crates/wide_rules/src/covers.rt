@@ -140,6 +140,17 @@ impl Covers {
         Ok(())
     }
 
+    /// Covers of those parts that read through one tupleset, for each.
+    fn add_groups(&mut self, alloc: Global, parts: &[Part]) -> Result<(), AllocError> {
+        let groups = groups_of(alloc, parts)?;
+        for k in 0..groups.len() {
+            if let Some((tupleset, numbers)) = groups.get_index(k) {
+                self.add_group(alloc, tupleset, parts, numbers)?;
+            }
+        }
+        Ok(())
+    }
+
     /// Covers of all sizes, from that of all these parts on. Each size takes as many steps as they read relations.
     fn add_group(
         &mut self,
@@ -163,21 +174,22 @@ impl Covers {
     }
 }
 
+/// No cover of so many parts.
+fn no_covers(alloc: Global, parts: usize) -> Result<Covers, AllocError> {
+    let mut by_part = Vec::with_capacity(alloc, parts)?;
+    for _ in 0..parts {
+        by_part.push(Vec::new(alloc))?;
+    }
+    Ok(Covers {
+        covers: Vec::new(alloc),
+        by_part,
+    })
+}
+
 /// Covers of the parts of a rule, as they were put together.
 fn unchecked_covers(alloc: Global, parts: &[Part]) -> Result<Covers, AllocError> {
-    let mut unchecked = Covers {
-        covers: Vec::new(alloc),
-        by_part: Vec::with_capacity(alloc, parts.len())?,
-    };
-    for _ in 0..parts.len() {
-        unchecked.by_part.push(Vec::new(alloc))?;
-    }
-    let groups = groups_of(alloc, parts)?;
-    for k in 0..groups.len() {
-        if let Some((tupleset, numbers)) = groups.get_index(k) {
-            unchecked.add_group(alloc, tupleset, parts, numbers)?;
-        }
-    }
+    let mut unchecked = no_covers(alloc, parts.len())?;
+    unchecked.add_groups(alloc, parts)?;
     Ok(unchecked)
 }
 
