@@ -19,20 +19,39 @@ use trace_lines::Trace;
 use wide_rules::AskedRule;
 
 /// A rule, and where it stands.
-#[derive(Drop)]
 pub(crate) struct PlacedRule<'t> {
     place: RulePlace,
     rule: AskedRule<'t>,
 }
 
+// Written out, as those below: one that is derived is a part of each function that lets the value go, with all its parts.
+impl<'t> Drop for PlacedRule<'t> {
+    fn drop(self) {
+        let PlacedRule { place: _, rule } = self;
+        drop(rule);
+    }
+}
+
 /// Rules of many places, each with what was asked of it in all records so far. Contracts see the trace over which they are asked.
-#[derive(Drop)]
 pub struct AskedRules<'t> {
     alloc: Global,
     trace: &'t Trace,
     asked: Vec<PlacedRule<'t>>,
     // by its place, where a rule may be found: it is the one only where its place says so
     numbers: BTreeMap<u64, usize>,
+}
+
+impl<'t> Drop for AskedRules<'t> {
+    fn drop(self) {
+        let AskedRules {
+            alloc: _,
+            trace: _,
+            asked,
+            numbers,
+        } = self;
+        drop(asked);
+        drop(numbers);
+    }
 }
 
 impl<'t> Model for AskedRules<'t> {

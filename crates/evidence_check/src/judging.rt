@@ -21,13 +21,27 @@ use std::marker::Model;
 use trace_lines::Trace;
 
 /// How the entries of a trace are judged by the records read so far, none of which is kept.
-#[derive(Drop)]
 pub struct Judging<'t> {
     alloc: Global,
     trace: &'t Trace,
     lines: EntryLines,
     judgements: Vec<Judged>,
     asked: AskedRules<'t>,
+}
+
+impl<'t> Drop for Judging<'t> {
+    fn drop(self) {
+        let Judging {
+            alloc: _,
+            trace: _,
+            lines,
+            judgements,
+            asked,
+        } = self;
+        drop(lines);
+        drop(judgements);
+        drop(asked);
+    }
 }
 
 impl<'t> Model for Judging<'t> {
@@ -69,7 +83,16 @@ impl<'t> Judging<'t> {
     pub fn into_judgements(self) -> Vec<Judged>
         ensures { result.items ≡ self.entry.judgements }
     {
-        self.judgements
+        let Judging {
+            alloc: _,
+            trace: _,
+            lines,
+            judgements,
+            asked,
+        } = self;
+        drop(lines);
+        drop(asked);
+        judgements
     }
 
     fn is_judged(&self, place: usize) -> bool

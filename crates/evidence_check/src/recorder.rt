@@ -18,11 +18,22 @@ use std::marker::Model;
 use trace_lines::Trace;
 
 /// The lines of the entries, and the steps that were given for each.
-#[derive(Drop)]
 pub(crate) struct Recorder {
     alloc: Global,
     lines: EntryLines,
     steps: Vec<Option<Steps>>,
+}
+
+impl Drop for Recorder {
+    fn drop(self) {
+        let Recorder {
+            alloc: _,
+            lines,
+            steps,
+        } = self;
+        drop(lines);
+        drop(steps);
+    }
 }
 
 impl Model for Recorder {
@@ -64,7 +75,13 @@ impl Recorder {
     pub(crate) fn into_steps(self) -> Vec<Option<Steps>>
         ensures { all_shown result.items ≡ self.steps }
     {
-        self.steps
+        let Recorder {
+            alloc: _,
+            lines,
+            steps,
+        } = self;
+        drop(lines);
+        steps
     }
 
     fn is_taken(&self, place: usize) -> bool

@@ -1,31 +1,32 @@
 -- What the fields of `Rules` tell of the declarations.
-use Rattle.std.proofs.Common.{◌≡◌, ℕ, ◌+◌, ◌-◌, ◌<◌, ◌≤◌, nat_le, List, [], ◌∷◌, ◌++◌, map, length, slice_get, position, filter, Bool, true, false, cond, Option, None, Some, option_map, option_and_then, is_some, string_bytes, refl, sym, ap, ◌∙◌, arith}
+use Rattle.std.proofs.Common.{◌≡◌, ℕ, ◌+◌, ◌-◌, ◌<◌, ◌≤◌, nat_le, List, [], ◌∷◌, ◌++◌, map, length, slice_get, position, filter, Bool, true, false, cond, Option, None, Some, option_map, option_and_then, is_some, Bor, string_bytes, refl, sym, ap, ◌∙◌, arith}
 use Rattle.std.proofs.lemmas.Option.{slice_get-map}
 use Rattle.std.proofs.lemmas.Map.Made.{is_some-lookup}
 use Rattle.indexmap.proofs.MapLemmas.{Found-position, some_index}
 use Rattle.std.specs.Global.{Vec}
-use Rattle.std.specs.Option.{IfSome}
+use Rattle.std.specs.Option.{IfSome, option_copied}
 use Rattle.std.specs.Str.{bytes_eq}
 use Rattle.std.specs.List.{AllByRecursion, last_or, list_any}
 use Rattle.std.specs.Map.{lookup, keys_of}
 use Rattle.namespaces.specs.Declaration as declaration
 use Rattle.namespaces.specs.Declaration.{Declaration}
-use Rattle.namespaces.specs.Lookup.{as_rule, relation_named, relation_names, relations_of, namespace_names, namespace_numbered, relation_numbered, item_at}
+use Rattle.namespaces.specs.Lookup.{as_rule, relation_at, relation_named, relation_names, relations_of, namespace_names, namespace_numbered, relation_numbered, item_at}
 use Rattle.namespaces.specs.Adding.{is_declared}
 use Rattle.namespaces.specs.Changing.{change_count}
 use Rattle.rewrites.specs.View.{expression_of}
-use Rattle.namespaces.specs.WellFormed.{IsFit, IsWellFormed}
+use Rattle.namespaces.specs.WellFormed.{AreContinued, IsFit, IsWellFormed}
 use Rattle.namespaces.specs.Shown.{show_line, show_lines, show_relation, show_relations}
 use Rattle.namespaces.specs.Index.{show_index, revision, with_revision, index_of, revisions_of, relations_at, unless_empty}
 use Rattle.namespaces.specs.Consistent.{AreConsistent}
 use Rattle.namespaces.specs.declared.number.RelNo.{RelNo}
+use Rattle.namespaces.specs.declared.relation.Relation.{Relation}
 use Rattle.namespaces.specs.declared.rules.Line.{Line}
 use Rattle.namespaces.specs.declared.index.Revision.{Revision}
 use Rattle.namespaces.proofs.Tables.{Entry, is_text}
 use Rattle.rewrites.proofs.Names.{none_there}
 use Rattle.namespaces.proofs.Indexes.{IndexEntry, lookup-index_of, lookup-show_index, names-index_of, names-show_index, index_of-push, length-mapped, position-map}
 use Rattle.namespaces.proofs.Revisions.{last_or-slice_get, relations_of-revisions, relations_at-revisions}
-use Rattle.namespaces.proofs.Times.{from_one}
+use Rattle.namespaces.proofs.Times.{from_one, relation_at-relations_at}
 use Rattle.namespaces.proofs.Growth.{is_declared-names, change_count-push, each_push}
 use Rattle.namespaces.proofs.Numbers.{item_at-place, same_then}
 
@@ -130,6 +131,10 @@ pub expression_found : (q : List ℕ) (es : List Entry) → option_map (λ r. r.
 expression_found q [] = refl
 expression_found q (e ∷ es) = found_mapped (is_text q e.0) _ _ _ e.1 _ _ refl (expression_found q es)
 
+pub expression_borrowed : (o : Option (Bor Relation)) → option_map (λ r. expression_of r.now.rewrite) o ≡ option_map (λ r. expression_of r.rewrite) (option_copied o)
+expression_borrowed None = refl
+expression_borrowed (Some x) = refl
+
 -- the relation of a name stands at the place of the name
 pub expression_placed : (q : List ℕ) (es : List Entry) (i : ℕ) → position (is_text q) (keys_of es) ≡ Some i
     → option_map (λ r. r.expression) (slice_get (show_relations es) i) ≡ option_map (λ r. r.expression) (relation_named q (show_relations es))
@@ -146,9 +151,14 @@ pub none_placed : (q : List ℕ) (es : List Entry) → position (is_text q) (key
 none_placed q es none =
     expression_found q es ∙ ap (option_map (λ r. expression_of r.rewrite)) (none_there (lookup (is_text q) es) (sym (some_index (is_text q) es) ∙ ap is_some none))
 
-pub expression_of_rule : (o : Option declaration.Relation) → option_map (λ r. r.expression) (option_map as_rule o) ≡ option_map (λ r. r.expression) o
+expression_of_rule : (o : Option declaration.Relation) → option_map (λ r. r.expression) (option_map as_rule o) ≡ option_map (λ r. r.expression) o
 expression_of_rule None = refl
 expression_of_rule (Some r) = refl
+
+-- the rule in force, from the relations of its namespace then
+pub expression_in_force : (ds : List Declaration) (at : ℕ) (q r : List ℕ) (rs : Option (List declaration.Relation)) → AreContinued ds → rs ≡ relations_at at q ds
+    → option_map (λ r. r.expression) (option_map as_rule (relation_at ds at q r)) ≡ option_map (λ r. r.expression) (option_and_then (relation_named r) rs)
+expression_in_force ds at q r rs continued is = rw (expression_of_rule (relation_at ds at q r), relation_at-relations_at ds at q r continued, is) refl
 
 names_shown : (es : List Entry) → relation_names (show_relations es) ≡ map string_bytes (keys_of es)
 names_shown [] = refl

@@ -14,20 +14,39 @@ use std::alloc::{AllocError, Global};
 const FEW_PLACES: usize = 16;
 
 /// The plain form of a rule, and its parts where it has more than a few places.
-#[derive(Drop)]
 pub struct PlainRule {
     pub rewrite: Rewrite,
     pub parted: Option<PartedRule>,
     ghost parted_of: { ArePartsOf parted (expression_of rewrite) },
 }
 
+// Written out, as those below: one that is derived is a part of each function that lets the value go, with all its parts.
+impl Drop for PlainRule {
+    fn drop(self) {
+        let PlainRule { rewrite, parted } = self;
+        drop(rewrite);
+        drop(parted);
+    }
+}
+
 /// What is declared of a relation, beside its name. The plain form of its rule is made once, when it is declared.
-#[derive(Drop)]
 pub(crate) struct Relation {
     pub(crate) stratum: u8,
     pub(crate) rewrite: Rewrite,
     pub(crate) plain: PlainRule,
     ghost plain_of: { IsPlainOf (expression_of plain.rewrite) (expression_of rewrite) },
+}
+
+impl Drop for Relation {
+    fn drop(self) {
+        let Relation {
+            stratum: _,
+            rewrite,
+            plain,
+        } = self;
+        drop(rewrite);
+        drop(plain);
+    }
 }
 
 /// A plain rule, with its parts where it is wide.

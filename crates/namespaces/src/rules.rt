@@ -38,7 +38,6 @@ pub(crate) struct Line {
 }
 
 /// The declared namespaces with their rules, which contracts see as the list of their declarations in order.
-#[derive(Drop)]
 pub struct Rules {
     // every declaration, in order
     lines: Vec<Line>,
@@ -46,6 +45,18 @@ pub struct Rules {
     namespaces: IndexMap<String, Vec<Revision>>,
     // how many of the declarations are changes
     changes: u16,
+}
+
+impl Drop for Rules {
+    fn drop(self) {
+        let Rules {
+            lines,
+            namespaces,
+            changes: _,
+        } = self;
+        drop(lines);
+        drop(namespaces);
+    }
 }
 
 impl Model for Rules {
@@ -387,8 +398,7 @@ impl Rules {
             ≡ option_map (λ r. r.expression) (rule_of (rule_at self.now at) (set_value set.entry)) }
     {
         let relations = self.in_force(set.namespace, at)?;
-        let relation = value_in(relations, set.relation)?;
-        Some(relation)
+        value_in(relations, set.relation)
     }
 
     /// The namespace that `add` would declare.
@@ -469,15 +479,13 @@ impl Rules {
         };
         let name = namespace.name.clone()?;
         let changes = self.changes + u16::from(is_change);
-        self.lines.push(Line {
+        self.lines.reserve(1)?;
+        note(alloc, &mut self.namespaces, name, revision)?;
+        self.lines.push_reserved(Line {
             at,
             is_change,
             namespace,
-        })?;
-        if let Err(fault) = note(alloc, &mut self.namespaces, name, revision) {
-            let _ = self.lines.pop();
-            return Err(fault);
-        }
+        });
         self.changes = changes;
         Ok(())
     }

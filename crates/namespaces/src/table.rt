@@ -26,10 +26,17 @@ use tuple_text::is_name;
 const MAX_DEPTH: u8 = 32;
 
 /// A namespace that passed every test of its own value.
-#[derive(Drop)]
 pub(crate) struct Namespace {
     pub(crate) name: String,
     pub(crate) relations: IndexMap<String, Relation>,
+}
+
+impl Drop for Namespace {
+    fn drop(self) {
+        let Namespace { name, relations } = self;
+        drop(name);
+        drop(relations);
+    }
 }
 
 /// The namespace of a draft, or the first fault that applies, where `repeated` says that the namespace may not be declared again, and

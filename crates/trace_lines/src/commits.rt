@@ -17,19 +17,41 @@ use std::alloc::{AllocError, Global};
 use tuple_text::{Tuple, TupleRef};
 
 /// What a line commits. The tuples borrow from the line.
-#[derive(Drop)]
 pub(crate) struct CommitRef<'a> {
     pub(crate) at: u64,
     pub(crate) adds: Vec<TupleRef<'a>>,
     pub(crate) removes: Vec<TupleRef<'a>>,
 }
 
+impl<'a> Drop for CommitRef<'a> {
+    fn drop(self) {
+        let CommitRef {
+            at: _,
+            adds,
+            removes,
+        } = self;
+        drop(adds);
+        drop(removes);
+    }
+}
+
 /// What a line commits, in texts of its own.
-#[derive(Drop)]
 pub(crate) struct OwnedCommit {
     pub(crate) at: u64,
     pub(crate) adds: Vec<Tuple>,
     pub(crate) removes: Vec<Tuple>,
+}
+
+impl Drop for OwnedCommit {
+    fn drop(self) {
+        let OwnedCommit {
+            at: _,
+            adds,
+            removes,
+        } = self;
+        drop(adds);
+        drop(removes);
+    }
 }
 
 /// What a line commits.

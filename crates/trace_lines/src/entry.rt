@@ -13,7 +13,7 @@ pub enum EntryKind {
 }
 
 /// A recorded decision.
-#[derive(Debug, Drop)]
+#[derive(Debug)]
 pub struct Entry {
     pub kind: EntryKind,
     pub reply: bool,
@@ -28,4 +28,22 @@ pub struct Entry {
     pub version: Option<String>,
     /// How many commits stand on earlier lines.
     pub before: usize,
+}
+
+// Written out, as that of a trace.
+impl Drop for Entry {
+    fn drop(self) {
+        let Entry {
+            kind: _,
+            reply: _,
+            line: _,
+            goal,
+            snapshot: _,
+            zookie: _,
+            version,
+            before: _,
+        } = self;
+        drop(goal);
+        drop(version);
+    }
 }

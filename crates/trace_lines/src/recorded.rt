@@ -6,11 +6,17 @@ ghost use Rattle.trace_lines.specs.Recorded.{number_at};
 use crate::entry::Entry;
 
 /// An entry, and where it names a version the entry that issued that.
-#[derive(Drop)]
 pub(crate) struct Recorded {
     pub(crate) entry: Entry,
     // the place of the entry that issued it, which counts from 1; 0 where there is none
     content: usize,
+}
+
+impl Drop for Recorded {
+    fn drop(self) {
+        let Recorded { entry, content: _ } = self;
+        drop(entry);
+    }
 }
 
 impl Recorded {

@@ -1,4 +1,4 @@
-use Rattle.std.proofs.Common.{◌≡◌, ◌∙◌, Bool, String, Global, Option, None, Some, false, is_some, ap, sym}
+use Rattle.std.proofs.Common.{◌∙◌, Bool, String, Global, is_some, ap, sym}
 use Rattle.std.specs.Prelude.{bytes_eq, string_bytes, option_map}
 use Rattle.std.proofs.lemmas.Option.{slice_get-map}
 use Rattle.std.specs.Map.{lookup}
