@@ -192,15 +192,27 @@ fn told(alloc: Global, words: &[String], error: &Error) -> Result<String, AllocE
     format!(in alloc; "{error}")
 }
 
+/// What is shown for an error, unless memory ran out.
+fn answer_of<'a>(alloc: Global, words: &[String], error: &Error) -> Result<Answer<'a>, AllocError>
+    ensures { IfOk result (λ a. asked_in a ≡ None) }
+{
+    if error.kind() == ErrorKind::OutOfMemory {
+        return Err(AllocError);
+    }
+    let text = told(alloc, words, error)?;
+    if error.use_stderr() {
+        return Ok(Answer::Refuses(text));
+    }
+    Ok(Answer::Shows(text))
+}
+
 /// What is shown for words that ask for nothing, by the commands with their rules.
 fn refusal_of<'a>(alloc: Global, words: &'a [String]) -> Result<Answer<'a>, AllocError>
     ensures { IfOk result (λ a. asked_in a ≡ None) }
 {
     match strict(alloc)?.try_get_matches_from(words) {
         Ok(_matches) => Ok(Answer::Refuses(format!(in alloc; "usage")?)),
-        Err(error) if error.kind() == ErrorKind::OutOfMemory => Err(AllocError),
-        Err(error) if error.use_stderr() => Ok(Answer::Refuses(told(alloc, words, &error)?)),
-        Err(error) => Ok(Answer::Shows(told(alloc, words, &error)?)),
+        Err(error) => answer_of(alloc, words, &error),
     }
 }
 

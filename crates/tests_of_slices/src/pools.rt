@@ -1,12 +1,17 @@
 //! Runs of the pool: its reports stand in order, two workers are at work at once, and an alert is shown once.
 
+ghost use Rattle.std.specs.Prelude.{◌<◌, ◌≤◌};
+
 use crate::five::{FiveBoard, FiveChecks, FiveNamed, finding};
 use audit_slices::{Alert, Blind, Free, Gate, SliceReport, Watch, cut, run_pool};
+use std::alloc::{AllocError, Global};
+use std::sync::Wait;
 use std::sync::atomic::{AtomicUsize, Ordering};
 use std::test::*;
+use std::thread::Threads;
 
 // It counts how often it was shown the alert of the first entry, that of the last, and others.
-#[derive(Drop)]
+#[derive(Clone, Copy)]
 struct Shown {
     first: usize,
     last: usize,
@@ -84,46 +89,85 @@ fn are_single(done: &[SliceReport<Option<u8>>]) -> bool {
         .all(|(k, report)| report.reports() == [finding(k)].as_slice())
 }
 
-#[test]
-fn pool_answers_in_order(rt: HostRuntime) -> Result<(), Fail> {
-    for workers in [1usize, 2, 3, 16] {
-        for (entries, size) in [(5usize, 2usize), (1000, 7)] {
-            let done = run_pool(
-                &rt,
-                rt.alloc(),
-                &FiveChecks,
-                &Free,
-                None::<&FiveBoard>,
-                &mut Blind,
-                cut(rt.alloc(), entries, size)?,
-                workers,
-            )?;
-            assert!(rt; done.len() == entries.div_ceil(size));
-            assert!(rt; are_in_order(&done, entries), "{entries} by {workers}");
-        }
+// The reports on so many entries in slices of this size, by so many workers.
+fn reports<G: Gate + Sync, W: Watch<Option<u8>, FiveNamed>, R: Threads + Wait + Sync>(
+    rt: &R,
+    alloc: Global,
+    gate: &G,
+    board: Option<&FiveBoard>,
+    watch: &mut W,
+    entries: usize,
+    size: usize,
+    workers: usize,
+) -> Result<Vec<SliceReport<Option<u8>>>, AllocError>
+    requires workers { (0 < workers) × (workers ≤ 16) }
+    requires size { 0 < size }
+    requires entries { entries ≤ 1000 }
+{
+    let slices = cut(alloc, entries, size)?;
+    run_pool(rt, alloc, &FiveChecks, gate, board, watch, slices, workers)
+}
+
+fn is_in_order<R: Threads + Wait + Sync>(
+    rt: &R,
+    alloc: Global,
+    entries: usize,
+    size: usize,
+    workers: usize,
+) -> bool
+    requires workers { (0 < workers) × (workers ≤ 16) }
+    requires size { 0 < size }
+    requires entries { entries ≤ 1000 }
+{
+    match reports(rt, alloc, &Free, None, &mut Blind, entries, size, workers) {
+        Ok(done) => done.len() == entries.div_ceil(size) && are_in_order(&done, entries),
+        Err(_) => false,
     }
-    Ok(())
 }
 
 #[test]
-fn two_workers_are_at_work_at_once(rt: HostRuntime) -> Result<(), Fail> {
+fn pool_answers_in_order(rt: HostRuntime) {
+    for workers in [1usize, 2, 3, 16] {
+        assert!(rt;
+            is_in_order(&rt, rt.alloc(), 5, 2, workers),
+            "5 by {workers}"
+        );
+        assert!(rt;
+            is_in_order(&rt, rt.alloc(), 1000, 7, workers),
+            "1000 by {workers}"
+        );
+    }
+}
+
+#[test]
+fn two_workers_are_at_work_at_once(rt: HostRuntime) {
     let gate = Holds {
         calls: AtomicUsize::new(0),
         late: AtomicUsize::new(0),
     };
-    let done = run_pool(
-        &rt,
-        rt.alloc(),
-        &FiveChecks,
-        &gate,
-        None::<&FiveBoard>,
-        &mut Blind,
-        cut(rt.alloc(), 5, 1)?,
-        2,
-    )?;
-    assert!(rt; done.len() == 5 && are_single(&done));
-    assert!(rt; gate.late.load(Ordering::SeqCst) == 0);
-    Ok(())
+    let is_whole = match reports(&rt, rt.alloc(), &gate, None, &mut Blind, 5, 1, 2) {
+        Ok(done) => done.len() == 5 && are_single(&done),
+        Err(_) => false,
+    };
+    assert!(rt; is_whole && gate.late.load(Ordering::SeqCst) == 0);
+}
+
+// Whether each alert of five entries is shown once.
+fn are_shown_once<R: Threads + Wait + Sync>(
+    rt: &R,
+    alloc: Global,
+    board: &FiveBoard,
+    size: usize,
+    workers: usize,
+) -> bool
+    requires workers { (0 < workers) × (workers ≤ 16) }
+    requires size { 0 < size }
+{
+    let mut watch = Shown::new();
+    match reports(rt, alloc, &Free, Some(board), &mut watch, 5, size, workers) {
+        Ok(done) => done.len() == 5usize.div_ceil(size) && watch.is_each_once(),
+        Err(_) => false,
+    }
 }
 
 #[test]
@@ -131,19 +175,8 @@ fn alerts_are_shown_once(rt: HostRuntime) -> Result<(), Fail> {
     for workers in [1usize, 2, 3, 16] {
         for size in [1usize, 2] {
             let board = FiveBoard::new(rt.alloc())?;
-            let mut watch = Shown::new();
-            let done = run_pool(
-                &rt,
-                rt.alloc(),
-                &FiveChecks,
-                &Free,
-                Some(&board),
-                &mut watch,
-                cut(rt.alloc(), 5, size)?,
-                workers,
-            )?;
-            assert!(rt; done.len() == 5usize.div_ceil(size));
-            assert!(rt; watch.is_each_once(), "{size} by {workers}");
+            let is_right = are_shown_once(&rt, rt.alloc(), &board, size, workers);
+            assert!(rt; is_right, "{size} by {workers}");
         }
     }
     Ok(())
@@ -158,20 +191,21 @@ fn has_the_last_alone(board: &FiveBoard) -> bool {
     }
 }
 
+// Whether an alert of the last entry is posted, and is the one that the board has.
+fn is_posted<R: Wait>(rt: &R, board: &FiveBoard) -> bool {
+    let alert = Alert {
+        entry: 4,
+        report: Some(9),
+    };
+    match board.post(rt, alert) {
+        Ok(posted) => board.of(&posted).entry == 4 && has_the_last_alone(board),
+        Err(_) => false,
+    }
+}
+
 #[test]
 fn one_alert_is_posted(rt: HostRuntime) -> Result<(), Fail> {
     let board = FiveBoard::new(rt.alloc())?;
-    let Ok(posted) = board.post(
-        &rt,
-        Alert {
-            entry: 4,
-            report: Some(9),
-        },
-    ) else {
-        panic!(rt; "no memory")
-    };
-    assert!(rt; board.of(&posted).entry == 4);
-    assert!(rt; has_the_last_alone(&board));
-    assert!(rt; board.alerts().count() == 1);
+    assert!(rt; is_posted(&rt, &board));
     Ok(())
 }

@@ -4,11 +4,9 @@ ghost use Rattle.std.specs.Prelude.{◌≡◌, map};
 ghost use Rattle.slice_yard.specs.Cut.{IsNumbered};
 ghost use Rattle.slice_yard.specs.Lane.{lane_place, thief_place};
 
-use crate::five::FiveChecks;
-use audit_slices::{Lane, OpenCause, Slice, Thief, Yard, check_slice, close, cut};
+use audit_slices::{Lane, Receipts, Slice, Thief, Yard, close, cut};
 use std::alloc::Global;
-use std::process::Abort;
-use std::test::*;
+use std::test::Fail;
 
 fn number_of(slice: Option<Slice>) -> Option<usize> {
     match slice {
@@ -47,7 +45,7 @@ fn steal_of(thieves: &mut Vec<Vec<Thief>>, worker: usize, place: usize) -> Optio
     steal_at(&mut thieves[worker], place)
 }
 
-#[derive(Clone, Copy, Debug)]
+#[derive(Clone, Copy)]
 enum Move {
     // The owner of this lane takes.
     Next(usize),
@@ -55,89 +53,63 @@ enum Move {
     Steal(usize, usize),
 }
 
-// A yard whose moves, one after another, give slices of these numbers, and which has these left when it is closed.
-fn walk<R: Abort>(
-    rt: &R,
+// Whether these moves, one after another, give slices of these numbers.
+fn are_given(
+    owners: &mut Vec<Lane>,
+    thieves: &mut Vec<Vec<Thief>>,
+    moves: &[(Move, Option<usize>)],
+) -> bool
+    ensures owners { map lane_place owners.new.items ≡ map lane_place owners.old.items }
+    ensures thieves { map (λ v. map thief_place v.items) thieves.new.items
+        ≡ map (λ v. map thief_place v.items) thieves.old.items }
+{
+    for (step, number) in moves {
+        let given = match *step {
+            Move::Next(l) => next_of(owners, l),
+            Move::Steal(worker, place) => steal_of(thieves, worker, place),
+        };
+        if given != *number {
+            return false;
+        }
+    }
+    true
+}
+
+fn are_left(mut receipts: Receipts, left: &[usize]) -> bool {
+    for number in left {
+        if number_of(receipts.next()) != Some(*number) {
+            return false;
+        }
+    }
+    receipts.next().is_none()
+}
+
+// A yard whose moves give slices of these numbers, and which has these left when it is closed.
+fn is_walked(
     alloc: Global,
     slices: Vec<Slice>,
     lanes: usize,
     workers: usize,
     moves: &[(Move, Option<usize>)],
     left: &[usize],
-)
+) -> bool
     requires { IsNumbered slices.items }
 {
-    let Ok((mut owners, mut thieves)) = Yard::open(alloc, slices, lanes, workers) else {
-        panic!(rt; "refused")
-    };
-    for (step, number) in moves {
-        let given = match *step {
-            Move::Next(l) => next_of(&mut owners, l),
-            Move::Steal(worker, place) => steal_of(&mut thieves, worker, place),
-        };
-        assert!(rt; given == *number, "at {step:?}");
-    }
-    let mut receipts = close(owners, thieves);
-    for number in left {
-        assert!(rt; number_of(receipts.next()) == Some(*number));
-    }
-    assert!(rt; receipts.next().is_none());
-}
-
-// Whether the slices are numbered 0, 1 and 2.
-fn are_three(slices: &[Slice]) -> bool {
-    slices.len() == 3
-        && slices
-            .iter()
-            .enumerate()
-            .all(|(k, slice)| slice.number() == k)
-}
-
-#[test]
-fn slices_are_cut(rt: HostRuntime) -> Result<(), Fail> {
-    let slices = cut(rt.alloc(), 5, 2)?;
-    assert!(rt; are_three(&slices));
-    for (slice, len) in slices.iter().zip([2usize, 2, 1]) {
-        assert!(rt; slice.len() == len);
-    }
-    Ok(())
-}
-
-#[test]
-fn last_slice_is_checked(rt: HostRuntime) -> Result<(), Fail> {
-    let mut slices = cut(rt.alloc(), 5, 2)?;
-    let Some(last) = slices.pop() else {
-        panic!(rt; "no slice")
-    };
-    let Ok(report) = check_slice(rt.alloc(), &FiveChecks, last) else {
-        panic!(rt; "no memory")
-    };
-    assert!(rt; report.number() == 2);
-    assert!(rt; report.reports() == [Some(9)].as_slice());
-    Ok(())
-}
-
-#[test]
-fn yard_is_refused(rt: HostRuntime) -> Result<(), Fail> {
-    for (lanes, workers, cause) in [
-        (0usize, 1usize, OpenCause::NoLane),
-        (17, 17, OpenCause::TooManyLanes),
-        (2, 1, OpenCause::TooManyLanes),
-    ] {
-        let slices = cut(rt.alloc(), 5, 2)?;
-        match Yard::open(rt.alloc(), slices, lanes, workers) {
-            Ok(_) => panic!(rt; "opened"),
-            Err(fault) => assert!(rt; fault.cause == cause && are_three(&fault.slices)),
+    match Yard::open(alloc, slices, lanes, workers) {
+        Ok((mut owners, mut thieves)) => {
+            let given = are_given(&mut owners, &mut thieves, moves);
+            let whole = are_left(close(owners, thieves), left);
+            given && whole
         }
+        Err(_) => false,
     }
-    Ok(())
 }
 
 #[test]
 fn yard_of_one_lane(rt: HostRuntime) -> Result<(), Fail> {
     let slices = cut(rt.alloc(), 5, 2)?;
     let moves = [(Move::Next(0), Some(0usize)), (Move::Steal(1, 0), Some(1))];
-    walk(&rt, rt.alloc(), slices, 1, 2, &moves, &[2]);
+    assert!(rt; is_walked(rt.alloc(), slices, 1, 2, &moves, &[2]));
     Ok(())
 }
 
@@ -151,7 +123,7 @@ fn yard_of_two_lanes(rt: HostRuntime) -> Result<(), Fail> {
         (Move::Steal(1, 0), Some(2)),
         (Move::Next(1), None),
     ];
-    walk(&rt, rt.alloc(), slices, 2, 2, &moves, &[4]);
+    assert!(rt; is_walked(rt.alloc(), slices, 2, 2, &moves, &[4]));
     Ok(())
 }
 
@@ -163,6 +135,6 @@ fn yard_of_three_lanes(rt: HostRuntime) -> Result<(), Fail> {
         (Move::Steal(1, 0), Some(2usize)),
         (Move::Steal(1, 1), Some(0)),
     ];
-    walk(&rt, rt.alloc(), slices, 3, 3, &moves, &[1]);
+    assert!(rt; is_walked(rt.alloc(), slices, 3, 3, &moves, &[1]));
     Ok(())
 }

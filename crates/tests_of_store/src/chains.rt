@@ -3,7 +3,7 @@
 use marks::MarkedSet;
 use std::alloc::Global;
 use std::test::Fail;
-use tuple_text::{SetRef, Tuple, UserRef, Userset, parse_tuple, parse_userset};
+use tuple_text::{SetRef, Tuple, TupleFault, UserRef, Userset, parse_tuple, parse_userset};
 use version_chains::among::{is_every_set_among, is_some_set_among};
 use version_chains::{AppendFault, Chains};
 
@@ -17,18 +17,42 @@ const VIEWED: SetRef<'static> = SetRef {
     relation: "viewer",
 };
 
-fn tuples(alloc: Global, texts: &[&str]) -> Result<Vec<Tuple>, Fail> {
+fn tuples(alloc: Global, texts: &[&str]) -> Result<Vec<Tuple>, TupleFault> {
     let mut all = Vec::new(alloc);
     for text in texts {
-        all.push(parse_tuple(alloc, text)?)?;
+        if all.push(parse_tuple(alloc, text)?).is_err() {
+            return Err(TupleFault::OutOfMemory);
+        }
     }
     Ok(all)
 }
 
+/// A commit: its timestamp, the tuples that it adds, and those that it removes.
 type Texts = (u64, &'static [&'static str], &'static [&'static str]);
 
+/// The viewer is added, removed, and added once more.
+const ADDED_TWICE: [Texts; 3] = [(5, VIEWER, NONE), (7, NONE, VIEWER), (9, VIEWER, NONE)];
+
+/// Three users are added, and one of the two usersets among them is removed.
+const THREE_USERS: [Texts; 2] = [
+    (
+        5,
+        &[
+            "doc:x#viewer@1",
+            "doc:x#viewer@group:a#member",
+            "doc:x#viewer@folder:b#...",
+        ],
+        NONE,
+    ),
+    (7, NONE, &["doc:x#viewer@folder:b#..."]),
+];
+
 /// What `append` answers for the commit of these texts.
-fn answer(alloc: Global, chains: &mut Chains, commit: Texts) -> Result<Option<AppendFault>, Fail> {
+fn answer(
+    alloc: Global,
+    chains: &mut Chains,
+    commit: Texts,
+) -> Result<Option<AppendFault>, TupleFault> {
     let (at, adds, removes) = commit;
     let adds = tuples(alloc, adds)?;
     let removes = tuples(alloc, removes)?;
@@ -36,16 +60,31 @@ fn answer(alloc: Global, chains: &mut Chains, commit: Texts) -> Result<Option<Ap
     Ok(answer.err())
 }
 
-/// Chains of these commits, each of which is accepted.
-fn chains_of(alloc: Global, commits: &[Texts]) -> Result<Chains, Fail> {
-    let mut chains = Chains::new(alloc, 100);
+/// Whether the commit of these texts is accepted, or refused so.
+fn is_answered(
+    alloc: Global,
+    chains: &mut Chains,
+    commit: Texts,
+    wanted: Option<AppendFault>,
+) -> bool {
+    match answer(alloc, chains, commit) {
+        Ok(fault) => fault == wanted,
+        Err(_) => false,
+    }
+}
+
+/// Whether each of these commits is accepted.
+fn are_appended(alloc: Global, chains: &mut Chains, commits: &[Texts]) -> bool {
     for commit in commits {
-        if let Some(fault) = answer(alloc, &mut chains, *commit)? {
-            return Err(fault.into());
+        if !is_answered(alloc, chains, *commit, None) {
+            return false;
         }
     }
-    Ok(chains)
+    true
 }
+
+/// Lets chains go here, so that no test has their parts on its way out.
+fn let_go(_chains: Chains) {}
 
 /// Whether the user is among those that are stored.
 fn is_listed(chains: &Chains, id: u64, at: u64) -> bool {
@@ -89,13 +128,8 @@ fn is_committed(chains: &Chains, times: &[u64]) -> bool {
     chains.commits() == times
 }
 
-#[test]
-fn presence_over_time(rt: HostRuntime) -> Result<(), Fail> {
-    let viewer = parse_tuple(rt.alloc(), "doc:x#viewer@1")?;
-    let chains = chains_of(
-        rt.alloc(),
-        &[(5, VIEWER, NONE), (7, NONE, VIEWER), (9, VIEWER, NONE)],
-    )?;
+/// Whether the viewer is stored when it has to be.
+fn is_present_between(chains: &Chains, viewer: &Tuple) -> bool {
     for (at, stored) in [
         (4, false),
         (5, true),
@@ -105,39 +139,37 @@ fn presence_over_time(rt: HostRuntime) -> Result<(), Fail> {
         (9, true),
         (u64::MAX, true),
     ] {
-        assert!(rt; is_stored(&chains, &viewer, at) == Some(stored), "at {at}");
+        if is_stored(chains, viewer, at) != Some(stored) {
+            return false;
+        }
     }
+    true
+}
+
+/// The same of a viewer that is read from its text, and whether its touches are told, the last first.
+fn is_told(alloc: Global, chains: &Chains) -> bool {
+    match parse_tuple(alloc, "doc:x#viewer@1") {
+        Ok(viewer) => {
+            is_present_between(chains, &viewer)
+                && is_touched(chains, &viewer, &[(9, true), (7, false), (5, true)])
+        }
+        Err(_) => false,
+    }
+}
+
+#[test]
+fn presence_over_time(rt: HostRuntime) {
+    let mut chains = Chains::new(rt.alloc(), 100);
+    assert!(rt; are_appended(rt.alloc(), &mut chains, &ADDED_TWICE));
+    assert!(rt; is_told(rt.alloc(), &chains));
     assert!(rt; is_committed(&chains, &[5, 7, 9]));
-    assert!(rt; is_touched(&chains, &viewer, &[(9, true), (7, false), (5, true)]));
-    Ok(())
+    let_go(chains);
 }
 
-#[test]
-fn a_stored_tuple_may_be_added(rt: HostRuntime) -> Result<(), Fail> {
-    let viewer = parse_tuple(rt.alloc(), "doc:x#viewer@1")?;
-    let chains = chains_of(rt.alloc(), &[(5, VIEWER, NONE), (6, VIEWER, NONE)])?;
-    assert!(rt; chains.has(&viewer, 5) && chains.has(&viewer, 6));
-    assert!(rt; is_listed(&chains, 1, 6) && count_of_users(&chains, 6) == 1);
-    assert!(rt; is_touched(&chains, &viewer, &[(6, true), (5, true)]));
-    Ok(())
-}
-
-#[test]
-fn a_tuple_that_is_not_stored_may_be_removed(rt: HostRuntime) -> Result<(), Fail> {
-    let viewer = parse_tuple(rt.alloc(), "doc:x#viewer@1")?;
-    let chains = chains_of(rt.alloc(), &[(5, NONE, VIEWER), (6, NONE, NONE)])?;
-    assert!(rt; !chains.has(&viewer, 5));
-    assert!(rt; count_of_users(&chains, 5) == 0);
-    assert!(rt; is_touched(&chains, &viewer, &[(5, false)]));
-    assert!(rt; is_committed(&chains, &[5, 6]));
-    Ok(())
-}
-
-#[test]
-fn refused_commits(rt: HostRuntime) -> Result<(), Fail> {
+/// Whether each commit is answered as it has to be, by chains that hold two touches.
+fn are_answered(alloc: Global, chains: &mut Chains) -> bool {
     let three: &[&str] = &["doc:x#viewer@1", "doc:x#viewer@2", "doc:y#viewer@1"];
     let two: &[&str] = &["doc:x#viewer@1", "doc:x#viewer@2"];
-    let mut chains = Chains::new(rt.alloc(), 2);
     for (commit, fault) in [
         ((5, three, NONE), Some(AppendFault::Full)),
         (
@@ -153,11 +185,20 @@ fn refused_commits(rt: HostRuntime) -> Result<(), Fail> {
         ((6, two, NONE), None),
         ((7, NONE, VIEWER), Some(AppendFault::Full)),
     ] {
-        assert!(rt; answer(rt.alloc(), &mut chains, commit)? == fault);
+        if !is_answered(alloc, chains, commit, fault) {
+            return false;
+        }
     }
+    true
+}
+
+#[test]
+fn refused_commits(rt: HostRuntime) {
+    let mut chains = Chains::new(rt.alloc(), 2);
+    assert!(rt; are_answered(rt.alloc(), &mut chains));
     assert!(rt; is_committed(&chains, &[5, 6]));
     assert!(rt; count_of_users(&chains, 6) == 2);
-    Ok(())
+    let_go(chains);
 }
 
 /// Whether each, and whether some, of the stored usersets is among these.
@@ -183,24 +224,27 @@ fn usersets(alloc: Global) -> Result<Vec<Userset>, Fail> {
     Ok(all)
 }
 
+/// Whether the stored usersets are as many as they have to be, before 5, from 5 and from 7 on, and are among these.
+fn are_usersets_seen(chains: &Chains, known: &[Userset]) -> bool {
+    for (at, every, some, count) in [
+        (4, true, false, 0usize),
+        (5, false, true, 2),
+        (7, true, true, 1),
+    ] {
+        if are_among(known, chains, at) != (every, some) || count_of_usersets(chains, at) != count {
+            return false;
+        }
+    }
+    true
+}
+
 #[test]
 fn stored_usersets_among_others(rt: HostRuntime) -> Result<(), Fail> {
-    let users: &[&str] = &[
-        "doc:x#viewer@1",
-        "doc:x#viewer@group:a#member",
-        "doc:x#viewer@folder:b#...",
-    ];
-    let chains = chains_of(
-        rt.alloc(),
-        &[(5, users, NONE), (7, NONE, &["doc:x#viewer@folder:b#..."])],
-    )?;
     let known = usersets(rt.alloc())?;
-    for (at, every, some) in [(4, true, false), (5, false, true), (7, true, true)] {
-        assert!(rt; are_among(&known, &chains, at) == (every, some), "at {at}");
-    }
-    for (at, count) in [(4, 0usize), (5, 2), (7, 1)] {
-        assert!(rt; count_of_usersets(&chains, at) == count, "at {at}");
-    }
+    let mut chains = Chains::new(rt.alloc(), 100);
+    assert!(rt; are_appended(rt.alloc(), &mut chains, &THREE_USERS));
+    assert!(rt; are_usersets_seen(&chains, &known));
     assert!(rt; count_of_users(&chains, 5) == 3 && is_listed(&chains, 1, 5));
+    let_go(chains);
     Ok(())
 }

@@ -22,20 +22,33 @@ const TOKENS: [(&str, Option<TokenKind>, u64); 7] = [
     ),
 ];
 
+/// Whether these are the bytes of the text, and zeros behind it.
+fn are_of(bytes: &[u8], text: &str) -> bool {
+    for (i, byte) in bytes.iter().enumerate() {
+        if *byte != text.as_bytes().get(i).copied().unwrap_or(0) {
+            return false;
+        }
+    }
+    true
+}
+
+/// Whether the token of this kind and time is read from the text, and written so.
+fn is_token(text: &str, kind: Option<TokenKind>, at: u64) -> bool {
+    let made = match kind {
+        None => Zookie::of(at),
+        Some(kind) => Zookie::of_kind(kind, at),
+    };
+    let written = made.text();
+    Zookie::parse(text) == Ok(made)
+        && made.kind() == kind
+        && made.at() == at
+        && written.len == text.len()
+        && are_of(&written.bytes, text)
+}
+
 #[test]
 fn tokens_are_read_and_written_back(rt: HostRuntime) {
     for (text, kind, at) in TOKENS {
-        let made = match kind {
-            None => Zookie::of(at),
-            Some(kind) => Zookie::of_kind(kind, at),
-        };
-        assert!(rt; Zookie::parse(text) == Ok(made), "{text}");
-        assert!(rt; made.kind() == kind && made.at() == at, "{text}");
-        let written = made.text();
-        assert!(rt; written.len == text.len(), "{text}");
-        for (i, byte) in written.bytes.iter().enumerate() {
-            let wanted = text.as_bytes().get(i).copied().unwrap_or(0);
-            assert!(rt; *byte == wanted, "{text}");
-        }
+        assert!(rt; is_token(text, kind, at), "{text}");
     }
 }
