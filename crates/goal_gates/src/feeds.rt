@@ -26,6 +26,20 @@ fn push_feed(feeds: &mut Vec<Feed>, read: Read, from: Option<usize>) -> Result<(
     Ok(())
 }
 
+/// What a rule of many places reads for a fact through tuplesets.
+fn push_premises(
+    site: Site<'_>,
+    rule: &WideRule<'_>,
+    feeds: &mut Vec<Feed>,
+) -> Result<(), AllocError> {
+    for premise in site.premises {
+        if let Some(read) = rule.read_as(premise.reading) {
+            push_feed(feeds, read, Some(premise.place))?;
+        }
+    }
+    Ok(())
+}
+
 impl<'g, 't> Gates<'g, 't> {
     /// Links for all that a rule of many places reads for a fact.
     pub(crate) fn add_parts(&mut self, site: Site<'_>, reached: Reached) -> Result<(), AllocError> {
@@ -68,11 +82,7 @@ impl<'g, 't> Gates<'g, 't> {
         for read in rule.own() {
             self.push_own(site, rule, *read, &mut feeds)?;
         }
-        for premise in site.premises {
-            if let Some(read) = rule.read_as(premise.reading) {
-                push_feed(&mut feeds, read, Some(premise.place))?;
-            }
-        }
+        push_premises(site, rule, &mut feeds)?;
         feeds.sort_unstable_by_key(|feed| (feed.read.part, feed.read.name, feed.turn));
         Ok(feeds)
     }

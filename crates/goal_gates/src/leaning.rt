@@ -57,14 +57,20 @@ impl<'g, 't> Gates<'g, 't> {
     /// those that keep it shut.
     pub fn leaning(&mut self) -> Result<Leaning, AllocError> {
         let mut leaning = Leaning::new(*self.open.allocator(), self.gates.len())?;
-        leaning.add(0)?;
+        self.lean_from(0, &mut leaning)?;
+        Ok(leaning)
+    }
+
+    /// Keeps a gate, and all that it leans on.
+    fn lean_from(&mut self, gate: usize, leaning: &mut Leaning) -> Result<(), AllocError> {
+        leaning.add(gate)?;
         for _ in 0..self.gates.len() {
             let Some(gate) = leaning.next() else {
                 break;
             };
-            self.lean(gate, &mut leaning)?;
+            self.lean(gate, leaning)?;
         }
-        Ok(leaning)
+        Ok(())
     }
 
     fn lean(&mut self, gate: usize, leaning: &mut Leaning) -> Result<(), AllocError> {

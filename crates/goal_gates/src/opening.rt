@@ -158,6 +158,11 @@ impl<'g, 't> Gates<'g, 't> {
         self.drain()?;
         self.tell_exclusions(strata, stratum)?;
         self.tell_wide(strata, stratum)?;
+        self.tell_opened()
+    }
+
+    /// The gates that opened since they were told last.
+    fn tell_opened(&mut self) -> Result<Vec<usize>, AllocError> {
         let mut places = Vec::new(*self.open.allocator());
         for k in self.told..self.open.len() {
             if let Some(opened) = self.open.get(k).copied() {
