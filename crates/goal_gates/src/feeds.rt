@@ -26,27 +26,12 @@ fn push_feed(feeds: &mut Vec<Feed>, read: Read, from: Option<usize>) -> Result<(
     Ok(())
 }
 
-/// What a rule of many places reads for a fact through tuplesets.
-fn push_premises(
-    site: Site<'_>,
-    rule: &WideRule<'_>,
-    feeds: &mut Vec<Feed>,
-) -> Result<(), AllocError> {
-    for premise in site.premises {
-        if let Some(read) = rule.read_as(premise.reading) {
-            push_feed(feeds, read, Some(premise.place))?;
-        }
-    }
-    Ok(())
-}
-
 impl<'g, 't> Gates<'g, 't> {
     /// Links for all that a rule of many places reads for a fact.
     pub(crate) fn add_parts(&mut self, site: Site<'_>, reached: Reached) -> Result<(), AllocError> {
         self.add_wide(site.gate, reached)?;
-        let feeds = self.feeds_of(site, reached.rule)?;
-        for feed in &feeds {
-            self.add_feed(site.gate, *feed)?;
+        for feed in self.feeds_of(site, reached.rule)? {
+            self.add_feed(site.gate, feed)?;
         }
         Ok(())
     }
@@ -82,7 +67,11 @@ impl<'g, 't> Gates<'g, 't> {
         for read in rule.own() {
             self.push_own(site, rule, *read, &mut feeds)?;
         }
-        push_premises(site, rule, &mut feeds)?;
+        for premise in site.premises {
+            if let Some(read) = rule.read_as(premise.reading) {
+                push_feed(&mut feeds, read, Some(premise.place))?;
+            }
+        }
         feeds.sort_unstable_by_key(|feed| (feed.read.part, feed.read.name, feed.turn));
         Ok(feeds)
     }

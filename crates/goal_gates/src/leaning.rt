@@ -45,32 +45,19 @@ impl Leaning {
     }
 }
 
-/// The number of a group is that one from now on, where it was greater or none.
-fn lessen(first: &mut BTreeMap<u32, u32>, group: u32, number: u32) -> Result<(), AllocError> {
-    let least = first.get(&group).copied().unwrap_or(number);
-    let _ = first.insert(group, least.min(number))?;
-    Ok(())
-}
-
 impl<'g, 't> Gates<'g, 't> {
     /// Which gates the first fact leans on, itself among them: an open one on those that opened it, and one that is shut on enough of
     /// those that keep it shut.
     pub fn leaning(&mut self) -> Result<Leaning, AllocError> {
         let mut leaning = Leaning::new(*self.open.allocator(), self.gates.len())?;
-        self.lean_from(0, &mut leaning)?;
-        Ok(leaning)
-    }
-
-    /// Keeps a gate, and all that it leans on.
-    fn lean_from(&mut self, gate: usize, leaning: &mut Leaning) -> Result<(), AllocError> {
-        leaning.add(gate)?;
+        leaning.add(0)?;
         for _ in 0..self.gates.len() {
             let Some(gate) = leaning.next() else {
                 break;
             };
-            self.lean(gate, leaning)?;
+            self.lean(gate, &mut leaning)?;
         }
-        Ok(())
+        Ok(leaning)
     }
 
     fn lean(&mut self, gate: usize, leaning: &mut Leaning) -> Result<(), AllocError> {
@@ -167,7 +154,8 @@ impl<'g, 't> Gates<'g, 't> {
                 break;
             };
             if let Some(opening) = self.opening(link) {
-                lessen(&mut first, link.group, opening)?;
+                let least = first.get(&link.group).copied().unwrap_or(opening);
+                let _ = first.insert(link.group, least.min(opening))?;
             }
         }
         Ok(first)
