@@ -30,9 +30,8 @@ impl<'g, 't> Gates<'g, 't> {
     /// Links for all that a rule of many places reads for a fact.
     pub(crate) fn add_parts(&mut self, site: Site<'_>, reached: Reached) -> Result<(), AllocError> {
         self.add_wide(site.gate, reached)?;
-        let feeds = self.feeds_of(site, reached.rule)?;
-        for feed in &feeds {
-            self.add_feed(site.gate, *feed)?;
+        for feed in self.feeds_of(site, reached.rule)? {
+            self.add_feed(site.gate, feed)?;
         }
         Ok(())
     }

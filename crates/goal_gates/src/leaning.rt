@@ -45,13 +45,6 @@ impl Leaning {
     }
 }
 
-/// The number of a group is that one from now on, where it was greater or none.
-fn lessen(first: &mut BTreeMap<u32, u32>, group: u32, number: u32) -> Result<(), AllocError> {
-    let least = first.get(&group).copied().unwrap_or(number);
-    let _ = first.insert(group, least.min(number))?;
-    Ok(())
-}
-
 impl<'g, 't> Gates<'g, 't> {
     /// Which gates the first fact leans on, itself among them: an open one on those that opened it, and one that is shut on enough of
     /// those that keep it shut.
@@ -161,7 +154,8 @@ impl<'g, 't> Gates<'g, 't> {
                 break;
             };
             if let Some(opening) = self.opening(link) {
-                lessen(&mut first, link.group, opening)?;
+                let least = first.get(&link.group).copied().unwrap_or(opening);
+                let _ = first.insert(link.group, least.min(opening))?;
             }
         }
         Ok(first)

@@ -99,8 +99,17 @@ impl<'g, 't> Gates<'g, 't> {
     fn add_place(&mut self, site: Site<'_>, rewrite: &Rewrite) -> Result<(), AllocError> {
         match rewrite {
             Rewrite::This => self.add_own(site),
-            Rewrite::Computed(relation) => self.add_computed(site, relation),
-            Rewrite::TupleTo { tupleset, computed } => self.add_read(site, tupleset, computed),
+            Rewrite::Computed(relation) => {
+                let set = under(site.fact.set(), relation.as_str());
+                self.add_premise(site, set)
+            }
+            Rewrite::TupleTo { tupleset, computed } => {
+                let reading = Reading {
+                    tupleset: tupleset.as_str(),
+                    relation: computed.as_str(),
+                };
+                self.add_read(site, reading)
+            }
             Rewrite::Union(children) => self.add_places(site, children, 1, Wants::Some),
             Rewrite::Inter(children) => {
                 self.add_places(site, children, children.len(), Wants::Each)
@@ -186,24 +195,9 @@ impl<'g, 't> Gates<'g, 't> {
         Ok(())
     }
 
-    /// The fact's object under a relation feeds the gate of the site.
-    fn add_computed(&mut self, site: Site<'_>, relation: &String) -> Result<(), AllocError> {
-        let set = under(site.fact.set(), relation.as_str());
-        self.add_premise(site, set)
-    }
-
     /// The gate of what is read as that through a tupleset, which feeds that of the site. A rule of few places reads few relations so.
-    fn add_read(
-        &mut self,
-        site: Site<'_>,
-        tupleset: &String,
-        computed: &String,
-    ) -> Result<(), AllocError> {
+    fn add_read(&mut self, site: Site<'_>, reading: Reading<'_>) -> Result<(), AllocError> {
         let gate = self.add_below(site, 1, Wants::Some)?;
-        let reading = Reading {
-            tupleset: tupleset.as_str(),
-            relation: computed.as_str(),
-        };
         for premise in site.premises {
             if premise.reading == reading {
                 self.feed(Some(premise.place), gate, 0)?;

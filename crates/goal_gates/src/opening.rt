@@ -17,25 +17,16 @@ impl<'g, 't> Gates<'g, 't> {
     fn drain(&mut self) -> Result<(), AllocError> {
         let most = self.gates.len().saturating_add(self.links.len());
         for _ in 0..most.saturating_add(self.wide.len()).saturating_add(1) {
-            if !self.step()? {
-                break;
+            if let Some(opened) = self.open.get(self.fed).copied() {
+                self.fed = self.fed.saturating_add(1);
+                self.pass_on(opened.gate as usize)?;
+            } else if let Some(number) = self.waiting.pop_front() {
+                self.look_at(number)?;
+            } else {
+                return Ok(());
             }
         }
         Ok(())
-    }
-
-    /// Does one of these. Whether there was something to do.
-    fn step(&mut self) -> Result<bool, AllocError> {
-        if let Some(opened) = self.open.get(self.fed).copied() {
-            self.fed = self.fed.saturating_add(1);
-            self.pass_on(opened.gate as usize)?;
-            return Ok(true);
-        }
-        let Some(number) = self.waiting.pop_front() else {
-            return Ok(false);
-        };
-        self.look_at(number)?;
-        Ok(true)
     }
 
     fn pass_on(&mut self, gate: usize) -> Result<(), AllocError> {

@@ -19,25 +19,6 @@ struct Stage {
     opens_told: Option<bool>,
 }
 
-impl Stage {
-    /// Whether the rule is open, as far as that was found.
-    fn opens(&self, is_told: bool) -> Option<bool> {
-        if is_told {
-            self.opens_told
-        } else {
-            self.opens_untold
-        }
-    }
-
-    fn note(&mut self, is_told: bool, is_open: bool) {
-        if is_told {
-            self.opens_told = Some(is_open);
-        } else {
-            self.opens_untold = Some(is_open);
-        }
-    }
-}
-
 /// A group opens at a stage.
 #[derive(Clone, Copy)]
 pub(crate) struct Turn {
@@ -411,18 +392,23 @@ impl<'t> WideRule<'t> {
         let Some(found) = self.stages.get(stage).copied() else {
             return false;
         };
-        match found.opens(is_told) {
-            Some(is_open) => is_open,
-            None => self.find_opens(stage, is_told),
+        let known = if is_told {
+            found.opens_told
+        } else {
+            found.opens_untold
+        };
+        if let Some(is_open) = known {
+            return is_open;
         }
-    }
-
-    fn find_opens(&mut self, stage: usize, is_told: bool) -> bool {
         self.set_groups(stage, true);
         let is_open = opens(&self.rule.top, self.sight(is_told));
         self.set_groups(stage, false);
         if let Some(found) = self.stages.get_mut(stage) {
-            found.note(is_told, is_open);
+            if is_told {
+                found.opens_told = Some(is_open);
+            } else {
+                found.opens_untold = Some(is_open);
+            }
         }
         is_open
     }
