@@ -1,6 +1,7 @@
 //! The pool from its slices to its reports.
 ghost use Rattle.std.specs.Prelude.{◌≡◌, ◌+◌, ◌<◌, ◌≤◌, ◌∷◌, [], ℕ, List, false, All, IfOk, OnOk, ◌++◌, map, length, sum_by};
 ghost use Rattle.std.specs.List.{flat_map, AllZip};
+ghost use Rattle.std.specs.List.Sorted.{IsNonDecreasingBy, IsPermutation};
 ghost use Rattle.audit_slices.specs.Board.{IsNamedBy};
 ghost use Rattle.slice_yard.specs.Cut.{IsNumbered, IsWithin, entries_of};
 ghost use Rattle.slice_yard.specs.Lane.{lane_hand, lane_place, thief_place, thief_hand_of};
@@ -150,6 +151,15 @@ fn drain<X: Drop, C: Check<Report = X>, R: Wait>(
     Ok((receipts, done))
 }
 
+// The reports in the order of their slices.
+fn in_order<X>(mut done: Vec<SliceReport<X>>) -> Vec<SliceReport<X>>
+    ensures moved { IsPermutation done.items result.items }
+    ensures rising { IsNonDecreasingBy (λ r. (report_slice r).number) result.items }
+{
+    done.sort_unstable_by_key(|r| r.number());
+    done
+}
+
 /// A report for each entry of the slices of one `cut`, in their order, by 1 to 16 workers with a lane for each. Worker 0 is the
 /// calling thread: after each of its slices and after the join it shows the watch the alerts that are new on the board.
 /// An alert that finds no memory is dropped. Refused where memory runs out, whatever the others did, where a slice could
@@ -183,9 +193,8 @@ pub fn run_pool<
     let members = hire(alloc, slices, workers)?;
     let members = run_members(rt, alloc, check, gate, board, watch, members);
     let (receipts, done) = finish(alloc, members)?;
-    let (_spent, mut done) = drain(rt, alloc, check, receipts, done)?;
-    done.sort_unstable_by_key(|r| r.number());
-    Ok(done)
+    let (_spent, done) = drain(rt, alloc, check, receipts, done)?;
+    Ok(in_order(done))
 }
 
 fn run_members<

@@ -1,5 +1,5 @@
-use Rattle.std.proofs.Common.{List, All, rules, sym, subst}
-use Rattle.std.proofs.lemmas.List.Sorted.{All-permutation, IsNonDecreasingBy-from_sort_by_key}
+use Rattle.std.proofs.Common.{List, All, sym, subst}
+use Rattle.std.proofs.lemmas.List.Sorted.{All-permutation}
 use Rattle.audit_slices.specs.declared.checks.SliceReport.{SliceReport}
 use Rattle.audit_slices.specs.Reports.{IsReported}
 use Rattle.slice_yard.specs.Receipts.{receipt_hands}
@@ -32,11 +32,10 @@ returns-clause-slices g c =
     in_order c.args.slices.items c.in_ok-_spent.done.items _ c.requires.numbered
     (all_slices (g.C.Check.gives c.args.check.now) c.args.slices.items c.run_members-members.result.items (receipt_hands c.in_ok-receipts.receipts) (receipt_hands c.in_ok-_spent._spent) c.in_ok-receipts.done.items c.in_ok-_spent.done.items
     (c.in_ok-receipts.ensures c.args.slices.items whole) c.run_members-members.ensures.after c.in_ok-_spent.ensures.same c.in_ok-_spent.ensures.all c.in_ok-_spent.ensures.sums)
-    c.sort_unstable_by_key.ensures.permutation
-    (IsNonDecreasingBy-from_sort_by_key (λ (r : SliceReport g.row.X.Denot). r.slice.number) _ c.sort_unstable_by_key.ensures.sorted (λ a r q k. search rules))
+    c.in_order.ensures.moved c.in_order.ensures.rising
 
 pub returns-clause-given : goal.returns-clause-given
-returns-clause-given g c = All-permutation (IsReported (g.C.Check.gives c.args.check.now)) c.in_ok-_spent.done.items _ c.sort_unstable_by_key.ensures.permutation c.in_ok-_spent.ensures.given
+returns-clause-given g c = All-permutation (IsReported (g.C.Check.gives c.args.check.now)) c.in_ok-_spent.done.items _ c.in_order.ensures.moved c.in_ok-_spent.ensures.given
 
 pub returns-clause-all : goal.returns-clause-all
-returns-clause-all g c = all_reports (g.C.Check.gives c.args.check.now) c.args.slices.items c.sort_unstable_by_key.new.self.items (returns-clause-slices g c) (returns-clause-given g c)
+returns-clause-all g c = all_reports (g.C.Check.gives c.args.check.now) c.args.slices.items c.in_order.result.items (returns-clause-slices g c) (returns-clause-given g c)
