@@ -1,9 +1,9 @@
 //! Commits.
 
 use crate::texts::tuple;
+use std::alloc::Global;
 use std::slice::from_ref;
-use std::test::Fail;
-use tuple_text::{SetRef, Tuple};
+use tuple_text::{SetRef, Tuple, TupleFault};
 use version_chains::{AppendFault, Chains};
 
 const VIEWED: SetRef<'static> = SetRef {
@@ -36,22 +36,44 @@ fn answer(
     answer
 }
 
+/// Whether each commit is answered as it has to be, and leaves so many commits and stored users.
+fn are_answered<'x>(chains: &mut Chains, first: &'x [Tuple], other: &'x [Tuple]) -> bool {
+    let none: &'x [Tuple] = &[];
+    for (at, adds, removes, wanted, left) in [
+        (5, first, none, Ok(()), (1usize, 1usize)),
+        (
+            5,
+            first,
+            none,
+            Err(AppendFault::NotLater { last: 5 }),
+            (1, 1),
+        ),
+        (
+            6,
+            first,
+            first,
+            Err(AppendFault::TouchedTwice { place: 1 }),
+            (1, 1),
+        ),
+        (7, other, first, Ok(()), (2, 1)),
+        (9, first, other, Err(AppendFault::Full), (2, 1)),
+        (9, first, none, Ok(()), (3, 2)),
+    ] {
+        if answer(chains, at, adds, removes) != wanted || counts(chains) != left {
+            return false;
+        }
+    }
+    true
+}
+
+fn are_tuples_answered(alloc: Global, chains: &mut Chains) -> Result<bool, TupleFault> {
+    let first = tuple(alloc, "doc:x#viewer@1")?;
+    let other = tuple(alloc, "doc:x#viewer@group:a#member")?;
+    Ok(are_answered(chains, from_ref(&first), from_ref(&other)))
+}
+
 #[test]
-fn commits_are_appended(rt: HostRuntime) -> Result<(), Fail> {
-    let first = tuple(rt.alloc(), "doc:x#viewer@1")?;
-    let other = tuple(rt.alloc(), "doc:x#viewer@group:a#member")?;
-    let (first, other) = (from_ref(&first), from_ref(&other));
-    let none = Vec::new(rt.alloc());
+fn commits_are_appended(rt: HostRuntime) {
     let mut chains = Chains::new(rt.alloc(), 4);
-    assert!(rt; answer(&mut chains, 5, first, &none) == Ok(()));
-    assert!(rt; answer(&mut chains, 5, first, &none) == Err(AppendFault::NotLater { last: 5 }));
-    assert!(rt;
-        answer(&mut chains, 6, first, first) == Err(AppendFault::TouchedTwice { place: 1 })
-    );
-    assert!(rt; answer(&mut chains, 7, other, first) == Ok(()));
-    assert!(rt; counts(&chains) == (2, 1));
-    assert!(rt; answer(&mut chains, 9, first, other) == Err(AppendFault::Full));
-    assert!(rt; answer(&mut chains, 9, first, &none) == Ok(()));
-    assert!(rt; counts(&chains) == (3, 2));
-    Ok(())
+    assert!(rt; are_tuples_answered(rt.alloc(), &mut chains) == Ok(true));
 }

@@ -2,7 +2,7 @@
 
 use crate::texts::fact;
 use judgement::Known;
-use std::test::Fail;
+use std::alloc::Global;
 use tuple_text::{Fact, SetRef};
 
 const VIEWER: SetRef<'static> = SetRef {
@@ -16,31 +16,36 @@ fn is_known(known: &Known<Fact>) -> (bool, bool) {
     (known.yes(VIEWER, 7), known.no(VIEWER, 8))
 }
 
-/// Whether the fact is known in the end, where running out of memory leaves what was known.
-fn is_added(known: &mut Known<Fact>, fact: Fact, again: Fact) -> bool {
-    let before = is_known(known);
-    known.add_yes(fact).is_ok() || is_known(known) == before && known.add_yes(again).is_ok()
+fn adds(alloc: Global, known: &mut Known<Fact>) -> bool {
+    match fact(alloc, "doc:1#viewer@7") {
+        Ok(fact) => known.add_yes(fact).is_ok(),
+        Err(_) => false,
+    }
 }
 
-fn is_denied(known: &mut Known<Fact>, fact: Fact, again: Fact) -> bool {
+fn denies(alloc: Global, known: &mut Known<Fact>) -> bool {
+    match fact(alloc, "doc:1#viewer@8") {
+        Ok(fact) => known.add_no(fact).is_ok(),
+        Err(_) => false,
+    }
+}
+
+/// Whether the fact is known in the end, where running out of memory leaves what was known.
+fn is_added(alloc: Global, known: &mut Known<Fact>) -> bool {
     let before = is_known(known);
-    known.add_no(fact).is_ok() || is_known(known) == before && known.add_no(again).is_ok()
+    adds(alloc, known) || is_known(known) == before && adds(alloc, known)
+}
+
+fn is_denied(alloc: Global, known: &mut Known<Fact>) -> bool {
+    let before = is_known(known);
+    denies(alloc, known) || is_known(known) == before && denies(alloc, known)
 }
 
 #[test]
-fn facts_are_known(rt: HostRuntime) -> Result<(), Fail> {
+fn facts_are_known(rt: HostRuntime) {
     let mut known = Known::new(rt.alloc());
-    let (yes, again) = (
-        fact(rt.alloc(), "doc:1#viewer@7")?,
-        fact(rt.alloc(), "doc:1#viewer@7")?,
-    );
-    assert!(rt; is_added(&mut known, yes, again));
+    assert!(rt; is_added(rt.alloc(), &mut known));
     assert!(rt; is_known(&known) == (true, false));
-    let (no, again) = (
-        fact(rt.alloc(), "doc:1#viewer@8")?,
-        fact(rt.alloc(), "doc:1#viewer@8")?,
-    );
-    assert!(rt; is_denied(&mut known, no, again));
+    assert!(rt; is_denied(rt.alloc(), &mut known));
     assert!(rt; is_known(&known) == (true, true));
-    Ok(())
 }
