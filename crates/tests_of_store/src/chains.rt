@@ -30,6 +30,23 @@ fn tuples(alloc: Global, texts: &[&str]) -> Result<Vec<Tuple>, TupleFault> {
 /// A commit: its timestamp, the tuples that it adds, and those that it removes.
 type Texts = (u64, &'static [&'static str], &'static [&'static str]);
 
+/// The viewer is added, removed, and added once more.
+const ADDED_TWICE: [Texts; 3] = [(5, VIEWER, NONE), (7, NONE, VIEWER), (9, VIEWER, NONE)];
+
+/// Three users are added, and one of the two usersets among them is removed.
+const THREE_USERS: [Texts; 2] = [
+    (
+        5,
+        &[
+            "doc:x#viewer@1",
+            "doc:x#viewer@group:a#member",
+            "doc:x#viewer@folder:b#...",
+        ],
+        NONE,
+    ),
+    (7, NONE, &["doc:x#viewer@folder:b#..."]),
+];
+
 /// What `append` answers for the commit of these texts.
 fn answer(
     alloc: Global,
@@ -108,7 +125,7 @@ fn is_committed(chains: &Chains, times: &[u64]) -> bool {
     chains.commits() == times
 }
 
-/// Whether the viewer is stored when it has to be: it is added at 5, removed at 7, and added once more at 9.
+/// Whether the viewer is stored when it has to be.
 fn is_present_between(chains: &Chains, viewer: &Tuple) -> bool {
     for (at, stored) in [
         (4, false),
@@ -140,8 +157,7 @@ fn is_told(alloc: Global, chains: &Chains) -> bool {
 #[test]
 fn presence_over_time(rt: HostRuntime) {
     let mut chains = Chains::new(rt.alloc(), 100);
-    let commits = [(5, VIEWER, NONE), (7, NONE, VIEWER), (9, VIEWER, NONE)];
-    assert!(rt; are_appended(rt.alloc(), &mut chains, &commits));
+    assert!(rt; are_appended(rt.alloc(), &mut chains, &ADDED_TWICE));
     assert!(rt; is_told(rt.alloc(), &chains));
     assert!(rt; is_committed(&chains, &[5, 7, 9]));
 }
@@ -219,15 +235,9 @@ fn are_usersets_seen(chains: &Chains, known: &[Userset]) -> bool {
 
 #[test]
 fn stored_usersets_among_others(rt: HostRuntime) -> Result<(), Fail> {
-    let users: &[&str] = &[
-        "doc:x#viewer@1",
-        "doc:x#viewer@group:a#member",
-        "doc:x#viewer@folder:b#...",
-    ];
     let known = usersets(rt.alloc())?;
     let mut chains = Chains::new(rt.alloc(), 100);
-    let commits = [(5, users, NONE), (7, NONE, &["doc:x#viewer@folder:b#..."])];
-    assert!(rt; are_appended(rt.alloc(), &mut chains, &commits));
+    assert!(rt; are_appended(rt.alloc(), &mut chains, &THREE_USERS));
     assert!(rt; are_usersets_seen(&chains, &known));
     assert!(rt; count_of_users(&chains, 5) == 3 && is_listed(&chains, 1, 5));
     Ok(())
