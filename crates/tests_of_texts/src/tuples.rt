@@ -53,6 +53,14 @@ fn is_fact(alloc: Global, parts: SetRef<'_>, user: u64, text: &str) -> bool {
     }
 }
 
+fn refused_userset(alloc: Global, parts: SetRef<'_>) -> Option<TupleFault> {
+    Userset::of(alloc, parts).err()
+}
+
+fn refused_fact(alloc: Global, parts: SetRef<'_>) -> Option<TupleFault> {
+    Fact::of(alloc, parts, 7).err()
+}
+
 #[test]
 fn values_are_made_of_parts(rt: HostRuntime) {
     let viewer = SetRef {
@@ -69,10 +77,10 @@ fn values_are_made_of_parts(rt: HostRuntime) {
     assert!(rt; is_userset(rt.alloc(), dots, "doc:1#..."));
     assert!(rt; is_fact(rt.alloc(), viewer, 7, "doc:1#viewer@7"));
     let empty_id = Some(TupleFault::ObjectId { at: 4 });
-    assert!(rt; Userset::of(rt.alloc(), no_id).err() == empty_id);
-    assert!(rt; Fact::of(rt.alloc(), no_id, 7).err() == empty_id);
+    assert!(rt; refused_userset(rt.alloc(), no_id) == empty_id);
+    assert!(rt; refused_fact(rt.alloc(), no_id) == empty_id);
     let dotted = Some(TupleFault::Relation { at: 6 });
-    assert!(rt; Fact::of(rt.alloc(), dots, 7).err() == dotted);
+    assert!(rt; refused_fact(rt.alloc(), dots) == dotted);
 }
 
 const RISING: [&str; 7] = [
