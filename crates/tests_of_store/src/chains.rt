@@ -83,6 +83,9 @@ fn are_appended(alloc: Global, chains: &mut Chains, commits: &[Texts]) -> bool {
     true
 }
 
+/// Lets chains go here, so that no test has their parts on its way out.
+fn let_go(_chains: Chains) {}
+
 /// Whether the user is among those that are stored.
 fn is_listed(chains: &Chains, id: u64, at: u64) -> bool {
     for user in chains.users(VIEWED, at) {
@@ -160,6 +163,7 @@ fn presence_over_time(rt: HostRuntime) {
     assert!(rt; are_appended(rt.alloc(), &mut chains, &ADDED_TWICE));
     assert!(rt; is_told(rt.alloc(), &chains));
     assert!(rt; is_committed(&chains, &[5, 7, 9]));
+    let_go(chains);
 }
 
 /// Whether each commit is answered as it has to be, by chains that hold two touches.
@@ -194,6 +198,7 @@ fn refused_commits(rt: HostRuntime) {
     assert!(rt; are_answered(rt.alloc(), &mut chains));
     assert!(rt; is_committed(&chains, &[5, 6]));
     assert!(rt; count_of_users(&chains, 6) == 2);
+    let_go(chains);
 }
 
 /// Whether each, and whether some, of the stored usersets is among these.
@@ -240,5 +245,6 @@ fn stored_usersets_among_others(rt: HostRuntime) -> Result<(), Fail> {
     assert!(rt; are_appended(rt.alloc(), &mut chains, &THREE_USERS));
     assert!(rt; are_usersets_seen(&chains, &known));
     assert!(rt; count_of_users(&chains, 5) == 3 && is_listed(&chains, 1, 5));
+    let_go(chains);
     Ok(())
 }
