@@ -6,11 +6,18 @@ use Rattle.std.proofs.lemmas.Grind.{common_steps}
 use Rattle.std.proofs.lemmas.List.{map-append, length-map}
 use Rattle.slice_yard.specs.declared.lane.Thief.{Thief}
 use Rattle.audit_slices.specs.declared.members.Member.{Member}
-use Rattle.slice_yard.specs.Lane.{lane_place, thief_place, thief_hand_of}
+use Rattle.slice_yard.specs.declared.lane.Lane.{Lane}
+use Rattle.slice_yard.specs.Lane.{lane_hand, lane_place, thief_place, thief_hand_of}
 use Rattle.audit_slices.specs.Members.{Places, member_places}
 use Rattle.slice_core.proofs.Tables.{All_mid}
 use Rattle.audit_slices.proofs.RunLemmas.{staffed_more, new_more, all_taken}
+use Rattle.audit_slices.proofs.run.staff.Given.{Over}
 use Rattle.audit_slices.proofs.run.staff.Goals as goal
+
+pub member-next-requires-clause-lane : goal.member-next-requires-clause-lane
+member-next-requires-clause-lane g c =
+    All_mid (λ (l : Lane). (lane_hand l).handed ≡ []) c.args.lanes.items c.loop-lane.yielded (into_iter_items c.next.new.self) c.in-Some.lane
+    (c.loop-lane.invariant.all ∙ ap (λ l. c.loop-lane.yielded ++ l) c.in-Some.ensures.steps.0) c.requires.lanes
 
 pub member-next-requires-clause-thieves : goal.member-next-requires-clause-thieves
 member-next-requires-clause-thieves g c =
@@ -35,10 +42,21 @@ loop-lane-preserved g c =
       all = c.loop-lane.invariant.all ∙ ap (λ l. c.loop-lane.yielded ++ l) c.in-Some.ensures.steps.0 ∙ sym (append_assoc c.loop-lane.yielded (c.in-Some.lane ∷ []) (into_iter_items c.next.new.self));
     }
 
+-- where nothing is left, all were gone through
+module _ (g : Over) (c : goal.After-drop-others-2 g) where
+  whole : c.loop-lane.yielded ≡ c.args.lanes.items
+  whole =
+      let none : into_iter_items c.loop-lane.lane-iterator ≡ [] = grind (arith, common_steps, c.in-None.ensures.steps) in
+      sym (append-nil c.loop-lane.yielded) ∙ ap (λ l. c.loop-lane.yielded ++ l) (sym none) ∙ sym c.loop-lane.invariant.all
+
+pub returns-clause-lanes : goal.returns-clause-lanes
+returns-clause-lanes g c = c.loop-lane.invariant.lanes ∙ ap (map lane_place) (whole g c)
+
+pub returns-clause-new : goal.returns-clause-new
+returns-clause-new g c = c.loop-lane.invariant.new
+
 pub returns-clause-thieves : goal.returns-clause-thieves
 returns-clause-thieves g c =
     let taken = c.loop-lane.invariant.thieves in
-    let none : into_iter_items c.loop-lane.lane-iterator ≡ [] = grind (arith, common_steps, c.in-None.ensures.steps) in
-    let all : c.loop-lane.yielded ≡ c.args.lanes.items = sym (append-nil c.loop-lane.yielded) ∙ ap (λ l. c.loop-lane.yielded ++ l) (sym none) ∙ sym c.loop-lane.invariant.all in
     all_taken c.loop-lane.members.items c.args.thieves.items taken.0 (into_iter_items c.loop-lane.others) taken.1 taken.2
-    (sym (length-map c.loop-lane.members.items (λ (m : Member g.row.X.Denot). (member_places m).0)) ∙ ap length c.loop-lane.invariant.lanes ∙ length-map c.loop-lane.yielded lane_place ∙ ap length all ∙ sym c.requires.count)
+    (sym (length-map c.loop-lane.members.items (λ (m : Member g.row.X.Denot). (member_places m).0)) ∙ ap length c.loop-lane.invariant.lanes ∙ length-map c.loop-lane.yielded lane_place ∙ ap length (whole g c) ∙ sym c.requires.count)
