@@ -152,6 +152,9 @@ fn two_workers_are_at_work_at_once(rt: HostRuntime) {
     assert!(rt; is_whole && gate.late.load(Ordering::SeqCst) == 0);
 }
 
+// Lets a board go here, so that no test has its parts on its way out.
+fn let_go(_board: FiveBoard) {}
+
 // Whether each alert of five entries is shown once.
 fn are_shown_once<R: Threads + Wait + Sync>(
     rt: &R,
@@ -177,6 +180,7 @@ fn alerts_are_shown_once(rt: HostRuntime) -> Result<(), Fail> {
             let board = FiveBoard::new(rt.alloc())?;
             let is_right = are_shown_once(&rt, rt.alloc(), &board, size, workers);
             assert!(rt; is_right, "{size} by {workers}");
+            let_go(board);
         }
     }
     Ok(())
@@ -207,5 +211,6 @@ fn is_posted<R: Wait>(rt: &R, board: &FiveBoard) -> bool {
 fn one_alert_is_posted(rt: HostRuntime) -> Result<(), Fail> {
     let board = FiveBoard::new(rt.alloc())?;
     assert!(rt; is_posted(&rt, &board));
+    let_go(board);
     Ok(())
 }

@@ -1,18 +1,27 @@
-use Rattle.std.proofs.Common.{◌≡◌, ◌++◌, ◌∷◌, [], All, length, map, arith, sym, ap, ◌∙◌, append_assoc, append-nil}
+use Rattle.std.proofs.Common.{◌≡◌, ◌++◌, ◌∷◌, [], All, length, map, arith, sym, ap, subst, ◌∙◌, append_assoc, append-nil}
 use Rattle.std.specs.Vec.Iter.{into_iter_items}
 use Rattle.std.specs.declared.vec.Vec.{Vec}
 use Rattle.std.specs.declared.alloc.Global.{Global}
 use Rattle.std.proofs.lemmas.Grind.{common_steps}
 use Rattle.std.proofs.lemmas.List.{map-append, length-map}
+use Rattle.std.proofs.lemmas.List.Elements.{All-nil}
 use Rattle.slice_yard.specs.declared.lane.Thief.{Thief}
 use Rattle.audit_slices.specs.declared.members.Member.{Member}
 use Rattle.slice_yard.specs.declared.lane.Lane.{Lane}
 use Rattle.slice_yard.specs.Lane.{lane_hand, lane_place, thief_place, thief_hand_of}
-use Rattle.audit_slices.specs.Members.{Places, member_places}
+use Rattle.audit_slices.specs.Members.{Places, member_places, IsNew}
 use Rattle.slice_core.proofs.Tables.{All_mid}
 use Rattle.audit_slices.proofs.RunLemmas.{staffed_more, new_more, all_taken}
 use Rattle.audit_slices.proofs.run.staff.Given.{Over}
 use Rattle.audit_slices.proofs.run.staff.Goals as goal
+
+pub loop-lane-init : goal.loop-lane-init
+loop-lane-init g c = record {
+  lanes = ap (map (λ (m : Member g.row.X.Denot). (member_places m).0)) c.new-members.ensures.items;
+  thieves = ([], sym c.into_iter-others.ensures.rest, ap (map (λ (m : Member g.row.X.Denot). (member_places m).1)) c.new-members.ensures.items);
+  new = subst (All IsNew) (sym c.new-members.ensures.items) (All-nil IsNew);
+  all = sym c.into_iter-lane-iterator.ensures.into_iter_gives.0;
+}
 
 pub member-next-requires-clause-lane : goal.member-next-requires-clause-lane
 member-next-requires-clause-lane g c =
