@@ -4,12 +4,12 @@ use Rattle.std.specs.Prelude.{◌&&◌, ◌||◌, codes, is_some}
 use Rattle.serde_json.specs.Data.{Data, null, boolean, number, string, array, object, Items, item}
 use Rattle.serde_json.specs.Find.{as_array, get}
 use Rattle.json_lines.specs.Places.{items_in}
-use Rattle.json_lines.specs.Fields.{number_at, are_strings}
+use Rattle.json_lines.specs.Fields.{number_at, are_strings, is_string}
 use Rattle.tuple_text.specs.Tuples.{FactValue}
 use Rattle.refusals.specs.Refusals.{◌>>=◌, needed, Unless, Fails}
 use Rattle.refusals.proofs.Fronts.{with_front, regroup}
 use Rattle.evidence_check.specs.Causes.{is_memory}
-use Rattle.evidence_check.specs.Reading.{is_step, are_shaped, are_known, yes_of, no_of, facts_in, step_from, in_front, step_in, steps_in, steps_at, known_steps, place_of, placed_steps}
+use Rattle.evidence_check.specs.Reading.{is_step, are_shaped, are_known, yes_of, no_of, fact_in, facts_in, step_from, in_front, step_in, steps_in, steps_at, known_steps, place_of, placed_steps}
 use Rattle.evidence_check.specs.StepReading.{read_step, read_steps, steps_of}
 use Rattle.evidence_check.specs.Steps.{StepValue}
 use Rattle.evidence_check.specs.declared.cause.EvidenceCause.{EvidenceCause}
@@ -31,11 +31,45 @@ no_front : {A : Type 0} (read : Result (List A) EvidenceCause) → with_front []
 no_front (Ok xs) = refl
 no_front (Err e) = refl
 
+right_shape : {A : Type 0} (shaped : Bool) (read : Result A EvidenceCause) (x : A) → cond shaped read (Err causes.Shape) ≡ Ok x → (shaped ≡ true) × (read ≡ Ok x)
+right_shape true read x is = (refl, is)
+right_shape false read x is = cc
+
+unless_then : {P Q : Type 0} (b : Bool) → (P → Q) → Unless b P → Unless b Q
+unless_then true f p = tt
+unless_then false f p = f p
+
+told_if_shaped : {A B : Type 0} (here behind : Bool) (read : Result A EvidenceCause) (more : Result A EvidenceCause → Result B EvidenceCause) (e : EvidenceCause) → ((c : EvidenceCause) → more (Err c) ≡ Err c)
+    → Fails is_memory e (cond here read (Err causes.Shape)) → Fails is_memory (cond behind e causes.Shape) (cond (here && behind) (more read) (Err causes.Shape))
+told_if_shaped here true read more e stops told = unless_then (is_memory e) (fault_first here true read more e stops) told
+told_if_shaped true false read more e stops told = refl
+told_if_shaped false false read more e stops told = refl
+
 -- ---- facts
 
 -- what the facts of a list are, behind those that were read
 abbrev pub facts_after : List FactValue → Items → Result (List FactValue) EvidenceCause
 facts_after front ds = cond (are_strings ds) (with_front front (facts_in ds)) (Err causes.Shape)
+
+fact_shaped : (d : Data) → cond (is_string d) (fact_in d) (Err causes.Shape) ≡ fact_in d
+fact_shaped null = refl
+fact_shaped (boolean b) = refl
+fact_shaped (number n) = refl
+fact_shaped (string s) = refl
+fact_shaped (array ds) = refl
+fact_shaped (object ms) = refl
+
+-- one more fact
+pub next_fact : (front gs : List FactValue) (f : FactValue) (d : Data) (ds : Items) → fact_in d ≡ Ok f → gs ≡ front ++ f ∷ [] → facts_after gs ds ≡ facts_after front (item d ds)
+next_fact front gs f d ds is e =
+    let right = right_shape (is_string d) (fact_in d) f (fact_shaped d ∙ is) in
+    rw (right.0, is)
+    (ap (λ (read : Result (List FactValue) EvidenceCause). cond (are_strings ds) read (Err causes.Shape)) (regroup front gs f (facts_in ds) e))
+
+-- a fact at fault
+pub fault_in_facts : (front : List FactValue) (e : EvidenceCause) (d : Data) (ds : Items) → Fails is_memory e (fact_in d) → Fails is_memory (cond (are_strings ds) e causes.Shape) (facts_after front (item d ds))
+fault_in_facts front e d ds told =
+    told_if_shaped (is_string d) (are_strings ds) (fact_in d) (λ r. with_front front (r >>= λ f. facts_in ds >>= λ fs. Ok (f ∷ fs))) e (λ c. refl) (rw (fact_shaped d) told)
 
 -- ---- steps
 
@@ -45,10 +79,6 @@ steps_if_known known steps = cond known (Ok steps) (Err causes.UnknownStep)
 -- what the steps of a list are, behind those that were read
 abbrev pub steps_after : List StepValue → Bool → Items → Result (List StepValue) EvidenceCause
 steps_after front known ds = cond (are_shaped ds) (with_front front (steps_in ds) >>= steps_if_known (known && are_known ds)) (Err causes.Shape)
-
-right_shape : {A : Type 0} (shaped : Bool) (read : Result A EvidenceCause) (x : A) → cond shaped read (Err causes.Shape) ≡ Ok x → (shaped ≡ true) × (read ≡ Ok x)
-right_shape true read x is = (refl, is)
-right_shape false read x is = cc
 
 known_step : (y n : Option Data) (s : StepValue) → step_from y n ≡ Ok (Some s) → is_some y || is_some n ≡ true
 known_step (Some d) n s is = refl
@@ -61,16 +91,6 @@ next_step front gs known s d ds is e =
     let right = right_shape (is_step d) (step_in d) (Some s) is in
     rw (right.0, right.1, known_step (yes_of d) (no_of d) s right.1)
     (ap (λ (read : Result (List StepValue) EvidenceCause). cond (are_shaped ds) (read >>= steps_if_known (known && are_known ds)) (Err causes.Shape)) (regroup front gs s (steps_in ds) e))
-
-unless_then : {P Q : Type 0} (b : Bool) → (P → Q) → Unless b P → Unless b Q
-unless_then true f p = tt
-unless_then false f p = f p
-
-told_if_shaped : {A B : Type 0} (here behind : Bool) (read : Result A EvidenceCause) (more : Result A EvidenceCause → Result B EvidenceCause) (e : EvidenceCause) → ((c : EvidenceCause) → more (Err c) ≡ Err c)
-    → Fails is_memory e (cond here read (Err causes.Shape)) → Fails is_memory (cond behind e causes.Shape) (cond (here && behind) (more read) (Err causes.Shape))
-told_if_shaped here true read more e stops told = unless_then (is_memory e) (fault_first here true read more e stops) told
-told_if_shaped true false read more e stops told = refl
-told_if_shaped false false read more e stops told = refl
 
 -- a step at fault
 pub fault_in_steps : (front : List StepValue) (known : Bool) (e : EvidenceCause) (d : Data) (ds : Items) → Fails is_memory e (read_step d) → Fails is_memory (cond (are_shaped ds) e causes.Shape) (steps_after front known (item d ds))

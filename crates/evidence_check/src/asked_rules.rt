@@ -119,10 +119,11 @@ impl<'t> AskedRules<'t> {
                 .rule
                 .does(is_given, fact.set, fact.user, at, known);
         }
-        let mut rule = AskedRule::new(self.alloc, self.trace.timeline(), parted)?;
-        let does = rule.does(is_given, fact.set, fact.user, at, known)?;
+        let rule = AskedRule::new(self.alloc, self.trace.timeline(), parted)?;
+        let mut placed = PlacedRule { place, rule };
+        let does = placed.rule.does(is_given, fact.set, fact.user, at, known)?;
         let number = self.asked.len();
-        self.asked.push(PlacedRule { place, rule })?;
+        self.asked.push(placed)?;
         let _ = self.numbers.insert(key(place), number)?;
         Ok(does)
     }

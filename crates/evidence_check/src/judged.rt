@@ -7,7 +7,7 @@ ghost use Rattle.tuple_text.specs.Refs.{set_value};
 ghost use Rattle.tuple_text.specs.Tuples.{FactValue};
 ghost use Rattle.namespaces.specs.Lookup.{rule_at};
 ghost use Rattle.rewrites.specs.View.{expression_of};
-ghost use Rattle.evidence_check.specs.Rules.{IsInForce, IsLast, AreLast, IsSettled};
+ghost use Rattle.evidence_check.specs.Rules.{IsInForce, IsRuleOf, IsLast, AreLast, IsSettled};
 ghost use Rattle.version_chains.specs.Commits.{store_at};
 ghost use Rattle.judgement.specs.Facts.{marked_fact};
 ghost use Rattle.trace_lines.specs.Values.{EntryValue, entry_value};
@@ -101,6 +101,30 @@ fn rule_after<'t>(
     rule_in_force(rules, at, set)
 }
 
+/// Whether a fact is proved by its rule, or disproved, where that is not wide.
+fn settles_narrow<F: KnownFact>(
+    rule: Option<&Rewrite>,
+    trace: &Trace,
+    is_given: bool,
+    at: u64,
+    known: &Known<F>,
+    fact: MarkedFact<'_>,
+) -> bool
+    requires { IsRuleOf trace.now.declarations at (marked_fact fact).set (option_map (λ r. expression_of r.now) rule) }
+    ensures { IsTrue result
+        ↔ IsSettled (rule_at trace.now.declarations at) (store_at trace.now.commits at) known.now is_given (marked_fact fact.entry) }
+{
+    let Some(rule) = rule else {
+        return !is_given;
+    };
+    let snapshot = trace.timeline().at(at);
+    if is_given {
+        established(rule, fact.set, fact.user, &snapshot, known)
+    } else {
+        refuted(rule, fact.set, fact.user, &snapshot, known)
+    }
+}
+
 /// Whether a fact is proved by its rule, or disproved.
 fn settles<'t, F: KnownFact>(
     rule: RuleInForce<'t>,
@@ -115,16 +139,17 @@ fn settles<'t, F: KnownFact>(
     ensures settles { IfOk result (λ r. IsTrue r
         ↔ IsSettled (rule_at asked.old.declarations at) (store_at asked.old.commits at) known.now is_given (marked_fact fact.entry)) }
 {
+    let trace = asked.trace();
     match rule {
-        RuleInForce::Undeclared => Ok(!is_given),
-        RuleInForce::Narrow(rule) => {
-            let snapshot = asked.trace().timeline().at(at);
-            if is_given {
-                Ok(established(rule, fact.set, fact.user, &snapshot, known))
-            } else {
-                Ok(refuted(rule, fact.set, fact.user, &snapshot, known))
-            }
-        }
+        RuleInForce::Undeclared => Ok(settles_narrow(None, trace, is_given, at, known, fact)),
+        RuleInForce::Narrow(rule) => Ok(settles_narrow(
+            Some(rule),
+            trace,
+            is_given,
+            at,
+            known,
+            fact,
+        )),
         RuleInForce::Wide(place, rule) => asked.does(place, rule, is_given, at, known, fact),
     }
 }

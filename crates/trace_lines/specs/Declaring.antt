@@ -3,9 +3,11 @@ use Rattle.std.specs.Prelude.{◌≡◌, ℕ, List, [], ◌∷◌, ◌++◌, Som
 use Rattle.serde_json.specs.Data.{Data}
 use Rattle.tuple_text.specs.Tuples.{TupleValue}
 use Rattle.namespaces.specs.Declaration.{Declaration}
-use Rattle.namespaces.specs.Changing.{rules_change}
+use Rattle.namespaces.specs.Changing.{IsLater, rules_change}
 use Rattle.json_lines.specs.Fields.{text_at}
-use Rattle.strata.specs.Edges.{first_broken, rule_edges}
+use Rattle.strata.specs.Edges.{edges_of_tuples, first_broken, rule_edges}
+use Rattle.edge_checks.specs.Indexed.{IsIndex}
+use Rattle.edge_checks.specs.declared.edge_index.EdgeIndex.{EdgeIndex}
 use Rattle.version_chains.specs.Commits.{added}
 use Rattle.version_chains.specs.declared.fault.AppendFault.TheVariants.{NotLater}
 use Rattle.refusals.specs.Refusals.{◌>>=◌}
@@ -26,6 +28,13 @@ pub record IsDeclaredLast (ds : List Declaration) (d : Data) : Type 0 where
   pub are : ds ≡ before ++ last ∷ []
   pub named : text_at (codes "name") d ≡ Some last.name
   pub unbroken : AreUnbroken before
+
+-- the rules may change at a timestamp, where an index is of them and of what was added so far
+pub record MayChange (at : ℕ) (ds : List Declaration) (edges : EdgeIndex) (ts : List TupleValue) : Type 0 where
+  pub later : IsLater at ds
+  pub unbroken : AreUnbroken ds
+  pub tuples : first_broken ds (edges_of_tuples ds ts) ≡ Ok (tt {0})
+  pub index : IsIndex ds edges ts
 
 abbrev pub checked : List TupleValue → List Declaration → Result (List Declaration) Cause
 checked ts ds = rules_checked ds >>= λ u. tuples_checked ds ts >>= λ v. Ok ds

@@ -1,7 +1,10 @@
--- What the fields of a check say, each of its shape.
+-- What the fields of a check or a commit say, each of its shape.
 use Rattle.std.specs.Prelude.{ℕ, Option, None, Some, Result, Ok, Err, option_map}
+use Rattle.serde_json.specs.Data.{Items}
 use Rattle.refusals.specs.Refusals.{◌>>=◌}
-use Rattle.trace_lines.specs.Texts.{goal_of, token_of}
+use Rattle.version_chains.specs.Commits.{Commit}
+use Rattle.trace_lines.specs.Causes.{needed}
+use Rattle.trace_lines.specs.Texts.{goal_of, token_of, tuples_of}
 use Rattle.trace_lines.specs.Values.{EntryValue}
 use Rattle.trace_lines.specs.declared.cause.Cause.{Cause}
 use Rattle.trace_lines.specs.declared.cause.Cause.TheVariants as causes
@@ -14,3 +17,13 @@ entry_said kind n before None = Err causes.Shape
 entry_said kind n before (Some s) =
     goal_of s.goal.now >>= λ goal. token_of (option_map (λ t. t.now) s.zookie) >>= λ token.
     Ok (record { kind = kind; line = n; goal = goal; snapshot = s.snapshot; reply = s.reply; zookie = token; version = option_map (λ t. t.now) s.version; before = before })
+
+-- the commit that these say
+abbrev pub commit_said : Option ℕ → Option Items → Option Items → Result Commit Cause
+commit_said at add remove = do
+  n ← needed at
+  added ← needed add
+  removed ← needed remove
+  adds ← tuples_of added
+  removes ← tuples_of removed
+  Ok (record { at = n; adds = adds; removes = removes })

@@ -2,17 +2,18 @@
 
 ghost use Rattle.std.specs.Prelude.{◌≡◌, IfOk, map, option_map};
 ghost use Rattle.serde_json.specs.Data.{Data};
-ghost use Rattle.json_lines.specs.Data.{value_data};
+ghost use Rattle.json_lines.specs.Data.{items_data, value_data};
 ghost use Rattle.tuple_text.specs.TupleRefs.{tuple_values};
 ghost use Rattle.trace_lines.specs.Causes.{Gives};
 ghost use Rattle.trace_lines.specs.LineFields.{commit_fields};
 ghost use Rattle.trace_lines.specs.LineViews.{commit_value, owned_value};
+ghost use Rattle.trace_lines.specs.Said.{commit_said};
 ghost use Rattle.trace_lines.specs.Traces.{commit_of};
 
 use crate::cause::Cause;
 use crate::texts::tuples_of;
-use json_lines::JsonRef;
 use json_lines::fields::{number_of, strings_of};
+use json_lines::{JsonItems, JsonRef};
 use std::alloc::{AllocError, Global};
 use tuple_text::{Tuple, TupleRef};
 
@@ -74,9 +75,26 @@ fn commit_in<'a>(alloc: Global, fields: &[Option<JsonRef<'_, 'a>>]) -> Result<Co
     let [at, add, remove] = fields else {
         return Err(Cause::Shape);
     };
-    let at = number_of(at.as_ref()).ok_or(Cause::Shape)?;
-    let add = strings_of(add.as_ref()).ok_or(Cause::Shape)?;
-    let remove = strings_of(remove.as_ref()).ok_or(Cause::Shape)?;
+    commit_said(
+        alloc,
+        number_of(at.as_ref()),
+        strings_of(add.as_ref()),
+        strings_of(remove.as_ref()),
+    )
+}
+
+/// The commit that fields say, each of which is there where it is of its shape.
+fn commit_said<'a>(
+    alloc: Global,
+    at: Option<u64>,
+    add: Option<JsonItems<'_, 'a>>,
+    remove: Option<JsonItems<'_, 'a>>,
+) -> Result<CommitRef<'a>, Cause>
+    ensures { Gives commit_value result (commit_said at (option_map items_data add.entry) (option_map items_data remove.entry)) }
+{
+    let (Some(at), Some(add), Some(remove)) = (at, add, remove) else {
+        return Err(Cause::Shape);
+    };
     let adds = tuples_of(alloc, add)?;
     let removes = tuples_of(alloc, remove)?;
     Ok(CommitRef { at, adds, removes })

@@ -1,13 +1,12 @@
 //! The rules of a trace, as its lines declare them. Where a line is refused no rule is left, for the trace is refused with it.
 
-ghost use Rattle.std.specs.Prelude.{◌≡◌, option_map, ℕ, ◌<◌, [], Ok, OnOk, OnErr};
+ghost use Rattle.std.specs.Prelude.{◌≡◌, option_map, ℕ, ◌<◌, [], OnOk, OnErr};
 ghost use Rattle.serde_json.specs.View.{view};
 ghost use Rattle.json_lines.specs.Fields.{text_at};
 ghost use Rattle.namespaces.specs.Changing.{IsLater};
-ghost use Rattle.strata.specs.Edges.{first_broken, edges_of_tuples};
 ghost use Rattle.trace_lines.specs.Causes.{Gives, Fails, namespace_cause};
 ghost use Rattle.edge_checks.specs.Indexed.{IsIndex};
-ghost use Rattle.trace_lines.specs.Declaring.{AreUnbroken, IsDeclaredLast, checked, changed_rules, refused_late};
+ghost use Rattle.trace_lines.specs.Declaring.{AreUnbroken, IsDeclaredLast, MayChange, checked, changed_rules, refused_late};
 ghost use Rattle.trace_lines.specs.Traces.{with_namespace, rules_checked};
 
 use crate::cause::Cause;
@@ -102,10 +101,7 @@ fn make_change(
     at: u64,
     value: &Value,
 ) -> Result<(), Cause>
-    requires later { IsLater at rules.old }
-    requires unbroken { AreUnbroken rules.old }
-    requires tuples { first_broken rules.old (edges_of_tuples rules.old sample.now) ≡ Ok (tt {0}) }
-    requires index { IsIndex rules.old index.old sample.now }
+    requires { MayChange at rules.old index.old sample.now }
     ensures answer { Gives (λ _. rules.new) result (changed_rules at rules.old sample.now (view value.now)) }
     ensures index { OnOk result (IsIndex rules.new index.new sample.now) }
     ensures later { (next : ℕ) → at < next → IsLater next rules.new }
@@ -132,10 +128,7 @@ pub(crate) fn change(
     at: u64,
     value: &Value,
 ) -> Result<(), Cause>
-    requires later { IsLater at rules.old }
-    requires unbroken { AreUnbroken rules.old }
-    requires tuples { first_broken rules.old (edges_of_tuples rules.old sample.now) ≡ Ok (tt {0}) }
-    requires index { IsIndex rules.old index.old sample.now }
+    requires { MayChange at rules.old index.old sample.now }
     ensures answer { Gives (λ _. rules.new) result (changed_rules at rules.old sample.now (view value.now)) }
     ensures index { IsIndex rules.new index.new sample.now }
     ensures dropped { OnErr result (rules.new ≡ []) }
