@@ -8,7 +8,7 @@ use evidence_check::{
     AskedRules, EntryLines, EvidenceCause, Judged, Judging, Verdict, judge_alone,
 };
 use json::Scratch;
-use json_lines::{JsonLine, LineCause, Stop, is_blank};
+use json_lines::{LineCause, Stop, is_blank};
 use line_blocks::{PutTold, TellLine};
 use simdutf8::basic::from_utf8;
 use std::alloc::{AllocError, Global};
@@ -69,10 +69,14 @@ impl<'t> TellLine for Records<'t> {
         let Ok(text) = from_utf8(line) else {
             return Ok(Err(EvidenceCause::NotJson));
         };
-        let Some(json) = JsonLine::read(alloc, text, &mut desk.json)? else {
-            return Ok(Err(EvidenceCause::NotJson));
-        };
-        match judge_alone(alloc, &mut desk.asked, &self.lines, &mut desk.next, &json) {
+        match judge_alone(
+            alloc,
+            &mut desk.asked,
+            &self.lines,
+            &mut desk.next,
+            text,
+            &mut desk.json,
+        ) {
             Ok(verdict) => Ok(Ok(Some(verdict))),
             Err(cause) if cause.is_memory() => Err(AllocError),
             Err(cause) => Ok(Err(cause)),

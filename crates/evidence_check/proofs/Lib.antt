@@ -1,9 +1,12 @@
 pub mod BehindLemmas
 pub mod Growing
+pub mod JsonBack
 pub mod JudgedLemmas
 pub mod Judgements
 pub mod LineCauses
 pub mod Places
+pub mod RecordPieces
+pub mod RecordSteps
 pub mod Shown
 pub mod Sound
 pub mod StepLoops

@@ -35,7 +35,7 @@ right_shape : {A : Type 0} (shaped : Bool) (read : Result A EvidenceCause) (x : 
 right_shape true read x is = (refl, is)
 right_shape false read x is = cc
 
-unless_then : {P Q : Type 0} (b : Bool) → (P → Q) → Unless b P → Unless b Q
+pub unless_then : {P Q : Type 0} (b : Bool) → (P → Q) → Unless b P → Unless b Q
 unless_then true f p = tt
 unless_then false f p = f p
 

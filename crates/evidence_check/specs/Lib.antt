@@ -10,6 +10,8 @@ pub mod Judging
 pub mod Laws
 pub mod Members
 pub mod Reading
+pub mod RecordData
+pub mod RecordPieces
 pub mod Records
 pub mod Rules
 pub mod StepReading

@@ -2,12 +2,13 @@
 use Rattle.std.specs.Prelude.{◌≡◌, ℕ, ◌+◌, ◌==◌, ◌&&◌, ◌||◌, Bool, true, false, List, [], ◌∷◌, length, nat_lt, Option, None, Some, is_some, replicate, position, slice_get, slice_set, option_and_then, Result, Ok, Err, codes, if◌then◌else◌}
 use Rattle.serde_json.specs.Data.{Data, Items, no_items, item}
 use Rattle.serde_json.specs.Find.{get, as_str, as_array, as_object}
+use Rattle.serde_json.specs.Read.{read}
 use Rattle.tuple_text.specs.Reading.{fact_at}
 use Rattle.tuple_text.specs.Tuples.{FactValue}
 use Rattle.json_lines.specs.Fields.{number_at, is_string, are_strings}
 use Rattle.refusals.specs.Refusals.{◌>>=◌, needed, Unless, Gives}
 use Rattle.json_lines.specs.InputRead.{InputRead}
-use Rattle.json_lines.specs.Json.{taken_line}
+use Rattle.json_lines.specs.Json.{of_json, taken_line}
 use Rattle.json_lines.specs.Reading.{cause_of, read_all}
 use Rattle.trace_lines.specs.Values.{EntryValue, entry_lines}
 use Rattle.json_lines.specs.declared.reading.LineFault.{LineFault}
@@ -135,8 +136,15 @@ placed_steps lines d = do
   place ← needed causes.StrayLine (place_of line lines)
   Ok (place, steps)
 
+-- the same of a text
+abbrev pub placed_text : List ℕ → List ℕ → Result (ℕ × List StepValue) EvidenceCause
+placed_text lines text = of_json causes.NotJson (placed_steps lines) (read text)
+
 unfoldable pub record_line : Records → Data → Result Records EvidenceCause
 record_line r d = placed_steps r.lines d >>= λ p. put_steps r p.0 p.1
+
+abbrev pub recorded_text : Records → List ℕ → Result Records EvidenceCause
+recorded_text r text = of_json causes.NotJson (record_line r) (read text)
 
 -- ---- the evidence
 

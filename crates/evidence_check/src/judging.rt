@@ -1,10 +1,10 @@
 //! Judging the records as they are read.
 
-ghost use Rattle.std.specs.Prelude.{◌≡◌, replicate, slice_get, slice_set, Ok, Err, IfOk, IfErr, OnOk};
+ghost use Rattle.std.specs.Prelude.{◌≡◌, replicate, slice_get, slice_set, None, Ok, Err, IfOk, IfErr, IfSome, OnOk};
 ghost use Rattle.json_lines.specs.Data.{line_data};
 ghost use Rattle.evidence_check.specs.Alone.{settled};
 ghost use Rattle.evidence_check.specs.Causes.{Gives};
-ghost use Rattle.evidence_check.specs.Judging.{is_judged, judge_line, judged_by, no_judgements, put_judged};
+ghost use Rattle.evidence_check.specs.Judging.{is_judged, judge_line, judged_by, judged_text, no_judgements, put_judged};
 ghost use Rattle.evidence_check.specs.Steps.{borrowed_steps};
 ghost use Rattle.evidence_check.specs.declared.judged.Judged.TheVariants.{Missing};
 
@@ -12,7 +12,7 @@ use crate::alone::{Verdict, judge_at};
 use crate::asked_rules::AskedRules;
 use crate::cause::EvidenceCause;
 use crate::judged::Judged;
-use crate::placed::{EntryLines, placed_steps};
+use crate::placed::{EntryLines, placed_steps, placed_text};
 use crate::records::are_too_many;
 use crate::step::StepRef;
 use json_lines::{JsonLine, TakeJson};
@@ -159,6 +159,17 @@ impl<'t> Judging<'t> {
         let (place, steps) = placed_steps(self.alloc, &mut self.lines, json)?;
         self.put(place, &steps)
     }
+
+    /// As `take_record`, by the text of a record; None where that is to be read as JSON.
+    fn take_written(&mut self, text: &str) -> Option<Result<(), EvidenceCause>>
+        ensures none { result ≡ None → self.new ≡ self.old }
+        ensures taken { IfSome result (λ r. Gives (λ _. self.new) r (judged_text self.old text.now)) }
+    {
+        match placed_text(self.alloc, &mut self.lines, text)? {
+            Ok((place, steps)) => Some(self.put(place, &steps)),
+            Err(cause) => Some(Err(cause)),
+        }
+    }
 }
 
 impl<'t> TakeJson for Judging<'t> {
@@ -170,6 +181,10 @@ impl<'t> TakeJson for Judging<'t> {
     ghost next = { λ _. 0 };
 
     ghost taken = { λ _. judge_line };
+
+    fn take_text(&mut self, _number: u64, text: &str) -> Option<Result<(), EvidenceCause>> {
+        self.take_written(text)
+    }
 
     fn take_value(&mut self, _number: u64, line: &JsonLine<'_>) -> Result<(), EvidenceCause> {
         self.take_record(line)

@@ -6,6 +6,7 @@
 //!
 //! Callers may rely on this: [`read_evidence`] answers the evidence that its input says, or its first fault, also of a reader that
 //! fails. [`judge_evidence`] judges by it as it is read, and [`judge_evidence_behind`] by that behind the marker of joined input.
+//! A record that is written as most programs write it is taken without a reader of JSON, to the same end.
 //! [`judge_alone`] says what a record says whatever stands before it, so that threads may share the records, and [`Judging`] is what
 //! that is put into.
 //! [`judge_entry`] is the definition `judged`. Whoever made the evidence, a supported reply is what the rules mean at the entry's snapshot
@@ -31,6 +32,7 @@ mod recorder;
 mod records;
 mod step;
 mod steps;
+mod written;
 
 pub use alone::{Verdict, judge_alone};
 pub use asked_rules::AskedRules;

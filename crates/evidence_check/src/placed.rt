@@ -1,16 +1,17 @@
 //! The places of records among the entries of a trace.
 
-ghost use Rattle.std.specs.Prelude.{◌≡◌, IfOk};
+ghost use Rattle.std.specs.Prelude.{◌≡◌, IfOk, IfSome};
 ghost use Rattle.std.specs.List.Sorted.{IsStrictlyIncreasing};
 ghost use Rattle.json_lines.specs.Data.{line_data};
 ghost use Rattle.trace_lines.specs.Values.{entry_lines};
 ghost use Rattle.evidence_check.specs.Causes.{Gives};
-ghost use Rattle.evidence_check.specs.Reading.{place_of, placed_steps};
+ghost use Rattle.evidence_check.specs.Reading.{place_of, placed_steps, placed_text};
 ghost use Rattle.evidence_check.specs.Steps.{borrowed_steps};
 
 use crate::cause::EvidenceCause;
 use crate::records::steps_of;
 use crate::step::StepRef;
+use crate::written::written_record;
 use json_lines::JsonLine;
 use json_lines::fields::number_at;
 use std::alloc::{AllocError, Global};
@@ -95,6 +96,22 @@ pub(crate) fn sought_steps<'a>(
     Ok((place, steps))
 }
 
+/// As [`sought_steps`], by the text of a record; None where that is to be read as JSON.
+pub(crate) fn sought_text<'a>(
+    alloc: Global,
+    lines: &EntryLines,
+    next: &mut usize,
+    text: &'a str,
+) -> Option<Result<(usize, Vec<StepRef<'a>>), EvidenceCause>>
+    ensures { IfSome result (λ r. Gives (λ p. (p.0, borrowed_steps p.1.items)) r (placed_text lines.now text.now)) }
+{
+    let (line, steps) = written_record(alloc, text)?;
+    match lines.seek(next, line) {
+        Some(place) => Some(Ok((place, steps))),
+        None => Some(Err(EvidenceCause::StrayLine)),
+    }
+}
+
 /// The place of the entry that a record names, and the steps of the record.
 pub(crate) fn placed_steps<'a>(
     alloc: Global,
@@ -106,6 +123,22 @@ pub(crate) fn placed_steps<'a>(
 {
     let mut next = lines.next;
     let placed = sought_steps(alloc, lines, &mut next, json);
+    lines.next = next;
+    placed
+}
+
+/// As [`placed_steps`], by the text of a record; None where that is to be read as JSON.
+pub(crate) fn placed_text<'a>(
+    alloc: Global,
+    lines: &mut EntryLines,
+    text: &'a str,
+) -> Option<Result<(usize, Vec<StepRef<'a>>), EvidenceCause>>
+    ensures placed { IfSome result (λ r.
+        Gives (λ p. (p.0, borrowed_steps p.1.items)) r (placed_text lines.old text.now)) }
+    ensures same { lines.new ≡ lines.old }
+{
+    let mut next = lines.next;
+    let placed = sought_text(alloc, lines, &mut next, text);
     lines.next = next;
     placed
 }

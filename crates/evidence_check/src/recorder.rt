@@ -1,14 +1,14 @@
 //! The records that are read so far.
 
-ghost use Rattle.std.specs.Prelude.{◌≡◌, replicate, slice_get, slice_set, None, Some, IfOk};
+ghost use Rattle.std.specs.Prelude.{◌≡◌, replicate, slice_get, slice_set, None, Some, IfOk, IfSome};
 ghost use Rattle.json_lines.specs.Data.{line_data};
 ghost use Rattle.evidence_check.specs.Causes.{Gives};
-ghost use Rattle.evidence_check.specs.Reading.{is_taken, put_steps, record_line, no_records};
+ghost use Rattle.evidence_check.specs.Reading.{is_taken, put_steps, record_line, recorded_text, no_records};
 ghost use Rattle.evidence_check.specs.Evidences.{all_shown};
 ghost use Rattle.evidence_check.specs.Steps.{step_values, borrowed_steps};
 
 use crate::cause::EvidenceCause;
-use crate::placed::{EntryLines, placed_steps};
+use crate::placed::{EntryLines, placed_steps, placed_text};
 use crate::records::are_too_many;
 use crate::step::{StepRef, Steps};
 use crate::steps::copied_steps;
@@ -124,6 +124,17 @@ impl Recorder {
         let (place, steps) = placed_steps(self.alloc, &mut self.lines, json)?;
         self.put(place, &steps)
     }
+
+    /// As `take_record`, by the text of a record; None where that is to be read as JSON.
+    fn take_written(&mut self, text: &str) -> Option<Result<(), EvidenceCause>>
+        ensures none { result ≡ None → self.new ≡ self.old }
+        ensures taken { IfSome result (λ r. Gives (λ _. self.new) r (recorded_text self.old text.now)) }
+    {
+        match placed_text(self.alloc, &mut self.lines, text)? {
+            Ok((place, steps)) => Some(self.put(place, &steps)),
+            Err(cause) => Some(Err(cause)),
+        }
+    }
 }
 
 impl TakeJson for Recorder {
@@ -135,6 +146,10 @@ impl TakeJson for Recorder {
     ghost next = { λ _. 0 };
 
     ghost taken = { λ _. record_line };
+
+    fn take_text(&mut self, _number: u64, text: &str) -> Option<Result<(), EvidenceCause>> {
+        self.take_written(text)
+    }
 
     fn take_value(&mut self, _number: u64, line: &JsonLine<'_>) -> Result<(), EvidenceCause> {
         self.take_record(line)

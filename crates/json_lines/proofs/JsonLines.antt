@@ -1,12 +1,15 @@
 -- A line that is a value, and one that is none.
-use Rattle.std.proofs.Common.{◌≡◌, ℕ, false, List, Option, Some, None, Result, Err, refl, inl, inr, IsUtf8}
+use Rattle.std.proofs.Common.{◌≡◌, ℕ, Bool, true, false, List, Option, Some, None, Result, Ok, Err, OnOk, IfErr, refl, ◌∙◌, inl, inr, IsUtf8}
 use Rattle.std.specs.Str.{is_utf8}
 use Rattle.std.proofs.lemmas.Bool.{cases_Bool}
 use Rattle.std.proofs.lemmas.Str.{IsUtf8-from_is_utf8, is_utf8-from_IsUtf8}
 use Rattle.serde_json.specs.Data.{Data}
 use Rattle.serde_json.specs.Read.{read}
+use Rattle.refusals.specs.Refusals.{Gives, Unless}
 use Rattle.refusals.proofs.Steps.{ErrHas, either_refused}
 use Rattle.json_lines.specs.Json.{is_blank, of_json, json_line, taken_line}
+use Rattle.json_lines.specs.Reading.{Refuses, stopped}
+use Rattle.json_lines.specs.declared.reading.Stop.{Stop}
 
 pub of_a_value : {S C : Type 0} (not_json : C) (taken : Data → Result S C) (bytes : List ℕ) (d : Data) → IsUtf8 bytes → read bytes ≡ Some d → json_line not_json taken bytes ≡ taken d
 unfolding json_line
@@ -34,3 +37,29 @@ line_refused P not_json taken n s line h k =
 pub of_no_blank : {S C : Type 0} (not_json : C) (taken : ℕ → S → Data → Result S C) (n : ℕ) (s : S) (line : List ℕ) → is_blank line ≡ false
     → taken_line not_json taken n s line ≡ json_line not_json (taken n s) line
 of_no_blank not_json taken n s line h = rw h refl
+
+-- a line that is text is what its text makes, read as JSON
+pub of_a_text : {S C : Type 0} (not_json : C) (taken : Data → Result S C) (bytes : List ℕ) → IsUtf8 bytes → json_line not_json taken bytes ≡ of_json not_json taken (read bytes)
+unfolding json_line
+of_a_text not_json taken bytes u = rw (is_utf8-from_IsUtf8 bytes u) refl
+
+-- ---- a line that is answered as what it makes
+
+stops : {S C : Type 0} (is_memory : Bool) (c : C) (line : Result S C) → Unless is_memory (line ≡ Err c) → IfErr (stopped (λ _. is_memory) (Err c)) (Refuses line)
+stops true c line told = tt
+stops false c line told = told
+
+module _ {S C : Type 0} (is_memory : C → Bool) (s : S) (answer : Result (Unit {0}) C) (given line : Result S C) (told : Gives is_memory (λ _. s) answer given) (same : line ≡ given) where
+  pub stopped_ok : OnOk (stopped is_memory answer) (line ≡ Ok s)
+  stopped_ok = on_ok answer told
+    where
+      on_ok : (r : Result (Unit {0}) C) → Gives is_memory (λ _. s) r given → OnOk (stopped is_memory r) (line ≡ Ok s)
+      on_ok (Ok u) h = same ∙ h
+      on_ok (Err c) h = tt
+
+  pub stopped_refused : IfErr (stopped is_memory answer) (Refuses line)
+  stopped_refused = on_err answer told
+    where
+      on_err : (r : Result (Unit {0}) C) → Gives is_memory (λ _. s) r given → IfErr (stopped is_memory r) (Refuses line)
+      on_err (Ok u) h = tt
+      on_err (Err c) h = stops (is_memory c) c line (rw same h)

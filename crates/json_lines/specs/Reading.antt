@@ -41,6 +41,11 @@ Refuses read (Input OutOfMemory) = ⊤
 Refuses read (Input Read) = ⊥
 Refuses read (Input TooLong) = ⊥
 
+-- what stops the reading, where a line is answered so
+abbrev pub stopped : {C : Type 0} → (C → Bool) → Result (Unit {0}) C → Result (Unit {0}) (Stop C)
+stopped is_memory (Ok u) = Ok u
+stopped is_memory (Err c) = Err (if is_memory c then Input OutOfMemory else Line c)
+
 -- the cause that a line gives, or that a fault of the input is
 abbrev pub cause_of : {C : Type 0} → (InputFault → C) → Stop C → C
 cause_of of_input (Line c) = c

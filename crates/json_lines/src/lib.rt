@@ -6,7 +6,8 @@
 //!
 //! What a line is, is what `serde_json` reads: contracts see a line and a value in it as its `Data`, by `line_data` and `value_data`. The
 //! line itself is a flat list of nodes, which borrow its texts, and is made a tree only where [`JsonLine::value`] is asked for one. Where a
-//! reader's lines are handed on, the memory of the nodes serves one line after the other.
+//! reader's lines are handed on, the memory of the nodes serves one line after the other, and a line whose text tells the taker what it says
+//! is made no list of.
 //!
 //! Callers may rely on this: what is read is `read_all` of the bytes that the reader gave, to its end or to the first fault with its line,
 //! also of a reader that fails. A refusal holds of every input that begins with these bytes. A line has at most 2^20 bytes and the input

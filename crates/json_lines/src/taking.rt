@@ -1,11 +1,12 @@
 //! A value that grows by lines of JSON.
 
-ghost use Rattle.std.specs.Prelude.{◌≡◌, ◌+◌, ◌≤◌, ℕ, Bool, Result, Ok, IfErr, OnOk};
+ghost use Rattle.std.specs.Prelude.{◌≡◌, ◌+◌, ◌≤◌, ℕ, Bool, None, Result, Ok, IfErr, IfSome, OnOk};
 ghost use Rattle.serde_json.specs.Data.{Data};
+ghost use Rattle.serde_json.specs.Read.{read};
 ghost use Rattle.refusals.specs.Refusals.{Gives};
 ghost use Rattle.json_lines.specs.Data.{line_data};
-ghost use Rattle.json_lines.specs.Json.{is_blank, is_blank_byte, taken_line};
-ghost use Rattle.json_lines.specs.Reading.{Refuses};
+ghost use Rattle.json_lines.specs.Json.{is_blank, is_blank_byte, of_json, taken_line};
+ghost use Rattle.json_lines.specs.Reading.{Refuses, stopped};
 ghost use Rattle.json_lines.specs.declared.lines.InputFault.{InputFault};
 
 use crate::line::{Desk, JsonLine};
@@ -43,7 +44,16 @@ pub trait TakeJson {
     // What the value of a line, by the line's number, makes of this one.
     ghost taken: { ℕ → Self → Data → Result Self Self.Cause };
 
-    /// Takes a line. Whatever the answer, the next call is not made after a refusal.
+    /// Takes a line of this text, where what it says is known without that it is read as JSON; None where it is not, and then nothing
+    /// changed. Whatever the answer, the next call is not made after a refusal.
+    fn take_text(&mut self, number: u64, text: &str) -> Option<Result<(), Self::Cause>>
+        requires { next self.old ≤ number }
+        ensures none { result ≡ None → self.new ≡ self.old }
+        ensures answer { IfSome result (λ r. Gives Self.Cause.is_memory (λ _. self.new) r
+            (of_json Self.Cause.not_json (taken number self.old) (read text.now))) }
+        ensures further { IfSome result (λ r. OnOk r (next self.new ≤ number + 1)) };
+
+    /// Takes a line, of which `take_text` knew nothing. Whatever the answer, the next call is not made after a refusal.
     fn take_value(&mut self, number: u64, line: &JsonLine<'_>) -> Result<(), Self::Cause>
         requires { next self.old ≤ number }
         ensures answer { Gives Self.Cause.is_memory (λ _. self.new) result (taken number self.old (line_data line.now)) }
@@ -61,6 +71,20 @@ pub fn is_blank(line: &[u8]) -> bool
     ensures { result ≡ is_blank line.now }
 {
     line.iter().all(|b| is_blank_byte(*b))
+}
+
+/// What stops the reading, where a line is answered so.
+fn stopped<C: LineCause>(answer: Result<(), C>) -> Result<(), Stop<C>>
+    ensures { result ≡ stopped C.is_memory answer }
+{
+    match answer {
+        Ok(()) => Ok(()),
+        Err(cause) => Err(if cause.is_memory() {
+            Stop::Input(InputFault::OutOfMemory)
+        } else {
+            Stop::Line(cause)
+        }),
+    }
 }
 
 /// Takes a line without its newline.
@@ -82,17 +106,12 @@ pub(crate) fn take_line<T: TakeJson>(
     let Ok(text) = from_utf8(line) else {
         return Err(Stop::Line(T::Cause::not_json()));
     };
-    let line = match JsonLine::read_in(text, desk) {
-        Ok(Some(line)) => line,
-        Ok(None) => return Err(Stop::Line(T::Cause::not_json())),
-        Err(_) => return Err(Stop::Input(InputFault::OutOfMemory)),
-    };
-    match taker.take_value(number, &line) {
-        Ok(()) => Ok(()),
-        Err(cause) => Err(if cause.is_memory() {
-            Stop::Input(InputFault::OutOfMemory)
-        } else {
-            Stop::Line(cause)
-        }),
+    if let Some(answer) = taker.take_text(number, text) {
+        return stopped(answer);
+    }
+    match JsonLine::read_in(text, desk) {
+        Ok(Some(line)) => stopped(taker.take_value(number, &line)),
+        Ok(None) => Err(Stop::Line(T::Cause::not_json())),
+        Err(_) => Err(Stop::Input(InputFault::OutOfMemory)),
     }
 }

@@ -7,7 +7,7 @@ use Rattle.serde_json.specs.View.{items_of}
 use Rattle.serde_json.specs.Written.{compact_text, items_text}
 use Rattle.tuple_text.specs.Grammar.{userset_text, fact_text}
 use Rattle.tuple_text.specs.Tuples.{FactValue}
-use Rattle.record_text.specs.Record.{fact_data}
+use Rattle.evidence_check.specs.RecordData.{fact_data}
 
 -- ---- a list
 

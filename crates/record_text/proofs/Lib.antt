@@ -1,5 +1,4 @@
 pub mod Counted
-pub mod JsonBack
 pub mod Lengths
 pub mod NoFloats
 pub mod OneLine

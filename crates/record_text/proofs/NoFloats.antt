@@ -3,8 +3,8 @@ use Rattle.std.proofs.Common.{◌≡◌, ℕ, false, List, [], ◌∷◌, map, r
 use Rattle.serde_json.specs.View.{items_of}
 use Rattle.serde_json.specs.Written.{has_float, items_have_float}
 use Rattle.tuple_text.specs.Tuples.{FactValue}
+use Rattle.evidence_check.specs.RecordData.{fact_data, step_data, record_data}
 use Rattle.evidence_check.specs.Steps.{StepValue, yes_step, no_step}
-use Rattle.record_text.specs.Record.{fact_data, step_data, record_data}
 
 facts_have_none : (fs : List FactValue) → items_have_float (items_of (map fact_data fs)) ≡ false
 facts_have_none [] = refl

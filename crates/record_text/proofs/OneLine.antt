@@ -13,8 +13,9 @@ use Rattle.serde_json.specs.View.{items_of}
 use Rattle.serde_json.specs.Written.{compact_text, items_text}
 use Rattle.tuple_text.specs.Grammar.{fact_text}
 use Rattle.tuple_text.specs.Tuples.{FactValue}
+use Rattle.evidence_check.specs.RecordData.{fact_data, step_data}
 use Rattle.evidence_check.specs.Steps.{StepValue, yes_step, no_step}
-use Rattle.record_text.specs.Record.{fact_data, step_data, record_text}
+use Rattle.record_text.specs.Record.{record_text}
 
 -- ---- what stands for a byte
 

@@ -7,8 +7,9 @@ use Rattle.serde_json.specs.Written.{compact_text}
 use Rattle.tuple_text.specs.Forms.{is_name, is_object_id}
 use Rattle.tuple_text.specs.Grammar.{IsFact}
 use Rattle.tuple_text.specs.Tuples.{FactValue}
+use Rattle.evidence_check.specs.RecordData.{fact_data, facts_data, steps_data, step_data}
 use Rattle.evidence_check.specs.Steps.{yes_step, no_step}
-use Rattle.record_text.specs.Record.{fact_data, facts_data, steps_data, step_data, record_length}
+use Rattle.record_text.specs.Record.{record_length}
 use Rattle.record_text.proofs.Lengths.{fact_length, length-array, yes_length, no_length, record_length_by_parts}
 
 byte_short : (x : ℕ) → length (escape_byte x) ≤ 6

@@ -1,82 +1,40 @@
 -- What the reader of evidence makes of a record's text.
-use Rattle.std.proofs.Common.{◌≡◌, ℕ, zero, suc, ◌+◌, ◌-◌, ◌<◌, ◌≤◌, ◌^◌, true, false, List, [], ◌∷◌, ◌++◌, length, map, replicate, None, Some, Result, Ok, Err, IsUtf8, refl, sym, ap, ◌∙◌, arith, append-nil}
+use Rattle.std.proofs.Common.{◌≡◌, ℕ, zero, suc, ◌+◌, ◌-◌, ◌<◌, ◌≤◌, ◌^◌, true, false, List, [], ◌∷◌, ◌++◌, length, replicate, None, Result, Ok, Err, IsUtf8, refl, sym, ap, ◌∙◌, arith, append-nil}
 use Rattle.std.specs.Prelude.{slice_get}
-use Rattle.std.specs.List.{AllByRecursion}
 use Rattle.std.proofs.lemmas.Bool.{le-ltb, ne_eqb}
-use Rattle.serde_json.specs.View.{items_of}
-use Rattle.tuple_text.specs.Grammar.{IsFact}
-use Rattle.tuple_text.specs.Tuples.{FactValue}
-use Rattle.tuple_text.proofs.GrammarLaws.{fact_again}
 use Rattle.refusals.specs.Refusals.{◌>>=◌, needed}
-use Rattle.json_lines.specs.Fields.{are_strings}
 use Rattle.json_lines.specs.Json.{taken_line}
 use Rattle.json_lines.specs.Reading.{parts, read_from, read_all}
 use Rattle.json_lines.proofs.JsonLines.{of_a_value, of_no_blank}
 use Rattle.json_lines.proofs.Folds.{goes_first, goes_on, within_from}
 use Rattle.trace_lines.specs.Values.{EntryValue}
-use Rattle.evidence_check.specs.Reading.{facts_in, steps_in, is_known, are_known, is_step, are_shaped, steps_at, fact_count, place_of, placed_steps, put_steps, record_line, no_records, faulted}
+use Rattle.evidence_check.specs.Reading.{fact_count, place_of, put_steps, record_line, no_records, faulted}
 use Rattle.evidence_check.specs.Reading as records
+use Rattle.evidence_check.specs.RecordData.{record_data, HaveFacts}
 use Rattle.evidence_check.specs.Records.{Records}
-use Rattle.evidence_check.specs.Steps.{StepValue, yes_step, no_step}
+use Rattle.evidence_check.specs.Steps.{StepValue}
 use Rattle.evidence_check.specs.declared.cause.EvidenceCause.{EvidenceCause}
 use Rattle.evidence_check.specs.declared.cause.EvidenceCause.TheVariants as causes
-use Rattle.record_text.specs.Record.{fact_data, step_data, record_data, record_text}
-use Rattle.record_text.specs.ReadBack.{HaveFacts, IsTaken, only_steps, IsReadBack}
-use Rattle.record_text.proofs.JsonBack.{read-record_text}
+use Rattle.evidence_check.proofs.JsonBack.{read-record}
+use Rattle.evidence_check.proofs.RecordSteps.{placed, data_placed}
+use Rattle.record_text.specs.Record.{record_text}
+use Rattle.record_text.specs.ReadBack.{IsTaken, only_steps, IsReadBack}
 use Rattle.record_text.proofs.OneLine.{record_lacks}
 
--- ---- the steps of the record
-
-are_texts : (fs : List FactValue) → are_strings (items_of (map fact_data fs)) ≡ true
-are_texts [] = refl
-are_texts (f ∷ fs) = are_texts fs
-
-step_shaped : (s : StepValue) → is_step (step_data s) ≡ true
-step_shaped (yes_step f) = refl
-step_shaped (no_step fs) = are_texts fs
-
-steps_shaped : (ss : List StepValue) → are_shaped (items_of (map step_data ss)) ≡ true
-steps_shaped [] = refl
-steps_shaped (s ∷ ss) = rw (step_shaped s, steps_shaped ss) refl
-
-step_known : (s : StepValue) → is_known (step_data s) ≡ true
-step_known (yes_step f) = refl
-step_known (no_step fs) = refl
-
-steps_known : (ss : List StepValue) → are_known (items_of (map step_data ss)) ≡ true
-steps_known [] = refl
-steps_known (s ∷ ss) = rw (step_known s, steps_known ss) refl
-
-facts_read : (fs : List FactValue) → AllByRecursion IsFact fs → facts_in (items_of (map fact_data fs)) ≡ Ok fs
-facts_read [] h = refl
-facts_read (f ∷ fs) h = rw (fact_again f h.0, facts_read fs h.1) refl
-
-steps_read : (ss : List StepValue) → HaveFacts ss → steps_in (items_of (map step_data ss)) ≡ Ok ss
-steps_read [] h = refl
-steps_read (yes_step f ∷ ss) h = rw (fact_again f h.0, steps_read ss h.1) refl
-steps_read (no_step fs ∷ ss) h = rw (facts_read fs h.0, steps_read ss h.1) refl
-
-at_steps : (line : ℕ) (steps : List StepValue) → steps_at (record_data line steps) ≡ Some (items_of (map step_data steps))
-unfolding steps_at
-at_steps line steps = rw (steps_shaped steps) refl
-
-abbrev placed : List StepValue → ℕ → Result (ℕ × List StepValue) EvidenceCause
-placed steps place = Ok (place, steps)
+-- ---- the line, and the whole input
 
 line_of_record : (line : ℕ) (steps : List StepValue) (r : Records) → HaveFacts steps → record_line r (record_data line steps) ≡ (needed causes.StrayLine (place_of line r.lines) >>= λ place. put_steps r place steps)
-unfolding record_line placed_steps
-line_of_record line steps r facts = rw (at_steps line steps, steps_read steps facts, steps_known steps) (put_there (needed causes.StrayLine (place_of line r.lines)))
+unfolding record_line
+line_of_record line steps r facts = rw (data_placed r.lines line steps facts) (put_there (needed causes.StrayLine (place_of line r.lines)))
   where
     put_there : (place : Result ℕ EvidenceCause) → ((place >>= placed steps) >>= λ p. put_steps r p.0 p.1) ≡ (place >>= λ p. put_steps r p steps)
     put_there (Ok p) = refl
     put_there (Err e) = refl
 
--- ---- the line, and the whole input
-
 pub is_taken : (line : ℕ) (steps : List StepValue) → line < 2 ^ 64 → HaveFacts steps → IsUtf8 (record_text line steps) → IsTaken line steps
 is_taken line steps fits facts utf8 n r =
     of_no_blank causes.NotJson (λ n. record_line) n r (record_text line steps) refl
-    ∙ of_a_value causes.NotJson (record_line r) (record_text line steps) (record_data line steps) utf8 (read-record_text line steps fits)
+    ∙ of_a_value causes.NotJson (record_line r) (record_text line steps) (record_data line steps) utf8 (read-record line steps fits)
     ∙ line_of_record line steps r facts
 
 none_taken : (count place : ℕ) → records.is_taken (slice_get (replicate count None) place) ≡ false

@@ -1,23 +1,13 @@
 -- What the reader of evidence makes of a record's text.
 use Rattle.std.specs.Prelude.{◌≡◌, ℕ, ◌≤◌, ◌^◌, true, List, [], ◌∷◌, ◌++◌, length, replicate, slice_set, Option, None, Some, Ok}
-use Rattle.std.specs.List.{AllByRecursion}
-use Rattle.tuple_text.specs.Grammar.{IsFact}
 use Rattle.refusals.specs.Refusals.{◌>>=◌, needed}
 use Rattle.json_lines.specs.Json.{taken_line}
 use Rattle.trace_lines.specs.Values.{EntryValue, entry_lines}
 use Rattle.evidence_check.specs.Reading.{fact_count, place_of, put_steps, record_line, evidence_of}
 use Rattle.evidence_check.specs.Records.{Records}
-use Rattle.evidence_check.specs.Steps.{StepValue, yes_step, no_step}
+use Rattle.evidence_check.specs.Steps.{StepValue}
 use Rattle.evidence_check.specs.declared.cause.EvidenceCause.TheVariants as causes
 use Rattle.record_text.specs.Record.{record_text, record_length}
-
-abbrev pub HasFacts : StepValue → Type 0
-HasFacts (yes_step f) = IsFact f
-HasFacts (no_step fs) = AllByRecursion IsFact fs
-
--- Each fact of the steps is one that has a text, which those of a `Step` are.
-abbrev pub HaveFacts : List StepValue → Type 0
-HaveFacts steps = AllByRecursion HasFacts steps
 
 -- As a line of evidence, the text puts these steps at the entry on that line, unless the reader refuses the line, a second record or the count of facts.
 abbrev pub IsTaken : ℕ → List StepValue → Type 0

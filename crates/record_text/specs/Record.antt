@@ -1,31 +1,10 @@
--- The record of the steps for the entry on a line, as JSON, and its text.
-use Rattle.std.specs.Prelude.{ℕ, List, map, length, codes}
-use Rattle.serde_json.specs.Data.{Data, unsigned, number, string, array, object, no_members, member}
-use Rattle.serde_json.specs.View.{items_of}
+-- The text of a record of evidence.
+use Rattle.std.specs.Prelude.{ℕ, List, length}
 use Rattle.serde_json.specs.Written.{compact_text}
-use Rattle.tuple_text.specs.Grammar.{fact_text}
-use Rattle.tuple_text.specs.Tuples.{FactValue}
-use Rattle.evidence_check.specs.Steps.{StepValue, yes_step, no_step}
+use Rattle.evidence_check.specs.RecordData.{record_data}
+use Rattle.evidence_check.specs.Steps.{StepValue}
 
-abbrev pub fact_data : FactValue → Data
-fact_data f = string (fact_text f)
-
-abbrev pub facts_data : List FactValue → Data
-facts_data facts = array (items_of (map fact_data facts))
-
--- `{"yes":FACT}` or `{"no":[FACT,..]}`
-abbrev pub step_data : StepValue → Data
-step_data (yes_step f) = object (member (codes "yes") (fact_data f) no_members)
-step_data (no_step fs) = object (member (codes "no") (facts_data fs) no_members)
-
-abbrev pub steps_data : List StepValue → Data
-steps_data steps = array (items_of (map step_data steps))
-
--- `{"line":N,"steps":[STEP,..]}`
-abbrev pub record_data : ℕ → List StepValue → Data
-record_data line steps = object (member (codes "line") (number (unsigned line)) (member (codes "steps") (steps_data steps) no_members))
-
--- its text, as `serde_json` writes it: with no space, and the shortest escapes
+-- as `serde_json` writes the record: with no space, and the shortest escapes
 abbrev pub record_text : ℕ → List StepValue → List ℕ
 record_text line steps = compact_text (record_data line steps)
 

@@ -4,8 +4,9 @@ ghost use Rattle.std.specs.Prelude.{◌≡◌, ◌-◌, ◌^◌, length, min, na
 ghost use Rattle.json.specs.Print.{escape_letter, escape_byte, escape};
 ghost use Rattle.serde_json.specs.Written.{compact_text};
 ghost use Rattle.evidence_check.specs.Reading.{count_of, fact_count};
+ghost use Rattle.evidence_check.specs.RecordData.{fact_data, facts_data, step_data, steps_data};
 ghost use Rattle.evidence_check.specs.Steps.{step_value, step_values};
-ghost use Rattle.record_text.specs.Record.{fact_data, facts_data, step_data, steps_data, record_length};
+ghost use Rattle.record_text.specs.Record.{record_length};
 
 use evidence_check::Step;
 use itoa::Buffer;

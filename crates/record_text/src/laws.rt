@@ -2,11 +2,12 @@
 
 ghost use Rattle.std.specs.Prelude.{ℕ, ◌<◌, ◌≤◌, ◌^◌, ◌∷◌, [], List, IsUtf8};
 ghost use Rattle.trace_lines.specs.Values.{EntryValue};
+ghost use Rattle.evidence_check.specs.RecordData.{HaveFacts};
 ghost use Rattle.evidence_check.specs.Steps.{StepValue, yes_step, no_step};
 ghost use Rattle.tuple_text.specs.Grammar.{IsFact};
 ghost use Rattle.tuple_text.specs.Tuples.{FactValue};
 ghost use Rattle.record_text.specs.Record.{record_text, record_length};
-ghost use Rattle.record_text.specs.ReadBack.{HaveFacts, IsTaken, IsReadBack};
+ghost use Rattle.record_text.specs.ReadBack.{IsTaken, IsReadBack};
 
 /// A record's text is a line of evidence that says the same steps. Of its bytes only this is asked, that they are UTF-8, as those of a `String` are.
 pub fn taken()

@@ -5,9 +5,10 @@ ghost use Rattle.std.specs.List.{AllByRecursion};
 ghost use Rattle.serde_json.specs.View.{view};
 ghost use Rattle.trace_lines.specs.Values.{EntryValue};
 ghost use Rattle.tuple_text.specs.Grammar.{IsFact};
+ghost use Rattle.evidence_check.specs.RecordData.{fact_data, facts_data, step_data, steps_data, record_data, HasFacts, HaveFacts};
 ghost use Rattle.evidence_check.specs.Steps.{step_value, step_values};
-ghost use Rattle.record_text.specs.Record.{fact_data, facts_data, step_data, steps_data, record_data, record_text};
-ghost use Rattle.record_text.specs.ReadBack.{HasFacts, HaveFacts, IsTaken, IsReadBack};
+ghost use Rattle.record_text.specs.Record.{record_text};
+ghost use Rattle.record_text.specs.ReadBack.{IsTaken, IsReadBack};
 
 use crate::laws::{read_back, taken};
 use evidence_check::Step;

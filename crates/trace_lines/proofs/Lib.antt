@@ -7,9 +7,12 @@ pub mod Keeping
 pub mod LineCauses
 pub mod LineSplits
 pub mod OfBytes
+pub mod MoreMembers
 pub mod Orderly
 pub mod Placing
 pub mod Recording
 pub mod RefusedEdges
 pub mod RisingLines
 pub mod TraceTold
+pub mod WrittenCommits
+pub mod WrittenLines

@@ -20,3 +20,4 @@ pub mod Tuples
 pub mod Values
 pub mod VersionMarks
 pub mod Versions
+pub mod Written

@@ -1,11 +1,12 @@
 -- What the fields of a check or a commit say, each of its shape.
-use Rattle.std.specs.Prelude.{ℕ, Option, None, Some, Result, Ok, Err, option_map}
+use Rattle.std.specs.Prelude.{ℕ, length, Option, None, Some, Result, Ok, Err, option_map}
 use Rattle.serde_json.specs.Data.{Items}
 use Rattle.refusals.specs.Refusals.{◌>>=◌}
 use Rattle.version_chains.specs.Commits.{Commit}
 use Rattle.trace_lines.specs.Causes.{needed}
 use Rattle.trace_lines.specs.Texts.{goal_of, token_of, tuples_of}
-use Rattle.trace_lines.specs.Values.{EntryValue}
+use Rattle.trace_lines.specs.Traces.{with_entry}
+use Rattle.trace_lines.specs.Values.{EntryValue, TraceValue}
 use Rattle.trace_lines.specs.declared.cause.Cause.{Cause}
 use Rattle.trace_lines.specs.declared.cause.Cause.TheVariants as causes
 use Rattle.trace_lines.specs.declared.entry.EntryKind.{EntryKind}
@@ -17,6 +18,10 @@ entry_said kind n before None = Err causes.Shape
 entry_said kind n before (Some s) =
     goal_of s.goal.now >>= λ goal. token_of (option_map (λ t. t.now) s.zookie) >>= λ token.
     Ok (record { kind = kind; line = n; goal = goal; snapshot = s.snapshot; reply = s.reply; zookie = token; version = option_map (λ t. t.now) s.version; before = before })
+
+-- what line n that says this makes of a trace
+abbrev pub said_line : EntryKind → ℕ → TraceValue → Said → Result TraceValue Cause
+said_line kind n t s = entry_said kind n (length t.commits) (Some s) >>= with_entry t
 
 -- the commit that these say
 abbrev pub commit_said : Option ℕ → Option Items → Option Items → Result Commit Cause

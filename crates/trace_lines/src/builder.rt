@@ -1,18 +1,22 @@
 //! Traces that are read, line by line.
 
-ghost use Rattle.std.specs.Prelude.{◌≡◌, ◌+◌, ◌≤◌, Some, None, [], length, take, true, ◌++◌, option_map, option_and_then, Ok, OnOk, OnErr};
+ghost use Rattle.std.specs.Prelude.{◌≡◌, ◌+◌, ◌≤◌, Some, None, IfSome, [], length, take, true, ◌++◌, option_map, option_and_then, Ok, OnOk, OnErr};
 ghost use Rattle.std.specs.Option.{ForSome};
+ghost use Rattle.serde_json.specs.Read.{read};
 ghost use Rattle.serde_json.specs.View.{view};
 ghost use Rattle.json_lines.specs.Data.{value_data, line_data};
+ghost use Rattle.json_lines.specs.Json.{of_json};
 ghost use Rattle.tuple_text.specs.Refs.{set_value};
 ghost use Rattle.tuple_text.specs.TupleRefs.{tuple_values};
 ghost use Rattle.trace_lines.specs.Causes.{Gives};
 ghost use Rattle.edge_checks.specs.Indexed.{IsIndex};
 ghost use Rattle.trace_lines.specs.LineValues.{commits, declares, put_line, records};
-ghost use Rattle.trace_lines.specs.LineViews.{owned_value};
+ghost use Rattle.trace_lines.specs.LineViews.{commit_value, owned_value};
+ghost use Rattle.trace_lines.specs.Said.{said_line};
 ghost use Rattle.trace_lines.specs.Values.{empty_trace, entry_value, next_line};
 ghost use Rattle.trace_lines.specs.Traces.{is_declared, are_declared, is_begun, namespace_line, change_line, declaration_line, commit_checked, commit_of, with_commit, commit_line, entry_of, recorded, with_entry, entry_line, value_line};
 ghost use Rattle.trace_lines.specs.Versions.{entry_version, version_issued, issuer, content_among};
+ghost use Rattle.trace_lines.specs.declared.cause.Cause.TheVariants.{NotJson};
 ghost use Rattle.trace_lines.specs.declared.entry.EntryKind.TheVariants.{Content};
 ghost use Rattle.version_chains.specs.Appends.{appended, late_fault, last_at};
 ghost use Rattle.version_chains.specs.declared.fault.AppendFault.TheVariants.{NotLater};
@@ -23,14 +27,15 @@ ghost use Rattle.namespaces.specs.Changing.{IsLater};
 ghost use Rattle.userset_index.specs.Index.{IsUsersetIndex};
 
 use crate::cause::Cause;
-use crate::checks::entry_of;
-use crate::commits::{OwnedCommit, commit_of, tuple_refs};
+use crate::checks::{self, entry_from, entry_of};
+use crate::commits::{CommitRef, OwnedCommit, commit_of, tuple_refs};
 use crate::declaring::{change, declare, late_change};
 use crate::entry::{Entry, EntryKind};
 use crate::recorded::Recorded;
 use crate::told::{Said, TraceLine};
 use crate::trace::Trace;
 use crate::versions::{Versions, version_of};
+use crate::written::{check_written, commit_written};
 use edge_checks::{EdgeIndex, Sample, is_of_relation};
 use json::Scratch;
 use json_lines::fields::{optional_number_at, text_at};
@@ -304,6 +309,14 @@ impl TraceBuilder {
         ensures { Gives (λ _. self.new) result (commit_line line self.old (value_data value.now)) }
     {
         let commit = commit_of(self.alloc, value)?;
+        self.append_commit(line, &commit)
+    }
+
+    /// Takes what a line commits.
+    fn append_commit(&mut self, line: u64, commit: &CommitRef<'_>) -> Result<(), Cause>
+        requires { next_line self.old ≤ line }
+        ensures { Gives (λ _. self.new) result (with_commit line self.old (commit_value commit.now)) }
+    {
         self.append(line, commit.at, &commit.adds, &commit.removes)
     }
 
@@ -355,6 +368,31 @@ impl TraceBuilder {
     {
         let entry = entry_of(self.alloc, kind, line, self.commit_lines.len(), value)?;
         self.take_recorded(entry)
+    }
+
+    /// Takes a line that says this of a check.
+    fn take_said(&mut self, kind: EntryKind, line: u64, said: checks::Said<'_>) -> Result<(), Cause>
+        requires { next_line self.old ≤ line }
+        ensures { Gives (λ _. self.new) result (said_line kind line self.old said.entry) }
+    {
+        let entry = entry_from(self.alloc, kind, line, self.commit_lines.len(), said)?;
+        self.take_recorded(entry)
+    }
+
+    /// Takes a line of this text, where it is written as most programs write one.
+    fn take_written(&mut self, line: u64, text: &str) -> Option<Result<(), Cause>>
+        requires { next_line self.old ≤ line }
+        ensures none { result ≡ None → self.new ≡ self.old }
+        ensures answer { IfSome result (λ r. Gives (λ _. self.new) r (of_json NotJson (value_line line self.old) (read text.now))) }
+    {
+        if let Some((kind, said)) = check_written(text) {
+            return Some(self.take_said(kind, line, said));
+        }
+        match commit_written(self.alloc, text) {
+            Ok(Some(commit)) => Some(self.append_commit(line, &commit)),
+            Ok(None) => None,
+            Err(_) => Some(Err(Cause::OutOfMemory)),
+        }
     }
 
     /// Takes an entry that stands behind all others.
@@ -501,6 +539,10 @@ impl TakeJson for TraceBuilder {
     ghost next = { next_line };
 
     ghost taken = { value_line };
+
+    fn take_text(&mut self, number: u64, text: &str) -> Option<Result<(), Cause>> {
+        self.take_written(number, text)
+    }
 
     fn take_value(&mut self, number: u64, line: &JsonLine<'_>) -> Result<(), Cause> {
         self.take(number, line)

@@ -1,6 +1,6 @@
 //! Lines that record a check, of content or not.
 
-ghost use Rattle.std.specs.Prelude.{◌≡◌, ℕ, map, option_map};
+ghost use Rattle.std.specs.Prelude.{◌≡◌, ℕ, Some, map, option_map};
 ghost use Rattle.serde_json.specs.Data.{Data};
 ghost use Rattle.json_lines.specs.Data.{value_data};
 ghost use Rattle.trace_lines.specs.Causes.{Gives};
@@ -36,12 +36,12 @@ pub(crate) fn entry_of(
 
 /// What the fields of a check say.
 #[derive(Clone, Copy)]
-struct Said<'a> {
-    goal: &'a str,
-    snapshot: u64,
-    reply: bool,
-    zookie: Option<&'a str>,
-    version: Option<&'a str>,
+pub(crate) struct Said<'a> {
+    pub(crate) goal: &'a str,
+    pub(crate) snapshot: u64,
+    pub(crate) reply: bool,
+    pub(crate) zookie: Option<&'a str>,
+    pub(crate) version: Option<&'a str>,
 }
 
 /// What fields say, where each is of its shape.
@@ -78,6 +78,19 @@ fn entry_in(
     ensures { (d : Data) → map (option_map value_data) fields.now ≡ check_fields d → Gives entry_value result (entry_of kind line before d) }
 {
     let said = said_in(kind, fields).ok_or(Cause::Shape)?;
+    entry_from(alloc, kind, line, before, said)
+}
+
+/// The check that says this.
+pub(crate) fn entry_from(
+    alloc: Global,
+    kind: EntryKind,
+    line: u64,
+    before: usize,
+    said: Said<'_>,
+) -> Result<Entry, Cause>
+    ensures { Gives entry_value result (entry_said kind line before (Some said.entry)) }
+{
     let goal = goal_of(alloc, said.goal)?;
     let zookie = token_of(said.zookie)?;
     let version = label_of(alloc, said.version)?;

@@ -5,7 +5,7 @@
 //! the lines that they stand on, and its entries.
 //! A [`TraceBuilder`] takes the lines. It has what reading alone needs, the sample, the index of edges and the versions, and
 //! lets go of that when it makes its trace. [`TraceLine`] is what a line says by itself, and [`TraceBuilder::put_line`]
-//! puts that into a builder: so several threads may tell what lines say.
+//! puts that into a builder: so several threads may tell what lines say. A check or a commit that is written plainly is taken by its text.
 //!
 //! Callers may rely on this: what is read is `trace_of` the bytes, value or first fault, with its line, also of a reader that fails. Input
 //! that never ends is refused at the limits. Commits and entries stand on lines that rise. No look-up takes memory. Strata are valid at
@@ -34,6 +34,7 @@ mod told;
 mod trace;
 mod version_ref;
 mod versions;
+mod written;
 
 pub use builder::TraceBuilder;
 pub use cause::{Cause, TraceFault};

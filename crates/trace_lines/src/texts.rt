@@ -65,7 +65,7 @@ pub(crate) fn token_of(text: Option<&str>) -> Result<Option<Zookie>, Cause>
     }
 }
 
-fn is_label(text: &str) -> bool
+pub(crate) fn is_label(text: &str) -> bool
     ensures { result ≡ is_label text.now }
 {
     1 <= text.len() && text.len() <= 128
@@ -87,7 +87,7 @@ fn label_in<'a>(field: Option<&JsonRef<'_, 'a>>) -> Option<Option<&'a str>>
     }
 }
 
-fn fits_reply(kind: EntryKind, reply: bool, label: Option<&str>) -> bool
+pub(crate) fn fits_reply(kind: EntryKind, reply: bool, label: Option<&str>) -> bool
     ensures { result ≡ fits_reply kind reply (option_map (λ s. s.now) label.entry) }
 {
     match kind {

@@ -1,18 +1,19 @@
 //! What a line of a trace says by itself, whatever stands before it.
 
-ghost use Rattle.std.specs.Prelude.{◌≡◌, Ok};
+ghost use Rattle.std.specs.Prelude.{◌≡◌, IfSome, Ok};
 ghost use Rattle.serde_json.specs.Read.{read};
 ghost use Rattle.json_lines.specs.Data.{value_data};
 ghost use Rattle.json_lines.specs.Json.{of_json};
 ghost use Rattle.trace_lines.specs.Causes.{Gives};
-ghost use Rattle.trace_lines.specs.LineValues.{line_said};
-ghost use Rattle.trace_lines.specs.LineViews.{said_value};
+ghost use Rattle.trace_lines.specs.LineValues.{commits, entry_told, line_said};
+ghost use Rattle.trace_lines.specs.LineViews.{commit_value, said_value};
 ghost use Rattle.trace_lines.specs.declared.cause.Cause.TheVariants.{NotJson};
 
 use crate::cause::Cause;
-use crate::checks::entry_of;
-use crate::commits::{OwnedCommit, commit_of};
+use crate::checks::{self, entry_from, entry_of};
+use crate::commits::{CommitRef, OwnedCommit, commit_of};
 use crate::entry::{Entry, EntryKind};
+use crate::written::{check_written, commit_written};
 use json::Scratch;
 use json_lines::fields::text_at;
 use json_lines::{JsonLine, JsonRef};
@@ -43,7 +44,7 @@ impl Model for TraceLine {
 
     ghost coded = { line_code };
 
-    ghost use Rattle.trace_lines.specs.LineViews.{said_value};
+    ghost use Rattle.trace_lines.specs.LineViews.{commit_value, said_value};
 
     ghost view = { λ l. said_value l.said };
 }
@@ -71,11 +72,42 @@ fn said_in(alloc: Global, text: &str, value: &JsonRef<'_, '_>) -> Result<Said, C
     }
 }
 
+/// What a line says that says this of a check.
+fn entry_told(alloc: Global, kind: EntryKind, check: checks::Said<'_>) -> Result<Said, Cause>
+    ensures { Gives said_value result (entry_told kind check.entry) }
+{
+    Ok(Said::Records(entry_from(alloc, kind, 0, 0, check)?))
+}
+
+/// What a line says that commits this.
+fn commit_told(alloc: Global, commit: &CommitRef<'_>) -> Result<Said, Cause>
+    ensures { Gives said_value result (Ok (commits (commit_value commit.now))) }
+{
+    Ok(Said::Commits(commit.to_owned(alloc)?))
+}
+
+/// What a line of this text says, where it is written as most programs write one.
+fn written_in(alloc: Global, text: &str) -> Option<Result<Said, Cause>>
+    ensures { IfSome result (λ r. Gives said_value r (of_json NotJson (line_said text.now) (read text.now))) }
+{
+    if let Some((kind, check)) = check_written(text) {
+        return Some(entry_told(alloc, kind, check));
+    }
+    match commit_written(alloc, text) {
+        Ok(Some(commit)) => Some(commit_told(alloc, &commit)),
+        Ok(None) => None,
+        Err(_) => Some(Err(Cause::OutOfMemory)),
+    }
+}
+
 impl TraceLine {
     /// What a line says. The scratch serves one line after the other.
     pub fn read(alloc: Global, text: &str, scratch: &mut Scratch) -> Result<TraceLine, Cause>
         ensures { Gives (λ l. l) result (of_json NotJson (line_said text.now) (read text.now)) }
     {
+        if let Some(said) = written_in(alloc, text) {
+            return Ok(TraceLine { said: said? });
+        }
         match JsonLine::read(alloc, text, scratch)? {
             Some(json) => Ok(TraceLine {
                 said: said_in(alloc, text, &json.root())?,

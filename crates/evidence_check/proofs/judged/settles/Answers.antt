@@ -1,9 +1,6 @@
-use Rattle.std.proofs.Common.{Some, true, false}
 use Rattle.std.proofs.lemmas.Result.{IfOk-weaker}
 use Rattle.rewrites.specs.Parts.{rule_shown}
-use Rattle.rewrites.specs.View.{expression_of}
 use Rattle.judgement.specs.Facts.{marked_fact}
-use Rattle.evidence_check.specs.Rules.{IsRuleOf}
 use Rattle.evidence_check.proofs.JudgedLemmas.{settled_by_rule}
 use Rattle.evidence_check.proofs.judged.settles.Goals as goal
 

@@ -1,4 +1,4 @@
-use Rattle.std.proofs.Common.{◌≡◌, [], ◌∷◌, List, map, sym, ap, ◌∙◌}
+use Rattle.std.proofs.Common.{[], ◌∷◌, List, map, sym, ap, ◌∙◌}
 use Rattle.std.proofs.lemmas.List.{map-append}
 use Rattle.json_lines.specs.Data.{value_data, items_data}
 use Rattle.tuple_text.specs.FactRefs.{fact_value}

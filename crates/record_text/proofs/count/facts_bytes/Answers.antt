@@ -1,7 +1,7 @@
 use Rattle.std.proofs.Common.{length, map, sym, ◌∙◌, arith}
 use Rattle.std.proofs.lemmas.Bool.{eqb-false}
 use Rattle.std.proofs.lemmas.List.{at_drop_all, length-map}
-use Rattle.record_text.specs.Record.{fact_data}
+use Rattle.evidence_check.specs.RecordData.{fact_data}
 use Rattle.record_text.proofs.Counted.{counted_list}
 use Rattle.record_text.proofs.Lengths.{later_length}
 use Rattle.record_text.proofs.count.facts_bytes.Goals as goal

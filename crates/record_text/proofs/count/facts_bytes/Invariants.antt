@@ -1,5 +1,5 @@
 use Rattle.std.proofs.Common.{◌≡◌, ◌+◌, ◌-◌, ◌^◌, ◌≤◌, min, drop, map}
-use Rattle.record_text.specs.Record.{fact_data}
+use Rattle.evidence_check.specs.RecordData.{fact_data}
 use Rattle.record_text.proofs.Lengths.{later_length}
 use Rattle.record_text.proofs.count.facts_bytes.Given as goal
 

@@ -1,6 +1,6 @@
 use Rattle.std.proofs.Common.{length, ap, arith}
+use Rattle.evidence_check.specs.RecordData.{steps_data}
 use Rattle.evidence_check.specs.Steps.{step_values}
-use Rattle.record_text.specs.Record.{steps_data}
 use Rattle.record_text.proofs.Lengths.{record_length_by_parts}
 use Rattle.record_text.proofs.count.record_bytes.Goals as goal
 

@@ -1,6 +1,6 @@
 use Rattle.std.proofs.Common.{◌-◌, ◌^◌, min, length, ap, ◌∙◌, arith}
 use Rattle.serde_json.specs.Written.{compact_text}
-use Rattle.record_text.specs.Record.{fact_data, facts_data}
+use Rattle.evidence_check.specs.RecordData.{fact_data, facts_data}
 use Rattle.record_text.proofs.Lengths.{yes_length, no_length}
 use Rattle.record_text.proofs.count.step_bytes.Goals as goal
 

@@ -1,8 +1,8 @@
 use Rattle.std.proofs.Common.{length, map, sym, ◌∙◌, arith}
 use Rattle.std.proofs.lemmas.Bool.{eqb-false}
 use Rattle.std.proofs.lemmas.List.{at_drop_all, length-map}
+use Rattle.evidence_check.specs.RecordData.{step_data}
 use Rattle.evidence_check.specs.Steps.{step_value, step_values}
-use Rattle.record_text.specs.Record.{step_data}
 use Rattle.record_text.proofs.Counted.{counted_list}
 use Rattle.record_text.proofs.Lengths.{later_length}
 use Rattle.record_text.proofs.count.steps_bytes.Goals as goal

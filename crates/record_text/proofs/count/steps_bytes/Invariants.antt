@@ -1,6 +1,6 @@
 use Rattle.std.proofs.Common.{◌≡◌, ◌+◌, ◌-◌, ◌^◌, ◌≤◌, min, drop, map}
+use Rattle.evidence_check.specs.RecordData.{step_data}
 use Rattle.evidence_check.specs.Steps.{step_values}
-use Rattle.record_text.specs.Record.{step_data}
 use Rattle.record_text.proofs.Lengths.{later_length}
 use Rattle.record_text.proofs.count.steps_bytes.Given as goal
 

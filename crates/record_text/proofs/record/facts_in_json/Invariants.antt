@@ -2,7 +2,7 @@ use Rattle.std.proofs.Common.{◌≡◌, ◌++◌, drop, map}
 use Rattle.std.specs.List.{AllByRecursion}
 use Rattle.serde_json.specs.View.{view}
 use Rattle.tuple_text.specs.Grammar.{IsFact}
-use Rattle.record_text.specs.Record.{fact_data}
+use Rattle.evidence_check.specs.RecordData.{fact_data}
 use Rattle.record_text.proofs.record.facts_in_json.Given as goal
 
 -- what is left decides

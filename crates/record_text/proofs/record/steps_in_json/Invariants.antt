@@ -1,8 +1,7 @@
 use Rattle.std.proofs.Common.{◌≡◌, ◌++◌, drop, map}
 use Rattle.serde_json.specs.View.{view}
+use Rattle.evidence_check.specs.RecordData.{step_data, HaveFacts}
 use Rattle.evidence_check.specs.Steps.{step_values}
-use Rattle.record_text.specs.Record.{step_data}
-use Rattle.record_text.specs.ReadBack.{HaveFacts}
 use Rattle.record_text.proofs.record.steps_in_json.Given as goal
 
 -- what is left decides

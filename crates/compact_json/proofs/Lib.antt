@@ -1,0 +1,2 @@
+pub mod Compact
+pub mod Pieces

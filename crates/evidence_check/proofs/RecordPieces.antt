@@ -1,0 +1,161 @@
+-- The text of a record, taken piece by piece.
+use Rattle.std.proofs.Common.{◌≡◌, ℕ, ◌<◌, ◌^◌, false, true, List, [], ◌∷◌, ◌++◌, map, length, refl, sym, ap, ◌∙◌, arith, append_assoc, append-nil, length-append}
+use Rattle.std.specs.Prelude.{flat_map, codes, decimal}
+use Rattle.std.specs.List.{AllByRecursion}
+use Rattle.std.proofs.lemmas.Grind.{flat_map-append}
+use Rattle.std.proofs.lemmas.List.{length-map, map-append}
+use Rattle.json.specs.Print.{escape, escape_byte, quoted}
+use Rattle.serde_json.specs.Data.{Data}
+use Rattle.serde_json.specs.Read.{read}
+use Rattle.serde_json.specs.View.{items_of}
+use Rattle.serde_json.specs.Written.{compact_text, items_text}
+use Rattle.tuple_text.specs.Grammar.{IsFact, fact_text}
+use Rattle.tuple_text.specs.Tuples.{FactValue}
+use Rattle.compact_json.proofs.Compact.{quoted_then}
+use Rattle.evidence_check.specs.RecordData.{fact_data, step_data, record_data, HasFacts}
+use Rattle.evidence_check.specs.RecordPieces.{with_commas, BeginsWithFact, BeginsWithFacts, BeginsWithStep, BeginsWithSteps, IsRecord}
+use Rattle.evidence_check.specs.Steps.{StepValue, yes_step, no_step}
+use Rattle.evidence_check.proofs.JsonBack.{read-record}
+
+-- ---- items with a comma between
+
+abbrev later : Data → List ℕ
+later d = 44 ∷ compact_text d
+
+one_more : (ds : List Data) (d : Data) → 0 < length ds → with_commas (ds ++ d ∷ []) ≡ with_commas ds ++ later d
+unfolding with_commas
+one_more [] d some = absurd (omega arith)
+one_more (e ∷ ds) d some =
+    ap (λ t. compact_text e ++ t)
+    (flat_map-append later ds (d ∷ []) ∙ ap (λ t. flat_map later ds ++ t) (append-nil (later d)))
+    ∙ sym (append_assoc (compact_text e) (flat_map later ds) (later d))
+
+grown : (text rest next after : List ℕ) (ds : List Data) (d : Data) → 0 < length ds
+    → text ≡ with_commas ds ++ rest → rest ≡ 44 ∷ next → next ≡ compact_text d ++ after
+    → text ≡ with_commas (ds ++ d ∷ []) ++ after
+grown text rest next after ds d some is comma here =
+    is ∙ ap (λ t. with_commas ds ++ t) (comma ∙ ap (λ t. 44 ∷ t) here)
+    ∙ sym (ap (λ t. t ++ after) (one_more ds d some) ∙ append_assoc (with_commas ds) (later d) after)
+
+single : (text rest : List ℕ) (d : Data) → text ≡ compact_text d ++ rest → text ≡ with_commas (d ∷ []) ++ rest
+unfolding with_commas
+single text rest d is = is ∙ ap (λ t. t ++ rest) (sym (append-nil (compact_text d)))
+
+items_later : (ds : List Data) → items_text true (items_of ds) ≡ flat_map later ds ++ 93 ∷ []
+items_later [] = refl
+items_later (d ∷ ds) =
+    ap (λ t. later d ++ t) (items_later ds) ∙ sym (append_assoc (later d) (flat_map later ds) (93 ∷ []))
+
+items_there : (ds : List Data) → items_text false (items_of ds) ≡ with_commas ds ++ 93 ∷ []
+unfolding with_commas
+items_there [] = refl
+items_there (d ∷ ds) =
+    ap (λ t. compact_text d ++ t) (items_later ds)
+    ∙ sym (append_assoc (compact_text d) (flat_map later ds) (93 ∷ []))
+
+-- the items of an array in an object, which both end behind them
+items_closed : (ds : List Data) (rest : List ℕ)
+    → (items_text false (items_of ds) ++ 125 ∷ []) ++ rest ≡ with_commas ds ++ 93 ∷ 125 ∷ rest
+items_closed ds rest =
+    ap (λ t. (t ++ 125 ∷ []) ++ rest) (items_there ds)
+    ∙ ap (λ t. t ++ rest) (append_assoc (with_commas ds) (93 ∷ []) (125 ∷ []))
+    ∙ append_assoc (with_commas ds) (93 ∷ 125 ∷ []) rest
+
+-- ---- facts
+
+pub fact_there : (text rest : List ℕ) (f : FactValue) (written : List ℕ) → text ≡ written ++ 34 ∷ rest
+    → escape written ≡ written → written ≡ fact_text f → IsFact f → BeginsWithFact (34 ∷ text) f rest
+fact_there text rest f written is plain same fact =
+    record {
+      spells = ap (λ t. 34 ∷ t) is ∙ quoted_then written rest plain ∙ ap (λ t. quoted t ++ rest) same;
+      fact = fact;
+    }
+
+pub first_fact : (text rest : List ℕ) (f : FactValue) → BeginsWithFact text f rest
+    → BeginsWithFacts text (f ∷ []) rest
+first_fact text rest f h =
+    record { spells = single text rest (fact_data f) h.spells; some = omega arith; facts = (h.fact, tt) }
+
+all_more : {X : Type 0} (P : X → Type 0) (xs : List X) (x : X)
+    → AllByRecursion P xs → P x → AllByRecursion P (xs ++ x ∷ [])
+all_more P [] x h p = (p, tt)
+all_more P (y ∷ ys) x h p = (h.0, all_more P ys x h.1 p)
+
+pub next_fact : (text rest next after : List ℕ) (fs : List FactValue) (f : FactValue)
+    → BeginsWithFacts text fs rest → rest ≡ 44 ∷ next → BeginsWithFact next f after
+    → BeginsWithFacts text (fs ++ f ∷ []) after
+next_fact text rest next after fs f h comma here =
+    let ds = map fact_data fs in
+    record {
+      spells = grown text rest next after ds (fact_data f) (simp length-map h.some) h.spells comma here.spells
+          ∙ ap (λ ds. with_commas ds ++ after) (sym (map-append fact_data fs (f ∷ [])));
+      some = simp length-append (omega arith);
+      facts = all_more IsFact fs f h.facts here.fact;
+    }
+
+-- ---- steps
+
+pub yes_there : (text inner behind rest : List ℕ) (f : FactValue) → text ≡ codes "{\"yes\":" ++ inner
+    → BeginsWithFact inner f behind → behind ≡ 125 ∷ rest → BeginsWithStep text (yes_step f) rest
+unfolding escape_byte
+yes_there text inner behind rest f is h closed =
+    let fact = compact_text (fact_data f) in
+    record {
+      spells = is ∙ ap (λ t. codes "{\"yes\":" ++ t)
+          (h.spells ∙ ap (λ t. fact ++ t) closed ∙ sym (append_assoc fact (125 ∷ []) rest));
+      facts = h.fact;
+    }
+
+pub no_there : (text inner behind rest : List ℕ) (fs : List FactValue) → text ≡ codes "{\"no\":[" ++ inner
+    → BeginsWithFacts inner fs behind → behind ≡ codes "]}" ++ rest → BeginsWithStep text (no_step fs) rest
+unfolding escape_byte
+no_there text inner behind rest fs is h closed =
+    let ds = map fact_data fs in
+    record {
+      spells = is ∙ ap (λ t. codes "{\"no\":[" ++ t)
+          (h.spells ∙ ap (λ t. with_commas ds ++ t) closed ∙ sym (items_closed ds rest));
+      facts = h.facts;
+    }
+
+pub first_step : (text rest : List ℕ) (s : StepValue) → BeginsWithStep text s rest
+    → BeginsWithSteps text (s ∷ []) rest
+first_step text rest s h =
+    record { spells = single text rest (step_data s) h.spells; some = omega arith; facts = (h.facts, tt) }
+
+pub next_step : (text rest next after : List ℕ) (ss : List StepValue) (s : StepValue)
+    → BeginsWithSteps text ss rest → rest ≡ 44 ∷ next → BeginsWithStep next s after
+    → BeginsWithSteps text (ss ++ s ∷ []) after
+next_step text rest next after ss s h comma here =
+    let ds = map step_data ss in
+    record {
+      spells = grown text rest next after ds (step_data s) (simp length-map h.some) h.spells comma here.spells
+          ∙ ap (λ ds. with_commas ds ++ after) (sym (map-append step_data ss (s ∷ [])));
+      some = simp length-append (omega arith);
+      facts = all_more HasFacts ss s h.facts here.facts;
+    }
+
+-- ---- the record
+
+-- what stands before the list of steps
+abbrev in_front : ℕ → List ℕ → List ℕ
+in_front line listed = codes "{\"line\":" ++ (decimal line ++ (codes ",\"steps\":[" ++ listed))
+
+record_spelled : (line : ℕ) (steps : List StepValue)
+    → compact_text (record_data line steps) ≡ in_front line (with_commas (map step_data steps) ++ codes "]}")
+unfolding escape_byte
+record_spelled line steps =
+    let ds = map step_data steps in
+    ap (λ t. in_front line (t ++ 125 ∷ [])) (items_there ds)
+    ∙ ap (in_front line) (append_assoc (with_commas ds) (93 ∷ []) (125 ∷ []))
+
+pub record_there : (text numbered behind listed rest : List ℕ) (line : ℕ) (steps : List StepValue) → line < 2 ^ 64
+    → text ≡ codes "{\"line\":" ++ numbered → numbered ≡ decimal line ++ behind
+    → behind ≡ codes ",\"steps\":[" ++ listed → BeginsWithSteps listed steps rest → rest ≡ codes "]}"
+    → IsRecord text line steps
+record_there text numbered behind listed rest line steps fits is digits keyed h closed =
+    let ds = map step_data steps in
+    let list : listed ≡ with_commas ds ++ codes "]}" = h.spells ∙ ap (λ t. with_commas ds ++ t) closed in
+    let front : text ≡ in_front line listed =
+    is ∙ ap (λ t. codes "{\"line\":" ++ t) (digits ∙ ap (λ t. decimal line ++ t) keyed) in
+    let spelled = front ∙ ap (in_front line) list ∙ sym (record_spelled line steps) in
+    record { record_read = ap read spelled ∙ read-record line steps fits; facts = h.facts }

@@ -1,0 +1,194 @@
+-- A commit that is written plainly is read as its value, and commits what that says.
+use Rattle.std.proofs.Common.{◌≡◌, ℕ, ◌<◌, ◌≤◌, ◌^◌, Bool, true, false, List, [], ◌∷◌, ◌++◌, map, Option, None, Some, option_map, Ok, codes, decimal, refl, ap, sym, ◌∙◌, arith, append_assoc}
+use Rattle.json.specs.Print.{escape_byte, quoted}
+use Rattle.json.specs.Tree.{depth, HasNumbers}
+use Rattle.json.proofs.Printed.Decimals.{IsNumber-decimal}
+use Rattle.serde_json.specs.Data.{Data, number, object, string, unsigned, Members}
+use Rattle.serde_json.specs.Find.{get, get_member}
+use Rattle.serde_json.specs.Read.{max_depth, of_json, read}
+use Rattle.serde_json.specs.View.{items_of}
+use Rattle.serde_json.specs.Written.{comma_if, compact_text, items_text, members_text, outline}
+use Rattle.serde_json.proofs.Numbers.{number_of-decimal}
+use Rattle.tuple_text.specs.Grammar.{IsTuple, tuple_text}
+use Rattle.tuple_text.specs.Tuples.{TupleValue}
+use Rattle.tuple_text.proofs.GrammarLaws.{tuple_again}
+use Rattle.version_chains.specs.Commits.{Commit}
+use Rattle.refusals.specs.Refusals.{◌>>=◌}
+use Rattle.compact_json.proofs.Compact.{read_compact, texts_are_flat, texts_have_numbers, texts_make}
+use Rattle.json_lines.specs.Fields.{are_strings, strings_of}
+use Rattle.json_lines.specs.Json.{of_json as line_of_json}
+use Rattle.trace_lines.specs.LineValues.{commits, line_said}
+use Rattle.trace_lines.specs.Texts.{tuples_of}
+use Rattle.trace_lines.specs.Traces.{commit_line, commit_of, value_line, with_commit}
+use Rattle.trace_lines.specs.Values.{TraceValue}
+use Rattle.trace_lines.specs.Written.{AreTuples, IsCommit, IsMore, commit_members, commit_spelled, list_text, more_members, optional_list, put_more, tuples_data, with_tuples}
+use Rattle.trace_lines.specs.declared.cause.Cause.TheVariants as causes
+use Rattle.trace_lines.proofs.MoreMembers.{asked, more_are_flat, more_make, more_numbers}
+
+-- ---- the texts of a list, as they are gone over
+
+-- each with the comma behind it
+abbrev pub with_commas : List TupleValue → List ℕ
+with_commas [] = []
+with_commas (t ∷ ts) = quoted (tuple_text t) ++ 44 ∷ with_commas ts
+
+pub tuples_more : (ts : List TupleValue) (t : TupleValue) → AreTuples ts → IsTuple t → AreTuples (ts ++ t ∷ [])
+tuples_more [] t all one = (one, tt)
+tuples_more (u ∷ us) t all one = (all.0, tuples_more us t all.1 one)
+
+-- one more, and what stands behind it
+ends_with : (ts : List TupleValue) (t : TupleValue) (later : Bool) → items_text later (items_of (map (λ t. string (tuple_text t)) (ts ++ t ∷ [])))
+    ≡ comma_if later ++ (with_commas ts ++ (quoted (tuple_text t) ++ 93 ∷ []))
+ends_with [] t later = refl
+ends_with (u ∷ us) t later =
+    ap (λ l. comma_if later ++ l) (ap (λ l. quoted (tuple_text u) ++ l) (ends_with us t true)
+    ∙ sym (append_assoc (quoted (tuple_text u)) (44 ∷ with_commas us) (quoted (tuple_text t) ++ 93 ∷ [])))
+
+pub more_of : (ts : List TupleValue) (t : TupleValue) (rest : List ℕ) → with_commas (ts ++ t ∷ []) ++ rest ≡ with_commas ts ++ (quoted (tuple_text t) ++ 44 ∷ rest)
+more_of [] t rest = append_assoc (quoted (tuple_text t)) (44 ∷ []) rest
+more_of (u ∷ us) t rest =
+    append_assoc (quoted (tuple_text u)) (44 ∷ with_commas (us ++ t ∷ [])) rest
+    ∙ ap (λ l. quoted (tuple_text u) ++ 44 ∷ l) (more_of us t rest)
+    ∙ sym (append_assoc (quoted (tuple_text u)) (44 ∷ with_commas us) (quoted (tuple_text t) ++ 44 ∷ rest))
+
+pub list_closed : (ts : List TupleValue) (t : TupleValue) (rest : List ℕ) → with_commas ts ++ (quoted (tuple_text t) ++ 93 ∷ rest) ≡ list_text (ts ++ t ∷ []) rest
+list_closed ts t rest =
+    ap (λ l. with_commas ts ++ l) (sym (append_assoc (quoted (tuple_text t)) (93 ∷ []) rest))
+    ∙ sym (append_assoc (with_commas ts) (quoted (tuple_text t) ++ 93 ∷ []) rest)
+    ∙ ap (λ l. l ++ rest) (sym (ends_with ts t false))
+
+-- ---- the text is that of the value
+
+add_text : (ts : List TupleValue) (rest : List ℕ) (ms : Members) → rest ≡ members_text true ms
+    → optional_list (codes ",\"add\":[") ts rest ≡ members_text true (with_tuples (codes "add") ts ms)
+unfolding escape_byte
+add_text [] rest ms same = same
+add_text (t ∷ ts) rest ms same = ap (λ r. codes ",\"add\":[" ++ list_text (t ∷ ts) r) same
+
+remove_text : (ts : List TupleValue) (rest : List ℕ) (ms : Members) → rest ≡ members_text true ms
+    → optional_list (codes ",\"remove\":[") ts rest ≡ members_text true (with_tuples (codes "remove") ts ms)
+unfolding escape_byte
+remove_text [] rest ms same = same
+remove_text (t ∷ ts) rest ms same = ap (λ r. codes ",\"remove\":[" ++ list_text (t ∷ ts) r) same
+
+commit_text : (c : Commit) (rest : List ℕ) (more : List (List ℕ × List ℕ)) → rest ≡ members_text true (more_members more)
+    → codes "{\"kind\":\"commit\",\"at\":" ++ (decimal c.at ++ optional_list (codes ",\"add\":[") c.adds (optional_list (codes ",\"remove\":[") c.removes rest))
+    ≡ compact_text (commit_spelled c more)
+unfolding escape_byte
+commit_text c rest more same =
+    ap (λ l. codes "{\"kind\":\"commit\",\"at\":" ++ (decimal c.at ++ l))
+    (add_text c.adds _ (with_tuples (codes "remove") c.removes (more_members more)) (remove_text c.removes rest (more_members more) same))
+
+-- ---- which is read as its value
+
+module _ (at : ℕ) (more : List (List ℕ × List ℕ)) where
+  abbrev commit_by : List TupleValue → List TupleValue → Commit
+  commit_by adds removes = record { at = at; adds = adds; removes = removes }
+
+  numbers : (adds removes : List TupleValue) → at < 2 ^ 64 → HasNumbers (outline (commit_spelled (commit_by adds removes) more))
+  numbers [] [] fits = (tt, (IsNumber-decimal at fits, more_numbers more))
+  numbers [] (r ∷ rs) fits = (tt, (IsNumber-decimal at fits, (texts_have_numbers tuple_text (r ∷ rs), more_numbers more)))
+  numbers (t ∷ ts) [] fits = (tt, (IsNumber-decimal at fits, (texts_have_numbers tuple_text (t ∷ ts), more_numbers more)))
+  numbers (t ∷ ts) (r ∷ rs) fits =
+      (tt, (IsNumber-decimal at fits, (texts_have_numbers tuple_text (t ∷ ts), (texts_have_numbers tuple_text (r ∷ rs), more_numbers more))))
+
+  shallow : (adds removes : List TupleValue) → depth (outline (commit_spelled (commit_by adds removes) more)) ≤ max_depth
+  shallow [] [] = omega (arith, more_are_flat more)
+  shallow [] (r ∷ rs) = omega (arith, texts_are_flat tuple_text (r ∷ rs), more_are_flat more)
+  shallow (t ∷ ts) [] = omega (arith, texts_are_flat tuple_text (t ∷ ts), more_are_flat more)
+  shallow (t ∷ ts) (r ∷ rs) = omega (arith, texts_are_flat tuple_text (t ∷ ts), texts_are_flat tuple_text (r ∷ rs), more_are_flat more)
+
+  makes : (adds removes : List TupleValue) → at < 2 ^ 64 → of_json (outline (commit_spelled (commit_by adds removes) more))
+      ≡ Some (object (put_more more (commit_members (commit_by adds removes))))
+  makes [] [] fits = rw (number_of-decimal at fits) (ap (option_map object) (more_make more (commit_members (commit_by [] []))))
+  makes [] (r ∷ rs) fits =
+      rw (number_of-decimal at fits, texts_make tuple_text rs) (ap (option_map object) (more_make more (commit_members (commit_by [] (r ∷ rs)))))
+  makes (t ∷ ts) [] fits =
+      rw (number_of-decimal at fits, texts_make tuple_text ts) (ap (option_map object) (more_make more (commit_members (commit_by (t ∷ ts) []))))
+  makes (t ∷ ts) (r ∷ rs) fits =
+      rw (number_of-decimal at fits, texts_make tuple_text ts, texts_make tuple_text rs)
+      (ap (option_map object) (more_make more (commit_members (commit_by (t ∷ ts) (r ∷ rs)))))
+
+commit_read : (c : Commit) (more : List (List ℕ × List ℕ)) → c.at < 2 ^ 64
+    → read (compact_text (commit_spelled c more)) ≡ Some (object (put_more more (commit_members c)))
+commit_read c more fits =
+    read_compact (commit_spelled c more) (object (put_more more (commit_members c))) (numbers c.at more c.adds c.removes fits)
+    (shallow c.at more c.adds c.removes) (makes c.at more c.adds c.removes fits)
+
+-- ---- and says the commit
+
+-- the field of such a list
+abbrev field_of : List TupleValue → Option Data
+field_of [] = None
+field_of (t ∷ ts) = Some (tuples_data (t ∷ ts))
+
+module _ (at : ℕ) where
+  at_there : (adds removes : List TupleValue) → get_member (codes "at") (commit_members (commit_by at [] adds removes)) ≡ Some (number (unsigned at))
+  at_there [] removes = refl
+  at_there (t ∷ ts) removes = refl
+
+  kind_there : (adds removes : List TupleValue) → get_member (codes "kind") (commit_members (commit_by at [] adds removes)) ≡ Some (string (codes "commit"))
+  kind_there [] removes = refl
+  kind_there (t ∷ ts) removes = refl
+
+  add_there : (adds removes : List TupleValue) → get_member (codes "add") (commit_members (commit_by at [] adds removes)) ≡ field_of adds
+  add_there [] [] = refl
+  add_there [] (r ∷ rs) = refl
+  add_there (t ∷ ts) removes = refl
+
+  remove_there : (adds removes : List TupleValue) → get_member (codes "remove") (commit_members (commit_by at [] adds removes)) ≡ field_of removes
+  remove_there [] [] = refl
+  remove_there [] (r ∷ rs) = refl
+  remove_there (t ∷ ts) [] = refl
+  remove_there (t ∷ ts) (r ∷ rs) = refl
+
+are_texts : (ts : List TupleValue) → are_strings (items_of (map (λ t. string (tuple_text t)) ts)) ≡ true
+are_texts [] = refl
+are_texts (t ∷ ts) = are_texts ts
+
+tuples_read : (ts : List TupleValue) → AreTuples ts → tuples_of (items_of (map (λ t. string (tuple_text t)) ts)) ≡ Ok ts
+tuples_read [] h = refl
+tuples_read (t ∷ ts) h = rw (tuple_again t h.0, tuples_read ts h.1) refl
+
+field_read : (ts : List TupleValue) → strings_of (field_of ts) ≡ Some (items_of (map (λ t. string (tuple_text t)) ts))
+unfolding strings_of
+field_read [] = refl
+field_read (t ∷ ts) = rw (are_texts ts) refl
+
+of_fields : (d : Data) (at : ℕ) (adds removes : List TupleValue) → get (codes "at") d ≡ Some (number (unsigned at)) → get (codes "add") d ≡ field_of adds
+    → get (codes "remove") d ≡ field_of removes → AreTuples adds → AreTuples removes → commit_of d ≡ Ok (record { at = at; adds = adds; removes = removes })
+unfolding commit_of
+of_fields d at adds removes at_is add remove fine fine_too =
+    rw (at_is, add, remove, field_read adds, field_read removes, tuples_read adds fine, tuples_read removes fine_too) refl
+
+-- ---- the line
+
+-- what is left behind the lists is members more
+pub is_commit : (text rest : List ℕ) (c : Commit)
+    → text ≡ codes "{\"kind\":\"commit\",\"at\":" ++ (decimal c.at ++ optional_list (codes ",\"add\":[") c.adds (optional_list (codes ",\"remove\":[") c.removes rest))
+    → c.at < 2 ^ 64 → AreTuples c.adds → AreTuples c.removes → IsMore rest → IsCommit text c
+is_commit text rest c same fits adds removes more =
+    let ms = commit_members c in
+    let d = object (put_more more.0 ms) in (
+      d,
+      ap read (same ∙ commit_text c rest more.0 more.1) ∙ commit_read c more.0 fits,
+      asked 0 (omega arith) more.0 ms more.2 ∙ kind_there c.at c.adds c.removes,
+      of_fields d c.at c.adds c.removes (asked 6 (omega arith) more.0 ms more.2 ∙ at_there c.at c.adds c.removes)
+          (asked 7 (omega arith) more.0 ms more.2 ∙ add_there c.at c.adds c.removes)
+          (asked 8 (omega arith) more.0 ms more.2 ∙ remove_there c.at c.adds c.removes) adds removes,
+    )
+
+of_its_kind : (d : Data) (n : ℕ) (t : TraceValue) → get (codes "kind") d ≡ Some (string (codes "commit")) → value_line n t d ≡ commit_line n t d
+unfolding value_line
+of_its_kind d n t is = rw is refl
+
+told_of_its_kind : (d : Data) (text : List ℕ) → get (codes "kind") d ≡ Some (string (codes "commit")) → line_said text d ≡ (commit_of d >>= λ c. Ok (commits c))
+unfolding line_said
+told_of_its_kind d text is = rw is refl
+
+module _ (c : Commit) (text : List ℕ) (is : IsCommit text c) where
+  pub commit_made : (n : ℕ) (t : TraceValue) → line_of_json causes.NotJson (value_line n t) (read text) ≡ with_commit n t c
+  commit_made n t = ap (line_of_json causes.NotJson (value_line n t)) is.1 ∙ of_its_kind is.0 n t is.2 ∙ ap (λ r. r >>= with_commit n t) is.3
+
+  pub commit_told : line_of_json causes.NotJson (line_said text) (read text) ≡ Ok (commits c)
+  commit_told = ap (line_of_json causes.NotJson (line_said text)) is.1 ∙ told_of_its_kind is.0 text is.2 ∙ ap (λ r. r >>= λ c. Ok (commits c)) is.3
