@@ -1,5 +1,5 @@
 -- Where its premises are settled, an expression is established or refuted.
-use Rattle.std.proofs.Common.{ℕ, List, [], ◌⊎◌, inl, inr}
+use Rattle.std.proofs.Common.{ℕ, List, [], ◌++◌, ◌⊎◌, inl, inr}
 use Rattle.std.specs.Prelude.{Contains}
 use Rattle.std.proofs.lemmas.List.Elements.{Contains-append_left, Contains-append_right}
 use Rattle.tuple_text.specs.Sets.{SetValue}
@@ -16,10 +16,32 @@ use Rattle.judgement.specs.Decided.{same_facts}
 use Rattle.evidence_maker.specs.Own.{OwnDeclared}
 use Rattle.evidence_maker.specs.Settled.{IsSettled}
 
+turned : {A B : Type 0} → A ⊎ B → B ⊎ A
+turned (inl a) = inr a
+turned (inr b) = inl b
+
+-- one of the first, or each of the second
+some_or_each : {A B C D : Type 0} → A ⊎ B → C ⊎ D → (A ⊎ C) ⊎ (B × D)
+some_or_each (inl a) h = inl (inl a)
+some_or_each (inr b) (inl c) = inl (inr c)
+some_or_each (inr b) (inr d) = inr (b, d)
+
+each_or_some : {A B C D : Type 0} → A ⊎ B → C ⊎ D → (A × C) ⊎ (B ⊎ D)
+each_or_some g h = turned (some_or_each (turned g) (turned h))
+
 module _ (rules : Lookup) (store : List TupleValue) (known : KnownValue) (f : FactValue) where
   out_of : (p : FactValue) → IsSettled rules known p → ¬ Contains known.yes p → IsOut rules known p
   out_of p (inl y) n = absurd (n y)
   out_of p (inr o) n = o
+
+  abbrev AreDeclared : List (List ℕ) → Type 0
+  AreDeclared names = (q : List ℕ) → Contains names q → ¬ IsUndeclared rules (with_relation f.set q)
+
+  in_front : (xs ys : List (List ℕ)) → AreDeclared (xs ++ ys) → AreDeclared xs
+  in_front xs ys own q c = own q (Contains-append_left xs ys q c)
+
+  behind : (xs ys : List (List ℕ)) → AreDeclared (xs ++ ys) → AreDeclared ys
+  behind xs ys own q c = own q (Contains-append_right xs ys q c)
 
   mutual
     pub settling : (e : Expression) → EachPremise store (IsSettled rules known) (IsSettled rules known) f e
@@ -51,43 +73,22 @@ module _ (rules : Lookup) (store : List TupleValue) (known : KnownValue) (f : Fa
         by_cases (no m) = inr (λ g s. out_of (same_user f (with_relation g c)) (h g s) (λ y. m (g, s, y)))
     settling (union es) h own = settling_some es h own
     settling (inter es) h own = settling_each es h own
-    settling (minus a b) h own = by_cases
-        (settling a h.0 (λ q c. own q (Contains-append_left (own_relations a) (own_relations b) q c)))
-        (settling b h.1 (λ q c. own q (Contains-append_right (own_relations a) (own_relations b) q c)))
-      where
-        by_cases : Established rules store known f a ⊎ Refuted rules store known f a
-            → Established rules store known f b ⊎ Refuted rules store known f b
-            → Established rules store known f (minus a b) ⊎ Refuted rules store known f (minus a b)
-        by_cases (inr r) d = inr (inl r)
-        by_cases (inl e) (inl d) = inr (inr d)
-        by_cases (inl e) (inr r) = inl (e, r)
+    settling (minus a b) h own = each_or_some
+        (settling a h.0 (in_front (own_relations a) (own_relations b) own))
+        (turned (settling b h.1 (behind (own_relations a) (own_relations b) own)))
 
     settling_some : (es : Expressions) → EachPremises store (IsSettled rules known) (IsSettled rules known) f es
-        → ((q : List ℕ) → Contains (own_relations_all es) q → ¬ IsUndeclared rules (with_relation f.set q))
+        → AreDeclared (own_relations_all es)
         → SomeEstablished rules store known f es ⊎ EachRefuted rules store known f es
     settling_some no_child h own = inr tt
-    settling_some (child e es) h own = by_cases
-        (settling e h.0 (λ q c. own q (Contains-append_left (own_relations e) (own_relations_all es) q c)))
-        (settling_some es h.1 (λ q c. own q (Contains-append_right (own_relations e) (own_relations_all es) q c)))
-      where
-        by_cases : Established rules store known f e ⊎ Refuted rules store known f e
-            → SomeEstablished rules store known f es ⊎ EachRefuted rules store known f es
-            → SomeEstablished rules store known f (child e es) ⊎ EachRefuted rules store known f (child e es)
-        by_cases (inl d) r = inl (inl d)
-        by_cases (inr d) (inl r) = inl (inr r)
-        by_cases (inr d) (inr r) = inr (d, r)
+    settling_some (child e es) h own = some_or_each
+        (settling e h.0 (in_front (own_relations e) (own_relations_all es) own))
+        (settling_some es h.1 (behind (own_relations e) (own_relations_all es) own))
 
     settling_each : (es : Expressions) → EachPremises store (IsSettled rules known) (IsSettled rules known) f es
-        → ((q : List ℕ) → Contains (own_relations_all es) q → ¬ IsUndeclared rules (with_relation f.set q))
+        → AreDeclared (own_relations_all es)
         → EachEstablished rules store known f es ⊎ SomeRefuted rules store known f es
     settling_each no_child h own = inl tt
-    settling_each (child e es) h own = by_cases
-        (settling e h.0 (λ q c. own q (Contains-append_left (own_relations e) (own_relations_all es) q c)))
-        (settling_each es h.1 (λ q c. own q (Contains-append_right (own_relations e) (own_relations_all es) q c)))
-      where
-        by_cases : Established rules store known f e ⊎ Refuted rules store known f e
-            → EachEstablished rules store known f es ⊎ SomeRefuted rules store known f es
-            → EachEstablished rules store known f (child e es) ⊎ SomeRefuted rules store known f (child e es)
-        by_cases (inr d) r = inr (inl d)
-        by_cases (inl d) (inr r) = inr (inr r)
-        by_cases (inl d) (inl r) = inl (d, r)
+    settling_each (child e es) h own = each_or_some
+        (settling e h.0 (in_front (own_relations e) (own_relations_all es) own))
+        (settling_each es h.1 (behind (own_relations e) (own_relations_all es) own))

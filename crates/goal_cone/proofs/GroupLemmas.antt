@@ -1,5 +1,6 @@
 -- Leaves that go through one tupleset, put together.
-use Rattle.std.proofs.Common.{◌≡◌, ℕ, zero, suc, Bool, true, false, List, [], ◌∷◌, ◌++◌, ◌||◌, Some, String, Global, inl, inr, map, refl, sym, ◌∙◌, ap, subst, append_assoc, arith}
+use Rattle.std.proofs.Common.{◌≡◌, ℕ, zero, suc, List, [], ◌∷◌, ◌++◌, Some, String, Global, inl, inr, map, refl, sym, ◌∙◌, ap, subst, append_assoc, arith}
+use Rattle.std.proofs.Math.Bool.{or_assoc, or_comm}
 use Rattle.std.proofs.lemmas.List.{map-append}
 use Rattle.std.proofs.lemmas.List.Folds.{list_any-append}
 use Rattle.std.proofs.lemmas.List.Sums.{sum_by-append}
@@ -17,18 +18,15 @@ use Rattle.rewrites.proofs.ThinnedLemmas.{thinned_again, thinned_both, thinned_i
 use Rattle.strata.proofs.Lists.{Contains-cons_cases, Contains-here, Contains-there, not_in_nil}
 use Rattle.goal_cone.specs.Leaves.{Grows}
 
-or_swap : (a b c : Bool) → ((a || b) || c) ≡ ((a || c) || b)
-or_swap true b c = refl
-or_swap false true true = refl
-or_swap false true false = refl
-or_swap false false true = refl
-or_swap false false false = refl
-
 -- the order of what comes behind does not matter
 swapped : (xs ys zs : List Expression) → IsThinned ((xs ++ ys) ++ zs) ((xs ++ zs) ++ ys)
 swapped xs ys zs = record {
   same = λ t. rw (list_any-append t (xs ++ ys) zs, list_any-append t xs ys, list_any-append t (xs ++ zs) ys, list_any-append t xs zs)
-      (or_swap (list_any t xs) (list_any t ys) (list_any t zs));
+      (rw (
+        or_assoc (list_any t xs) (list_any t ys) (list_any t zs),
+        or_comm (list_any t ys) (list_any t zs),
+        or_assoc (list_any t xs) (list_any t zs) (list_any t ys),
+      ) refl);
   no_heavier = λ w. omega (arith, sum_by-append w (xs ++ ys) zs, sum_by-append w xs ys, sum_by-append w (xs ++ zs) ys, sum_by-append w xs zs);
 }
 

@@ -2,6 +2,7 @@ pub mod Exploring
 pub mod GroupLemmas
 pub mod LeafLemmas
 pub mod OnceLemmas
+pub mod PassLemmas
 pub mod PremiseLemmas
 pub mod Searching
 pub mod SeenLemmas

@@ -1,8 +1,8 @@
 -- How passes over premises follow one another.
-use Rattle.std.proofs.Common.{◌≡◌, ℕ, ◌+◌, ◌≤◌, ◌<◌, List, [], ◌∷◌, ◌++◌, length, ◌⊎◌, inl, inr, refl, subst, sym, ◌∙◌, ap, append_assoc, Option, None, Some, arith}
+use Rattle.std.proofs.Common.{◌≡◌, ℕ, ◌≤◌, ◌<◌, List, [], ◌∷◌, ◌++◌, length, ◌⊎◌, inl, inr, refl, subst, sym, ◌∙◌, ap, append_assoc, Option, None, Some, arith}
 use Rattle.std.specs.Prelude.{Contains}
 use Rattle.std.proofs.lemmas.List.{append-nil, length_push}
-use Rattle.std.specs.Prelude.{option_map, is_some, Bool, true, false, sum_by, Result, Ok, Err, OnOk, if◌then◌else◌}
+use Rattle.std.specs.Prelude.{option_map, is_some, Bool, true, false, sum_by, Ok, Err, if◌then◌else◌}
 use Rattle.std.proofs.lemmas.List.Elements.{Contains-append_left, Contains-append_cases, Contains-push, Contains-push_cases}
 use Rattle.tuple_text.specs.Sets.{SetValue}
 use Rattle.tuple_text.specs.Faults.{is_memory, Fails}
@@ -19,7 +19,7 @@ use Rattle.strata.proofs.Lists.{not_in_nil, Contains-cons_cases}
 use Rattle.goal_cone.specs.Bounds.{links, links_all, links_by, links_of}
 use Rattle.goal_cone.specs.Cone.{IsMet, IsNeeded}
 use Rattle.goal_cone.specs.Leaves.{HaveLeavesOf}
-use Rattle.goal_cone.specs.Pass.{IsRead, IsUnderWay}
+use Rattle.goal_cone.specs.Pass.{IsRead}
 use Rattle.goal_cone.specs.Premises.{Reads, ReadsSome}
 use Rattle.goal_cone.specs.Seen.{Sees, IsStuck}
 use Rattle.goal_cone.proofs.LeafLemmas.{thinned_reads, reads_thinned, thinned_links}
@@ -85,7 +85,8 @@ module _ (rules : Lookup) where
       each p (inr c) = ((second.each p c).0, inr (second.each p c).1)
 
   -- what meets S is undeclared or meets T, and what meets T meets S
-  sees_declared : (T S : FactValue → Type 0) → ((p : FactValue) → T p → S p) → ((p : FactValue) → S p → IsUndeclared rules p.set ⊎ T p) → (old new : List FactValue)
+  pub sees_declared : (T S : FactValue → Type 0) → ((p : FactValue) → T p → S p)
+      → ((p : FactValue) → S p → IsUndeclared rules p.set ⊎ T p) → (old new : List FactValue)
       → Sees rules T old new → Sees rules S old new
   sees_declared T S there back old new h = record {
     met = λ p s. elim (back p s) [ inl none ↦ inl none | inr t ↦ h.met p t ];
@@ -94,10 +95,6 @@ module _ (rules : Lookup) where
     each = λ p c. ((h.each p c).0, there p (h.each p c).1);
     distinct = h.distinct;
   }
-
-  pub sees_as : (T S : FactValue → Type 0) → ((p : FactValue) → T p → S p) → ((p : FactValue) → S p → T p) → (old new : List FactValue)
-      → Sees rules T old new → Sees rules S old new
-  sees_as T S there back old new h = sees_declared T S there (λ p s. inr (back p s)) old new h
 
 module _ (most_facts most_links : ℕ) (rules : Lookup) (store : List TupleValue) where
   -- a fact that has no text, or one too many
@@ -134,28 +131,6 @@ module _ (most_facts most_links : ℕ) (rules : Lookup) (store : List TupleValue
       by_cases f (inl c) = needed f c
       by_cases f (inr c) = premise f (seen.each f c).0 (inl (seen.each f c).1)
 
-  module _ (R : FactValue → Type 0) (old : List FactValue) (had all : ℕ) where
-    pub under_way_start : IsUnderWay most_facts most_links rules store R R old old had had all all
-    under_way_start = record { seen = λ new h. h; stuck = λ h. h; links = omega arith }
-
-    module _ (T S : FactValue → Type 0) (now : List FactValue) (room rest a left : ℕ) (sum : rest ≡ a + left)
-        (way : IsUnderWay most_facts most_links rules store R (λ p. T p ⊎ S p) old now had room all rest) where
-      pub under_way_step : (next : List FactValue) (later : ℕ) → Sees rules T now next → room ≤ later + a
-          → IsUnderWay most_facts most_links rules store R S old next had later all left
-      under_way_step next later seen le = record {
-        seen = λ new h. way.seen new (sees_both rules T S now next new seen h);
-        stuck = λ h. way.stuck (stuck_later T S now next seen h);
-        links = (let e = way.links in omega arith);
-      }
-
-      pub under_way_stuck : (room < a) ⊎ IsStuck most_facts most_links rules store T now → (had < all) ⊎ IsStuck most_facts most_links rules store R old
-      under_way_stuck (inl lt) = inl (let e = way.links in omega arith)
-      under_way_stuck (inr h) = inr (way.stuck (stuck_as T (λ p. T p ⊎ S p) (λ p t. inl t) now h))
-
-    pub under_way_done : (S : FactValue → Type 0) → ((p : FactValue) → ¬ S p) → (now : List FactValue) (room left : ℕ)
-        → IsUnderWay most_facts most_links rules store R S old now had room all left → Sees rules R old now × (had ≤ room + all)
-    under_way_done S none now room left way = (way.seen now (sees_none rules S none now), (let e = way.links in omega arith))
-
 -- ---- what is declared, and what has a text
 
 pub declared_by : {A B C : Type 0} (f : A → C) (g : B → C) (a : Option A) (b : Option B) → option_map f a ≡ option_map g b → is_some a ≡ true → ¬ (b ≡ None)
@@ -179,42 +154,6 @@ refused s user e fails plain fact =
     let ok : checked_fact s user ≡ Ok (fact_of s user) = rw (fact.head.set.namespace, fact.head.set.id, fact.head.relation) refl in
     let same : Ok (fact_of s user) ≡ Err e = sym ok ∙ h in
     absurd (cc)
-
--- ---- on results
-
-pub ok_as : {E : Type 0} (rules : Lookup) (T S : FactValue → Type 0) → ((p : FactValue) → T p → S p) → ((p : FactValue) → S p → T p) → (old new : List FactValue)
-    (r : Result (Unit {0}) E) → OnOk r (Sees rules T old new) → OnOk r (Sees rules S old new)
-ok_as {E} rules T S there back old new (Ok u) h = sees_as rules T S there back old new h
-ok_as {E} rules T S there back old new (Err e) h = tt
-
-pub ok_declared : {E : Type 0} (rules : Lookup) (T S : FactValue → Type 0) → ((p : FactValue) → T p → S p) → ((p : FactValue) → S p → IsUndeclared rules p.set ⊎ T p)
-    → (old new : List FactValue) (r : Result (Unit {0}) E) → OnOk r (Sees rules T old new) → OnOk r (Sees rules S old new)
-ok_declared {E} rules T S there back old new (Ok u) h = sees_declared rules T S there back old new h
-ok_declared {E} rules T S there back old new (Err e) h = tt
-
-pub ok_more : {E : Type 0} (r : Result (Unit {0}) E) (had room few many : ℕ) → few ≤ many → OnOk r (had ≤ room + few) → OnOk r (had ≤ room + many)
-ok_more {E} (Ok u) had room few many le h = omega (arith, h)
-ok_more {E} (Err e) had room few many le h = tt
-
-pub outgrown_as : (most_facts most_links : ℕ) (rules : Lookup) (store : List TupleValue) (T S : FactValue → Type 0) → ((p : FactValue) → T p → S p) → (seen : List FactValue)
-    (room few many : ℕ) → few ≤ many → (room < few) ⊎ IsStuck most_facts most_links rules store T seen → (room < many) ⊎ IsStuck most_facts most_links rules store S seen
-outgrown_as most_facts most_links rules store T S there seen room few many le (inl lt) = inl (omega arith)
-outgrown_as most_facts most_links rules store T S there seen room few many le (inr h) = inr (stuck_as most_facts most_links rules store T S there seen h)
-
-pub both_ok : {E : Type 0} (rules : Lookup) (T S : FactValue → Type 0) (old now new : List FactValue) (r : Result (Unit {0}) E) → Sees rules T old now → OnOk r (Sees rules S now new)
-    → OnOk r (Sees rules (λ p. T p ⊎ S p) old new)
-both_ok {E} rules T S old now new (Ok u) first h = sees_both rules T S old now new first h
-both_ok {E} rules T S old now new (Err e) first h = tt
-
-module _ (most_facts most_links : ℕ) (rules : Lookup) (store : List TupleValue) (T S : FactValue → Type 0) (old : List FactValue) where
-  pub first_stuck : (had a b : ℕ) → (had < a) ⊎ IsStuck most_facts most_links rules store T old → (had < a + b) ⊎ IsStuck most_facts most_links rules store (λ p. T p ⊎ S p) old
-  first_stuck had a b (inl lt) = inl (omega arith)
-  first_stuck had a b (inr h) = inr (stuck_as most_facts most_links rules store T (λ p. T p ⊎ S p) (λ p t. inl t) old h)
-
-pub second_stuck : (most_facts most_links : ℕ) (rules : Lookup) (store : List TupleValue) (T S : FactValue → Type 0) (old now : List FactValue) (had room a b : ℕ) → had ≤ room + a
-    → Sees rules T old now → (room < b) ⊎ IsStuck most_facts most_links rules store S now → (had < a + b) ⊎ IsStuck most_facts most_links rules store (λ p. T p ⊎ S p) old
-second_stuck most_facts most_links rules store T S old now had room a b le seen (inl lt) = inl (omega arith)
-second_stuck most_facts most_links rules store T S old now had room a b le seen (inr h) = inr (stuck_later most_facts most_links rules store T S old now seen h)
 
 -- ---- the rule of a fact, where it is found
 

@@ -1,6 +1,6 @@
 //! The premises of one fact, as its rule names them.
 
-ghost use Rattle.std.specs.Prelude.{◌≡◌, ◌+◌, ◌<◌, ◌≤◌, ◌⊎◌, Contains, OnOk, Err, false, length, map};
+ghost use Rattle.std.specs.Prelude.{◌≡◌, Contains, OnOk, Err, false, length, map};
 ghost use Rattle.tuple_text.specs.Faults.{is_memory};
 ghost use Rattle.tuple_text.specs.Refs.{set_value};
 ghost use Rattle.tuple_text.specs.Tuples.{fact_of};
@@ -9,10 +9,9 @@ ghost use Rattle.rewrites.specs.Parts.{computed_names, part_expression, through_
 ghost use Rattle.rewrites.specs.View.{children, expression_of, expressions_of};
 ghost use Rattle.snapshots.specs.Snapshots.{rules_in, tuples_in};
 ghost use Rattle.wide_rules.specs.Declaring.{HaveDeclaring};
-ghost use Rattle.goal_cone.specs.Bounds.{links, links_all, links_of};
+ghost use Rattle.goal_cone.specs.Bounds.{links_of};
 ghost use Rattle.goal_cone.specs.Leaves.{IsNoted, read_shown};
-ghost use Rattle.goal_cone.specs.Pass.{AmongSets, IsRead};
-ghost use Rattle.goal_cone.specs.Premises.{Reads, ReadsSome};
+ghost use Rattle.goal_cone.specs.Pass.{AmongSets, IsRead, Passes, PassesOver, PassesOverAll};
 ghost use Rattle.goal_cone.specs.Seen.{Sees, IsStuck};
 
 use crate::fault::ConeFault;
@@ -33,6 +32,15 @@ pub const MAX_USERSETS: usize = 131072;
 
 /// How many stored usersets the rules of a cone may read, place by place.
 pub const MAX_LINKS: usize = 4194304;
+
+/// A fact whose rule is read, over a snapshot.
+#[derive(Drop)]
+struct ReadFact<'a> {
+    alloc: Global,
+    snapshot: &'a Snapshot<'a>,
+    set: SetRef<'a>,
+    user: u64,
+}
 
 /// A fact that has no text is in no record.
 fn told(fault: TupleFault) -> ConeFault
@@ -71,188 +79,131 @@ fn see(
     }
 }
 
-/// Sees the facts of a user in usersets, each of which takes a link from the room.
+/// Sees the facts of the user in usersets, each of which takes a link from the room.
 fn see_each(
-    alloc: Global,
-    snapshot: &Snapshot<'_>,
-    user: u64,
+    fact: &ReadFact<'_>,
     sets: Vec<SetRef<'_>>,
     seen: &mut Seen,
     room: &mut usize,
 ) -> Result<(), ConeFault>
-    ensures seen { OnOk result (Sees (rules_in snapshot.now) (AmongSets user (map set_value sets.entry.items)) seen.old seen.new) }
-    ensures links { OnOk result (room.old ≤ room.new + length (map set_value sets.entry.items)) }
-    ensures stuck { result ≡ Err ConeFault.Outgrown → (room.old < length (map set_value sets.entry.items))
-        ⊎ IsStuck MAX_USERSETS MAX_LINKS (rules_in snapshot.now) (tuples_in snapshot.now)
-        (AmongSets user (map set_value sets.entry.items)) seen.old }
+    ensures { Passes MAX_USERSETS MAX_LINKS fact.now.snapshot.now
+        (AmongSets fact.now.user (map set_value sets.entry.items)) (length (map set_value sets.entry.items))
+        result seen.old seen.new room.old room.new }
 {
     for set in sets {
         if *room == 0 {
             return Err(ConeFault::Outgrown);
         }
         *room -= 1;
-        see(alloc, snapshot, set, user, seen)?;
+        see(fact.alloc, fact.snapshot, set, fact.user, seen)?;
     }
     Ok(())
 }
 
 /// Sees what a rule `this` reads.
-fn see_own(
-    alloc: Global,
-    snapshot: &Snapshot<'_>,
-    set: SetRef<'_>,
-    user: u64,
-    seen: &mut Seen,
-    room: &mut usize,
-) -> Result<(), ConeFault>
-    ensures seen { OnOk result (Sees (rules_in snapshot.now)
-        (Reads (tuples_in snapshot.now) (fact_of (set_value set.entry) user) this) seen.old seen.new) }
-    ensures links { OnOk result (room.old ≤ room.new + links (tuples_in snapshot.now) (set_value set.entry) this) }
-    ensures stuck { result ≡ Err ConeFault.Outgrown → (room.old < links (tuples_in snapshot.now) (set_value set.entry) this)
-        ⊎ IsStuck MAX_USERSETS MAX_LINKS (rules_in snapshot.now) (tuples_in snapshot.now)
-        (Reads (tuples_in snapshot.now) (fact_of (set_value set.entry) user) this) seen.old }
+fn see_own(fact: &ReadFact<'_>, seen: &mut Seen, room: &mut usize) -> Result<(), ConeFault>
+    ensures { PassesOver MAX_USERSETS MAX_LINKS fact.now this
+        result seen.old seen.new room.old room.new }
 {
-    let sets = snapshot.leading(alloc, MarkedSet::of(set))?;
-    see_each(alloc, snapshot, user, sets, seen, room)
+    let sets = fact.snapshot.leading(fact.alloc, MarkedSet::of(fact.set))?;
+    see_each(fact, sets, seen, room)
 }
 
 /// Sees what some relations give through a tupleset, where these namespaces declare them.
 fn see_through(
-    alloc: Global,
+    fact: &ReadFact<'_>,
     through: &Through,
     declaring: Numbers,
-    set: SetRef<'_>,
-    user: u64,
-    snapshot: &Snapshot<'_>,
     seen: &mut Seen,
     room: &mut usize,
 ) -> Result<(), ConeFault>
-    requires { HaveDeclaring snapshot.now.timeline.declarations (computed_names through.now) declaring }
-    ensures seen { OnOk result (Sees (rules_in snapshot.now)
-        (Reads (tuples_in snapshot.now) (fact_of (set_value set.entry) user) (through_expression through.now)) seen.old seen.new) }
-    ensures links { OnOk result (room.old ≤ room.new + links (tuples_in snapshot.now) (set_value set.entry) (through_expression through.now)) }
-    ensures stuck { result ≡ Err ConeFault.Outgrown → (room.old < links (tuples_in snapshot.now) (set_value set.entry) (through_expression through.now))
-        ⊎ IsStuck MAX_USERSETS MAX_LINKS (rules_in snapshot.now) (tuples_in snapshot.now)
-        (Reads (tuples_in snapshot.now) (fact_of (set_value set.entry) user) (through_expression through.now)) seen.old }
+    requires { HaveDeclaring fact.now.snapshot.now.timeline.declarations (computed_names through.now) declaring }
+    ensures { PassesOver MAX_USERSETS MAX_LINKS fact.now (through_expression through.now)
+        result seen.old seen.new room.old room.new }
 {
-    let sets = targets(alloc, snapshot, set, through, declaring)?;
-    see_each(alloc, snapshot, user, sets, seen, room)
+    let sets = targets(fact.alloc, fact.snapshot, fact.set, through, declaring)?;
+    see_each(fact, sets, seen, room)
 }
 
 /// Sees what a rule reads for a user in a userset.
 #[cycle(see_premises)]
 fn see_premises(
-    alloc: Global,
+    fact: &ReadFact<'_>,
     rewrite: &Rewrite,
-    set: SetRef<'_>,
-    user: u64,
-    snapshot: &Snapshot<'_>,
     seen: &mut Seen,
     room: &mut usize,
 ) -> Result<(), ConeFault>
-    ensures seen { OnOk result (Sees (rules_in snapshot.now)
-        (Reads (tuples_in snapshot.now) (fact_of (set_value set.entry) user) (expression_of rewrite.now)) seen.old seen.new) }
-    ensures links { OnOk result (room.old ≤ room.new + links (tuples_in snapshot.now) (set_value set.entry) (expression_of rewrite.now)) }
-    ensures stuck { result ≡ Err ConeFault.Outgrown → (room.old < links (tuples_in snapshot.now) (set_value set.entry) (expression_of rewrite.now))
-        ⊎ IsStuck MAX_USERSETS MAX_LINKS (rules_in snapshot.now) (tuples_in snapshot.now)
-        (Reads (tuples_in snapshot.now) (fact_of (set_value set.entry) user) (expression_of rewrite.now)) seen.old }
+    ensures { PassesOver MAX_USERSETS MAX_LINKS fact.now (expression_of rewrite.now)
+        result seen.old seen.new room.old room.new }
 {
     match rewrite {
-        Rewrite::This => see_own(alloc, snapshot, set, user, seen, room),
+        Rewrite::This => see_own(fact, seen, room),
         Rewrite::Computed(relation) => {
-            see(alloc, snapshot, under(set, relation.as_str()), user, seen)
+            let set = under(fact.set, relation.as_str());
+            see(fact.alloc, fact.snapshot, set, fact.user, seen)
         }
         Rewrite::TupleTo { tupleset, computed } => {
-            let through = through_one(alloc, tupleset, computed)?;
-            let declaring = namespaces_declaring(alloc, snapshot.timeline.rules(), &through)?;
-            see_through(alloc, &through, declaring, set, user, snapshot, seen, room)
+            let through = through_one(fact.alloc, tupleset, computed)?;
+            let rules = fact.snapshot.timeline.rules();
+            let declaring = namespaces_declaring(fact.alloc, rules, &through)?;
+            see_through(fact, &through, declaring, seen, room)
         }
         Rewrite::Union(children) | Rewrite::Inter(children) => {
-            see_children(alloc, children, set, user, snapshot, seen, room)
+            see_children(fact, children, seen, room)
         }
         Rewrite::Minus(base, subtract) => {
-            see_premises(alloc, base, set, user, snapshot, seen, room)?;
-            see_premises(alloc, subtract, set, user, snapshot, seen, room)
+            see_premises(fact, base, seen, room)?;
+            see_premises(fact, subtract, seen, room)
         }
     }
 }
 
 #[cycle(see_premises)]
 fn see_children(
-    alloc: Global,
+    fact: &ReadFact<'_>,
     children: &Vec<Rewrite>,
-    set: SetRef<'_>,
-    user: u64,
-    snapshot: &Snapshot<'_>,
     seen: &mut Seen,
     room: &mut usize,
 ) -> Result<(), ConeFault>
-    ensures seen { OnOk result (Sees (rules_in snapshot.now)
-        (ReadsSome (tuples_in snapshot.now) (fact_of (set_value set.entry) user) (expressions_of children.now.items)) seen.old seen.new) }
-    ensures links { OnOk result (room.old ≤ room.new + links_all (tuples_in snapshot.now) (set_value set.entry) (expressions_of children.now.items)) }
-    ensures stuck { result ≡ Err ConeFault.Outgrown → (room.old < links_all (tuples_in snapshot.now) (set_value set.entry) (expressions_of children.now.items))
-        ⊎ IsStuck MAX_USERSETS MAX_LINKS (rules_in snapshot.now) (tuples_in snapshot.now)
-        (ReadsSome (tuples_in snapshot.now) (fact_of (set_value set.entry) user) (expressions_of children.now.items)) seen.old }
+    ensures { PassesOverAll MAX_USERSETS MAX_LINKS fact.now (expressions_of children.now.items)
+        result seen.old seen.new room.old room.new }
 {
     for child in children {
-        see_premises(alloc, child, set, user, snapshot, seen, room)?;
+        see_premises(fact, child, seen, room)?;
     }
     Ok(())
 }
 
 /// Sees what a part of a rule reads.
 fn see_part(
-    alloc: Global,
+    fact: &ReadFact<'_>,
     part: &ReadPart,
-    set: SetRef<'_>,
-    user: u64,
-    snapshot: &Snapshot<'_>,
     seen: &mut Seen,
     room: &mut usize,
 ) -> Result<(), ConeFault>
-    requires { IsNoted snapshot.now.timeline.declarations part.now }
-    ensures seen { OnOk result (Sees (rules_in snapshot.now)
-        (Reads (tuples_in snapshot.now) (fact_of (set_value set.entry) user) (part_expression part.now.part)) seen.old seen.new) }
-    ensures links { OnOk result (room.old ≤ room.new + links (tuples_in snapshot.now) (set_value set.entry) (part_expression part.now.part)) }
-    ensures stuck { result ≡ Err ConeFault.Outgrown → (room.old < links (tuples_in snapshot.now) (set_value set.entry) (part_expression part.now.part))
-        ⊎ IsStuck MAX_USERSETS MAX_LINKS (rules_in snapshot.now) (tuples_in snapshot.now)
-        (Reads (tuples_in snapshot.now) (fact_of (set_value set.entry) user) (part_expression part.now.part)) seen.old }
+    requires { IsNoted fact.now.snapshot.now.timeline.declarations part.now }
+    ensures { PassesOver MAX_USERSETS MAX_LINKS fact.now (part_expression part.now.part)
+        result seen.old seen.new room.old room.new }
 {
     match &part.part {
-        Part::Leaf(leaf) => see_premises(alloc, leaf, set, user, snapshot, seen, room),
-        Part::Through(through) => see_through(
-            alloc,
-            through,
-            part.declaring,
-            set,
-            user,
-            snapshot,
-            seen,
-            room,
-        ),
+        Part::Leaf(leaf) => see_premises(fact, leaf, seen, room),
+        Part::Through(through) => see_through(fact, through, part.declaring, seen, room),
     }
 }
 
 /// Sees what the parts of a rule read.
 fn see_parts(
-    alloc: Global,
+    fact: &ReadFact<'_>,
     parts: &[ReadPart],
-    set: SetRef<'_>,
-    user: u64,
-    snapshot: &Snapshot<'_>,
     seen: &mut Seen,
     room: &mut usize,
 ) -> Result<(), ConeFault>
-    requires { (r : ReadPart) → Contains parts.now r → IsNoted snapshot.now.timeline.declarations r }
-    ensures seen { OnOk result (Sees (rules_in snapshot.now)
-        (ReadsSome (tuples_in snapshot.now) (fact_of (set_value set.entry) user) (children (read_shown parts.now))) seen.old seen.new) }
-    ensures links { OnOk result (room.old ≤ room.new + links_all (tuples_in snapshot.now) (set_value set.entry) (children (read_shown parts.now))) }
-    ensures stuck { result ≡ Err ConeFault.Outgrown → (room.old < links_all (tuples_in snapshot.now) (set_value set.entry) (children (read_shown parts.now)))
-        ⊎ IsStuck MAX_USERSETS MAX_LINKS (rules_in snapshot.now) (tuples_in snapshot.now)
-        (ReadsSome (tuples_in snapshot.now) (fact_of (set_value set.entry) user) (children (read_shown parts.now))) seen.old }
+    requires { (r : ReadPart) → Contains parts.now r → IsNoted fact.now.snapshot.now.timeline.declarations r }
+    ensures { PassesOverAll MAX_USERSETS MAX_LINKS fact.now (children (read_shown parts.now))
+        result seen.old seen.new room.old room.new }
 {
     for part in parts {
-        see_part(alloc, part, set, user, snapshot, seen, room)?;
+        see_part(fact, part, seen, room)?;
     }
     Ok(())
 }
@@ -268,12 +219,10 @@ pub(crate) fn see_read(
 ) -> Result<(), ConeFault>
     requires { leaves.old.declarations ≡ snapshot.now.timeline.declarations }
     ensures rules { leaves.new.declarations ≡ leaves.old.declarations }
-    ensures seen { OnOk result (Sees (rules_in snapshot.now)
-        (IsRead (rules_in snapshot.now) (tuples_in snapshot.now) fact.now) seen.old seen.new) }
-    ensures links { OnOk result (room.old ≤ room.new + links_of (rules_in snapshot.now) (tuples_in snapshot.now) fact.now) }
-    ensures stuck { result ≡ Err ConeFault.Outgrown → (room.old < links_of (rules_in snapshot.now) (tuples_in snapshot.now) fact.now)
-        ⊎ IsStuck MAX_USERSETS MAX_LINKS (rules_in snapshot.now) (tuples_in snapshot.now)
-        (IsRead (rules_in snapshot.now) (tuples_in snapshot.now) fact.now) seen.old }
+    ensures passes { Passes MAX_USERSETS MAX_LINKS snapshot.now
+        (IsRead (rules_in snapshot.now) (tuples_in snapshot.now) fact.now)
+        (links_of (rules_in snapshot.now) (tuples_in snapshot.now) fact.now)
+        result seen.old seen.new room.old room.new }
 {
     let rules = snapshot.timeline.rules();
     let Some(place) = rules.body_place(fact.set(), snapshot.at) else {
@@ -281,5 +230,11 @@ pub(crate) fn see_read(
     };
     let number = leaves.number(place)?;
     let parts = leaves.parts(number);
-    see_parts(alloc, parts, fact.set(), fact.user(), snapshot, seen, room)
+    let read = ReadFact {
+        alloc,
+        snapshot,
+        set: fact.set(),
+        user: fact.user(),
+    };
+    see_parts(&read, parts, seen, room)
 }

@@ -1,5 +1,5 @@
 -- Facts that are found by the marks of their tuples.
-use Rattle.std.proofs.Common.{◌≡◌, ℕ, ◌<◌, length, suc, true, false, List, ◌∷◌, [], map, Some, ◌⊎◌, ◌↔◌, IsTrue, inl, inr, sym, ap, subst}
+use Rattle.std.proofs.Common.{◌≡◌, ℕ, ◌<◌, length, suc, true, false, List, ◌∷◌, [], map, Some, ◌⊎◌, ◌↔◌, IsTrue, inl, inr, refl, sym, ap, subst, get_or}
 use Rattle.std.specs.Prelude.{Contains, slice_get}
 use Rattle.std.specs.List.{list_any}
 use Rattle.std.proofs.lemmas.Map.Views.{Contains-from_any, list_any-from_Contains}
@@ -11,6 +11,8 @@ use Rattle.tuple_text.specs.Tuples.{FactValue, TupleValue, fact_tuple}
 use Rattle.tuple_text.specs.declared.users.User.{User}
 use Rattle.tuple_text.specs.declared.users.User.TheVariants.{Id, Set}
 use Rattle.tuple_text.proofs.ValueLemmas.{tuple_eq-same, tuple_eq-itself, fact_eq-itself, fact_eq-same}
+use Rattle.marks.proofs.LeftLemmas.{AreLeft, left_behind}
+use Rattle.marks.proofs.PlacedLemmas.{read_item}
 use Rattle.rewrites.proofs.Names.{by_bool, clash}
 use Rattle.strata.proofs.Lists.{Contains-cons_cases, not_in_nil}
 
@@ -41,13 +43,31 @@ module _ {X : Type 0} (view : X → FactValue) (kept : List X) (i : ℕ) where
   pub within_kept : i < length (map fact_tuple (map view kept)) → i < length kept
   within_kept within = rw (length-map (map view kept) fact_tuple, length-map kept view) at within
 
-  pub tuple_at : (x : X) → slice_get kept i ≡ Some x → slice_get (map fact_tuple (map view kept)) i ≡ Some (fact_tuple (view x))
+  tuple_at : (x : X) → slice_get kept i ≡ Some x → slice_get (map fact_tuple (map view kept)) i ≡ Some
+      (fact_tuple (view x))
   tuple_at x here = rw (slice_get-map fact_tuple (map view kept) i, slice_get-map view kept i, here) (λ j. Some (fact_tuple (view x)))
 
-  pub fact_there : (x : X) (f : FactValue) → slice_get kept i ≡ Some x → f ≡ view x → Contains (map view kept) f
+  fact_there : (x : X) (f : FactValue) → slice_get kept i ≡ Some x → f ≡ view x → Contains (map view kept) f
   fact_there x f here same =
       let at_fact : slice_get (map view kept) i ≡ Some f = rw (slice_get-map view kept i, here) (λ j. Some (sym same j)) in
       (i, slice_get_within (map view kept) i f at_fact, get_or_from_slice_get (map view kept) i f f at_fact)
+
+  -- the item at the first index that is left, where a fact is looked for
+  module _ (f : FactValue) (left : List ℕ) (x : X)
+      (are : AreLeft (λ t. tuple_eq t (fact_tuple f)) (map fact_tuple (map view kept)) (i ∷ left))
+      (is : x ≡ get_or kept i x) where
+    here : slice_get kept i ≡ Some x
+    here = read_item kept kept i x refl (within_kept are.within.0) is
+
+    pub other_left : fact_eq f (view x) ≡ false → AreLeft (λ t. tuple_eq t (fact_tuple f))
+        (map fact_tuple (map view kept)) left
+    other_left other =
+        left_behind (λ t. tuple_eq t (fact_tuple f)) (map fact_tuple (map view kept)) i left (fact_tuple (view x))
+        (tuple_at x here)
+        (other_tuple f (view x) other) are
+
+    pub same_left : fact_eq f (view x) ≡ true → Contains (map view kept) f
+    same_left same = fact_there x f here (fact_eq-same f (view x) same)
 
 -- a fact is there where one of them is equal to it
 pub there_if_any : (fs : List FactValue) (f : FactValue) → IsTrue (list_any (fact_eq f) fs) ↔ Contains fs f

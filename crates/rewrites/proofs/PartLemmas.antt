@@ -1,6 +1,6 @@
 -- Parts, as they are numbered, and nodes that say what expressions say.
-use Rattle.std.proofs.Common.{rules, ◌≡◌, ℕ, zero, suc, List, [], ◌∷◌, ◌++◌, Some, length, option_map, refl, sym, ◌∙◌, ap, subst, append_assoc}
-use Rattle.std.proofs.Math.Seq.{get_or-append_seam}
+use Rattle.std.proofs.Common.{rules, ◌≡◌, ℕ, zero, suc, ◌+◌, ◌<◌, List, [], ◌∷◌, ◌++◌, Some, length, drop, map, get_or, add-one, option_map, refl, sym, ◌∙◌, ap, subst, append_assoc}
+use Rattle.std.proofs.Math.Seq.{drop-cons, get_or-append_seam}
 use Rattle.std.proofs.lemmas.List.{append-nil, map-append, length-map, get_or_append_left}
 use Rattle.std.proofs.lemmas.Option.{unwrap_or-slice_get, slice_get-map, slice_get_within, get_or_from_slice_get}
 use Rattle.std.specs.Global.{Vec}
@@ -8,9 +8,10 @@ use Rattle.std.specs.Prelude.{slice_get, slice_set}
 use Rattle.rewrites.specs.Alike.{IsAlike, gives, bars}
 use Rattle.rewrites.specs.Expression.{Expression, union, inter, minus, no_child}
 use Rattle.rewrites.specs.Joints.{joined, JoinAlike}
-use Rattle.rewrites.specs.View.{children}
+use Rattle.rewrites.specs.View.{children, expression_of}
 use Rattle.rewrites.specs.Parts.{each_shown, through_expression, throughs_shown, part_expression, parts_shown, part_at, node_expression, nodes_shown, IsGrown, Says, HasPart, AllSay}
 use Rattle.rewrites.specs.declared.parts.Part.{Part}
+use Rattle.rewrites.specs.declared.rewrite.Rewrite.{Rewrite}
 use Rattle.rewrites.specs.declared.parts.Node
 use Rattle.rewrites.specs.declared.parts.Node.{Node, the_lemmas}
 use Rattle.rewrites.specs.declared.parts.Through.{Through}
@@ -195,3 +196,8 @@ says_minus old now new n a b e f g n_is e_is first second = record {
       (minus_alike (node_expression (new ++ more) a) f (node_expression (new ++ more) b) g
       (later (λ p. IsAlike (node_expression p a) f) now new first.alike second.grown more) (second.alike more));
 }
+
+-- the rules from a place on: that one, and those behind it
+pub left_shown : (rs : List Rewrite) (i : ℕ) (r : Rewrite) → i < length rs → r ≡ get_or rs i r
+    → map expression_of (drop i rs) ≡ expression_of r ∷ map expression_of (drop (i + 1) rs)
+left_shown rs i r within is = rw (drop-cons rs i r within, add-one, ← is) refl

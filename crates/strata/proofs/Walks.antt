@@ -1,12 +1,10 @@
 -- Walks over edges, list by list.
-use Rattle.std.proofs.Common.{is_some, subst, add-one, ◌≡◌, ℕ, zero, suc, ◌+◌, ◌-◌, ◌<◌, ◌≤◌, List, [], ◌∷◌, ◌++◌, length, get_or, drop, slice_get, find, Bool, ◌||◌, true, false, Option, None, Some, option_map, option_and_then, unwrap_or, Result, Ok, Err, refl, sym, ap, ◌∙◌, arith}
+use Rattle.std.proofs.Common.{is_some, subst, add-one, ◌≡◌, ℕ, zero, suc, ◌+◌, ◌-◌, ◌<◌, ◌≤◌, List, [], ◌∷◌, ◌++◌, length, drop, slice_get, find, Bool, ◌||◌, true, false, Option, None, Some, option_map, option_and_then, unwrap_or, Result, Ok, Err, refl, sym, ap, ◌∙◌, arith}
 use Rattle.std.specs.Option.{option_or}
 use Rattle.std.specs.List.{flat_map, filter_map, enumerate_from, range_with_len, cons_option}
 use Rattle.std.proofs.lemmas.List.Folds.{find-append}
 use Rattle.std.proofs.lemmas.List.Elements.{filter_map-append}
 use Rattle.namespaces.specs.declared.number.RelNo.{RelNo}
-use Rattle.rewrites.specs.declared.rewrite.Rewrite.{Rewrite}
-use Rattle.rewrites.specs.View.{expression_of, expressions_of}
 use Rattle.namespaces.specs.Adding.{has_repeats}
 use Rattle.tuple_text.specs.Sets.{SetValue}
 use Rattle.rewrites.specs.Expression.{Expression, this, computed, tuple_to, union, inter, minus, Expressions, no_child, child}
@@ -209,6 +207,13 @@ module _ (ds : List Declaration) (edges : RelNo → List Edge) (n : ℕ) where
       let past = numbered_past r least is in
       let none : suc (length (relations_in ds n)) - r ≡ 0 = omega (arith, past) in
       rw none refl
+
+-- a walk over the relations of a namespace: of all edges what decides are those of the relations from a number on
+pub record AreFromNumber (ds : List Declaration) (edges : RelNo → List Edge) (all : List Edge) (n : ℕ)
+    (at : RelNo) : Type 0 where
+  pub number : at.namespace ≡ n
+  pub least : 1 ≤ at.relation
+  pub left : first_broken ds all ≡ first_broken ds (relations_from ds edges n at.relation)
 
 -- a relation number is asked for by something of the relation, and its namespace is that of the walk
 module _ {A B : Type 0} (text : A → B) (part : Relation → B) (ds : List Declaration) (edges : RelNo → List Edge) (number : RelNo) (n : ℕ) (here : number.namespace ≡ n)

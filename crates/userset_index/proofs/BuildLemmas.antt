@@ -1,10 +1,10 @@
 -- What the passes over the changelog show.
 use Rattle.std.proofs.Common.{◌≡◌, ℕ, zero, suc, true≢false, ◌+◌, ◌<◌, ◌≤◌, ◌^◌, Bool, true, false, List, [], ◌∷◌, ◌++◌, length, refl, sym, ◌∙◌, ap, subst, Option, None, Some, inl, inr, arith}
-use Rattle.std.specs.Prelude.{nat_lt, slice_get, slice_set, option_map, nat_le, if◌then◌else◌, IsPermutation}
+use Rattle.std.specs.Prelude.{Contains, nat_lt, slice_get, slice_set, option_map, nat_le, if◌then◌else◌, IsPermutation}
 use Rattle.std.specs.List.{list_any}
 use Rattle.std.specs.Option.{option_or}
 use Rattle.std.proofs.Math.Nat.{eq-or-lt_of_le}
-use Rattle.std.proofs.lemmas.Bool.{cases_lt, le-leb, leb-true}
+use Rattle.std.proofs.lemmas.Bool.{le-leb, leb-true}
 use Rattle.std.proofs.lemmas.List.Elements.{Contains-append_left, Contains-push}
 use Rattle.std.proofs.lemmas.List.Sorted.{Contains-permutation}
 use Rattle.std.proofs.lemmas.Option.{slice_get_within}
@@ -20,10 +20,11 @@ use Rattle.marks.specs.Marks.{set_mark}
 use Rattle.marks.specs.Placed.{last_place, passes}
 use Rattle.marks.proofs.PlacedLemmas.{at_last_place, slice_get-cases, slice_get-set}
 use Rattle.userset_index.specs.Building.{HaveEnds, HoldsFirst, IsEnd, IsLifeOf, IsUndeclaredBelow, kept}
-use Rattle.userset_index.specs.Index.{Holds, HoldsThrough, IsFound, IsLastTouch, IsMark, count_of, few, is_crowded}
+use Rattle.userset_index.specs.Index.{Holds, HoldsThrough, IsFound, IsMark, count_of, few, is_crowded}
 use Rattle.userset_index.specs.Lives.{is_alive}
 use Rattle.userset_index.specs.declared.life.Life.{Life}
 use Rattle.userset_index.specs.declared.life.Way.{Way}
+use Rattle.userset_index.proofs.EndLemmas.{last_before, last_here, last_within}
 
 -- ---- ends
 
@@ -94,19 +95,22 @@ undeclared_below ds g middle none at less = undeclared_before ds g at middle (om
 
 -- ---- lives
 
-found_further : (lives : List Life) (o : Option Life) (mark at i : ℕ) → IsFound lives mark at i → IsFound (kept lives o) mark at i
-found_further lives None mark at i f = f
-found_further lives (Some l) mark at i f = record { life = f.life; there = Contains-append_left lives (l ∷ []) f.life f.there; marked = f.marked; of = f.of; alive = f.alive }
+pub kept_further : (lives : List Life) (o : Option Life) (l : Life) → Contains lives l → Contains (kept lives o) l
+kept_further lives None l there = there
+kept_further lives (Some m) l there = Contains-append_left lives (m ∷ []) l there
+
+pub kept_here : (lives : List Life) (o : Option Life) (l : Life) → o ≡ Some l → Contains (kept lives o) l
+kept_here lives o l is = subst (λ (p : Option Life). Contains (kept lives p) l) (sym is) (Contains-push lives l)
+
+pub found_more : (lives more : List Life) (mark at i : ℕ) → ((l : Life) → Contains lives l → Contains more l)
+    → IsFound lives mark at i → IsFound more mark at i
+found_more lives more mark at i kept f = record
+    { life = f.life; there = kept f.life f.there; marked = f.marked; of = f.of; alive = f.alive }
 
 found_here : (lives : List Life) (o : Option Life) (mark at i : ℕ) → (l : Life) × (o ≡ Some l) × (l.mark ≡ mark) × (l.touch ≡ i) × (is_alive at l ≡ true)
     → IsFound (kept lives o) mark at i
-found_here lives o mark at i w = subst (λ (p : Option Life). IsFound (kept lives p) mark at i) (sym w.1) (record {
-  life = w.0;
-  there = Contains-push lives w.0;
-  marked = w.2;
-  of = w.3;
-  alive = w.4;
-})
+found_here lives o mark at i w =
+    record { life = w.0; there = kept_here lives o w.0 w.1; marked = w.2; of = w.3; alive = w.4 }
 
 module _ (ds : List Declaration) (way : Way) (touches : List Touch) (crowds : List ℕ) where
   -- with the life of one more touch
@@ -114,44 +118,32 @@ module _ (ds : List Declaration) (way : Way) (touches : List Touch) (crowds : Li
       → slice_get touches n ≡ Some x → IsLifeOf ds way crowds n x end life → IsEnd touches n x end → HoldsFirst (n + 1) ds way touches crowds (kept lives life)
   holds_next lives n life x end first here of ended i at mark y g less last user crowd small key =
       elim (eq-or-lt_of_le (let near : i ≤ n = omega (arith, less) in near)) [
-        | inr before ↦ found_further lives life mark at i (first i at mark y g before last user crowd small key)
+        | inr before ↦ found_more lives (kept lives life) mark at i (kept_further lives life)
+            (first i at mark y g before last user crowd small key)
         | inl e ↦
-            let both : Some y ≡ Some x = sym last.here ∙ ap (slice_get touches) e ∙ here in
-            let is : y ≡ x = cc in
-            let last_x : IsLastTouch touches at n x = subst (λ (z : Touch). IsLastTouch touches at n z) is (subst (λ (k : ℕ). IsLastTouch touches at k y) e last) in
+            let w = last_here touches at i n y last x e here in
             subst (IsFound (kept lives life) mark at) (sym e)
             (found_here lives life mark at n
-            (of at mark g last_x.adds (subst (λ (z : Touch). z.tuple.user ≡ Set g) is user) (subst (λ (z : Touch). is_crowded crowds (set_mark z.tuple.set) ≡ true) is crowd) small last_x.until
-            (up_to last_x small) (subst (λ (z : Touch). IsMark ds way z.tuple.set g at mark) is key)))
-      ]
-    where
-      up_to : IsLastTouch touches at n x → at < 2 ^ 64 → at ≤ end
-      up_to l small = elim (cases_lt end at) [
-        | inl late ↦
-            let w = ended at late small in
-            let after = l.last w.0 w.1 w.2 w.3 w.4 in
-            let by = w.5 in
-            absurd (omega (arith, after, by))
-        | inr within ↦ within
+            (of at mark g w.1.adds (subst (λ (z : Touch). z.tuple.user ≡ Set g) w.0 user)
+            (subst (λ (z : Touch). is_crowded crowds (set_mark z.tuple.set) ≡ true) w.0 crowd) small w.1.until
+            (last_within touches at n end x ended w.1 small)
+            (subst (λ (z : Touch). IsMark ds way z.tuple.set g at mark) w.0 key)))
       ]
 
   -- a touch that is not there has none
   pub holds_past : (lives : List Life) (n : ℕ) → HoldsFirst n ds way touches crowds lives → slice_get touches n ≡ None → HoldsFirst (n + 1) ds way touches crowds lives
-  holds_past lives n first none i at mark y g less last user crowd small key =
-      elim (eq-or-lt_of_le (let near : i ≤ n = omega (arith, less) in near)) [
-        | inr before ↦ first i at mark y g before last user crowd small key
-        | inl e ↦ absurd (let bad : None ≡ Some y = sym none ∙ ap (slice_get touches) (sym e) ∙ last.here in cc)
-      ]
+  holds_past lives n first none i at mark y g less last = first i at mark y g
+      (last_before touches at i n y last less none) last
 
   pub holds_all : (lives : List Life) (n : ℕ) → HoldsFirst n ds way touches crowds lives → length touches ≤ n → Holds ds way touches crowds lives
-  holds_all lives n first all i at mark x g last user crowd small key =
+  holds_all lives n first all i at mark x g last =
       let within = slice_get_within touches i x last.here in
-      first i at mark x g (omega (arith, within, all)) last user crowd small key
+      first i at mark x g (omega (arith, within, all)) last
 
   pub holds_permuted : (lives more : List Life) → IsPermutation lives more → Holds ds way touches crowds lives → Holds ds way touches crowds more
   holds_permuted lives more moved holds i at mark x g last user crowd small key =
-      let f = holds i at mark x g last user crowd small key in
-      record { life = f.life; there = Contains-permutation lives more f.life moved f.there; marked = f.marked; of = f.of; alive = f.alive }
+      found_more lives more mark at i (λ l. Contains-permutation lives more l moved)
+      (holds i at mark x g last user crowd small key)
 
 -- ---- no crowds
 

@@ -1,7 +1,8 @@
 -- Up to its end a touch is the last of its tuple.
-use Rattle.std.proofs.Common.{◌≡◌, ℕ, zero, suc, ◌-◌, ◌<◌, ◌≤◌, Bool, true, false, cond, List, [], ◌∷◌, ◌++◌, length, sym, ◌∙◌, ap, subst, Some, inl, inr, ◌⊎◌, arith}
+use Rattle.std.proofs.Common.{◌≡◌, ℕ, zero, suc, ◌+◌, ◌-◌, ◌<◌, ◌≤◌, ◌^◌, Bool, true, false, cond, List, [], ◌∷◌, ◌++◌, length, sym, ◌∙◌, ap, subst, None, Some, inl, inr, ◌⊎◌, arith}
 use Rattle.std.specs.Prelude.{slice_get, slice_set}
 use Rattle.std.proofs.Math.Nat.{eq-or-lt_of_le}
+use Rattle.std.proofs.lemmas.Bool.{cases_lt}
 use Rattle.std.proofs.lemmas.Option.{slice_get_within}
 use Rattle.tuple_text.specs.Order.{tuple_eq}
 use Rattle.tuple_text.specs.Tuples.{TupleValue}
@@ -9,7 +10,8 @@ use Rattle.tuple_text.proofs.ValueLemmas.{tuple_eq-itself, tuple_eq-same}
 use Rattle.version_chains.specs.Commits.{Touch}
 use Rattle.marks.specs.Placed.{last_place, passes}
 use Rattle.marks.proofs.PlacedLemmas.{at_last_place, last_place-here, slice_get-cases, slice_get-set}
-use Rattle.userset_index.specs.Building.{AreLastAmong, AreRising}
+use Rattle.userset_index.specs.Building.{AreLastAmong, AreRising, IsEnd}
+use Rattle.userset_index.specs.Index.{IsLastTouch}
 
 -- the last place is no earlier than any
 reaches : {X : Type 0} (p : X → Bool) (xs : List X) (n j : ℕ) (x : X) → j < n → slice_get xs j ≡ Some x → p x ≡ true → suc j ≤ last_place p xs n
@@ -28,6 +30,32 @@ reaches {X} p xs (suc n) j x less here holds = by_place (eq-or-lt_of_le (let nea
 
 one_touch : (touches : List Touch) (i j : ℕ) (x y : Touch) → slice_get touches i ≡ Some x → slice_get touches j ≡ Some y → i ≡ j → x ≡ y
 one_touch touches i j x y here there same = let both : Some x ≡ Some y = sym here ∙ ap (slice_get touches) same ∙ there in cc
+
+module _ (touches : List Touch) (at i n : ℕ) (y : Touch) (last : IsLastTouch touches at i y) where
+  -- the last touch of a tuple is that which stands at its place
+  pub last_here : (x : Touch) → i ≡ n → slice_get touches n ≡ Some x → (y ≡ x) × IsLastTouch touches at n x
+  last_here x e here =
+      let is = one_touch touches i n y x last.here here e in
+      (is, subst (IsLastTouch touches at n) is (subst (λ (k : ℕ). IsLastTouch touches at k y) e last))
+
+  -- and stands before a place at which there is none
+  pub last_before : i < n + 1 → slice_get touches n ≡ None → i < n
+  last_before less none = elim (eq-or-lt_of_le (let near : i ≤ n = omega (arith, less) in near)) [
+    | inr before ↦ before
+    | inl e ↦ absurd (let bad : None ≡ Some y = sym none ∙ ap (slice_get touches) (sym e) ∙ last.here in cc)
+  ]
+
+-- a touch that is the last of its tuple at a timestamp has not ended before
+pub last_within : (touches : List Touch) (at n end : ℕ) (x : Touch) → IsEnd touches n x end
+    → IsLastTouch touches at n x → at < 2 ^ 64 → at ≤ end
+last_within touches at n end x ended last small = elim (cases_lt end at) [
+  | inl late ↦
+      let w = ended at late small in
+      let after = last.last w.0 w.1 w.2 w.3 w.4 in
+      let by = w.5 in
+      absurd (omega (arith, after, by))
+  | inr within ↦ within
+]
 
 of_tuple : (x y z : Touch) → x.tuple ≡ y.tuple → tuple_eq y.tuple z.tuple ≡ true → tuple_eq x.tuple z.tuple ≡ true
 of_tuple x y z same is = ap (λ (t : TupleValue). tuple_eq t z.tuple) same ∙ is

@@ -2,7 +2,6 @@
 use Rattle.std.proofs.Common.{◌≡◌, ℕ, zero, suc, ◌+◌, ◌<◌, ◌≤◌, ◌^◌, ◌∷◌, [], inl, inr, List, Option, None, Some, Result, Ok, Err, length, refl, sym, ◌∙◌, ap, subst, arith}
 use Rattle.std.specs.Prelude.{Contains, slice_get, slice_set, All, IsPermutation, OnOk}
 use Rattle.std.proofs.Math.Nat.{eq-or-lt_of_le}
-use Rattle.std.proofs.lemmas.Bool.{cases_lt}
 use Rattle.std.proofs.lemmas.List.Sorted.{Contains-permutation}
 use Rattle.std.proofs.lemmas.Option.{slice_get_within}
 use Rattle.tuple_text.specs.declared.users.User.TheVariants.{Set}
@@ -10,7 +9,7 @@ use Rattle.namespaces.specs.Declaration.{Declaration}
 use Rattle.version_chains.specs.Commits.{Touch}
 use Rattle.marks.specs.Marks.{set_mark}
 use Rattle.userset_index.specs.Building.{IsEnd}
-use Rattle.userset_index.specs.Index.{HaveMoments, IsCovered, IsLastTouch}
+use Rattle.userset_index.specs.Index.{HaveMoments, IsCovered}
 use Rattle.userset_index.specs.Moments.{HoldsStays, HoldsStaysFirst, IsGiven, IsStayOf, IsStaying}
 use Rattle.userset_index.specs.Lives.{touches_alive}
 use Rattle.userset_index.specs.Numbers.{Has}
@@ -18,6 +17,7 @@ use Rattle.userset_index.specs.declared.life.Life.{Life}
 use Rattle.userset_index.specs.declared.moments.Stay.{Stay}
 use Rattle.userset_index.specs.declared.numbers.Numbers.{Numbers}
 use Rattle.userset_index.proofs.CallerLemmas.{each_found}
+use Rattle.userset_index.proofs.EndLemmas.{last_before, last_here, last_within}
 
 -- ---- slots
 
@@ -52,42 +52,27 @@ module _ (ds : List Declaration) (touches : List Touch) where
       elim (eq-or-lt_of_le (let near : i ≤ m = omega (arith, less) in near)) [
         | inr before ↦ still_staying stays more (set_mark y.tuple.set) n at kept (first i at n y g before last user small place)
         | inl e ↦
-            let both : Some y ≡ Some x = sym last.here ∙ ap (slice_get touches) e ∙ here in
-            let is : y ≡ x = cc in
-            let last_x : IsLastTouch touches at m x = subst (λ (z : Touch). IsLastTouch touches at m z) is (subst (λ (k : ℕ). IsLastTouch touches at k y) e last) in
-            let w = of n g last_x.adds (subst (λ (z : Touch). z.tuple.user ≡ Set g) is user) place in
+            let l = last_here touches at i m y last x e here in
+            let w = of n g l.1.adds (subst (λ (z : Touch). z.tuple.user ≡ Set g) l.0 user) place in
             record {
               stay = w.0;
               there = put w.0 w.1;
-              marked = w.2 ∙ ap (λ (z : Touch). set_mark z.tuple.set) (sym is);
+              marked = w.2 ∙ ap (λ (z : Touch). set_mark z.tuple.set) (sym l.0);
               of = w.3;
-              since = omega (arith, w.4, last_x.until);
-              until = omega (arith, w.5, up_to last_x small);
+              since = omega (arith, w.4, l.1.until);
+              until = let within = last_within touches at m end x ended l.1 small in omega (arith, w.5, within);
             }
-      ]
-    where
-      up_to : IsLastTouch touches at m x → at < 2 ^ 64 → at ≤ end
-      up_to l small = elim (cases_lt end at) [
-        | inl late ↦
-            let w = ended at late small in
-            let after = l.last w.0 w.1 w.2 w.3 w.4 in
-            let by = w.5 in
-            absurd (omega (arith, after, by))
-        | inr within ↦ within
       ]
 
   -- a touch that is not there has none
   pub stays_past : (stays : List Stay) (m : ℕ) → HoldsStaysFirst m ds touches stays → slice_get touches m ≡ None → HoldsStaysFirst (m + 1) ds touches stays
-  stays_past stays m first none i at n y g less last user small place =
-      elim (eq-or-lt_of_le (let near : i ≤ m = omega (arith, less) in near)) [
-        | inr before ↦ first i at n y g before last user small place
-        | inl e ↦ absurd (let bad : None ≡ Some y = sym none ∙ ap (slice_get touches) (sym e) ∙ last.here in cc)
-      ]
+  stays_past stays m first none i at n y g less last = first i at n y g
+      (last_before touches at i m y last less none) last
 
   pub stays_all : (stays : List Stay) (m : ℕ) → HoldsStaysFirst m ds touches stays → length touches ≤ m → HoldsStays ds touches stays
-  stays_all stays m first all i at n x g last user small place =
+  stays_all stays m first all i at n x g last =
       let within = slice_get_within touches i x last.here in
-      first i at n x g (omega (arith, within, all)) last user small place
+      first i at n x g (omega (arith, within, all)) last
 
   pub stays_permuted : (stays more : List Stay) → IsPermutation stays more → HoldsStays ds touches stays → HoldsStays ds touches more
   stays_permuted stays more moved holds i at n x g last user small place =

@@ -19,6 +19,7 @@ use Rattle.userset_index.specs.Lives.{is_alive}
 use Rattle.userset_index.specs.Objects.{AreNumbered, IsCoveredBy, object_at, object_of}
 use Rattle.userset_index.specs.declared.life.Life.{Life}
 use Rattle.userset_index.specs.declared.life.Way.TheVariants.{Object}
+use Rattle.userset_index.proofs.BuildLemmas.{found_more}
 
 -- ---- the timestamps of a life
 
@@ -135,36 +136,21 @@ one_object touches i j x y g here there same user =
     let w = of_object y.tuple.user g (ap (λ (p : SetValue × Option SetValue). p.1) pair ∙ ap object_of user) in
     (w.0, λ k. record { set = set k; user = w.1 k }, w.2, w.3)
 
--- ---- what is kept where there is one
-
-pub kept_further : (lives : List Life) (o : Option Life) (l : Life) → Contains lives l → Contains (kept lives o) l
-kept_further lives None l there = there
-kept_further lives (Some m) l there = Contains-append_left lives (m ∷ []) l there
-
-pub kept_here : (lives : List Life) (o : Option Life) (l : Life) → o ≡ Some l → Contains (kept lives o) l
-kept_here lives o l is = subst (λ (p : Option Life). Contains (kept lives p) l) (sym is) (Contains-push lives l)
-
 -- ---- what is found
 
--- a life of a userset of the object, by its number
-found_by : (touches : List Touch) (numbered : List Life) (at n : ℕ) (s g h : SetValue) (l : Life) (y : Touch) → IsLastTouch touches at l.touch y → is_alive at l ≡ true
-    → y.tuple ≡ tuple_of s (Set h) → h.namespace ≡ g.namespace → h.id ≡ g.id → Contains numbered (record l { mark = pair_mark (set_mark y.tuple.set) n })
-    → IsFoundThrough touches numbered (pair_mark (set_mark s) n) at s g
-found_by touches numbered at n s g h l y last alive stored one_namespace one_id there = record {
-  touch = l.touch;
+-- a userset of the object that is stored at the timestamp
+found_by : (touches : List Touch) (lives : List Life) (mark at i : ℕ) (s g h : SetValue) (y : Touch)
+    → IsLastTouch touches at i y → y.tuple ≡ tuple_of s (Set h)
+    → h.namespace ≡ g.namespace → h.id ≡ g.id → IsFound lives mark at i → IsFoundThrough touches lives mark at s g
+found_by touches lives mark at i s g h y last stored one_namespace one_id found = record {
+  touch = i;
   is = y;
   of = h;
   last = last;
   stored = stored;
   one_namespace = one_namespace;
   one_id = one_id;
-  found = record {
-    life = record l { mark = pair_mark (set_mark y.tuple.set) n };
-    there = there;
-    marked = ap (λ (t : TupleValue). pair_mark (set_mark t.set) n) stored;
-    of = refl;
-    alive = alive;
-  };
+  found = found;
 }
 
 module _ (ds : List Declaration) (touches : List Touch) (crowds : List ℕ) where
@@ -180,8 +166,14 @@ module _ (ds : List Declaration) (touches : List Touch) (crowds : List ℕ) wher
       by_touch l y there alive same last_y =
           let o = one_object touches i l.touch x y g last.here last_y.here same user in
           let number : place_of o.0.namespace (namespace_names ds) ≡ Some n = ap (λ (name : List ℕ). place_of name (namespace_names ds)) o.2 ∙ place in
-          found_by touches numbered at n x.tuple.set g o.0 l y last_y alive o.1 o.2 o.3
-          (all l y o.0 n there last_y.here (ap (λ (t : TupleValue). t.user) o.1) number)
+          found_by touches numbered (pair_mark (set_mark x.tuple.set) n) at l.touch x.tuple.set g o.0 y last_y o.1
+          o.2 o.3 (record {
+            life = record l { mark = pair_mark (set_mark y.tuple.set) n };
+            there = all l y o.0 n there last_y.here (ap (λ (t : TupleValue). t.user) o.1) number;
+            marked = ap (λ (t : TupleValue). pair_mark (set_mark t.set) n) o.1;
+            of = refl;
+            alive = alive;
+          })
 
       by_life : IsFound lives (object_mark x.tuple.set g) at i → IsFoundThrough touches numbered (pair_mark (set_mark x.tuple.set) n) at x.tuple.set g
       by_life f =
@@ -192,19 +184,5 @@ module _ (ds : List Declaration) (touches : List Touch) (crowds : List ℕ) wher
   pub through_permuted : (lives more : List Life) → IsPermutation lives more → HoldsThrough ds touches crowds lives → HoldsThrough ds touches crowds more
   through_permuted lives more moved holds i at n x g last user crowd small place =
       let f = holds i at n x g last user crowd small place in
-      record {
-        touch = f.touch;
-        is = f.is;
-        of = f.of;
-        last = f.last;
-        stored = f.stored;
-        one_namespace = f.one_namespace;
-        one_id = f.one_id;
-        found = record {
-          life = f.found.life;
-          there = Contains-permutation lives more f.found.life moved f.found.there;
-          marked = f.found.marked;
-          of = f.found.of;
-          alive = f.found.alive;
-        };
-      }
+      found_by touches more _ at f.touch x.tuple.set g f.of f.is f.last f.stored f.one_namespace f.one_id
+      (found_more lives more _ at f.touch (λ l. Contains-permutation lives more l moved) f.found)

@@ -28,13 +28,14 @@ pub returns-in_err-see_read-clause-outgrown : goal.returns-in_err-see_read-claus
 returns-in_err-see_read-clause-outgrown c = λ e.
     searching_stuck (rules_in c.args.snapshot.now) (tuples_in c.args.snapshot.now) 4194304 c.args.goal.now
     c.loop-next.seen c.loop-next.next c.loop-next.room c.loop-next.invariant.0 c.in_ok-fact.fact (there (goal.at.returns-in_err-see_read-clause-outgrown c).In_ok-fact) 131072
-    (c.in_err-see_read.ensures.stuck (search rules))
+    (c.in_err-see_read.ensures.passes.stuck (search rules))
 
 pub loop-next-preserved : goal.loop-next-preserved
 loop-next-preserved c = (
   searching_step (rules_in c.args.snapshot.now) (tuples_in c.args.snapshot.now) 4194304 c.args.goal.now
       c.loop-next.seen c.loop-next.next c.loop-next.room c.loop-next.invariant.0 c.in_ok-fact.fact (there (goal.at.loop-next-preserved c).In_ok-fact)
-      c.see_read.new.seen c.see_read.new.room c.in_ok-see_read.ensures.seen c.in_ok-see_read.ensures.links,
+      c.see_read.new.seen c.see_read.new.room c.in_ok-see_read.ensures.passes.seen
+      c.in_ok-see_read.ensures.passes.links,
   c.in_ok-see_read.ensures.rules ∙ c.loop-next.invariant.1,
 )
 

@@ -7,7 +7,7 @@ use Rattle.goal_cone.proofs.premises.see_each.Given as goal
 
 abbrev pub invariant-loop-set : goal.invariant-loop-set
 invariant-loop-set l =
-    IsUnderWay 131072 4194304 (rules_in l.snapshot) (tuples_in l.snapshot)
-    (AmongSets l.user (map set_value l.fn.sets.items))
-    (AmongSets l.user (map set_value (into_iter_items l.set-iterator)))
+    IsUnderWay 131072 4194304 (rules_in l.fact.snapshot.now) (tuples_in l.fact.snapshot.now)
+    (AmongSets l.fact.user (map set_value l.fn.sets.items))
+    (AmongSets l.fact.user (map set_value (into_iter_items l.set-iterator)))
     l.fn.seen l.seen l.fn.room l.room (length (map set_value l.fn.sets.items)) (length (map set_value (into_iter_items l.set-iterator)))

@@ -2,12 +2,10 @@ use Rattle.std.proofs.Common.{◌≡◌, ◌∙◌, ℕ, length, map, IsTrue, fa
 use Rattle.tuple_text.specs.Order.{tuple_eq}
 use Rattle.tuple_text.specs.Refs.{set_value}
 use Rattle.tuple_text.specs.Tuples.{fact_of, fact_tuple}
-use Rattle.tuple_text.proofs.ValueLemmas.{fact_eq-same}
 use Rattle.marks.specs.Marks.{tuple_mark}
 use Rattle.marks.specs.Placed.{indices_of}
-use Rattle.marks.proofs.LeftLemmas.{AreLeft, left_behind, left_none, tuples_left}
-use Rattle.marks.proofs.PlacedLemmas.{read_item}
-use Rattle.judgement.proofs.MarkedLemmas.{other_tuple, absent_fact, within_kept, tuple_at, fact_there}
+use Rattle.marks.proofs.LeftLemmas.{AreLeft, left_none, tuples_left}
+use Rattle.judgement.proofs.MarkedLemmas.{absent_fact, other_left, same_left, within_kept}
 use Rattle.judgement.proofs.facts.is_found.Goals as goal
 
 pub loop-index-init : goal.loop-index-init
@@ -21,35 +19,23 @@ loop-index-init g c =
 
 pub bounds-facts-index : goal.bounds-facts-index
 bounds-facts-index g c =
-    let tuple = fact_tuple (fact_of (set_value c.args.set.set) c.args.user) in
-    let view = g.F.KnownFact.fact in
-    let left = subst (AreLeft (λ t. tuple_eq t tuple) (map fact_tuple (map view c.args.facts.now))) c.in-Some.ensures.steps c.loop-index.invariant in
-    within_kept view c.args.facts.now c.in-Some.index left.within.0
+    let left = rw c.in-Some.ensures.steps at c.loop-index.invariant in
+    within_kept g.F.KnownFact.fact c.args.facts.now c.in-Some.index left.within.0
 
 pub loop-index-preserved : goal.loop-index-preserved
 loop-index-preserved g c =
-    let fact = fact_of (set_value c.args.set.set) c.args.user in
-    let view = g.F.KnownFact.fact in
-    let kept = c.args.facts.now in
-    let left = subst (AreLeft (λ t. tuple_eq t (fact_tuple fact)) (map fact_tuple (map view kept))) c.in-Some.ensures.steps c.loop-index.invariant in
-    let within = within_kept view kept c.in-Some.index left.within.0 in
-    let here = read_item kept kept c.in-Some.index c.index-facts-index.result (λ i. kept) within c.index-facts-index.is in
-    let found = view c.index-facts-index.result in
-    left_behind (λ t. tuple_eq t (fact_tuple fact)) (map fact_tuple (map view kept)) c.in-Some.index _ (fact_tuple found)
-    (tuple_at view kept c.in-Some.index c.index-facts-index.result here)
-    (other_tuple fact found (sym c.is_of_marked.ensures ∙ c.if-is_of_marked.false)) left
+    other_left g.F.KnownFact.fact c.args.facts.now c.in-Some.index
+    (fact_of (set_value c.args.set.set) c.args.user) c.next.new.self
+    c.index-facts-index.result (rw c.in-Some.ensures.steps at c.loop-index.invariant) c.index-facts-index.is
+    (sym c.is_of_marked.ensures ∙ c.if-is_of_marked.false)
 
 pub returns-then-is_of_marked : goal.returns-then-is_of_marked
 returns-then-is_of_marked g c =
-    let fact = fact_of (set_value c.args.set.set) c.args.user in
-    let view = g.F.KnownFact.fact in
-    let kept = c.args.facts.now in
-    let left = subst (AreLeft (λ t. tuple_eq t (fact_tuple fact)) (map fact_tuple (map view kept))) c.in-Some.ensures.steps c.loop-index.invariant in
-    let within = within_kept view kept c.in-Some.index left.within.0 in
-    let here = read_item kept kept c.in-Some.index c.index-facts-index.result (λ i. kept) within c.index-facts-index.is in
-    let found = view c.index-facts-index.result in
-    let same = fact_eq-same fact found (sym c.is_of_marked.ensures ∙ c.if-is_of_marked.true) in
-    (λ _. fact_there view kept c.in-Some.index c.index-facts-index.result fact here same, λ _. refl)
+    let there = same_left g.F.KnownFact.fact c.args.facts.now c.in-Some.index
+    (fact_of (set_value c.args.set.set) c.args.user) c.next.new.self
+    c.index-facts-index.result (rw c.in-Some.ensures.steps at c.loop-index.invariant) c.index-facts-index.is
+    (sym c.is_of_marked.ensures ∙ c.if-is_of_marked.true) in
+    (λ _. there, λ _. refl)
 
 pub returns : goal.returns
 returns g c =

@@ -1,69 +1,20 @@
-use Rattle.std.proofs.Common.{rules, ◌≡◌, ◌∙◌, arith, false, inl, inr, sym, true}
-use Rattle.std.proofs.lemmas.Grind.{common_steps}
-use Rattle.rewrites.specs.Expression.{inter, minus, union}
-use Rattle.rewrites.specs.View.{expression_of, expressions_of}
+use Rattle.std.proofs.Common.{rules, ◌≡◌, ◌∙◌, false, inl, inr, sym, true}
+use Rattle.rewrites.specs.Expression.{minus}
+use Rattle.rewrites.specs.View.{expression_of}
 use Rattle.rewrites.specs.declared.rewrite.Rewrite.{the_lemmas}
 use Rattle.judgement.proofs.table.+judge.Goals as goal
 
-pub established-loop-child-preserved : goal.established-loop-child-preserved
-established-loop-child-preserved g t c = grind (arith, common_steps)
-
-pub established-returns-then-established : goal.established-returns-then-established
-established-returns-then-established g t c = grind (arith, common_steps)
-
-pub established-returns-after-loop-child : goal.established-returns-after-loop-child
-established-returns-after-loop-child g t c = grind (arith, common_steps)
-
-pub established-loop-child-2-preserved : goal.established-loop-child-2-preserved
-established-loop-child-2-preserved g t c = grind (arith, common_steps)
-
-pub established-returns-then-not-established : goal.established-returns-then-not-established
-established-returns-then-not-established g t c = grind (arith, common_steps)
-
-pub established-returns-after-loop-child-2 : goal.established-returns-after-loop-child-2
-established-returns-after-loop-child-2 g t c = grind (arith, common_steps)
-
-pub refuted-loop-child-preserved : goal.refuted-loop-child-preserved
-refuted-loop-child-preserved g t c = grind (arith, common_steps)
-
-pub refuted-returns-then-not-refuted : goal.refuted-returns-then-not-refuted
-refuted-returns-then-not-refuted g t c = grind (arith, common_steps)
-
-pub refuted-returns-after-loop-child : goal.refuted-returns-after-loop-child
-refuted-returns-after-loop-child g t c = grind (arith, common_steps)
-
-pub refuted-loop-child-2-preserved : goal.refuted-loop-child-2-preserved
-refuted-loop-child-2-preserved g t c = grind (arith, common_steps)
-
-pub refuted-returns-then-refuted : goal.refuted-returns-then-refuted
-refuted-returns-then-refuted g t c = grind (arith, common_steps)
-
-pub refuted-returns-after-loop-child-2 : goal.refuted-returns-after-loop-child-2
-refuted-returns-after-loop-child-2 g t c = grind (arith, common_steps)
-
 pub established-loop-child-init : goal.established-loop-child-init
-established-loop-child-init g t c =
-    let e : expression_of c.args.rewrite.now ≡ union (expressions_of c.in-Union.children.items) =
-    rw c.in-Union.is (search (rules, the_lemmas)) in
-    rw (e, c.deref-child-items.ensures.value) (λ h. h, λ h. h)
+established-loop-child-init g t c = rw c.in-Union.is (search (rules, the_lemmas))
 
 pub established-loop-child-2-init : goal.established-loop-child-2-init
-established-loop-child-2-init g t c =
-    let e : expression_of c.args.rewrite.now ≡ inter (expressions_of c.in-Inter.children.items) =
-    rw c.in-Inter.is (search (rules, the_lemmas)) in
-    rw (e, c.deref-child-items-in-Inter.ensures.value) (λ h. h, λ h. h)
+established-loop-child-2-init g t c = rw c.in-Inter.is (search (rules, the_lemmas))
 
 pub refuted-loop-child-init : goal.refuted-loop-child-init
-refuted-loop-child-init g t c =
-    let e : expression_of c.args.rewrite.now ≡ union (expressions_of c.in-Union.children.items) =
-    rw c.in-Union.is (search (rules, the_lemmas)) in
-    rw (e, c.deref-child-items.ensures.value) (λ h. h, λ h. h)
+refuted-loop-child-init g t c = rw c.in-Union.is (search (rules, the_lemmas))
 
 pub refuted-loop-child-2-init : goal.refuted-loop-child-2-init
-refuted-loop-child-2-init g t c =
-    let e : expression_of c.args.rewrite.now ≡ inter (expressions_of c.in-Inter.children.items) =
-    rw c.in-Inter.is (search (rules, the_lemmas)) in
-    rw (e, c.deref-child-items-in-Inter.ensures.value) (λ h. h, λ h. h)
+refuted-loop-child-2-init g t c = rw c.in-Inter.is (search (rules, the_lemmas))
 
 pub refuted-returns-then-refuted-2 : goal.refuted-returns-then-refuted-2
 refuted-returns-then-refuted-2 g t c =

@@ -1,5 +1,4 @@
-use Rattle.std.proofs.Common.{rules, ◌≡◌, ◌∷◌, ◌+◌, ◌++◌, [], map, drop, add-one, refl, ap}
-use Rattle.std.proofs.Math.Seq.{drop-cons}
+use Rattle.std.proofs.Common.{rules, ◌≡◌, ◌++◌, [], map, drop, ap}
 use Rattle.std.proofs.lemmas.List.{append-nil, drop_all}
 use Rattle.std.proofs.lemmas.Result.{IfOk-weaker}
 use Rattle.rewrites.specs.Expression.{minus}
@@ -11,22 +10,21 @@ use Rattle.rewrites.specs.declared.rewrite.Rewrite.{the_lemmas}
 use Rattle.rewrites.specs.declared.parts.Node
 use Rattle.rewrites.specs.declared.parts.Node.{Node}
 use Rattle.rewrites.proofs.AlikeLemmas.{alike_then}
-use Rattle.rewrites.proofs.PartLemmas.{grown_then, later, union_shown, inter_shown, inter_step, union_put, union_step, says_joined, says_minus}
+use Rattle.rewrites.proofs.PartLemmas.{grown_then, later, left_shown, union_shown, inter_shown, inter_step, union_put, union_step, says_joined, says_minus}
 use Rattle.rewrites.proofs.parts.+node.Goals as goal
 
 pub inter_of-loop-child-preserved : goal.inter_of-loop-child-preserved
 inter_of-loop-child-preserved t c =
     let es = c.deref-child-items.result.now in
-    let i = c.loop-child.child-index in
     let child = c.child-item.result in
-    let start = parts_shown c.args.numbering.now.parts.items in
     let old = parts_shown c.loop-child.numbering.parts.items in
     let new = parts_shown c.node_of.new.numbering.parts.items in
-    let rest = map expression_of (drop (i + 1) es) in
-    let left : map expression_of (drop i es) ≡ expression_of child ∷ rest = rw (drop-cons es i child c.loop-child-test.true, add-one, ← c.child-item.is) refl in (
-      grown_then start old new c.loop-child.invariant.0 c.in_ok-node_of.ensures.grown,
+    let left = left_shown es c.loop-child.child-index child c.loop-child-test.true c.child-item.is in (
+      grown_then (parts_shown c.args.numbering.now.parts.items) old new c.loop-child.invariant.0
+          c.in_ok-node_of.ensures.grown,
       rw c.in_ok-push.ensures.items
-          (inter_step old new c.loop-child.nodes.items c.in_ok-node_of.field-0 (expression_of child) rest (map expression_of es) c.in_ok-node_of.ensures
+          (inter_step old new c.loop-child.nodes.items c.in_ok-node_of.field-0 (expression_of child) _
+          (map expression_of es) c.in_ok-node_of.ensures
           (rw left at c.loop-child.invariant.1)),
     )
 
@@ -59,19 +57,17 @@ union_of-returns t c =
 
 pub node_of-returns-in_ok-union_of-in-Union : goal.node_of-returns-in_ok-union_of-in-Union
 node_of-returns-in_ok-union_of-in-Union t c =
-    let es = map expression_of c.in-Union.children.items in
-    let is : expression_of c.args.rewrite.now ≡ joined Joint.Union es = rw c.in-Union.is (search (rules, the_lemmas)) in
-    let ns = c.in_ok-union_of-in-Union.field-0 in
-    says_joined Joint.Union (parts_shown c.args.numbering.now.parts.items) (parts_shown c.union_of.new.numbering.parts.items) ns.items (Node.Union ns)
-    (expression_of c.args.rewrite.now) es (λ parts. union_shown parts ns) is c.in_ok-union_of-in-Union.ensures
+    let is : expression_of c.args.rewrite.now ≡ joined Joint.Union
+    (map expression_of c.in-Union.children.items) = rw c.in-Union.is (search (rules, the_lemmas)) in
+    says_joined Joint.Union _ _ _ (Node.Union c.in_ok-union_of-in-Union.field-0) _ _
+    (λ parts. union_shown parts c.in_ok-union_of-in-Union.field-0) is c.in_ok-union_of-in-Union.ensures
 
 pub node_of-returns-in_ok-inter_of-in-Inter : goal.node_of-returns-in_ok-inter_of-in-Inter
 node_of-returns-in_ok-inter_of-in-Inter t c =
-    let es = map expression_of c.in-Inter.children.items in
-    let is : expression_of c.args.rewrite.now ≡ joined Joint.Inter es = rw c.in-Inter.is (search (rules, the_lemmas)) in
-    let ns = c.in_ok-inter_of-in-Inter.field-0 in
-    says_joined Joint.Inter (parts_shown c.args.numbering.now.parts.items) (parts_shown c.inter_of.new.numbering.parts.items) ns.items (Node.Inter ns)
-    (expression_of c.args.rewrite.now) es (λ parts. inter_shown parts ns) is c.in_ok-inter_of-in-Inter.ensures
+    let is : expression_of c.args.rewrite.now ≡ joined Joint.Inter
+    (map expression_of c.in-Inter.children.items) = rw c.in-Inter.is (search (rules, the_lemmas)) in
+    says_joined Joint.Inter _ _ _ (Node.Inter c.in_ok-inter_of-in-Inter.field-0) _ _
+    (λ parts. inter_shown parts c.in_ok-inter_of-in-Inter.field-0) is c.in_ok-inter_of-in-Inter.ensures
 
 pub node_of-returns-in_ok-subtract-in-Minus : goal.node_of-returns-in_ok-subtract-in-Minus
 node_of-returns-in_ok-subtract-in-Minus t c =
@@ -87,28 +83,26 @@ node_of-returns-in_ok-subtract-in-Minus t c =
 pub union_of-loop-child-preserved-then-branch : goal.union_of-loop-child-preserved-then-branch
 union_of-loop-child-preserved-then-branch t c =
     let es = c.deref-child-items.result.now in
-    let i = c.loop-child.child-index in
     let child = c.child-item.result in
-    let rest = map expression_of (drop (i + 1) es) in
-    let left : map expression_of (drop i es) ≡ expression_of child ∷ rest = rw (drop-cons es i child c.loop-child-test.true, add-one, ← c.child-item.is) refl in (
+    let left = left_shown es c.loop-child.child-index child c.loop-child-test.true c.child-item.is in (
       c.loop-child.invariant.0,
       λ more. union_put (nodes_shown (parts_shown c.loop-child.numbering.parts.items ++ more) c.loop-child.nodes.items)
-          (throughs_shown c.loop-child.throughs.each.items) (throughs_shown c.put_through.new.throughs.each.items) rest (map expression_of es)
+          (throughs_shown c.loop-child.throughs.each.items) (throughs_shown c.put_through.new.throughs.each.items) _
+          (map expression_of es)
           (expression_of child) (c.in_ok-put_through.ensures.put c.if-branch.true) (rw left at (c.loop-child.invariant.1 more)),
     )
 
 pub union_of-loop-child-preserved : goal.union_of-loop-child-preserved
 union_of-loop-child-preserved t c =
     let es = c.deref-child-items.result.now in
-    let i = c.loop-child.child-index in
     let child = c.child-item.result in
-    let start = parts_shown c.args.numbering.now.parts.items in
     let old = parts_shown c.loop-child.numbering.parts.items in
     let new = parts_shown c.node_of.new.numbering.parts.items in
-    let rest = map expression_of (drop (i + 1) es) in
-    let left : map expression_of (drop i es) ≡ expression_of child ∷ rest = rw (drop-cons es i child c.loop-child-test.true, add-one, ← c.child-item.is) refl in (
-      grown_then start old new c.loop-child.invariant.0 c.in_ok-node_of.ensures.grown,
+    let left = left_shown es c.loop-child.child-index child c.loop-child-test.true c.child-item.is in (
+      grown_then (parts_shown c.args.numbering.now.parts.items) old new c.loop-child.invariant.0
+          c.in_ok-node_of.ensures.grown,
       rw (c.in_ok-push.ensures.items, c.in_ok-put_through.ensures.same c.if-branch.false)
-          (union_step old new c.loop-child.nodes.items c.loop-child.throughs.each.items c.in_ok-node_of.field-0 (expression_of child) rest (map expression_of es)
+          (union_step old new c.loop-child.nodes.items c.loop-child.throughs.each.items c.in_ok-node_of.field-0
+          (expression_of child) _ (map expression_of es)
           c.in_ok-node_of.ensures (rw left at c.loop-child.invariant.1)),
     )

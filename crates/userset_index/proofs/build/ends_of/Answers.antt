@@ -9,8 +9,19 @@ use Rattle.marks.proofs.PlacedLemmas.{last_place-within, length-more, length-set
 use Rattle.userset_index.specs.Building.{AreLastAmong, HaveEnds}
 use Rattle.userset_index.proofs.BuildLemmas.{ends_more, ends_set}
 use Rattle.userset_index.proofs.EndLemmas.{last_alone, last_more, last_set}
-use Rattle.userset_index.proofs.build.ends_of.Goals.{then-touch-gt0, else-touch-gt0}
+use Rattle.userset_index.proofs.build.ends_of.Goals.{After-push, then-touch-gt0, else-touch-gt0}
 use Rattle.userset_index.proofs.build.ends_of.Goals as goal
+
+-- no end is lost where one is set
+kept_long : (c : After-push) → length c.if-touch-gt0.ends.items ≡ length c.loop-touch.ends.items
+kept_long c = elim c.if-touch-gt0.branch [
+  | then-touch-gt0 w ↦
+      let ends = c.loop-touch.ends.items in
+      let set : c.if-touch-gt0.ends.items ≡ slice_set ends
+      (c.in-Some.touch.older - 1) w.saturating_sub.result = search rules in
+      ap length set ∙ length-set ends (c.in-Some.touch.older - 1) w.saturating_sub.result
+  | else-touch-gt0 w ↦ let same : c.if-touch-gt0.ends.items ≡ c.loop-touch.ends.items = search rules in ap length same
+]
 
 pub index_mut-requires : goal.index_mut-requires
 index_mut-requires c =
@@ -42,12 +53,7 @@ loop-touch-preserved c =
           let same : c.if-touch-gt0.ends.items ≡ ends = search rules in
           subst (HaveEnds touches) (sym same) c.loop-touch.invariant.each
     ] in
-    let long : length c.if-touch-gt0.ends.items ≡ length ends = elim c.if-touch-gt0.branch [
-      | then-touch-gt0 w ↦
-          let set : c.if-touch-gt0.ends.items ≡ slice_set ends (c.in-Some.touch.older - 1) w.saturating_sub.result = search rules in
-          ap length set ∙ length-set ends (c.in-Some.touch.older - 1) w.saturating_sub.result
-      | else-touch-gt0 w ↦ let same : c.if-touch-gt0.ends.items ≡ ends = search rules in ap length same
-    ] in
+    let long = kept_long (goal.at.loop-touch-preserved c).After-push in
     let last : AreLastAmong (suc (length ends)) touches c.if-touch-gt0.ends.items = elim c.if-touch-gt0.branch [
       | then-touch-gt0 w ↦
           let some = w.if-touch-gt0.true in
@@ -80,12 +86,7 @@ loop-touch-smaller c =
     let len : c.len.result ≡ length ends = search rules in
     let now : slice_get touches (length ends) ≡ Some (touch_value c.in-Some.touch) = search rules in
     let pushed : c.push.new.self.items ≡ c.if-touch-gt0.ends.items ++ 18446744073709551615 ∷ [] = search rules in
-    let long : length c.if-touch-gt0.ends.items ≡ length ends = elim c.if-touch-gt0.branch [
-      | then-touch-gt0 w ↦
-          let set : c.if-touch-gt0.ends.items ≡ slice_set ends (c.in-Some.touch.older - 1) w.saturating_sub.result = search rules in
-          ap length set ∙ length-set ends (c.in-Some.touch.older - 1) w.saturating_sub.result
-      | else-touch-gt0 w ↦ let same : c.if-touch-gt0.ends.items ≡ ends = search rules in ap length same
-    ] in
+    let long = kept_long (goal.at.loop-touch-smaller c).After-push in
     let less = slice_get_within touches (length ends) (touch_value c.in-Some.touch) now in
     let more : length c.push.new.self.items ≡ suc (length ends) = ap length pushed ∙ length-more c.if-touch-gt0.ends.items 18446744073709551615 ∙ ap suc long in
     omega (arith, more, less)

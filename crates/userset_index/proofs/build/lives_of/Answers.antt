@@ -1,5 +1,5 @@
 use Rattle.std.proofs.lemmas.Option.{MatchOption-at_some, slice_get_within}
-use Rattle.std.proofs.Common.{[], ◌≡◌, ℕ, ◌<◌, ◌+◌, ◌∙◌, List, Option, None, Some, ap, subst, sym, arith, rules}
+use Rattle.std.proofs.Common.{◌≡◌, ℕ, ◌<◌, ◌+◌, ◌∙◌, List, Option, None, Some, ap, subst, sym, arith, rules}
 use Rattle.std.specs.Prelude.{IfSome, slice_get, option_map}
 use Rattle.version_chains.specs.Commits.{Touch, changelog}
 use Rattle.version_chains.specs.Touches.{touch_value}
@@ -14,9 +14,7 @@ use Rattle.userset_index.proofs.build.lives_of.Goals.{in-Some+in_ok-keep, in_def
 use Rattle.userset_index.proofs.build.lives_of.Goals as goal
 
 pub loop-index-init : goal.loop-index-init
-loop-index-init c =
-    let none : c.new-lives.result.items ≡ [] = search rules in
-    record { holds = search rules; timely = search rules; once = subst (AreOfFirst 0) (sym none) of_first_none }
+loop-index-init c = search (rules, of_first_none)
 
 pub loop-index-preserved : goal.loop-index-preserved
 loop-index-preserved c =

@@ -9,18 +9,18 @@ use Rattle.userset_index.specs.Building.{AreMadeOf}
 use Rattle.userset_index.specs.Index.{AreTimely, IsTimely}
 use Rattle.userset_index.specs.Objects.{IsNumbered, IsSameLife}
 use Rattle.userset_index.specs.declared.life.Life.{Life}
+use Rattle.userset_index.proofs.BuildLemmas.{kept_further, kept_here}
 use Rattle.userset_index.proofs.ExactLemmas.{made_of_next, made_of_none}
-use Rattle.userset_index.proofs.ObjectLemmas.{kept_further, kept_here, timely_kept, timely_shorter}
+use Rattle.userset_index.proofs.ObjectLemmas.{timely_kept, timely_shorter}
 use Rattle.userset_index.proofs.objects.all_numbered.Goals as goal
 
 pub loop-life-init : goal.loop-life-init
-loop-life-init c =
-    let none : c.in_ok-all.all.items ≡ [] = search rules in
-    record {
-      there = search rules;
-      timely = search rules;
-      once = λ _. subst (AreMadeOf c.args.lives.now 0) (sym none) (made_of_none c.args.lives.now);
-    }
+loop-life-init c = record {
+  there = search rules;
+  timely = search rules;
+  once = λ _. let none : c.in_ok-all.all.items
+      ≡ [] = search rules in rw none (made_of_none _);
+}
 
 pub loop-life-preserved : goal.loop-life-preserved
 loop-life-preserved c =

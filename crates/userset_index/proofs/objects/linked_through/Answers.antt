@@ -1,23 +1,16 @@
-use Rattle.std.proofs.Common.{subst, sym, rules}
-use Rattle.std.specs.Prelude.{IsPermutation}
+use Rattle.std.proofs.Common.{rules}
 use Rattle.std.proofs.lemmas.Result.{IfOk-weaker}
 use Rattle.version_chains.specs.Commits.{changelog}
-use Rattle.userset_index.specs.Index.{AreExact, HoldsThrough}
 use Rattle.userset_index.proofs.ExactLemmas.{exact_permuted}
 use Rattle.userset_index.proofs.ObjectLemmas.{through_permuted}
 use Rattle.userset_index.proofs.objects.linked_through.Goals as goal
 
-pub returns : goal.returns
-returns c =
-    let ds = c.args.rules.now in
-    let touches = changelog c.args.chains.now.commits in
-    let crowds = c.args.crowds.now in
-    let lives = c.in_ok-lives.lives.items in
-    let sorted = c.deref.result.now in
-    let moved : IsPermutation lives sorted = search rules in
-    let holds = through_permuted ds touches crowds lives sorted moved c.in_ok-lives.ensures.holds in
-    let exact = exact_permuted touches lives sorted moved c.in_ok-lives.ensures.exact in
-    record {
-      holds = IfOk-weaker c.of.result _ _ (λ spans is. subst (HoldsThrough ds touches crowds) (sym is) holds) c.of.ensures;
-      exact = IfOk-weaker c.of.result _ _ (λ spans is. subst (AreExact touches) (sym is) exact) c.of.ensures;
-    }
+pub returns-clause-holds : goal.returns-clause-holds
+returns-clause-holds c = IfOk-weaker c.of.result _ _
+    (λ spans is. rw is (through_permuted c.args.rules.now (changelog c.args.chains.now.commits) c.args.crowds.now
+    c.in_ok-lives.lives.items _ (search rules) c.in_ok-lives.ensures.holds)) c.of.ensures
+
+pub returns-clause-exact : goal.returns-clause-exact
+returns-clause-exact c = IfOk-weaker c.of.result _ _
+    (λ spans is. rw is (exact_permuted (changelog c.args.chains.now.commits)
+    c.in_ok-lives.lives.items _ (search rules) c.in_ok-lives.ensures.exact)) c.of.ensures

@@ -15,18 +15,18 @@ pub returns : goal.returns
 returns c =
     let ds = c.args.rules.now in
     let touches = changelog c.args.chains.now.commits in
-    let crowds = c.args.crowds.now in
-    let lives = c.in_ok-lives.lives.items in
-    let sorted = c.deref.result.now in
-    let moved : IsPermutation lives sorted = search rules in
-    let kept = c.in_ok-kept.kept.items in
-    let read : c.deref-2.result.now ≡ kept = search rules in
-    let exact = c.in_ok-kept.ensures.exact (exact_permuted touches lives sorted moved c.in_ok-lives.ensures.exact) in
+    let moved : IsPermutation c.in_ok-lives.lives.items c.deref.result.now = search rules in
+    let read : c.deref-2.result.now ≡ c.in_ok-kept.kept.items = search rules in
+    let holds = holds_permuted ds Object touches c.args.crowds.now _ _ moved c.in_ok-lives.ensures.holds in
+    let exact = c.in_ok-kept.ensures.exact (exact_permuted touches _ _ moved c.in_ok-lives.ensures.exact) in
     record {
       holds = IfOk-weaker c.all_numbered.result _ _
-          (λ numbered all.
-          through_by_objects ds touches crowds sorted kept numbered.items (holds_permuted ds Object touches crowds lives sorted moved c.in_ok-lives.ensures.holds) c.in_ok-kept.ensures.covers
-          exact.timely (subst (λ (ls : List Life). AreNumbered ds touches ls numbered.items) read all)) c.all_numbered.ensures.numbered;
+          (λ numbered all. through_by_objects ds touches c.args.crowds.now _ _ numbered.items holds
+          c.in_ok-kept.ensures.covers exact.timely
+          (subst (λ (ls : List Life). AreNumbered ds touches ls numbered.items) read all))
+          c.all_numbered.ensures.numbered;
       exact = IfOk-weaker c.all_numbered.result _ _
-          (λ numbered all. subst (λ (ls : List Life). AreExact touches ls → AreExact touches numbered.items) read all exact) c.all_numbered.ensures.exact;
+          (λ numbered all. subst (λ (ls : List Life). AreExact touches ls → AreExact touches numbered.items) read all
+          exact)
+          c.all_numbered.ensures.exact;
     }

@@ -14,12 +14,7 @@ use Rattle.userset_index.proofs.objects.thinned.Goals as goal
 pub loop-life-init : goal.loop-life-init
 loop-life-init c =
     let none : c.new.result.items ≡ [] = search rules in
-    record {
-      covers = search rules;
-      cover = search rules;
-      timely = search rules;
-      once = λ _. subst (AreMadeOf c.args.lives.now 0) (sym none) (made_of_none c.args.lives.now);
-    }
+    record { covers = search rules; cover = search rules; timely = search rules; once = λ _. rw none (made_of_none _) }
 
 pub loop-life-preserved : goal.loop-life-preserved
 loop-life-preserved c =

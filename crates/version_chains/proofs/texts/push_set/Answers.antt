@@ -28,25 +28,25 @@ returns-in_err-push_str-3-clause-goes_on c =
     let two = with_part _ _ c.args.set.id.now c.in_ok-push_str-2.ensures.bytes (IsUtf8-had _ c.push_str.new.self.ok) (IsUtf8-had _ c.push_str-2.new.self.ok) in
     goes_on-further _ _ _ one (goes_on-further _ _ _ two (goes_on-nowhere _ _ c.in_err-push_str-3.ensures.bytes))
 
-pub returns-clause-goes_on : goal.returns-clause-goes_on
-returns-clause-goes_on c =
-    let one = with_part _ _ c.args.set.namespace.now c.in_ok-push_str.ensures.bytes (IsUtf8-had _ c.args.text.now.ok) (IsUtf8-had _ c.push_str.new.self.ok) in
-    let two = with_part _ _ c.args.set.id.now c.in_ok-push_str-2.ensures.bytes (IsUtf8-had _ c.push_str.new.self.ok) (IsUtf8-had _ c.push_str-2.new.self.ok) in
-    let three = with_part _ _ c.args.set.relation.now c.in_ok-push_str-3.ensures.bytes (IsUtf8-had _ c.push_str-2.new.self.ok) (IsUtf8-had _ c.push_str-3.new.self.ok) in
-    goes_on-further _ _ _ one (goes_on-further _ _ _ two three)
-
-pub returns-clause-span : goal.returns-clause-span
-returns-clause-span c =
-    let whole = joined _ _ _ _ c.args.set.namespace.now c.args.set.id.now c.args.set.relation.now c.in_ok-push_str.ensures.bytes c.in_ok-push_str-2.ensures.bytes c.in_ok-push_str-3.ensures.bytes in
-    let un = utf8-behind _ _ c.args.set.namespace.now c.in_ok-push_str.ensures.bytes (IsUtf8-had _ c.args.text.now.ok) (IsUtf8-had _ c.push_str.new.self.ok) in
-    let ui = utf8-behind _ _ c.args.set.id.now c.in_ok-push_str-2.ensures.bytes (IsUtf8-had _ c.push_str.new.self.ok) (IsUtf8-had _ c.push_str-2.new.self.ok) in
-    let ur = utf8-behind _ _ c.args.set.relation.now c.in_ok-push_str-3.ensures.bytes (IsUtf8-had _ c.push_str-2.new.self.ok) (IsUtf8-had _ c.push_str-3.new.self.ok) in
-    span-pushed (string_bytes c.args.text.now) c.args.set.namespace.now c.args.set.id.now c.args.set.relation.now (string_bytes c.push_str-3.new.self) whole un ui ur _ (search rules) refl refl refl
-
-pub returns-clause-set : goal.returns-clause-set
-returns-clause-set c =
-    let whole = joined _ _ _ _ c.args.set.namespace.now c.args.set.id.now c.args.set.relation.now c.in_ok-push_str.ensures.bytes c.in_ok-push_str-2.ensures.bytes c.in_ok-push_str-3.ensures.bytes in
-    let un = utf8-behind _ _ c.args.set.namespace.now c.in_ok-push_str.ensures.bytes (IsUtf8-had _ c.args.text.now.ok) (IsUtf8-had _ c.push_str.new.self.ok) in
-    let ui = utf8-behind _ _ c.args.set.id.now c.in_ok-push_str-2.ensures.bytes (IsUtf8-had _ c.push_str.new.self.ok) (IsUtf8-had _ c.push_str-2.new.self.ok) in
-    let ur = utf8-behind _ _ c.args.set.relation.now c.in_ok-push_str-3.ensures.bytes (IsUtf8-had _ c.push_str-2.new.self.ok) (IsUtf8-had _ c.push_str-3.new.self.ok) in
-    set-pushed (string_bytes c.args.text.now) c.args.set.namespace.now c.args.set.id.now c.args.set.relation.now (string_bytes c.push_str-3.new.self) whole un ui ur _ (search rules) refl refl refl
+pub returns : goal.returns
+returns c =
+    let set = c.args.set in
+    let old = string_bytes c.args.text.now in
+    let new = string_bytes c.push_str-3.new.self in
+    let un = utf8-behind _ _ set.namespace.now c.in_ok-push_str.ensures.bytes (IsUtf8-had _ c.args.text.now.ok)
+    (IsUtf8-had _ c.push_str.new.self.ok) in
+    let ui = utf8-behind _ _ set.id.now c.in_ok-push_str-2.ensures.bytes (IsUtf8-had _ c.push_str.new.self.ok)
+    (IsUtf8-had _ c.push_str-2.new.self.ok) in
+    let ur = utf8-behind _ _ set.relation.now c.in_ok-push_str-3.ensures.bytes
+    (IsUtf8-had _ c.push_str-2.new.self.ok) (IsUtf8-had _ c.push_str-3.new.self.ok) in
+    let whole = joined _ _ _ _ set.namespace.now set.id.now set.relation.now c.in_ok-push_str.ensures.bytes
+    c.in_ok-push_str-2.ensures.bytes c.in_ok-push_str-3.ensures.bytes in
+    record {
+      goes_on = goes_on-further _ _ _ (goes_on-by _ _ set.namespace.now c.in_ok-push_str.ensures.bytes un)
+          (goes_on-further _ _ _ (goes_on-by _ _ set.id.now c.in_ok-push_str-2.ensures.bytes ui)
+          (goes_on-by _ _ set.relation.now c.in_ok-push_str-3.ensures.bytes ur));
+      span = span-pushed old set.namespace.now set.id.now set.relation.now new whole un ui ur _
+          (search rules) refl refl refl;
+      set = set-pushed old set.namespace.now set.id.now set.relation.now new whole un ui ur _
+          (search rules) refl refl refl;
+    }

@@ -3,27 +3,37 @@ use Rattle.tuple_text.specs.Refs.{set_value}
 use Rattle.version_chains.specs.Given.{has_mark_of, users_before}
 use Rattle.marks.specs.Placed.{IsLinkedPlace}
 use Rattle.version_chains.proofs.UserLemmas.{users_on, users_give, users_skip, users_smaller, user_at}
+use Rattle.version_chains.proofs.users.OfKindIterator.next.Goals.{After-sibling-self-inside}
 use Rattle.version_chains.proofs.users.OfKindIterator.next.Goals as goal
+
+next : (c : After-sibling-self-inside) → c.loop-self.self-inside.place ≡ suc (c.loop-self.self-inside.place - 1)
+next c = let some = c.loop-self-test.true in omega (arith, some)
+
+-- the walk stands at a tuple of the set
+on : (c : After-sibling-self-inside) → let it = c.loop-self.self-inside in
+    IsLinkedPlace (has_mark_of (set_value it.set) it.usersets) it.arena.now.tuples (suc (it.place - 1))
+on c =
+    let it = c.loop-self.self-inside in
+    subst (IsLinkedPlace (has_mark_of (set_value it.set) it.usersets) it.arena.now.tuples)
+    (next c) c.loop-self.invariant.on
 
 pub invariant_of-self-in-Some : goal.invariant_of-self-in-Some
 invariant_of-self-in-Some c =
-    let some = c.loop-self-test.true in
     let it = c.loop-self.self-inside in
-    let next : it.place ≡ suc (it.place - 1) = omega (arith, some) in
-    let on = subst (IsLinkedPlace (has_mark_of (set_value it.set) it.usersets) it.arena.now.tuples) next c.loop-self.invariant.on in
-    users_on (set_value it.set) it.usersets it.at it.arena.now (it.place - 1) on c.sibling-self-inside.result c.sibling-self-inside.ensures
+    users_on (set_value it.set) it.usersets it.at it.arena.now (it.place - 1)
+    (on (goal.at.invariant_of-self-in-Some c).After-sibling-self-inside)
+    c.sibling-self-inside.result c.sibling-self-inside.ensures
 
 pub returns-in-Some-clause-steps : goal.returns-in-Some-clause-steps
 returns-in-Some-clause-steps c =
-    let some = c.loop-self-test.true in
     let it = c.loop-self.self-inside in
-    let next : it.place ≡ suc (it.place - 1) = omega (arith, some) in
-    let on = subst (IsLinkedPlace (has_mark_of (set_value it.set) it.usersets) it.arena.now.tuples) next c.loop-self.invariant.on in
-    let t = user_at (set_value it.set) it.usersets it.at it.arena.now (it.place - 1) on in
+    let at = (goal.at.returns-in-Some-clause-steps c).After-sibling-self-inside in
+    let t = user_at (set_value it.set) it.usersets it.at it.arena.now (it.place - 1) (on at) in
     let given = c.in-Some.ensures t.0 t.1 in
     sym c.loop-self.invariant.left
-    ∙ ap (users_before (set_value it.set) it.usersets it.at it.arena.now) next
-    ∙ users_give (set_value it.set) it.usersets it.at it.arena.now (it.place - 1) on c.sibling-self-inside.result c.sibling-self-inside.ensures t.0 t.1 given.0
+    ∙ ap (users_before (set_value it.set) it.usersets it.at it.arena.now) (next at)
+    ∙ users_give (set_value it.set) it.usersets it.at it.arena.now (it.place - 1)
+    (on at) c.sibling-self-inside.result c.sibling-self-inside.ensures t.0 t.1 given.0
     ∙ (λ i. sym given.1 i ∷ users_before (set_value it.set) it.usersets it.at it.arena.now c.sibling-self-inside.result)
 
 pub returns-in-Some-clause-goes : goal.returns-in-Some-clause-goes
@@ -31,23 +41,22 @@ returns-in-Some-clause-goes c = let steps = returns-in-Some-clause-steps c in se
 
 pub loop-self-smaller : goal.loop-self-smaller
 loop-self-smaller c =
-    let some = c.loop-self-test.true in
     let it = c.loop-self.self-inside in
-    let next : it.place ≡ suc (it.place - 1) = omega (arith, some) in
-    let on = subst (IsLinkedPlace (has_mark_of (set_value it.set) it.usersets) it.arena.now.tuples) next c.loop-self.invariant.on in
-    users_smaller (set_value it.set) it.usersets it.at it.arena.now (it.place - 1) on c.sibling-self-inside.result c.sibling-self-inside.ensures it.place next
+    let at = (goal.at.loop-self-smaller c).After-sibling-self-inside in
+    users_smaller (set_value it.set) it.usersets it.at it.arena.now (it.place - 1)
+    (on at) c.sibling-self-inside.result c.sibling-self-inside.ensures it.place (next at)
 
 pub loop-self-preserved : goal.loop-self-preserved
 loop-self-preserved c =
-    let some = c.loop-self-test.true in
     let it = c.loop-self.self-inside in
-    let next : it.place ≡ suc (it.place - 1) = omega (arith, some) in
-    let on = subst (IsLinkedPlace (has_mark_of (set_value it.set) it.usersets) it.arena.now.tuples) next c.loop-self.invariant.on in
-    let t = user_at (set_value it.set) it.usersets it.at it.arena.now (it.place - 1) on in
+    let at = (goal.at.loop-self-preserved c).After-sibling-self-inside in
+    let t = user_at (set_value it.set) it.usersets it.at it.arena.now (it.place - 1) (on at) in
     record {
-      on = users_on (set_value it.set) it.usersets it.at it.arena.now (it.place - 1) on c.sibling-self-inside.result c.sibling-self-inside.ensures;
+      on = users_on (set_value it.set) it.usersets it.at it.arena.now (it.place - 1)
+          (on at) c.sibling-self-inside.result c.sibling-self-inside.ensures;
       left =
-          sym (users_skip (set_value it.set) it.usersets it.at it.arena.now (it.place - 1) on c.sibling-self-inside.result c.sibling-self-inside.ensures t.0 t.1 (c.in-None.ensures t.0 t.1))
-          ∙ ap (users_before (set_value it.set) it.usersets it.at it.arena.now) (sym next)
+          sym (users_skip (set_value it.set) it.usersets it.at it.arena.now (it.place - 1)
+          (on at) c.sibling-self-inside.result c.sibling-self-inside.ensures t.0 t.1 (c.in-None.ensures t.0 t.1))
+          ∙ ap (users_before (set_value it.set) it.usersets it.at it.arena.now) (sym (next at))
           ∙ c.loop-self.invariant.left;
     }
