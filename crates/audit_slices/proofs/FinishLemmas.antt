@@ -20,7 +20,7 @@ use Rattle.slice_core.specs.Named.{named_from}
 use Rattle.audit_slices.specs.Run.{IsWhole, IsFinished}
 use Rattle.slice_yard.specs.Shared.{handed_sum, thieves_sum, lists_sum, closed_hands}
 use Rattle.slice_yard.specs.Yard.{filled, dealt, lists_of, with_lists, IsOpened, AreOfOneYard}
-use Rattle.slice_yard.proofs.OpenedLemmas.{owners_start, others_start}
+use Rattle.slice_yard.proofs.OpenedLemmas.{same_yard, yard_start}
 use Rattle.slice_core.proofs.SumLemmas.{sum_by-mapped, sum_both}
 use Rattle.slice_core.proofs.Tables.{table_at, table_all, table_map, table_same, table_length, map_map, default_at}
 
@@ -35,17 +35,10 @@ handed_alone h (l ∷ ls) none =
     omega arith
 
 module _ {X : Type 0} (ms : List (Member X)) (ls : List Lane) (vs : List (Vec Thief Global)) (lanes_are : ls ≡ map (λ m. m.lane) ms) (thieves_are : vs ≡ map (λ m. m.thieves) ms) where
-  pub yard_of : AreOfOneYard (map (λ m. (member_places m).0) ms) (map (λ m. (member_places m).1) ms) → AreOfOneYard (map lane_place ls) (map (λ v. map thief_place v.items) vs)
-  yard_of yard = record {
-    slices = yard.slices;
-    lane_count = yard.lane_count;
-    workers = yard.workers;
-    some_lane = yard.some_lane;
-    enough = yard.enough;
-    deques = yard.deques;
-    owners = ap (map lane_place) lanes_are ∙ map_map lane_place (λ (m : Member X). m.lane) ms ∙ yard.owners;
-    others = ap (map (λ (v : Vec Thief Global). map thief_place v.items)) thieves_are ∙ map_map (λ (v : Vec Thief Global). map thief_place v.items) (λ (m : Member X). m.thieves) ms ∙ yard.others;
-  }
+  abbrev pub yard_of : AreOfOneYard (map (λ m. (member_places m).0) ms) (map (λ m. (member_places m).1) ms) → AreOfOneYard (map lane_place ls) (map (λ v. map thief_place v.items) vs)
+  yard_of =
+      same_yard (ap (map lane_place) lanes_are ∙ map_map lane_place (λ (m : Member X). m.lane) ms)
+      (ap (map (λ (v : Vec Thief Global). map thief_place v.items)) thieves_are ∙ map_map (λ (v : Vec Thief Global). map thief_place v.items) (λ (m : Member X). m.thieves) ms)
 
   -- nothing was joined before
   members_sum : (h : Slice → ℕ) → All (λ v. v.closed ≡ []) (map lane_hand ls) → sum_by (λ l. lists_sum h (lane_hand l)) ls + sum_by (λ v. thieves_sum h v.items) vs ≡ sum_by (member_sum h) ms
@@ -60,7 +53,6 @@ module _ {X : Type 0} (ms : List (Member X)) (ls : List Lane) (vs : List (Vec Th
 
   pub finished : (xs : List Slice) (hands : List Hand) (done : List (SliceReport X)) → IsWhole xs ms → hands ≡ closed_hands (map lane_hand ls) (flat_map (λ v. v.items) vs) → All (λ v. v.seats ≡ length v.closed + 1) hands
       → ((h : Slice → ℕ) → sum_by (lists_sum h) hands ≡ sum_by (λ l. lists_sum h (lane_hand l)) ls + sum_by (λ v. thieves_sum h v.items) vs) → All (λ m. m.lost ≡ false) ms → done ≡ flat_map (λ m. m.done.items) ms → IsFinished xs ms hands done
-  unfolding yard_of
   finished xs hands done whole are joined sums kept done_are =
       let yard = yard_of whole.yard in
       let n = yard.lane_count in
@@ -89,17 +81,7 @@ module _ {X : Type 0} (ms : List (Member X)) (ls : List Lane) (vs : List (Vec Th
 -- the workers of a yard that was opened have all its ends
 module _ (xs : List Slice) (n workers : ℕ) (lanes : List Lane) (thieves : List (Vec Thief Global)) (opened : IsOpened xs n workers lanes thieves) where
   pub whole_start : {X : Type 0} (ms : List (Member X)) → 0 < n → n ≤ workers → map (λ m. (member_places m).0) ms ≡ map lane_place lanes → map (λ m. (member_places m).1) ms ≡ map (λ v. map thief_place v.items) thieves → IsWhole xs ms
-  whole_start ms some enough own others =
-      record {
-        yard = record {
-          slices = xs;
-          lane_count = n;
-          workers = workers;
-          some_lane = some;
-          enough = enough;
-          deques = opened.deques;
-          owners = own ∙ owners_start xs n workers lanes thieves opened;
-          others = others ∙ others_start xs n workers lanes thieves opened;
-        };
-        same = refl;
-      }
+  whole_start ms some enough own others = record {
+    yard = same_yard own others (yard_start xs n workers lanes thieves opened some enough);
+    same = refl;
+  }

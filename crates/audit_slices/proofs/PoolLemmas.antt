@@ -12,12 +12,13 @@ use Rattle.slice_yard.specs.declared.rule.Hand.{Hand}
 use Rattle.audit_slices.specs.declared.checks.SliceReport.{SliceReport}
 use Rattle.audit_slices.specs.declared.members.Member.{Member}
 use Rattle.slice_yard.specs.Lane.{LanePlace, ThiefPlace}
-use Rattle.audit_slices.specs.Members.{Places, member_places, member_sum, thief_openings, IsNew, IsSettled, AreBelow}
+use Rattle.audit_slices.specs.Members.{Places, member_places, member_sum, thief_openings, IsNew, IsSettled, AreBelow, MayWork}
 use Rattle.slice_core.specs.Named.{named_from}
 use Rattle.audit_slices.specs.Reports.{IsReported}
 use Rattle.audit_slices.specs.Run.{IsWhole, IsFinished, unspent, rest_sum}
 use Rattle.slice_yard.specs.Shared.{lists_sum, IsSpent}
 use Rattle.slice_yard.specs.Yard.{filled, seated, dealt, seat_of, thief_lanes}
+use Rattle.slice_yard.proofs.OpenedLemmas.{same_yard}
 use Rattle.slice_yard.proofs.Orders.{same_list, counts, rises}
 use Rattle.slice_yard.proofs.Shares.{shared_sum}
 use Rattle.audit_slices.proofs.ReportLemmas.{given_both}
@@ -30,7 +31,7 @@ Below n xs = All (λ x. x.from + x.count ≤ n) xs
 
 module _ {X : Type 0} where
   -- the slices that were put into a worker's lanes are of those that were dealt
-  pub covered_start : (n : ℕ) (xs : List Slice) (ms : List (Member X)) → IsWhole xs ms → Below n xs → All (λ m. AreBelow n (member_places m)) ms
+  covered_start : (n : ℕ) (xs : List Slice) (ms : List (Member X)) → IsWhole xs ms → Below n xs → All (λ m. AreBelow n (member_places m)) ms
   covered_start n xs ms whole below =
       let yard = whole.yard in
       let count = yard.lane_count in
@@ -45,16 +46,8 @@ module _ {X : Type 0} where
 
   pub whole_same : (xs : List Slice) (before ms : List (Member X)) → map member_places ms ≡ map member_places before → IsWhole xs before → IsWhole xs ms
   whole_same xs before ms e whole = record {
-    yard = record {
-      slices = whole.yard.slices;
-      lane_count = whole.yard.lane_count;
-      workers = whole.yard.workers;
-      some_lane = whole.yard.some_lane;
-      enough = whole.yard.enough;
-      deques = whole.yard.deques;
-      owners = sym (map_map (λ (p : Places). p.0) member_places ms) ∙ ap (map (λ (p : Places). p.0)) e ∙ map_map (λ (p : Places). p.0) member_places before ∙ whole.yard.owners;
-      others = sym (map_map (λ (p : Places). p.1) member_places ms) ∙ ap (map (λ (p : Places). p.1)) e ∙ map_map (λ (p : Places). p.1) member_places before ∙ whole.yard.others;
-    };
+    yard = same_yard (sym (map_map (λ (p : Places). p.0) member_places ms) ∙ ap (map (λ (p : Places). p.0)) e ∙ map_map (λ (p : Places). p.0) member_places before)
+        (sym (map_map (λ (p : Places). p.1) member_places ms) ∙ ap (map (λ (p : Places). p.1)) e ∙ map_map (λ (p : Places). p.1) member_places before) whole.yard;
     same = whole.same;
   }
 
@@ -64,11 +57,17 @@ module _ {X : Type 0} where
       All_unmap (Below n) (λ (v : Hand). v.opening) hands (subst (All (Below n)) (sym fin.openings) (table_all (Below n) (dealt xs fin.count) fin.count (λ l lt. All-filter (λ (x : Slice). x.number % fin.count == l) (λ (x : Slice). x.from + x.count ≤ n) xs below)))
 
   -- a new worker's reports, of which there are none, may be given
-  pub settled_new : (P : ℕ → X → Type 0) (ms : List (Member X)) → All IsNew ms → All (IsSettled P) ms
+  settled_new : (P : ℕ → X → Type 0) (ms : List (Member X)) → All IsNew ms → All (IsSettled P) ms
   settled_new P ms new = All-weaker IsNew (IsSettled P) (λ m n. record {
     given = subst (All (IsReported P)) (sym n.done) (All-nil (IsReported P));
     each = λ kept h. ap (sum_by (λ r. h r.slice)) n.done ∙ sym (n.handed h);
   }) ms new
+
+  pub may_start : (n : ℕ) (P : ℕ → X → Type 0) (xs : List Slice) (ms : List (Member X)) → IsWhole xs ms → All IsNew ms → Below n xs → All (MayWork n P) ms
+  may_start n P xs ms whole new below = λ k d lt. record {
+    covered = covered_start n xs ms whole below k d lt;
+    before = settled_new P ms new k d lt;
+  }
 
   pub given_all : (P : ℕ → X → Type 0) (ms : List (Member X)) → All (IsSettled P) ms → All (IsReported P) (flat_map (λ m. m.done.items) ms)
   given_all P [] h = All-nil (IsReported P)

@@ -19,6 +19,10 @@ thief_openings ps = map (λ p. p.2.opening) ps
 abbrev pub openings : Places → List (List Slice)
 openings p = p.0.1.opening ∷ thief_openings p.1
 
+-- each slice that was put in has its entries below n
+pub record AreBelow (n : ℕ) (places : Places) : Type 0 where
+  pub each : All (λ all. All (IsWithin n) all) (openings places)
+
 module _ {X : Type 0} where
   abbrev pub member_sum : (Slice → ℕ) → Member X → ℕ
   member_sum h m = handed_sum h (lane_hand m.lane) + thieves_sum h m.thieves.items
@@ -41,10 +45,21 @@ module _ {X : Type 0} where
     pub given : All (IsReported gives) m.done.items
     pub each : m.lost ≡ false → (h : Slice → ℕ) → sum_by (λ r. h r.slice) m.done.items + h x ≡ member_sum h m
 
+  -- it is settled, and each slice of its lanes has its entries below n
+  pub record MayWork (n : ℕ) (gives : ℕ → X → Type 0) (m : Member X) : Type 0 where
+    pub covered : AreBelow n (member_places m)
+    pub before : IsSettled gives m
+
+  -- it is settled again, and has the places that it had
+  pub record HasWorked (gives : ℕ → X → Type 0) (old new : Member X) : Type 0 where
+    pub after : IsSettled gives new
+    pub places : member_places new ≡ member_places old
+
+  -- the same of each
+  pub record HaveWorked (gives : ℕ → X → Type 0) (old new : List (Member X)) : Type 0 where
+    pub after : All (IsSettled gives) new
+    pub places : map member_places new ≡ map member_places old
+
 -- x is a slice that was put into one of these lanes
 abbrev pub IsIn : List (List Slice) → Slice → Type 0
 IsIn lists x = (all : List Slice) × Contains lists all × Contains all x
-
--- each slice that was put in has its entries below n
-pub record AreBelow (n : ℕ) (places : Places) : Type 0 where
-  pub each : All (λ all. All (IsWithin n) all) (openings places)

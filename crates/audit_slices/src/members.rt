@@ -22,7 +22,7 @@ pub struct Member<X> {
 ghost use Rattle.slice_yard.specs.Cut.{first_entry, slice_len, IsWithin};
 ghost use Rattle.slice_yard.specs.Lane.{thief_place};
 ghost use Rattle.slice_yard.specs.Shared.{thieves_sum};
-ghost use Rattle.audit_slices.specs.Members.{IsIn, member_places, openings, thief_openings, IsSettled, IsOneShort, AreBelow};
+ghost use Rattle.audit_slices.specs.Members.{IsIn, member_places, openings, thief_openings, IsOneShort, MayWork, HasWorked};
 ghost use Rattle.audit_slices.specs.Board.{IsNamedBy};
 ghost use Rattle.audit_slices.specs.Reports.{IsReported};
 
@@ -113,8 +113,7 @@ fn settle<X: Copy, C: Check<Report = X>, N: Names<X>, B: Desk<X, N>, R: Wait>(
     requires slice { IsWithin (C.entries check.now) slice }
     requires names { IsNamedBy (C.gives check.now) (C.raises check.now) N.gives N.alerts }
     requires before { IsOneShort (C.gives check.now) slice member.old }
-    ensures after { IsSettled (C.gives check.now) member.new }
-    ensures places { member_places member.new ≡ member_places member.old }
+    ensures worked { HasWorked (C.gives check.now) member.old member.new }
 {
     match check_slice(alloc, check, slice) {
         Ok(report) => {
@@ -138,11 +137,9 @@ fn step<X: Copy, C: Check<Report = X>, N: Names<X>, B: Desk<X, N>, G: Gate, R: W
     board: &B,
     member: &mut Member<X>,
 ) -> bool
-    requires covered { AreBelow (C.entries check.now) (member_places member.old) }
+    requires may { MayWork (C.entries check.now) (C.gives check.now) member.old }
     requires names { IsNamedBy (C.gives check.now) (C.raises check.now) N.gives N.alerts }
-    requires before { IsSettled (C.gives check.now) member.old }
-    ensures after { IsSettled (C.gives check.now) member.new }
-    ensures places { member_places member.new ≡ member_places member.old }
+    ensures worked { HasWorked (C.gives check.now) member.old member.new }
 {
     let Some(slice) = member.take() else {
         return false;
@@ -161,11 +158,9 @@ pub(crate) fn work<X: Copy, C: Check<Report = X>, N: Names<X>, B: Desk<X, N>, G:
     board: &B,
     member: &mut Member<X>,
 )
-    requires covered { AreBelow (C.entries check.now) (member_places member.old) }
+    requires may { MayWork (C.entries check.now) (C.gives check.now) member.old }
     requires names { IsNamedBy (C.gives check.now) (C.raises check.now) N.gives N.alerts }
-    requires before { IsSettled (C.gives check.now) member.old }
-    ensures after { IsSettled (C.gives check.now) member.new }
-    ensures places { member_places member.new ≡ member_places member.old }
+    ensures worked { HasWorked (C.gives check.now) member.old member.new }
 {
     for _ in rt.forever() {
         if !step(rt, alloc, check, gate, board, member) {
@@ -184,11 +179,9 @@ pub(crate) fn work_watched<
     W: Watch<X, N>,
     R: Wait,
 >(rt: &R, alloc: Global, check: &C, gate: &G, board: &B, watch: &mut W, member: &mut Member<X>)
-    requires covered { AreBelow (C.entries check.now) (member_places member.old) }
+    requires may { MayWork (C.entries check.now) (C.gives check.now) member.old }
     requires names { IsNamedBy (C.gives check.now) (C.raises check.now) N.gives N.alerts }
-    requires before { IsSettled (C.gives check.now) member.old }
-    ensures after { IsSettled (C.gives check.now) member.new }
-    ensures places { member_places member.new ≡ member_places member.old }
+    ensures worked { HasWorked (C.gives check.now) member.old member.new }
     ensures mark { W.mark watch.new ≡ W.mark watch.old }
 {
     let mut shown = 0;

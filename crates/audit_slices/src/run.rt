@@ -5,13 +5,13 @@ ghost use Rattle.std.specs.List.Sorted.{IsNonDecreasingBy, IsPermutation};
 ghost use Rattle.audit_slices.specs.Board.{IsNamedBy};
 ghost use Rattle.slice_yard.specs.Cut.{IsNumbered, IsWithin, entries_of};
 ghost use Rattle.slice_yard.specs.Lane.{lane_hand, lane_place, thief_place, thief_hand_of};
-ghost use Rattle.audit_slices.specs.Members.{member_places, IsNew, IsSettled, AreBelow};
+ghost use Rattle.audit_slices.specs.Members.{member_places, IsNew};
 ghost use Rattle.slice_yard.specs.Receipts.{receipt_hands};
 ghost use Rattle.audit_slices.specs.Reports.{report_slice, report_items, IsReported};
 ghost use Rattle.audit_slices.specs.Run.{IsWhole, IsFinished, unspent, rest_sum};
 ghost use Rattle.slice_yard.specs.Shared.{IsSpent};
 
-use crate::board::{Board, Desk, Names, Nowhere, Watch};
+use crate::board::{Board, Names, Nowhere, Watch};
 use crate::checks::{Check, Gate, SliceReport, check_slice};
 use crate::members::Member;
 use crate::pool::run_watched;
@@ -190,80 +190,13 @@ pub fn run_pool<
     ensures all { IfOk result (λ v. AllZip (C.gives check.now) (entries_of slices.items) (flat_map report_items v.items)) }
     ensures mark { W.mark watch.new ≡ W.mark watch.old }
 {
-    let members = hire(alloc, slices, workers)?;
-    let members = run_members(rt, alloc, check, gate, board, watch, members);
+    let mut members = hire(alloc, slices, workers)?;
+    let all = members.as_mut_slice();
+    match board {
+        Some(board) => run_watched(rt, alloc, check, gate, board, watch, all),
+        None => run_watched(rt, alloc, check, gate, &Nowhere, watch, all),
+    }
     let (receipts, done) = finish(alloc, members)?;
     let (_spent, done) = drain(rt, alloc, check, receipts, done)?;
     Ok(in_order(done))
-}
-
-fn run_members<
-    X: Send + Sync + Copy,
-    C: Check<Report = X> + Sync,
-    N: Names<X> + Sync,
-    G: Gate + Sync,
-    W: Watch<X, N>,
-    R: Threads + Wait + Sync,
->(
-    rt: &R,
-    alloc: Global,
-    check: &C,
-    gate: &G,
-    board: Option<&Board<X, N>>,
-    watch: &mut W,
-    members: Vec<Member<X>>,
-) -> Vec<Member<X>>
-    requires covered { All (λ m. AreBelow (C.entries check.now) (member_places m)) members.items }
-    requires names { IsNamedBy (C.gives check.now) (C.raises check.now) N.gives N.alerts }
-    requires before { All (IsSettled (C.gives check.now)) members.items }
-    ensures after { All (IsSettled (C.gives check.now)) result.items }
-    ensures places { map member_places result.items ≡ map member_places members.items }
-    ensures mark { W.mark watch.new ≡ W.mark watch.old }
-{
-    match board {
-        Some(board) => run_at_desk(rt, alloc, check, gate, board, watch, members),
-        None => run_at_desk(rt, alloc, check, gate, &Nowhere, watch, members),
-    }
-}
-
-fn run_at_desk<
-    X: Send + Sync + Copy,
-    C: Check<Report = X> + Sync,
-    N: Names<X> + Sync,
-    B: Desk<X, N> + Sync,
-    G: Gate + Sync,
-    W: Watch<X, N>,
-    R: Threads + Wait + Sync,
->(
-    rt: &R,
-    alloc: Global,
-    check: &C,
-    gate: &G,
-    board: &B,
-    watch: &mut W,
-    mut members: Vec<Member<X>>,
-) -> Vec<Member<X>>
-    requires covered { All (λ m. AreBelow (C.entries check.now) (member_places m)) members.items }
-    requires names { IsNamedBy (C.gives check.now) (C.raises check.now) N.gives N.alerts }
-    requires before { All (IsSettled (C.gives check.now)) members.items }
-    ensures after { All (IsSettled (C.gives check.now)) result.items }
-    ensures places { map member_places result.items ≡ map member_places members.items }
-    ensures mark { W.mark watch.new ≡ W.mark watch.old }
-{
-    run_watched(rt, alloc, check, gate, board, watch, members.as_mut_slice());
-    show_rest(board, watch, members.as_slice());
-    members
-}
-
-// Shows the alerts that the first worker has not shown.
-fn show_rest<X, N: Names<X>, B: Desk<X, N>, W: Watch<X, N>>(
-    board: &B,
-    watch: &mut W,
-    members: &[Member<X>],
-)
-    ensures { W.mark watch.new ≡ W.mark watch.old }
-{
-    if let Some(first) = members.first() {
-        board.show_rest(first.shown, watch);
-    }
 }

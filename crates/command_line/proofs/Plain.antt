@@ -1,11 +1,12 @@
 -- What clap's function of the words gives at the plain forms.
-use Rattle.std.specs.Prelude.{slice_index_or, ◌≡◌, Bool, true, false, ℕ, Some, None, codes, List, [], ◌∷◌, ◌==◌, not, ◌&&◌}
-use Rattle.std.proofs.Common.{refl, sym, true≢false, ap, ap₂, ◌∙◌}
+use Rattle.std.specs.Prelude.{slice_index_or, ◌≡◌, Bool, true, false, ℕ, Some, None, codes, List, [], ◌∷◌, ◌==◌, ◌&&◌}
+use Rattle.std.proofs.Common.{refl, ap, ap₂, ◌∙◌}
 use Rattle.clap.specs.Walk.{Row, Text, Rule, Walk, Held, Step, idle, value, word_met, walked, after_step, to_positional, arg_by_index, nothing_held, walk_from, finished, rows_after}
 use Rattle.clap.specs.Simple.{subcommand_of, Shape, built}
 use Rattle.clap.specs.Takes.{takes, level_passes, walk_passes, word_passes, step_passes, turn_passes, settle_passes, default_passes, is_valid}
 use Rattle.clap.specs.Faults.{is_simple_and_free}
 use Rattle.std.specs.List.{list_all}
+use Rattle.std.proofs.lemmas.Bool.{not-true}
 use Rattle.clap.proofs.OnLiterals.{clap_on_literals}
 use Rattle.command_line.specs.Commands.{program}
 use Rattle.command_line.specs.Asked.{is_plain_word, IsAuditFound, IsMakeFound, IsHistoryFound}
@@ -13,18 +14,14 @@ use Rattle.command_line.specs.Asked.{is_plain_word, IsAuditFound, IsMakeFound, I
 pub simple : is_simple_and_free program ≡ true
 simple = refl
 
-is_false : (b : Bool) → not b ≡ true → b ≡ false
-is_false false e = refl
-is_false true e = absurd (true≢false (sym e))
-
 -- a plain word goes to a positional
 met : (c : List Rule) (position : ℕ) (t : Text) (h : Held) → is_plain_word t ≡ true → word_met c [] false idle position t h ≡ (h, value)
 met c position [] h p = refl
-met c position (x ∷ xs) h p = let f = is_false (x == 45) p in simp f refl
+met c position (x ∷ xs) h p = let f = not-true (x == 45) p in simp f refl
 
 passes : (s : Shape) (t : Text) (h : Held) → is_plain_word t ≡ true → word_passes s [] false idle t h ≡ true
 passes s [] h p = refl
-passes s (x ∷ xs) h p = let f = is_false (x == 45) p in simp f refl
+passes s (x ∷ xs) h p = let f = not-true (x == 45) p in simp f refl
 
 -- the shape of a subcommand, as built
 abbrev pub sub : ℕ → Shape

@@ -4,7 +4,7 @@ use Rattle.std.specs.Prelude.{codes, filter, slice_get, slice_set}
 use Rattle.std.specs.List.{position_from}
 use Rattle.std.specs.List.Sorted.{IsStrictlyIncreasing}
 use Rattle.std.specs.Str.{is_utf8}
-use Rattle.std.proofs.lemmas.Bool.{eqb-true, eq-eqb, or_parts}
+use Rattle.std.proofs.lemmas.Bool.{eqb-true, eq-eqb, not-false, or_parts}
 use Rattle.std.proofs.lemmas.Iterator.Adapters.{position_from-zero}
 use Rattle.std.proofs.lemmas.Option.{same_Some, slice_get_within, get_or_from_slice_get}
 use Rattle.serde_json.specs.Data.{Data}
@@ -197,11 +197,7 @@ module _ (objects : List ℕ → List ℕ → Bool) where
       let on : (x.line == n) ≡ true = eq-eqb x.line n (ap (λ (y : EntryValue). y.line) same ∙ line) in
       let parts = or_parts ((x.line == n) && not (is_of objects x)) (is_line_of_others objects xs n) none in
       ap (is_of objects) (sym same)
-      ∙ not_negated (is_of objects x) (sym (ap (λ (b : Bool). b && not (is_of objects x)) on) ∙ parts.0)
-    where
-      not_negated : (b : Bool) → not b ≡ false → b ≡ true
-      not_negated true h = refl
-      not_negated false h = cc
+      ∙ not-false (is_of objects x) (sym (ap (λ (b : Bool). b && not (is_of objects x)) on) ∙ parts.0)
   of_these (x ∷ xs) n (suc k) e at line none =
       of_these xs n k e at line (or_parts ((x.line == n) && not (is_of objects x)) (is_line_of_others objects xs n)
       none).1

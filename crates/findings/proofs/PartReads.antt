@@ -3,7 +3,7 @@ use Rattle.std.proofs.Common.{◌≡◌, ℕ, ◌^◌, ◌≤◌, ◌==◌, ◌&
 use Rattle.std.specs.Prelude.{⊤, codes, bytes_eq, filter, is_none, is_some, option_map, option_and_then}
 use Rattle.std.specs.List.{position_from}
 use Rattle.std.specs.Str.{is_utf8}
-use Rattle.std.proofs.lemmas.Bool.{ne_eqb, or_right}
+use Rattle.std.proofs.lemmas.Bool.{ne_eqb, not-false, not-true, or_right}
 use Rattle.std.proofs.lemmas.Slice.Eq.{bytes_eq-Decides}
 use Rattle.serde_json.specs.Data.{Data}
 use Rattle.serde_json.specs.Find.{get, as_str}
@@ -39,14 +39,6 @@ some_alike None None h = refl
 some_alike None (Some y) h = cc
 some_alike (Some x) None h = cc
 some_alike (Some x) (Some y) h = refl
-
-not_negated : (b : Bool) → not b ≡ false → b ≡ true
-not_negated true h = refl
-not_negated false h = cc
-
-negated : (b : Bool) → not b ≡ true → b ≡ false
-negated true h = cc
-negated false h = refl
 
 issued_here : (k : EntryKind) (label : Option (List ℕ)) (s : SetValue) (v : Version) → version_issued k (option_map (version_of s) label) ≡ Some v → (v.namespace ≡ s.namespace) × (v.id ≡ s.id)
 issued_here Check label s v h = cc
@@ -187,13 +179,13 @@ module _ (objects : List ℕ → List ℕ → Bool) where
   entry_line_carried kind n t d here =
       carries_told (entry_of kind n (length t.commits) d) (with_entry t) (with_entry (part_of objects t))
       (λ e made. let goal = value_has (λ x. goal_at d ≡ Ok x.goal) (entry_of kind n (length t.commits) d) e made (has_goal kind n (length t.commits) d) in
-      entry_carried t e (not_negated _ (ap (is_elsewhere objects) (sym goal) ∙ here)))
+      entry_carried t e (not-false _ (ap (is_elsewhere objects) (sym goal) ∙ here)))
 
   entry_line_dropped : (kind : EntryKind) (n : ℕ) (t : TraceValue) (d : Data) → is_elsewhere objects (goal_at d) ≡ true → Drops t (entry_line kind n t d)
   entry_line_dropped kind n t d there =
       told _ (entry_of kind n (length t.commits) d) (with_entry t)
       (λ e made. let goal = value_has (λ x. goal_at d ≡ Ok x.goal) (entry_of kind n (length t.commits) d) e made (has_goal kind n (length t.commits) d) in
-      entry_dropped t e (negated _ (ap (is_elsewhere objects) (sym goal) ∙ there)))
+      entry_dropped t e (not-true _ (ap (is_elsewhere objects) (sym goal) ∙ there)))
 
   -- ---- values
 

@@ -1,5 +1,5 @@
 -- What is found on an entry is told.
-use Rattle.std.proofs.Common.{◌≡◌, ℕ, zero, suc, ◌+◌, List, [], ◌∷◌, ◌++◌, Option, Some, None, arith, refl, sym, ap, subst, ◌∙◌}
+use Rattle.std.proofs.Common.{◌≡◌, ℕ, zero, suc, ◌+◌, List, [], ◌∷◌, Option, Some, None, arith, sym, ap, subst, ◌∙◌}
 use Rattle.std.specs.Prelude.{slice_get, Contains}
 use Rattle.std.proofs.lemmas.List.Elements.{Contains-append_left, Contains-append_right}
 use Rattle.std.proofs.lemmas.Option.{same_Some, slice_get-get_or}
@@ -10,7 +10,6 @@ use Rattle.evidence_check.specs.Steps.{StepValue}
 use Rattle.evidence_check.specs.declared.judged.Judged.{Judged}
 use Rattle.token_order.specs.Found.{order_of}
 use Rattle.findings.specs.Findings.{found_by, found_on_tokens, found_on, on_line, findings_from, findings_of}
-use Rattle.findings.specs.declared.finding.Finding.{Finding}
 use Rattle.findings.specs.declared.finding.What.{What}
 
 told_on : (line : ℕ) (found : List (Option What)) (what : What) → Contains found (Some what)

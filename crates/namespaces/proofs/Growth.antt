@@ -1,5 +1,6 @@
 -- One declaration more, and the rules are as they must be.
 use Rattle.std.proofs.Common.{◌≡◌, ℕ, suc, ◌+◌, ◌<◌, ◌≤◌, nat_lt, nat_le, Bool, true, false, not, ◌&&◌, ◌||◌, cond, List, [], ◌∷◌, ◌++◌, length, is_some, All, ◌⊎◌, inl, inr, Option, None, Some, Result, Ok, Err, refl, subst, sym, ◌∙◌, length-append, arith}
+use Rattle.std.proofs.lemmas.Bool.{not-false}
 use Rattle.std.proofs.lemmas.Bool.Decides.{nat_tests}
 use Rattle.std.proofs.lemmas.List.Sums.{sum_by-append}
 use Rattle.std.proofs.lemmas.List.Elements.{All-push}
@@ -57,17 +58,13 @@ within full rs h =
     let small : not (nat_le (length rs) 256) ≡ false = parts.1 in
     (parts.0, grind (arith, nat_tests))
 
-not_false : (b : Bool) → not b ≡ false → b ≡ true
-not_false true h = refl
-not_false false h = cc
-
 pub passed : (repeated full : Bool) (new got : Namespace) → tested repeated full new ≡ Ok got → HasPassed repeated full new got
 unfolding tested
 passed repeated full new got h =
     let parts = chain (not (is_name new.name && list_all is_well_named new.relations)) repeated (has_repeats (relation_names new.relations))
     (not (list_all (reads_declared new.relations) new.relations)) (list_any is_too_deep new.relations) (is_over_limits full new.relations) new got h in
     let limits = within full new.relations parts.2 in
-    record { same = parts.3; first = parts.0; distinct = parts.1; room = limits.0; count = limits.1; reads = not_false (list_all (reads_declared new.relations) new.relations) parts.4 }
+    record { same = parts.3; first = parts.0; distinct = parts.1; room = limits.0; count = limits.1; reads = not-false (list_all (reads_declared new.relations) new.relations) parts.4 }
 
 -- ---- the names of the namespaces
 

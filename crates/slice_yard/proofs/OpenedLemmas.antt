@@ -10,6 +10,19 @@ use Rattle.slice_yard.specs.Lane.{LanePlace, ThiefPlace, lane_hand, lane_state, 
 use Rattle.slice_yard.specs.Yard.{filled, seated, dealt, seat_of, thief_lanes, lanes_at_first, thieves_at_first, IsOpened, AreOfOneYard}
 use Rattle.slice_core.proofs.Tables.{table_all, table_map, table_same, map_map, All_map, All_unmap}
 
+-- ends at the places of those of one opening
+abbrev pub same_yard : {owners now : List LanePlace} {thieves others : List (List ThiefPlace)} → now ≡ owners → others ≡ thieves → AreOfOneYard owners thieves → AreOfOneYard now others
+same_yard owners others yard = record {
+  slices = yard.slices;
+  lane_count = yard.lane_count;
+  workers = yard.workers;
+  some_lane = yard.some_lane;
+  enough = yard.enough;
+  deques = yard.deques;
+  owners = owners ∙ yard.owners;
+  others = others ∙ yard.others;
+}
+
 fresh_thieves : (vs : List (Vec Thief Global)) → map (λ v. map thief_place v.items) vs ≡ map (map (λ (p : ThiefPlace). (p.0, p.1, fresh p.2))) (map (λ v. map thief_state v.items) vs)
 fresh_thieves [] = refl
 fresh_thieves (v ∷ vs) = let a = map_map (λ (p : ThiefPlace). (p.0, p.1, fresh p.2)) thief_state v.items in let b = fresh_thieves vs in λ i. sym a i ∷ b i
@@ -38,7 +51,7 @@ module _ (xs : List Slice) (n workers : ℕ) (lanes : List Lane) (thieves : List
       (λ w lt. map_map (λ (p : ThiefPlace). (p.0, p.1, fresh p.2)) (λ l. (l, opened.deques l, seated (dealt xs n l) (seat_of l w))) (thief_lanes n w))
 
   -- its ends are those of one opening
-  pub yard_start : 0 < n → n ≤ workers → AreOfOneYard (map lane_place lanes) (map (λ v. map thief_place v.items) thieves)
+  abbrev pub yard_start : 0 < n → n ≤ workers → AreOfOneYard (map lane_place lanes) (map (λ v. map thief_place v.items) thieves)
   yard_start some enough = record {
     slices = xs;
     lane_count = n;

@@ -3,7 +3,7 @@ use Rattle.std.proofs.Common.{◌≡◌, ℕ, zero, suc, ◌+◌, ◌<◌, ◌�
 use Rattle.std.specs.Prelude.{IfSome, IsSomeAnd, IsTrue, Contains, filter, not, slice_get, is_some, is_none, option_and_then}
 use Rattle.std.specs.List.{list_any, AllByRecursion, position_from}
 use Rattle.std.specs.List.Sorted.{IsStrictlyIncreasing}
-use Rattle.std.proofs.lemmas.Bool.{true≢false, ltb-true, le-ltb, lt-leb, cases_lt}
+use Rattle.std.proofs.lemmas.Bool.{and_parts, true≢false, ltb-true, le-ltb, lt-leb, cases_lt}
 use Rattle.std.proofs.lemmas.List.Elements.{recursion_from_All}
 use Rattle.std.proofs.lemmas.Option.{slice_get-get_or, slice_get_within, get_or_from_slice_get}
 use Rattle.zookie.specs.Tokens.{Token}
@@ -25,11 +25,6 @@ none_kept p q (x ∷ xs) h = by_test (none_kept p q xs h.1) (p x) refl
     by_test : list_any q (filter p xs) ≡ false → (b : Bool) → p x ≡ b → list_any q (cond b (x ∷ filter p xs) (filter p xs)) ≡ false
     by_test rest true is = rw (h.0 is) rest
     by_test rest false is = rest
-
-both : (a b : Bool) → (a && b) ≡ true → (a ≡ true) × (b ≡ true)
-both true true h = (refl, refl)
-both true false h = cc
-both false b h = cc
 
 told_if : (b : Bool) (o : Option ℕ) (line : ℕ) → cond b o None ≡ Some line → b ≡ true
 told_if true o line h = refl
@@ -118,7 +113,7 @@ module _ (t : TraceValue) (rising : IsStrictlyIncreasing (entry_lines t.entries)
 
   unknown_told : is_unknown_version t i e ≡ true → (v : Version) × (version_named e.kind (entry_version e) ≡ Some v)
       × ((c : EntryValue) → Contains t.entries c → c.line < e.line → ¬ IsTrue (issues v c))
-  unknown_told h = by_name (version_named e.kind (entry_version e)) refl (both _ _ h)
+  unknown_told h = by_name (version_named e.kind (entry_version e)) refl (and_parts _ _ h)
     where
       by_name : (o : Option Version) → version_named e.kind (entry_version e) ≡ o → (is_some (version_named e.kind (entry_version e)) ≡ true) × (is_none (content_of t.entries i) ≡ true)
           → (v : Version) × (version_named e.kind (entry_version e) ≡ Some v) × ((c : EntryValue) → Contains t.entries c → c.line < e.line → ¬ IsTrue (issues v c))
@@ -148,14 +143,14 @@ module _ (t : TraceValue) (rising : IsStrictlyIncreasing (entry_lines t.entries)
 
   pub denied : AreDenied t e (order_of t i e)
   denied = record {
-    stale = λ h. let p = both _ _ h in (check_of e.kind p.0, beyond e.zookie e.snapshot p.1);
+    stale = λ h. let p = and_parts _ _ h in (check_of e.kind p.0, beyond e.zookie e.snapshot p.1);
     old_token = old_told;
-    not_latest = λ line h. let p = both _ _ (told_if (is_content e.kind && list_any (λ c. ltb e.snapshot c.at) (earlier_commits t e)) (last_line (earlier_commits t e)) line h) in
+    not_latest = λ line h. let p = and_parts _ _ (told_if (is_content e.kind && list_any (λ c. ltb e.snapshot c.at) (earlier_commits t e)) (last_line (earlier_commits t e)) line h) in
         (content_kind_of e.kind p.0, λ latest. true≢false (sym p.1 ∙ none_later latest));
     open_snapshot = λ line h closed. true≢false (sym (told_if (list_any (λ c. leb c.at e.snapshot) (later_commits t e)) (first_line (later_commits t e)) line h) ∙ none_open closed);
     wrong_token = λ h.
-        let p = both _ _ h in
-        let q = both _ _ p.1 in
+        let p = and_parts _ _ h in
+        let q = and_parts _ _ p.1 in
         (content_kind_of e.kind p.0, q.0, λ is. true≢false (sym q.1 ∙ ap not is));
     unknown_version = unknown_told;
   }

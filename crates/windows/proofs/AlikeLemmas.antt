@@ -112,88 +112,47 @@ same_members_law s t u same f =
 
 -- ---- steps
 
-mutual
-  established_alike : (rules : Lookup) (a b : List TupleValue) → AreSameTuples a b
-      → (known : KnownValue) (f : FactValue) (e : Expression)
-      → Established rules a known f e → Established rules b known f e
-  established_alike rules a b same known f this (inl s) = inl ((same (record { set = f.set; user = Id f.user })).0 s)
-  established_alike rules a b same known f this (inr t) = inr (
-    t.0,
-    (same (record { set = f.set; user = Set t.0 })).0
-        t.1,
-    t.2,
-  )
-  established_alike rules a b same known f (computed q) h = h
-  established_alike rules a b same known f (tuple_to q c) t = (
-    t.0,
-    (same (record {
-      set = with_relation f.set q;
-      user =
-          Set t.0;
-    })).0 t.1,
-    t.2,
-  )
-  established_alike rules a b same known f (union es) h = some_established_alike rules a b same known f es h
-  established_alike rules a b same known f (inter es) h = each_established_alike rules a b same known f es h
-  established_alike rules a b same known f (minus x y) h = (
-    established_alike rules a b same known f x h.0,
-    refuted_alike rules a b same known f y h.1,
-  )
+module _ (rules : Lookup) (a b : List TupleValue) (same : AreSameTuples a b) (known : KnownValue) (f : FactValue) where
+  mutual
+    established_alike : (e : Expression) → Established rules a known f e → Established rules b known f e
+    established_alike this (inl s) = inl ((same (record { set = f.set; user = Id f.user })).0 s)
+    established_alike this (inr t) = inr (t.0, (same (record { set = f.set; user = Set t.0 })).0 t.1, t.2)
+    established_alike (computed q) h = h
+    established_alike (tuple_to q c) t =
+        (t.0, (same (record { set = with_relation f.set q; user = Set t.0 })).0 t.1, t.2)
+    established_alike (union es) h = some_established_alike es h
+    established_alike (inter es) h = each_established_alike es h
+    established_alike (minus x y) h = (established_alike x h.0, refuted_alike y h.1)
 
-  some_established_alike : (rules : Lookup) (a b : List TupleValue) → AreSameTuples a b
-      → (known : KnownValue) (f : FactValue) (es : Expressions)
-      → SomeEstablished rules a known f es → SomeEstablished rules b known f es
-  some_established_alike rules a b same known f no_child h = h
-  some_established_alike rules a b same known f (child e es) (inl h) = inl (established_alike rules a b same known f e
-      h)
-  some_established_alike rules a b same known f (child e es) (inr h) = inr (some_established_alike rules a b same known
-      f es h)
+    some_established_alike : (es : Expressions) → SomeEstablished rules a known f es → SomeEstablished rules b known f es
+    some_established_alike no_child h = h
+    some_established_alike (child e es) (inl h) = inl (established_alike e h)
+    some_established_alike (child e es) (inr h) = inr (some_established_alike es h)
 
-  each_established_alike : (rules : Lookup) (a b : List TupleValue) → AreSameTuples a b
-      → (known : KnownValue) (f : FactValue) (es : Expressions)
-      → EachEstablished rules a known f es → EachEstablished rules b known f es
-  each_established_alike rules a b same known f no_child h = tt
-  each_established_alike rules a b same known f (child e es) h = (
-    established_alike rules a b same known f e h.0,
-    each_established_alike rules a b same known f es h.1,
-  )
+    each_established_alike : (es : Expressions) → EachEstablished rules a known f es → EachEstablished rules b known f es
+    each_established_alike no_child h = tt
+    each_established_alike (child e es) h = (established_alike e h.0, each_established_alike es h.1)
 
-  refuted_alike : (rules : Lookup) (a b : List TupleValue) → AreSameTuples a b
-      → (known : KnownValue) (f : FactValue) (e : Expression)
-      → Refuted rules a known f e → Refuted rules b known f e
-  refuted_alike rules a b same known f this h = (
-    λ s. h.0 ((same (record { set = f.set; user = Id f.user })).1 s),
-    λ g s. h.1 g ((same (record {
-      set = f.set;
-      user = Set g;
-    })).1 s),
-  )
-  refuted_alike rules a b same known f (computed q) h = h
-  refuted_alike rules a b same known f (tuple_to q c) h = λ g s. h g ((same (record {
-    set = with_relation f.set q;
-    user
-        = Set g;
-  })).1 s)
-  refuted_alike rules a b same known f (union es) h = each_refuted_alike rules a b same known f es h
-  refuted_alike rules a b same known f (inter es) h = some_refuted_alike rules a b same known f es h
-  refuted_alike rules a b same known f (minus x y) (inl h) = inl (refuted_alike rules a b same known f x h)
-  refuted_alike rules a b same known f (minus x y) (inr h) = inr (established_alike rules a b same known f y h)
+    refuted_alike : (e : Expression) → Refuted rules a known f e → Refuted rules b known f e
+    refuted_alike this h = (
+      λ s. h.0 ((same (record { set = f.set; user = Id f.user })).1 s),
+      λ g s. h.1 g ((same (record { set = f.set; user = Set g })).1 s),
+    )
+    refuted_alike (computed q) h = h
+    refuted_alike (tuple_to q c) h = λ g s. h g ((same (record { set = with_relation f.set q; user = Set g })).1 s)
+    refuted_alike (union es) h = each_refuted_alike es h
+    refuted_alike (inter es) h = some_refuted_alike es h
+    refuted_alike (minus x y) (inl h) = inl (refuted_alike x h)
+    refuted_alike (minus x y) (inr h) = inr (established_alike y h)
 
-  each_refuted_alike : (rules : Lookup) (a b : List TupleValue) → AreSameTuples a b
-      → (known : KnownValue) (f : FactValue) (es : Expressions)
-      → EachRefuted rules a known f es → EachRefuted rules b known f es
-  each_refuted_alike rules a b same known f no_child h = tt
-  each_refuted_alike rules a b same known f (child e es) h = (
-    refuted_alike rules a b same known f e h.0,
-    each_refuted_alike rules a b same known f es h.1,
-  )
+    each_refuted_alike : (es : Expressions) → EachRefuted rules a known f es → EachRefuted rules b known f es
+    each_refuted_alike no_child h = tt
+    each_refuted_alike (child e es) h = (refuted_alike e h.0, each_refuted_alike es h.1)
 
-  some_refuted_alike : (rules : Lookup) (a b : List TupleValue) → AreSameTuples a b
-      → (known : KnownValue) (f : FactValue) (es : Expressions)
-      → SomeRefuted rules a known f es → SomeRefuted rules b known f es
-  some_refuted_alike rules a b same known f no_child h = h
-  some_refuted_alike rules a b same known f (child e es) (inl h) = inl (refuted_alike rules a b same known f e h)
-  some_refuted_alike rules a b same known f (child e es) (inr h) = inr (some_refuted_alike rules a b same known f es h)
+    some_refuted_alike : (es : Expressions) → SomeRefuted rules a known f es → SomeRefuted rules b known f es
+    some_refuted_alike no_child h = h
+    some_refuted_alike (child e es) (inl h) = inl (refuted_alike e h)
+    some_refuted_alike (child e es) (inr h) = inr (some_refuted_alike es h)
 
 disproved_alike : (rules : Lookup) (a b : List TupleValue) → AreSameTuples a b → (known : KnownValue) (f : FactValue)
     → IsDisproved rules a known f → IsDisproved rules b known f

@@ -17,6 +17,7 @@ use Rattle.version_chains.specs.Commits.{Commit, Touch, touches, changelog, touc
 use Rattle.version_chains.proofs.CommitLemmas.{side}
 use Rattle.version_chains.proofs.StoreLemmas.{store_at-iff}
 use Rattle.windows.specs.Alike.{AreSameTuples}
+use Rattle.windows.proofs.Rising.{AreInOrder, order_kept}
 use Rattle.windows.specs.Compaction.{AreRising, above, up_to, StandsFor, snapshot_commit}
 
 -- ---- touches in two parts
@@ -123,8 +124,7 @@ all_below b cs = all_filtered (λ c. leb c.at b) (IsUpTo b) (λ c e. leb-true c.
 
 -- each commit is before all later ones
 abbrev pub AreOrdered : List Commit → Type 0
-AreOrdered [] = Unit {0}
-AreOrdered (c ∷ cs) = AllByRecursion (IsAbove c.at) cs × AreOrdered cs
+AreOrdered = AreInOrder (λ (c : Commit). c.at)
 
 rising_tail : (c : Commit) (cs : List Commit) → AreRising (c ∷ cs) → AreRising cs
 rising_tail c cs h = λ k lt.
@@ -222,24 +222,6 @@ all_later : (s h : ℕ) (cs : List Commit) → s ≤ h → AllByRecursion (IsAbo
 all_later s h [] le a = tt
 all_later s h (c ∷ cs) le a = let first = a.0 in (omega (arith, le, first), all_later s h cs le a.1)
 
-kept_above : (p : Commit → Bool) (b : ℕ) (cs : List Commit) → AllByRecursion (IsAbove b) cs
-    → AllByRecursion (IsAbove b) (filter p cs)
-kept_above p b [] h = tt
-kept_above p b (c ∷ cs) h = by_test (kept_above p b cs h.1) (p c)
-  where
-    by_test : AllByRecursion (IsAbove b) (filter p cs) → (x : Bool)
-        → AllByRecursion (IsAbove b) (cond x (c ∷ filter p cs) (filter p cs))
-    by_test rest true = (h.0, rest)
-    by_test rest false = rest
-
-kept_ordered : (p : Commit → Bool) (cs : List Commit) → AreOrdered cs → AreOrdered (filter p cs)
-kept_ordered p [] h = tt
-kept_ordered p (c ∷ cs) h = by_test (kept_ordered p cs h.1) (p c)
-  where
-    by_test : AreOrdered (filter p cs) → (x : Bool) → AreOrdered (cond x (c ∷ filter p cs) (filter p cs))
-    by_test rest true = (kept_above p c.at cs h.0, rest)
-    by_test rest false = rest
-
 -- what is stored up to an end is stored without the commits above it
 ended : (h s : ℕ) (t : TupleValue) (commits : List Commit) → AreOrdered commits → s ≤ h
     → is_stored commits s t ≡ is_stored (up_to h commits) s t
@@ -257,7 +239,7 @@ compacted_law commits b h rising front stands s from to =
       stored = stored_alike front (up_to h commits) b b (λ t. tests_alike front commits b b stands.stored t
           ∙ ended h b t commits order (omega (arith, from, to)));
     } in
-    let cutting = compacted (up_to h commits) b (kept_ordered (λ c. leb c.at h) commits order) front there s from in
+    let cutting = compacted (up_to h commits) b (order_kept (λ (c : Commit). c.at) (λ c. leb c.at h) commits order) front there s from in
     stored_alike (front ++ above b (up_to h commits)) commits s s (λ t.
     tests_alike (front ++ above b (up_to h commits)) (up_to h commits) s s cutting t
     ∙ sym (ended h s t commits order to))

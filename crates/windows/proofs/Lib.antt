@@ -1,4 +1,5 @@
 pub mod AlikeLemmas
+mod Rising
 pub mod CompactionLemmas
 pub mod NearestLemmas
 pub mod WindowLemmas

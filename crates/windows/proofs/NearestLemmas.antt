@@ -13,6 +13,7 @@ use Rattle.token_order.specs.Order.{CommitLine, on_lines, commit_lines_of}
 use Rattle.token_order.specs.Found.{is_content, is_stale, is_wrong_token, old_token, earlier_commits, later_commits, first_line, last_line, not_latest, open_snapshot, is_unknown_version, order_of}
 use Rattle.windows.specs.Compaction.{AreRising}
 use Rattle.windows.specs.Nearest.{last_of, first_of_all, commit_before, commit_behind, content_entry, line_where, order_by}
+use Rattle.windows.proofs.Rising.{AreInOrder, order_kept}
 use Rattle.windows.proofs.CompactionLemmas.{AreOrdered, IsAbove, ordered}
 
 -- ---- commits with their lines, by timestamps that rise
@@ -21,8 +22,7 @@ abbrev pub IsLater : ℕ → CommitLine → Type 0
 IsLater at c = at < c.at
 
 abbrev pub AreInTime : List CommitLine → Type 0
-AreInTime [] = Unit {0}
-AreInTime (c ∷ cs) = AllByRecursion (IsLater c.at) cs × AreInTime cs
+AreInTime = AreInOrder (λ (c : CommitLine). c.at)
 
 later_lines : (at : ℕ) (ls : List ℕ) (cs : List Commit) → AllByRecursion (IsAbove at) cs
     → AllByRecursion (IsLater at) (on_lines ls cs)
@@ -35,23 +35,8 @@ lines_in_time [] cs h = tt
 lines_in_time (l ∷ ls) [] h = tt
 lines_in_time (l ∷ ls) (c ∷ cs) h = (later_lines c.at ls cs h.0, lines_in_time ls cs h.1)
 
-later_filtered : (p : CommitLine → Bool) (at : ℕ) (cs : List CommitLine) → AllByRecursion (IsLater at) cs
-    → AllByRecursion (IsLater at) (filter p cs)
-later_filtered p at [] h = tt
-later_filtered p at (c ∷ cs) h = by_test (later_filtered p at cs h.1) (p c)
-  where
-    by_test : AllByRecursion (IsLater at) (filter p cs) → (b : Bool)
-        → AllByRecursion (IsLater at) (cond b (c ∷ filter p cs) (filter p cs))
-    by_test rest true = (h.0, rest)
-    by_test rest false = rest
-
 pub in_time_filtered : (p : CommitLine → Bool) (cs : List CommitLine) → AreInTime cs → AreInTime (filter p cs)
-in_time_filtered p [] h = tt
-in_time_filtered p (c ∷ cs) h = by_test (in_time_filtered p cs h.1) (p c)
-  where
-    by_test : AreInTime (filter p cs) → (b : Bool) → AreInTime (cond b (c ∷ filter p cs) (filter p cs))
-    by_test rest true = (later_filtered p c.at cs h.0, rest)
-    by_test rest false = rest
+in_time_filtered = order_kept (λ (c : CommitLine). c.at)
 
 -- ---- the last and the first tell all
 

@@ -1,9 +1,5 @@
-use Rattle.std.proofs.Common.{◌≡◌}
-use Rattle.audit_slices.specs.Members.{member_places, IsSettled}
+use Rattle.audit_slices.specs.Members.{HasWorked}
 use Rattle.audit_slices.proofs.members.work.Given as goal
 
 abbrev pub invariant-loop : goal.invariant-loop
-invariant-loop g l = record {
-  settled : IsSettled (g.C.Check.gives l.check) l.member;
-  places : member_places l.member ≡ member_places l.initial.member;
-}
+invariant-loop g l = HasWorked (g.C.Check.gives l.check) l.initial.member l.member

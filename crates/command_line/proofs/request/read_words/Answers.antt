@@ -22,42 +22,32 @@ pub returns-in-Some-clause-first : goal.returns-in-Some-clause-first
 returns-in-Some-clause-first c =
     named (map string_bytes c.args.words.now) (command_of (asked_by c.in-Some.request)) c.in-Ok.ensures.kinds (sym (ap (option_map (λ p. p.0)) c.in-Ok.ensures.matches) ∙ c.in-Some.ensures.named) c.in-Some.ensures.some
 
-pub returns-in-Ok-clause-audit : goal.returns-in-Ok-clause-audit
-returns-in-Ok-clause-audit c t e ws p q =
-    let bad = c.in-None.ensures.audit (audit_rows t e) t (Some e) (c.in-Ok.ensures.matches ∙ (ap (λ (words : List Text). subcommand_of program words) ws ∙ audit_is t e p q)) (audit_found t e) in
-    absurd cc
+-- such words are not refused
+pub returns-in-Ok : goal.returns-in-Ok
+returns-in-Ok c = record {
+  joined = search rules;
+  none = search rules;
+  first = search rules;
+  asked = search rules;
+  audit = λ t e ws p q.
+      let bad = c.in-None.ensures.audit (audit_rows t e) t (Some e) (c.in-Ok.ensures.matches ∙ (ap (λ (words : List Text). subcommand_of program words) ws ∙ audit_is t e p q)) (audit_found t e) in absurd cc;
+  audit_made = λ t ws p.
+      let bad = c.in-None.ensures.audit (made_rows t) t None (c.in-Ok.ensures.matches ∙ (ap (λ (words : List Text). subcommand_of program words) ws ∙ made_is t p)) (made_found t) in absurd cc;
+  make = λ t ws p.
+      let bad = c.in-None.ensures.make (make_rows t) t (c.in-Ok.ensures.matches ∙ (ap (λ (words : List Text). subcommand_of program words) ws ∙ make_is t p)) (make_found t) in absurd cc;
+  history = λ t u ws p q.
+      let bad = c.in-None.ensures.history (history_rows t u) t u (c.in-Ok.ensures.matches ∙ (ap (λ (words : List Text). subcommand_of program words) ws ∙ history_is t u p q)) (history_found t u) in absurd cc;
+}
 
-pub returns-clause-audit : goal.returns-clause-audit
-returns-clause-audit c t e ws p q =
-    let memory = c.in-Err.ensures.passes (ap (λ (words : List Text). takes program words) ws ∙ audit_taken t e p q) in
-    absurd (search rules)
-
-pub returns-in-Ok-clause-audit_made : goal.returns-in-Ok-clause-audit_made
-returns-in-Ok-clause-audit_made c t ws p =
-    let bad = c.in-None.ensures.audit (made_rows t) t None (c.in-Ok.ensures.matches ∙ (ap (λ (words : List Text). subcommand_of program words) ws ∙ made_is t p)) (made_found t) in
-    absurd cc
-
-pub returns-clause-audit_made : goal.returns-clause-audit_made
-returns-clause-audit_made c t ws p =
-    let memory = c.in-Err.ensures.passes (ap (λ (words : List Text). takes program words) ws ∙ made_taken t p) in
-    absurd (search rules)
-
-pub returns-in-Ok-clause-make : goal.returns-in-Ok-clause-make
-returns-in-Ok-clause-make c t ws p =
-    let bad = c.in-None.ensures.make (make_rows t) t (c.in-Ok.ensures.matches ∙ (ap (λ (words : List Text). subcommand_of program words) ws ∙ make_is t p)) (make_found t) in
-    absurd cc
-
-pub returns-clause-make : goal.returns-clause-make
-returns-clause-make c t ws p =
-    let memory = c.in-Err.ensures.passes (ap (λ (words : List Text). takes program words) ws ∙ make_taken t p) in
-    absurd (search rules)
-
-pub returns-in-Ok-clause-history : goal.returns-in-Ok-clause-history
-returns-in-Ok-clause-history c t u ws p q =
-    let bad = c.in-None.ensures.history (history_rows t u) t u (c.in-Ok.ensures.matches ∙ (ap (λ (words : List Text). subcommand_of program words) ws ∙ history_is t u p q)) (history_found t u) in
-    absurd cc
-
-pub returns-clause-history : goal.returns-clause-history
-returns-clause-history c t u ws p q =
-    let memory = c.in-Err.ensures.passes (ap (λ (words : List Text). takes program words) ws ∙ history_taken t u p q) in
-    absurd (search rules)
+-- and clap takes them, but where memory runs out
+pub returns : goal.returns
+returns c = record {
+  joined = search rules;
+  none = search rules;
+  first = search rules;
+  asked = search rules;
+  audit = λ t e ws p q. let memory = c.in-Err.ensures.passes (ap (λ (words : List Text). takes program words) ws ∙ audit_taken t e p q) in absurd (search rules);
+  audit_made = λ t ws p. let memory = c.in-Err.ensures.passes (ap (λ (words : List Text). takes program words) ws ∙ made_taken t p) in absurd (search rules);
+  make = λ t ws p. let memory = c.in-Err.ensures.passes (ap (λ (words : List Text). takes program words) ws ∙ make_taken t p) in absurd (search rules);
+  history = λ t u ws p q. let memory = c.in-Err.ensures.passes (ap (λ (words : List Text). takes program words) ws ∙ history_taken t u p q) in absurd (search rules);
+}

@@ -7,15 +7,15 @@ use Rattle.slice_core.specs.Places.{count_all}
 use Rattle.slice_core.proofs.MachineLemmas.{done_room, lost_room, finished_fits, failed_fits, le_cap}
 use Rattle.slice_core.proofs.machine.Core.step.Goals as goal
 
+-- a vector that is as one with room to spare has room
+has_room : (v w : Vec ℕ Global) → v ≡ w → length w.items ≡ w.len → length w.items < vec_capacity w → vec_len v < vec_capacity v
+has_room v w same count room = subst (λ (v : Vec ℕ Global). vec_len v < vec_capacity v) (sym same) (omega (arith, count, room))
+
 pub push_reserved-requires : goal.push_reserved-requires
 push_reserved-requires c =
     let s = c.args.self.now in
-    let items : VecDeque ℕ Global → List ℕ = λ d. d.items in
     let given = c.in_ok-x-in-Finish.ensures.ok in
-    let room = done_room (map items s.lanes.items) s.hands.items s.done.items s.lost.items c.in-Finish.w c.in_ok-x-in-Finish.x (vec_capacity s.done) given.0 s.done_fits in
-    let same = given.1.done in
-    let len : length s.done.items ≡ s.done.len = search rules in
-    subst (λ (v : Vec ℕ Global). vec_len v < vec_capacity v) (sym same) (omega arith)
+    has_room _ s.done given.1.done (search rules) (done_room (map (λ (d : VecDeque ℕ Global). d.items) s.lanes.items) s.hands.items s.done.items s.lost.items c.in-Finish.w c.in_ok-x-in-Finish.x (vec_capacity s.done) given.0 s.done_fits)
 
 pub invariant_of-self : goal.invariant_of-self
 invariant_of-self c =
@@ -39,12 +39,8 @@ invariant_of-self c =
 pub push_reserved-requires-in-Fail : goal.push_reserved-requires-in-Fail
 push_reserved-requires-in-Fail c =
     let s = c.args.self.now in
-    let items : VecDeque ℕ Global → List ℕ = λ d. d.items in
     let given = c.in_ok-x-in-Fail.ensures.ok in
-    let room = lost_room (map items s.lanes.items) s.hands.items s.done.items s.lost.items c.in-Fail.w c.in_ok-x-in-Fail.x (vec_capacity s.lost) given.0 s.lost_fits in
-    let same = given.1.lost in
-    let len : length s.lost.items ≡ s.lost.len = search rules in
-    subst (λ (v : Vec ℕ Global). vec_len v < vec_capacity v) (sym same) (omega arith)
+    has_room _ s.lost given.1.lost (search rules) (lost_room (map (λ (d : VecDeque ℕ Global). d.items) s.lanes.items) s.hands.items s.done.items s.lost.items c.in-Fail.w c.in_ok-x-in-Fail.x (vec_capacity s.lost) given.0 s.lost_fits)
 
 pub invariant_of-self-in-Fail : goal.invariant_of-self-in-Fail
 invariant_of-self-in-Fail c =
