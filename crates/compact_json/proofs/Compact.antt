@@ -1,16 +1,21 @@
 -- What is written with no space is read as what its JSON makes, and a text without escapes stands in it as it is.
-use Rattle.std.proofs.Common.{◌≡◌, ℕ, ◌≤◌, List, [], ◌∷◌, ◌++◌, map, Some, option_and_then, refl, sym, ap, ◌∙◌, arith, append_assoc, append-nil}
+use Rattle.std.proofs.Common.{◌≡◌, ℕ, ◌≤◌, List, [], ◌∷◌, ◌++◌, map, true, Some, option_and_then, refl, sym, ap, ◌∙◌, arith, append_assoc, append-nil}
+use Rattle.std.specs.List.{list_all}
+use Rattle.std.proofs.lemmas.Bool.Decides.{nat_tests}
+use Rattle.std.proofs.lemmas.List.Sums.{AllPass-from_list_all}
 use Rattle.json.specs.Json as json
 use Rattle.json.specs.Lex.{tokens}
 use Rattle.json.specs.Print.{escape, quoted}
 use Rattle.json.specs.Tree.{json_tokens, depth, items_depth, HasNumbers, ItemsHaveNumbers}
 use Rattle.json.proofs.Printed.Tokens.{tokens-print}
+use Rattle.json.proofs.Printed.Plain.{escape_on_plain}
 use Rattle.json.proofs.Printed.Trees.{value-json_tokens, ArePrintable-json_tokens}
 use Rattle.serde_json.specs.Data.{Data, Items, string}
 use Rattle.serde_json.specs.Read.{of_json, of_items, max_depth, read}
 use Rattle.serde_json.specs.View.{items_of}
 use Rattle.serde_json.specs.Written.{outline, items_outline, compact_text}
 use Rattle.serde_json.proofs.Texts.{print-outline}
+use Rattle.tuple_text.specs.Quoted.{IsSplit, is_plain_byte}
 
 pub read_compact : (d e : Data) → HasNumbers (outline d) → depth (outline d) ≤ max_depth → of_json (outline d) ≡ Some e
     → read (compact_text d) ≡ Some e
@@ -24,6 +29,14 @@ read_compact d e numbers shallow makes =
 
 pub quoted_then : (s rest : List ℕ) → escape s ≡ s → 34 ∷ (s ++ 34 ∷ rest) ≡ quoted s ++ rest
 quoted_then s rest e = ap (λ l. 34 ∷ l) (ap (λ t. t ++ 34 ∷ rest) (sym e) ∙ sym (append_assoc (escape s) (34 ∷ []) rest))
+
+plain_stands : (s : List ℕ) → list_all is_plain_byte s ≡ true → escape s ≡ s
+plain_stands s all =
+    escape_on_plain true s (λ k from to. let plain = AllPass-from_list_all is_plain_byte s all k 0 to in grind (arith, nat_tests, plain))
+
+-- the same of what stands in JSON as it is
+pub split_quoted : (text front rest : List ℕ) → IsSplit 34 text front rest → 34 ∷ text ≡ quoted front ++ rest
+split_quoted text front rest s = ap (λ t. 34 ∷ t) s.parts ∙ quoted_then front rest (plain_stands front s.plain)
 
 -- ---- lists of texts
 

@@ -4,14 +4,15 @@ use Rattle.std.specs.Prelude.{flat_map, codes, decimal}
 use Rattle.std.specs.List.{AllByRecursion}
 use Rattle.std.proofs.lemmas.Grind.{flat_map-append}
 use Rattle.std.proofs.lemmas.List.{length-map, map-append}
-use Rattle.json.specs.Print.{escape, escape_byte, quoted}
+use Rattle.json.specs.Print.{escape_byte}
 use Rattle.serde_json.specs.Data.{Data}
 use Rattle.serde_json.specs.Read.{read}
 use Rattle.serde_json.specs.View.{items_of}
 use Rattle.serde_json.specs.Written.{compact_text, items_text}
 use Rattle.tuple_text.specs.Grammar.{IsFact, fact_text}
 use Rattle.tuple_text.specs.Tuples.{FactValue}
-use Rattle.compact_json.proofs.Compact.{quoted_then}
+use Rattle.tuple_text.specs.Quoted.{IsSplit}
+use Rattle.compact_json.proofs.Compact.{split_quoted}
 use Rattle.evidence_check.specs.RecordData.{fact_data, step_data, record_data, HasFacts}
 use Rattle.evidence_check.specs.RecordPieces.{with_commas, BeginsWithFact, BeginsWithFacts, BeginsWithStep, BeginsWithSteps, IsRecord}
 use Rattle.evidence_check.specs.Steps.{StepValue, yes_step, no_step}
@@ -63,13 +64,8 @@ items_closed ds rest =
 
 -- ---- facts
 
-pub fact_there : (text rest : List ℕ) (f : FactValue) (written : List ℕ) → text ≡ written ++ 34 ∷ rest
-    → escape written ≡ written → written ≡ fact_text f → IsFact f → BeginsWithFact (34 ∷ text) f rest
-fact_there text rest f written is plain same fact =
-    record {
-      spells = ap (λ t. 34 ∷ t) is ∙ quoted_then written rest plain ∙ ap (λ t. quoted t ++ rest) same;
-      fact = fact;
-    }
+pub fact_there : (text rest : List ℕ) (f : FactValue) → IsSplit 34 text (fact_text f) rest → IsFact f → BeginsWithFact (34 ∷ text) f rest
+fact_there text rest f split fact = record { spells = split_quoted text (fact_text f) rest split; fact = fact }
 
 pub first_fact : (text rest : List ℕ) (f : FactValue) → BeginsWithFact text f rest
     → BeginsWithFacts text (f ∷ []) rest

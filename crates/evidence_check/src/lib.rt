@@ -6,7 +6,7 @@
 //!
 //! Callers may rely on this: [`read_evidence`] answers the evidence that its input says, or its first fault, also of a reader that
 //! fails. [`judge_evidence`] judges by it as it is read, and [`judge_evidence_behind`] by that behind the marker of joined input.
-//! A record that is written as most programs write it is taken without a reader of JSON, to the same end.
+//! A record that is written plainly, with no space and no escape, is taken without a reader of JSON, to the same end.
 //! [`judge_alone`] says what a record says whatever stands before it, so that threads may share the records, and [`Judging`] is what
 //! that is put into.
 //! [`judge_entry`] is the definition `judged`. Whoever made the evidence, a supported reply is what the rules mean at the entry's snapshot

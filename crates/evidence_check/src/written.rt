@@ -1,4 +1,4 @@
-//! Records as most programs write them: with no space and no escape, and the line in front.
+//! Records that are written plainly: with no space and no escape, and the line in front.
 //!
 //! What is taken here needs no reader of JSON. Each call answers None of any other text, and where memory runs out: then the line is
 //! read as JSON, which names what is wrong with it.
@@ -10,16 +10,15 @@ ghost use Rattle.evidence_check.specs.RecordPieces.{BeginsWithStep, BeginsWithSt
 ghost use Rattle.evidence_check.specs.Steps.{borrowed_step, borrowed_steps};
 
 use crate::step::StepRef;
-use compact_json::{behind, number_before, text_before};
+use compact_json::behind;
 use std::alloc::Global;
-use tuple_text::{FactRef, read_fact};
+use tuple_text::{FactRef, number_before, quoted_fact};
 
 /// The fact in front, behind its opening quote, and what stands behind its closing one.
 fn fact_before(text: &str) -> Option<(FactRef<'_>, &str)>
     ensures { IfSome result (λ p. BeginsWithFact (34 ∷ text.now) (fact_value p.0) p.1.now) }
 {
-    let (text, rest) = text_before(text)?;
-    let fact = read_fact(text).ok()?;
+    let (fact, rest) = quoted_fact(text)?;
     Some((fact, rest))
 }
 

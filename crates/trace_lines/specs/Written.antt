@@ -1,4 +1,4 @@
--- Lines as most programs write them: each field once, in one order, with no space and no escape.
+-- Lines that are written plainly: each field once, in one order, with no space and no escape.
 use Rattle.std.specs.Prelude.{◌≡◌, ℕ, ◌<◌, ◌^◌, Bool, true, false, not, List, [], ◌∷◌, ◌++◌, map, Option, None, Some, option_map, Ok, bytes_eq, codes, ⊤}
 use Rattle.std.specs.Fmt.{decimal}
 use Rattle.std.specs.List.{AllByRecursion, list_all}

@@ -379,7 +379,7 @@ impl TraceBuilder {
         self.take_recorded(entry)
     }
 
-    /// Takes a line of this text, where it is written as most programs write one.
+    /// Takes a line of this text, where it is written plainly.
     fn take_written(&mut self, line: u64, text: &str) -> Option<Result<(), Cause>>
         requires { next_line self.old ≤ line }
         ensures none { result ≡ None → self.new ≡ self.old }

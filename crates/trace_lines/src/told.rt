@@ -86,7 +86,7 @@ fn commit_told(alloc: Global, commit: &CommitRef<'_>) -> Result<Said, Cause>
     Ok(Said::Commits(commit.to_owned(alloc)?))
 }
 
-/// What a line of this text says, where it is written as most programs write one.
+/// What a line of this text says, where it is written plainly.
 fn written_in(alloc: Global, text: &str) -> Option<Result<Said, Cause>>
     ensures { IfSome result (λ r. Gives said_value r (of_json NotJson (line_said text.now) (read text.now))) }
 {

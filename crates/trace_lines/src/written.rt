@@ -1,4 +1,4 @@
-//! Lines as most programs write them, which are read without a reader of JSON.
+//! Lines that are written plainly, each field once, in one order, with no space and no escape: they are read without a reader of JSON.
 
 ghost use Rattle.std.specs.Prelude.{◌≡◌, ◌<◌, [], ◌∷◌, ◌++◌, ℕ, IfOk, IfSome, IsTrue, Some, bytes_eq, codes, length, not, option_map};
 ghost use Rattle.std.specs.Fmt.{decimal};
@@ -16,9 +16,9 @@ use crate::checks::Said;
 use crate::commits::CommitRef;
 use crate::entry::EntryKind;
 use crate::texts::{fits_reply, is_label};
-use compact_json::{behind, number_before, text_before};
+use compact_json::{behind, text_before};
 use std::alloc::{AllocError, Global};
-use tuple_text::{TupleRef, read_tuple};
+use tuple_text::{TupleRef, number_before, quoted_tuple};
 
 /// The kind of a check in front, and what stands behind the quote after it.
 fn kind_before(text: &str) -> Option<(EntryKind, &str)>
@@ -154,11 +154,8 @@ fn tuple_before(text: &str) -> Option<(TupleRef<'_>, &str)>
     ensures text { IfSome result (λ p. text.now ≡ quoted (tuple_text (tuple_value p.0)) ++ p.1.now) }
     ensures tuple { IfSome result (λ p. IsTuple (tuple_value p.0)) }
 {
-    let (found, rest) = text_before(behind(text, "\"")?)?;
-    match read_tuple(found) {
-        Ok(tuple) => Some((tuple, rest)),
-        Err(_) => None,
-    }
+    let (tuple, rest) = quoted_tuple(behind(text, "\"")?)?;
+    Some((tuple, rest))
 }
 
 /// The tuples of a list behind its opening bracket, and what stands behind the closing one; None of an empty list.

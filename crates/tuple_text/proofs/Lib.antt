@@ -4,5 +4,6 @@ pub mod GrammarLaws
 pub mod JoinedLemmas
 pub mod Numbers
 pub mod Pieces
+pub mod QuotedLemmas
 pub mod Tables
 pub mod ValueLemmas

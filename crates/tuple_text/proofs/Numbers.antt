@@ -76,6 +76,21 @@ next_digit bs i lt one =
     let more = digits_value_more 10 bs i lt in
     (omega (arith, value, more), range.1, range.0)
 
+-- a few digits, with no zero before another, are what is written for their number
+pub few_written : (ds : List ℕ) → list_all is_ascii_digit ds ≡ true → 0 < length ds → length ds ≤ 19 → (get_or ds 0 0 ≡ 48 → length ds ≡ 1)
+    → ds ≡ decimal (digits_value 10 ds)
+few_written ds all some few front =
+    let small : digits_value 10 ds < 10 ^ 19 = digits_value_short own ds 19 all few in
+    sym (decimal-digits_value own ds all some front (omega (arith, small)))
+
+-- a byte that is no digit
+pub not_all_digits : (ds : List ℕ) (i : ℕ) → i < length ds → is_ascii_digit (get_or ds i 0) ≡ false → list_all is_ascii_digit ds ≡ false
+not_all_digits ds i lt fails =
+    elim (cases_Bool (list_all is_ascii_digit ds)) [
+      | inl all ↦ absurd (true≢false (sym (AllPass-from_list_all is_ascii_digit ds all i 0 lt) ∙ fails))
+      | inr other ↦ other
+    ]
+
 -- what a few digits with no zero in front are
 pub few_begun : (bs : List ℕ) → 0 < length bs → length bs ≤ 19 → begins_plainly bs ≡ true
     → (if list_all is_ascii_digit bs then Some (digits_value 10 bs) else None) ≡ plain_number bs

@@ -1,15 +1,19 @@
 -- A part that ends at a delimiter.
-use Rattle.std.proofs.Common.{◌≡◌, ℕ, ◌+◌, Bool, true, false, cond, ltb, leb, eqb, not, ◌&&◌, List, [], ◌∷◌, ◌++◌, length, get_or, Ok, Err, arith, refl, ap, ◌∙◌}
+use Rattle.std.proofs.Common.{◌≡◌, ℕ, ◌+◌, Bool, true, false, cond, ltb, leb, eqb, not, ◌&&◌, List, [], ◌∷◌, ◌++◌, length, get_or, take, drop, ◌<◌, Ok, Err, arith, refl, sym, ap, ◌∙◌}
 use Rattle.std.specs.Char.{is_ascii_digit, is_ascii_lowercase}
 use Rattle.std.specs.List.{list_all, position_or_len, before_first, after_first}
 use Rattle.std.proofs.lemmas.Bool.{ltb-true, lt-ltb, eqb-true, eq-eqb, and_parts, and_from}
 use Rattle.std.proofs.lemmas.Bool.Decides.{nat_tests}
-use Rattle.std.proofs.lemmas.List.{length-append, take_at}
+use Rattle.std.proofs.lemmas.List.{drop_more, length-append, take_at, take-append-drop}
 use Rattle.std.proofs.Math.Seq.{drop-append-add}
 use Rattle.std.proofs.lemmas.List.Sums.{split_at_first, passes_at_first}
 use Rattle.tuple_text.specs.declared.fault.TupleFault.{TupleFault}
 use Rattle.tuple_text.specs.Forms.{is_name_byte, is_name, is_id_byte, is_object_id}
 use Rattle.tuple_text.specs.Reading.{part_at}
+
+-- the byte at a place stands between what is before it and what is behind
+pub split_at : (t : List ℕ) (i : ℕ) → i < length t → t ≡ take i t ++ get_or t i 0 ∷ drop (i + 1) t
+split_at t i lt = sym (take-append-drop i t) ∙ ap (λ l. take i t ++ l) (drop_more t i 0 lt)
 
 -- a test that passed
 pub guard_then : {A : Type 0} (b : Bool) (f : TupleFault) (x y : A) → cond b (Ok x) (Err f) ≡ Ok y → (b ≡ true) × (x ≡ y)
@@ -50,7 +54,7 @@ part_again test d f front rest h passes =
     let lt : ltb (length front) (length (front ++ (d ∷ rest))) ≡ true = lt-ltb _ _ (omega (arith, length-append front (d ∷ rest))) in
     rw (at, lt, take_at front (d ∷ rest) (length front) refl, passes, drop-append-add front (d ∷ rest) 1) refl
 
-weaker : (p q : ℕ → Bool) → ((b : ℕ) → p b ≡ true → q b ≡ true) → (bs : List ℕ) → list_all p bs ≡ true → list_all q bs ≡ true
+pub weaker : (p q : ℕ → Bool) → ((b : ℕ) → p b ≡ true → q b ≡ true) → (bs : List ℕ) → list_all p bs ≡ true → list_all q bs ≡ true
 weaker p q h [] e = refl
 weaker p q h (b ∷ bs) e =
     let a = and_parts (p b) (list_all p bs) e in

@@ -7,6 +7,7 @@ pub mod Joined
 pub mod Order
 pub mod OrderLaws
 pub mod Parts
+pub mod Quoted
 pub mod Reading
 pub mod Refs
 pub mod Sets

@@ -1,11 +1,13 @@
 //! The parts of a text, and where each ends.
 
-ghost use Rattle.std.specs.Prelude.{◌≡◌, ◌↔◌, ◌<◌, ◌≤◌, ◌+◌, IsTrue, false, length, slice_index, take, drop, Some, None, if◌then◌else◌};
+ghost use Rattle.std.specs.Prelude.{◌≡◌, ◌↔◌, ◌<◌, ◌≤◌, ◌+◌, ◌++◌, ◌^◌, IfSome, IsTrue, false, true, length, slice_index, take, drop, Some, None, if◌then◌else◌};
 ghost use Rattle.std.specs.Char.{is_ascii_digit};
+ghost use Rattle.std.specs.Fmt.{decimal};
 ghost use Rattle.std.specs.List.{list_all, prefix_len};
 ghost use Rattle.std.specs.Str.Parse.{digits_value};
 ghost use Rattle.tuple_text.specs.Classes.{may_stand};
 ghost use Rattle.tuple_text.specs.Forms.{is_name_byte, is_name, is_id_byte, is_object_id, is_user_relation, begins_plainly, plain_number};
+ghost use Rattle.tuple_text.specs.Quoted.{IsSplit, is_plain_id_byte};
 ghost use Rattle.tuple_text.specs.Faults.{Tells};
 ghost use Rattle.tuple_text.specs.Reading.{part_at};
 ghost use Rattle.tuple_text.specs.declared.forms.TheConstants.{FEW_DIGITS};
@@ -17,17 +19,19 @@ const NAME: u8 = 1;
 
 const ID: u8 = 2;
 
+const PLAIN: u8 = 4;
+
 // For each byte a digit, whose low bits are the flags above. Names and ids are most of what is read, and comparisons of a
 // byte whose outcome no processor can guess took twice as long.
 static CLASS: [u8; 256] = *b"\
     00000000000000000000000000000000\
-    02202222222222223333333333222222\
-    02222222222222222222222222222223\
-    23333333333333333333333333322220\
-    22222222222222222222222222222222\
-    22222222222222222222222222222222\
-    22222222222222222222222222222222\
-    22222222222222222222222222222222";
+    06206666666666667777777777666666\
+    06666666666666666666666666662667\
+    67777777777777777777777777766660\
+    66666666666666666666666666666666\
+    66666666666666666666666666666666\
+    66666666666666666666666666666666\
+    66666666666666666666666666666666";
 
 fn is_name_byte(b: u8) -> bool
     ensures { result ≡ is_name_byte b }
@@ -63,6 +67,13 @@ fn are_id_bytes(bytes: &[u8]) -> bool
     bytes.iter().all(|b| is_id_byte(*b))
 }
 
+/// Whether the byte may stand in an object id, and stands for itself in JSON.
+fn is_plain_id_byte(b: u8) -> bool
+    ensures { result ≡ is_plain_id_byte b }
+{
+    CLASS[b as usize] & PLAIN != 0
+}
+
 pub fn is_object_id(text: &str) -> bool
     ensures { result ≡ is_object_id text.now }
 {
@@ -89,21 +100,37 @@ fn begins_plainly(bytes: &[u8]) -> bool
 /// Up to how many digits every number fits 64 bits.
 const FEW_DIGITS: usize = 19;
 
-/// The number that a few digits write; None where another byte stands among them. Most numbers of a line are so short that to look for
-/// eight digits at once does not pay.
+/// The number that the digits in front write, of which it takes no more than fit, and how many they are. Most numbers of a line are so
+/// short that to look for eight digits at once does not pay.
+fn digits_before(bytes: &[u8]) -> (u64, usize)
+    ensures digits { list_all is_ascii_digit (take result.1 bytes.now) ≡ true }
+    ensures within { (result.1 ≤ length bytes.now) × (result.1 ≤ FEW_DIGITS) }
+    ensures stops { result.1 < length bytes.now → result.1 < FEW_DIGITS → is_ascii_digit (slice_index bytes.now result.1) ≡ false }
+    ensures value { result.0 ≡ digits_value 10 (take result.1 bytes.now) }
+{
+    let most = bytes.len().min(FEW_DIGITS);
+    let mut number = 0;
+    for place in 0..most {
+        let digit = bytes[place];
+        if !digit.is_ascii_digit() {
+            return (number, place);
+        }
+        number = number * 10 + u64::from(digit - b'0');
+    }
+    (number, most)
+}
+
+/// The number that a few digits write; None where another byte stands among them.
 fn short_number(digits: &[u8]) -> Option<u64>
     requires { length digits.now ≤ FEW_DIGITS }
     ensures { result ≡ (if list_all is_ascii_digit digits.now then Some (digits_value 10 digits.now) else None) }
 {
-    let mut number = 0;
-    for place in 0..digits.len() {
-        let digit = digits[place];
-        if !digit.is_ascii_digit() {
-            return None;
-        }
-        number = number * 10 + u64::from(digit - b'0');
+    let (number, len) = digits_before(digits);
+    if len == digits.len() {
+        Some(number)
+    } else {
+        None
     }
-    Some(number)
 }
 
 /// A number in decimal digits, with no zero in front.
@@ -125,6 +152,7 @@ pub fn plain_number(text: &str) -> Option<u64>
 enum Part {
     Name,
     Id,
+    PlainId,
 }
 
 #[inline(always)]
@@ -134,6 +162,7 @@ fn may_stand(part: Part, b: u8) -> bool
     match part {
         Part::Name => is_name_byte(b),
         Part::Id => is_id_byte(b),
+        Part::PlainId => is_plain_id_byte(b),
     }
 }
 
@@ -250,4 +279,39 @@ pub fn id_before(text: &str, delimiter: u8, fault: TupleFault) -> Result<(&str, 
         return Err(fault);
     }
     Ok(split_around(text, len))
+}
+
+/// The object id before a `#`, where each of its bytes stands for itself in JSON, and what stands after it.
+pub fn plain_id_before(text: &str) -> Option<(&str, &str)>
+    ensures form { IfSome result (λ p. is_object_id p.0.now ≡ true) }
+    ensures parts { IfSome result (λ p. IsSplit 35 text.now p.0.now p.1.now) }
+{
+    let bytes = text.as_bytes();
+    let len = part_len(Part::PlainId, bytes);
+    if !ends_at(bytes, len, b'#') || len == 0 || len > 128 {
+        return None;
+    }
+    Some(split_around(text, len))
+}
+
+/// Whether these are digits of which none is a zero before another, and so few that they fit.
+fn are_few(bytes: &[u8], len: usize) -> bool
+    requires { len ≤ length bytes.now }
+    ensures { IsTrue result → (0 < len) × (len < length bytes.now) × (slice_index bytes.now 0 ≡ 48 → len ≡ 1)
+        × (slice_index bytes.now len < 128) }
+{
+    0 < len && len < bytes.len() && (bytes[0] != b'0' || len == 1) && bytes[len] < 128
+}
+
+/// The number in front, of up to nineteen decimal digits with no zero before another, and what stands behind it, which has to be ASCII.
+pub fn number_before(text: &str) -> Option<(u64, &str)>
+    ensures text { IfSome result (λ p. text.now ≡ decimal p.0 ++ p.1.now) }
+    ensures fits { IfSome result (λ p. p.0 < 2 ^ 64) }
+{
+    let bytes = text.as_bytes();
+    let (number, len) = digits_before(bytes);
+    if !are_few(bytes, len) {
+        return None;
+    }
+    Some((number, &text[len..]))
 }

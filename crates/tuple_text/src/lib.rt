@@ -12,7 +12,8 @@
 //! and writing appends the text or changes nothing. Equality is equality of values. The order goes by the
 //! bytes of namespace, object id and relation, and then by the user, ids first and as numbers.
 //! Memory is asked for by parsing, `of`, `to_fact`, `to_tuple`, clones and writing alone: [`read_fact`] and [`read_tuple`] ask
-//! for none.
+//! for none. [`quoted_fact`] and [`quoted_tuple`] read from the front of a text, up to the quote that ends the fact or tuple in JSON:
+//! where they answer, its text stands so in JSON.
 //!
 //! ```text
 //! let tuple = parse_tuple(alloc, "doc:plan#viewer@20")?;
@@ -24,6 +25,7 @@ mod fact_refs;
 mod facts;
 mod fault;
 mod forms;
+mod quoted;
 mod reading;
 mod sets;
 mod tuple_refs;
@@ -34,7 +36,8 @@ mod writing;
 pub use fact_refs::FactRef;
 pub use facts::Fact;
 pub use fault::TupleFault;
-pub use forms::is_name;
+pub use forms::{is_name, number_before};
+pub use quoted::{quoted_fact, quoted_tuple};
 pub use reading::{parse_fact, parse_tuple, parse_userset, read_fact, read_tuple};
 pub use sets::{SetRef, Userset};
 pub use tuple_refs::TupleRef;

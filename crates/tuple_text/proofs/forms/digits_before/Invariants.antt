@@ -2,10 +2,10 @@ use Rattle.std.proofs.Common.{◌≡◌, take, true}
 use Rattle.std.specs.Char.{is_ascii_digit}
 use Rattle.std.specs.List.{list_all}
 use Rattle.std.specs.Str.Parse.{digits_value}
-use Rattle.tuple_text.proofs.forms.short_number.Given as goal
+use Rattle.tuple_text.proofs.forms.digits_before.Given as goal
 
 abbrev pub invariant-loop-place : goal.invariant-loop-place
 invariant-loop-place l = record {
-  digits : list_all is_ascii_digit (take l.place l.digits) ≡ true;
-  value : l.number ≡ digits_value 10 (take l.place l.digits);
+  digits : list_all is_ascii_digit (take l.place l.bytes) ≡ true;
+  value : l.number ≡ digits_value 10 (take l.place l.bytes);
 }
