@@ -1,5 +1,5 @@
 -- Facts that are found by the marks of their tuples.
-use Rattle.std.proofs.Common.{◌≡◌, ℕ, ◌<◌, length, suc, true, false, List, ◌∷◌, [], map, Some, ◌⊎◌, ◌↔◌, IsTrue, inl, inr, refl, sym, ap, subst, get_or}
+use Rattle.std.proofs.Common.{◌≡◌, ℕ, ◌<◌, ◌≤◌, ◌-◌, ◌++◌, ◌∙◌, length, zero, suc, true, false, List, ◌∷◌, [], map, Some, ◌⊎◌, ◌↔◌, IsTrue, inl, inr, refl, sym, ap, subst, get_or, nat_eq, arith}
 use Rattle.std.specs.Prelude.{Contains, slice_get}
 use Rattle.std.specs.List.{list_any}
 use Rattle.std.proofs.lemmas.Map.Views.{Contains-from_any, list_any-from_Contains}
@@ -11,8 +11,12 @@ use Rattle.tuple_text.specs.Tuples.{FactValue, TupleValue, fact_tuple}
 use Rattle.tuple_text.specs.declared.users.User.{User}
 use Rattle.tuple_text.specs.declared.users.User.TheVariants.{Id, Set}
 use Rattle.tuple_text.proofs.ValueLemmas.{tuple_eq-same, tuple_eq-itself, fact_eq-itself, fact_eq-same}
-use Rattle.marks.proofs.LeftLemmas.{AreLeft, left_behind}
-use Rattle.marks.proofs.PlacedLemmas.{read_item}
+use Rattle.marks.specs.Marks.{tuple_mark}
+use Rattle.marks.specs.Placed.{indices_of, last_place, IsLinkedPlace}
+use Rattle.marks.proofs.IndexLemmas.{indices_from}
+use Rattle.marks.proofs.LeftLemmas.{AreLeft, left_behind, tuples_left}
+use Rattle.marks.proofs.PlacedLemmas.{last_place-within, length-more, read_item, slice_get-front, slice_get-next}
+use Rattle.marks.proofs.WalkLemmas.{linked_item}
 use Rattle.rewrites.proofs.Names.{by_bool, clash}
 use Rattle.strata.proofs.Lists.{Contains-cons_cases, not_in_nil}
 
@@ -72,3 +76,53 @@ module _ {X : Type 0} (view : X → FactValue) (kept : List X) (i : ℕ) where
 -- a fact is there where one of them is equal to it
 pub there_if_any : (fs : List FactValue) (f : FactValue) → IsTrue (list_any (fact_eq f) fs) ↔ Contains fs f
 there_if_any fs f = (Contains-from_any fact_eq-same f fs, list_any-from_Contains fact_equiv f fs)
+
+-- ---- places before the last one, which is that of a fact's own mark
+
+indices-front : (mark : ℕ) (front more : List ℕ) (n : ℕ) → n ≤ length front → indices_of mark (front ++ more) n ≡ indices_of mark front n
+indices-front mark front more zero h = refl
+indices-front mark front more (suc n) h =
+    let further = indices-front mark front more n (omega (arith, h)) in
+    let here = slice_get-front front more n (omega (arith, h)) in
+    rw (here, further) refl
+
+module _ (fs : List FactValue) (f : FactValue) (marks : List ℕ) (place : ℕ)
+    (are : marks ≡ map tuple_mark (map fact_tuple fs) ++ tuple_mark (fact_tuple f) ∷ [])
+    (is : (mark : ℕ) → slice_get marks (length fs) ≡ Some mark → place ≡ last_place (nat_eq mark) marks (length fs)) where
+  abbrev own : ℕ
+  own = tuple_mark (fact_tuple f)
+
+  abbrev front : List ℕ
+  front = map tuple_mark (map fact_tuple fs)
+
+  long : length front ≡ length fs
+  long = length-map (map fact_tuple fs) tuple_mark ∙ length-map fs fact_tuple
+
+  last : slice_get marks (length fs) ≡ Some own
+  last = ap (slice_get marks) (sym long) ∙ ap (λ (ms : List ℕ). slice_get ms (length front)) are ∙ slice_get-next front own
+
+  pub behind_on : IsLinkedPlace (nat_eq own) marks place
+  behind_on =
+      let more = length-more front own in
+      let size = ap length are in
+      (length fs, omega (arith, more, size, long), is own last)
+
+  pub behind_left : AreLeft (λ t. tuple_eq t (fact_tuple f)) (map fact_tuple fs) (indices_of own marks place)
+  behind_left =
+      let all = tuples_left (fact_tuple f) (map fact_tuple fs) front refl in
+      let same : indices_of own front (length front) ≡ indices_of own marks place =
+      sym (indices-front own front (own ∷ []) (length front) (omega arith))
+      ∙ ap (λ (ms : List ℕ). indices_of own ms (length front)) (sym are)
+      ∙ ap (indices_of own marks) long
+      ∙ sym (indices_from own marks place (length fs) (is own last)) in
+      subst (AreLeft (λ t. tuple_eq t (fact_tuple f)) (map fact_tuple fs)) same all
+
+-- a walk over a mark's places comes to an earlier one
+pub smaller : (mark : ℕ) (marks : List ℕ) (place older : ℕ) → IsLinkedPlace (nat_eq mark) marks place → 0 < place
+    → ((n : ℕ) → slice_get marks (place - 1) ≡ Some n → older ≡ last_place (nat_eq n) marks (place - 1)) → older < place
+smaller mark marks place older on some link =
+    let next : place ≡ suc (place - 1) = omega (arith, some) in
+    let w = linked_item (nat_eq mark) marks (place - 1) (subst (IsLinkedPlace (nat_eq mark) marks) next on) in
+    let is = link w.0 w.1 in
+    let within = last_place-within (nat_eq w.0) marks (place - 1) in
+    omega (arith, is, within, some)

@@ -147,6 +147,24 @@ fn is_found<F: KnownFact>(
     false
 }
 
+/// Whether a fact stands at a place before the last one, which is that of its own mark.
+fn is_behind<F: KnownFact>(facts: &[F], marks: &Places, set: MarkedSet<'_>, user: u64) -> bool
+    requires { marks.now ≡ map tuple_mark (map fact_tuple (map F.fact facts.now))
+        ++ tuple_mark (fact_tuple (fact_of (set_value set.set) user)) ∷ [] }
+    ensures { IsTrue result ↔ Contains (map F.fact facts.now) (fact_of (set_value set.entry.set) user) }
+{
+    let mut place = marks.older(facts.len());
+    while place > 0 {
+        let index = place - 1;
+        let next = marks.older(index);
+        if facts[index].is_of_marked(set, user) {
+            return true;
+        }
+        place = next;
+    }
+    false
+}
+
 /// An index of facts, with room for so many. The users are those of the facts where they are looked for.
 fn index_of<F: KnownFact>(
     alloc: Global,
@@ -179,7 +197,8 @@ impl Index {
         Ok(())
     }
 
-    /// Adds a fact behind these. Where it is asked, says whether the fact is one of them: one mark serves both.
+    /// Adds a fact behind these. Where it is asked, says whether the fact is one of them: the place before its own with the
+    /// same mark tells that, so that the mark is looked for once.
     fn add<F: KnownFact>(
         &mut self,
         facts: &[F],
@@ -193,8 +212,8 @@ impl Index {
         ensures was { IfOk result (λ was. is_asked ≡ true → IsTrue was ↔ Contains (map F.fact facts.now) (F.fact fact.now)) }
     {
         let mark = fact.mark();
-        let was = is_asked && is_found(facts, &self.marks, mark, fact.marked_set(), fact.user_id());
         self.push(mark, by_user, fact.user_id())?;
+        let was = is_asked && is_behind(facts, &self.marks, fact.marked_set(), fact.user_id());
         Ok(was)
     }
 }

@@ -1,6 +1,7 @@
 -- The table in which the newest place of each mark is found.
 use Rattle.std.proofs.Common.{◌≡◌, ◌≢◌, ℕ, zero, suc, ◌-◌, ◌<◌, ◌≤◌, ◌%◌, ◌^◌, Bool, true, false, ◌&&◌, ◌||◌, cond, List, [], ◌∷◌, ◌++◌, length, length-append, refl, sym, ◌∙◌, ap, subst, Option, None, Some, arith, nat_eq, eqb-true, false-eqb, eq-eqb, ◌⊎◌, inl, inr, Result, Ok, Err, OnOk, OnErr}
 use Rattle.std.specs.Prelude.{slice_get, slice_set, unwrap_or, max, is_err}
+use Rattle.std.specs.Option.{option_eq, option_map}
 use Rattle.std.specs.Ordering.{nat_cmp, eq_by_cmp}
 use Rattle.std.specs.BTreeMap.{BTreeMap, get, Updates, is_at}
 use Rattle.std.specs.Cmp.{eq_by_cmp_equiv, nat_cmp_total}
@@ -24,6 +25,12 @@ on_err (Err e) p = p
 pub from_ok : {T E P : Type 0} (r : Result T E) → is_err r ≡ false → OnOk r P → P
 from_ok (Ok x) no_error p = p
 from_ok (Err e) no_error p = absurd cc
+
+-- a slot with the tag 0 has no place, where free ones have none
+pub free_has_none : (o : Option Slot) → ((s : Slot) → o ≡ Some s → s.tag ≡ 0 → s.place ≡ 0)
+    → option_eq nat_eq (option_map (λ s. s.tag) o) (Some 0) ≡ true → place_of o ≡ 0
+free_has_none None free is = refl
+free_has_none (Some s) free is = free s refl (eqb-true s.tag 0 is)
 
 -- ---- the tree of the rest
 

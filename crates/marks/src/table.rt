@@ -5,7 +5,9 @@ ghost use Rattle.std.specs.BTreeMap.{get, Updates};
 ghost use Rattle.std.specs.Ordering.{nat_cmp};
 ghost use Rattle.marks.specs.Links.{IsPlaceOf, IsSet, IsTable, has_mark, longest, newest_of, probe_in, start_of, stops, tag_of};
 ghost use Rattle.marks.specs.Placed.{last_place, most, passes};
+ghost use Rattle.marks.specs.Slots.{place_of};
 ghost use Rattle.marks.specs.declared.places.Link.{Link};
+ghost use Rattle.marks.specs.declared.slots.Slot.{Slot};
 
 use crate::places::Link;
 use crate::slots::{Slot, Slots};
@@ -85,6 +87,17 @@ fn probe(slots: &Slots, links: &[Link], mark: u64) -> usize
     0
 }
 
+/// The place at a slot. A free one has none, and what stands there is not read: that would be a line of the cache more.
+fn place_at(slots: &Slots, at: usize) -> u32
+    requires { (s : Slot) → slice_get slots.now at ≡ Some s → s.tag ≡ 0 → s.place ≡ 0 }
+    ensures { result ≡ place_of (slice_get slots.now at) }
+{
+    if slots.tag(at) == Some(0) {
+        return 0;
+    }
+    slots.place(at)
+}
+
 /// Makes a place a mark's newest in the tree, and gives the one that was its newest before. Few marks come here, and what it takes is not to
 /// weigh on those that do not.
 #[inline(never)]
@@ -137,11 +150,12 @@ impl Table {
 
     /// The newest place of the mark, or 0 where it has none.
     pub fn newest(&self, links: &[Link], mark: u64) -> u32
+        requires { IsTable links.now self.now }
         ensures { result ≡ newest_of links.now self.now mark }
     {
         let end = probe(&self.slots, links, mark);
         if end > 0 {
-            return self.slots.place(end - 1);
+            return place_at(&self.slots, end - 1);
         }
         self.rest.get(&mark).copied().unwrap_or(0)
     }
@@ -165,7 +179,7 @@ impl Table {
         if self.slots.tag(at) == Some(0) {
             self.spare = self.spare.saturating_sub(1);
         }
-        let older = self.slots.place(at);
+        let older = place_at(&self.slots, at);
         let slot = Slot {
             tag: tag_of(mark),
             place,

@@ -1,6 +1,6 @@
 -- What the passes over the changelog show.
 use Rattle.std.proofs.Common.{◌≡◌, ℕ, zero, suc, true≢false, ◌+◌, ◌<◌, ◌≤◌, ◌^◌, Bool, true, false, List, [], ◌∷◌, ◌++◌, length, refl, sym, ◌∙◌, ap, subst, Option, None, Some, inl, inr, arith}
-use Rattle.std.specs.Prelude.{Contains, nat_lt, slice_get, slice_set, option_map, nat_le, if◌then◌else◌, IsPermutation}
+use Rattle.std.specs.Prelude.{Contains, nat_lt, slice_get, slice_set, option_map, unwrap_or, nat_le, if◌then◌else◌, IsPermutation}
 use Rattle.std.specs.List.{list_any}
 use Rattle.std.specs.Option.{option_or}
 use Rattle.std.proofs.Math.Nat.{eq-or-lt_of_le}
@@ -18,8 +18,8 @@ use Rattle.namespaces.specs.Lookup.{Rule, as_rule, declared_in, in_force, relati
 use Rattle.version_chains.specs.Commits.{Touch}
 use Rattle.marks.specs.Marks.{set_mark}
 use Rattle.marks.specs.Placed.{last_place, passes}
-use Rattle.marks.proofs.PlacedLemmas.{at_last_place, slice_get-cases, slice_get-set}
-use Rattle.userset_index.specs.Building.{HaveEnds, HoldsFirst, IsEnd, IsLifeOf, IsUndeclaredBelow, kept}
+use Rattle.marks.proofs.PlacedLemmas.{at_last_place, length-more, slice_get-cases, slice_get-set}
+use Rattle.userset_index.specs.Building.{AreSetMarks, HaveEnds, HoldsFirst, IsCrowdedLifeOf, IsEnd, IsMarkAt, IsSetMark, IsUndeclaredBelow, kept}
 use Rattle.userset_index.specs.Index.{Holds, HoldsThrough, IsFound, IsMark, count_of, few, is_crowded}
 use Rattle.userset_index.specs.Lives.{is_alive}
 use Rattle.userset_index.specs.declared.life.Life.{Life}
@@ -93,6 +93,29 @@ undeclared_by f h o (Some r) same none = absurd (let bad : None ≡ Some (h r) =
 pub undeclared_below : (ds : List Declaration) (g : SetValue) (middle : ℕ) → rule_of (rule_at ds middle) g ≡ None → IsUndeclaredBelow ds g (middle + 1)
 undeclared_below ds g middle none at less = undeclared_before ds g at middle (omega (arith, less)) none
 
+-- ---- marks
+
+pub set_marks_none : (touches : List Touch) → AreSetMarks touches 0 []
+set_marks_none touches = record { all = refl; each = λ i mark here. absurd cc }
+
+pub set_marks_next : (touches : List Touch) (n : ℕ) (marks : List ℕ) (mark : ℕ) → AreSetMarks touches n marks → IsSetMark touches n mark
+    → AreSetMarks touches (n + 1) (marks ++ mark ∷ [])
+set_marks_next touches n marks mark are is =
+    let more = length-more marks mark in
+    let old = are.all in record {
+      all = omega (arith, more, old);
+      each = λ i m here. elim (slice_get-cases marks mark i m here) [
+        | inl before ↦ are.each i m before
+        | inr new ↦
+            let place : n ≡ i = sym (new.0 ∙ are.all) in
+            subst (λ (k : ℕ). IsSetMark touches k m) place (subst (IsSetMark touches n) new.1 is)
+      ];
+    }
+
+-- 0 where there is none
+pub set_mark_by : (touches : List Touch) (n : ℕ) (o : Option ℕ) (mark : ℕ) → mark ≡ unwrap_or o 0 → IsMarkAt touches n o → IsSetMark touches n mark
+set_mark_by touches n o mark is at x here g user = is ∙ ap (λ (p : Option ℕ). unwrap_or p 0) (at x g here user)
+
 -- ---- lives
 
 pub kept_further : (lives : List Life) (o : Option Life) (l : Life) → Contains lives l → Contains (kept lives o) l
@@ -115,7 +138,7 @@ found_here lives o mark at i w =
 module _ (ds : List Declaration) (way : Way) (touches : List Touch) (crowds : List ℕ) where
   -- with the life of one more touch
   pub holds_next : (lives : List Life) (n : ℕ) (life : Option Life) (x : Touch) (end : ℕ) → HoldsFirst n ds way touches crowds lives
-      → slice_get touches n ≡ Some x → IsLifeOf ds way crowds n x end life → IsEnd touches n x end → HoldsFirst (n + 1) ds way touches crowds (kept lives life)
+      → slice_get touches n ≡ Some x → IsCrowdedLifeOf ds way crowds n x end life → IsEnd touches n x end → HoldsFirst (n + 1) ds way touches crowds (kept lives life)
   holds_next lives n life x end first here of ended i at mark y g less last user crowd small key =
       elim (eq-or-lt_of_le (let near : i ≤ n = omega (arith, less) in near)) [
         | inr before ↦ found_more lives (kept lives life) mark at i (kept_further lives life)

@@ -50,9 +50,34 @@ abbrev pub IsKeyOf : List Declaration → Way → SetValue → SetValue → Opti
 IsKeyOf ds way s g key =
     (at mark : ℕ) → at < 2 ^ 64 → IsMark ds way s g at mark → (from : ℕ) × (key ≡ Some (mark, from)) × (from ≤ at)
 
+-- a mark is that of the userset of a touch, where its user is a userset too
+abbrev pub IsMarkOf : Touch → ℕ → Type 0
+IsMarkOf x mark = (g : SetValue) → x.tuple.user ≡ Set g → mark ≡ set_mark x.tuple.set
+
+-- the same of the touch at an index
+abbrev pub IsSetMark : List Touch → ℕ → ℕ → Type 0
+IsSetMark touches i mark = (x : Touch) → slice_get touches i ≡ Some x → IsMarkOf x mark
+
+-- the mark of the userset of the touch at an index is there, where its user is a userset too
+abbrev pub IsMarkAt : List Touch → ℕ → Option ℕ → Type 0
+IsMarkAt touches i mark =
+    (x : Touch) (g : SetValue) → slice_get touches i ≡ Some x → x.tuple.user ≡ Set g → mark ≡ Some (set_mark x.tuple.set)
+
+-- such a mark for each of the first so many touches
+pub record AreSetMarks (touches : List Touch) (n : ℕ) (marks : List ℕ) : Type 0 where
+  pub all : length marks ≡ n
+  pub each : (i mark : ℕ) → slice_get marks i ≡ Some mark → IsSetMark touches i mark
+
 -- the life of a touch, where it has one, holds each timestamp up to its end at which it is looked for
-abbrev pub IsLifeOf : List Declaration → Way → List ℕ → ℕ → Touch → ℕ → Option Life → Type 0
-IsLifeOf ds way crowds i x end life =
+abbrev pub IsLifeOf : List Declaration → Way → ℕ → Touch → ℕ → Option Life → Type 0
+IsLifeOf ds way i x end life =
+    (at mark : ℕ) (g : SetValue) → x.live ≡ true → x.tuple.user ≡ Set g → at < 2 ^ 64
+    → x.at ≤ at → at ≤ end → IsMark ds way x.tuple.set g at mark
+    → (l : Life) × (life ≡ Some l) × (l.mark ≡ mark) × (l.touch ≡ i) × (is_alive at l ≡ true)
+
+-- the same where its userset is crowded
+abbrev pub IsCrowdedLifeOf : List Declaration → Way → List ℕ → ℕ → Touch → ℕ → Option Life → Type 0
+IsCrowdedLifeOf ds way crowds i x end life =
     (at mark : ℕ) (g : SetValue) → x.live ≡ true → x.tuple.user ≡ Set g
     → is_crowded crowds (set_mark x.tuple.set) ≡ true → at < 2 ^ 64
     → x.at ≤ at → at ≤ end → IsMark ds way x.tuple.set g at mark

@@ -5,10 +5,10 @@ ghost use Rattle.std.specs.List.{list_any};
 ghost use Rattle.tuple_text.specs.Refs.{set_value};
 ghost use Rattle.tuple_text.specs.Sets.{SetValue};
 ghost use Rattle.namespaces.specs.Lookup.{rule_at, rule_of};
-ghost use Rattle.version_chains.specs.Commits.{changelog};
+ghost use Rattle.version_chains.specs.Commits.{Touch, changelog};
 ghost use Rattle.marks.specs.Marks.{set_mark};
 ghost use Rattle.version_chains.specs.Touches.{touch_value};
-ghost use Rattle.userset_index.specs.Building.{AreEnds, AreRising, IsUndeclaredBelow, IsKeyOf, IsLifeOf, IsNeverDeclared, IsWithin, kept};
+ghost use Rattle.userset_index.specs.Building.{AreEnds, AreRising, AreSetMarks, IsCrowdedLifeOf, IsUndeclaredBelow, IsKeyOf, IsLifeOf, IsMarkAt, IsMarkOf, IsNeverDeclared, IsSetMark, IsWithin, kept};
 ghost use Rattle.userset_index.specs.Index.{AreExact, Holds};
 ghost use Rattle.userset_index.specs.Index as spec;
 
@@ -49,24 +49,51 @@ pub(crate) fn is_any_crowded(crowds: &[u8]) -> bool
     crowds.iter().any(|count| *count > FEW)
 }
 
+/// How many touches are of usersets, by the beginning of the mark of the userset that they are stored in; and of each touch of a userset
+/// that mark, so that no pass makes it again.
+#[derive(Drop)]
+pub(crate) struct Crowds {
+    pub counts: Vec<u8>,
+    pub marks: Vec<u64>,
+}
+
+/// The mark of the userset that a userset is stored in by a touch. `None` where the touch is of a user id.
+fn mark_at(chains: &Chains, index: usize) -> Option<u64>
+    ensures { IsMarkAt (changelog chains.now.commits) index result }
+{
+    let touch = chains.touch(index)?;
+    match touch.user.user {
+        UserRef::Set(_) => Some(MarkedSet::of(touch.set).mark),
+        UserRef::Id(_) => None,
+    }
+}
+
+/// Counts one more touch of a userset, if it is one, that is stored in a userset with this mark.
+fn count_one(counts: &mut Vec<u8>, mark: Option<u64>) {
+    let Some(mark) = mark else {
+        return;
+    };
+    if let Some(count) = counts.get_mut(count_of(mark)) {
+        *count = count.saturating_add(1);
+    }
+}
+
 /// Counts the touches of usersets, by the userset that they are stored in. It goes once over the changelog.
 pub(crate) fn count_crowds(
     alloc: Global,
     chains: &Chains,
     touches: usize,
-) -> Result<Vec<u8>, AllocError> {
-    let mut crowds = vec![in alloc; 0u8; COUNTS]?;
+) -> Result<Crowds, AllocError>
+    ensures { IfOk result (λ c. AreSetMarks (changelog chains.now.commits) touches c.marks.items) }
+{
+    let mut counts = vec![in alloc; 0u8; COUNTS]?;
+    let mut marks = Vec::with_capacity(alloc, touches)?;
     for index in 0..touches {
-        let Some(touch) = chains.touch(index) else {
-            break;
-        };
-        if let UserRef::Set(_) = touch.user.user {
-            if let Some(count) = crowds.get_mut(count_of(MarkedSet::of(touch.set).mark)) {
-                *count = count.saturating_add(1);
-            }
-        }
+        let mark = mark_at(chains, index);
+        count_one(&mut counts, mark);
+        marks.push(mark.unwrap_or(0))?;
     }
-    Ok(crowds)
+    Ok(Crowds { counts, marks })
 }
 
 /// A later touch of a tuple has a later timestamp: no commit touches a tuple twice. It computes nothing.
@@ -143,33 +170,56 @@ fn key_of(way: Way, rules: &Rules, mark: u64, user: SetRef<'_>) -> Option<(u64, 
     }
 }
 
-/// The life of a touch that may be the last of its tuple up to the timestamp `end`. `None` where it can never matter,
-/// or the userset is not crowded.
+/// The life of a touch that may be the last of its tuple up to the timestamp `end`, where its userset has this mark. `None` where it can
+/// never matter.
 fn life_of(
     way: Way,
     rules: &Rules,
-    crowds: &[u8],
+    mark: u64,
     index: usize,
     touch: TouchRef<'_>,
     end: u64,
 ) -> Option<Life>
-    ensures finds { IsLifeOf rules.now way crowds.now index (touch_value touch.entry) end result }
+    requires { IsMarkOf (touch_value touch) mark }
+    ensures finds { IsLifeOf rules.now way index (touch_value touch.entry) end result }
     ensures within { IfSome result (IsWithin index (touch_value touch.entry) end) }
 {
     let UserRef::Set(user) = touch.user.user else {
         return None;
     };
-    let set = MarkedSet::of(touch.set);
-    if !touch.live || !is_crowded(crowds, set.mark) {
+    if !touch.live {
         return None;
     }
-    let (mark, from) = key_of(way, rules, set.mark, user)?;
+    let (mark, from) = key_of(way, rules, mark, user)?;
     Some(Life {
         mark,
         touch: index,
         from: from.max(touch.at),
         until: end,
     })
+}
+
+/// The same for the touch at an index. `None` too where the userset is not crowded, so that the touch is not looked at.
+fn life_at(
+    way: Way,
+    chains: &Chains,
+    rules: &Rules,
+    counts: &[u8],
+    mark: u64,
+    index: usize,
+    end: u64,
+) -> Option<Life>
+    requires { IsSetMark (changelog chains.now.commits) index mark }
+    ensures finds { (x : Touch) → slice_get (changelog chains.now.commits) index ≡ Some x
+        → IsCrowdedLifeOf rules.now way counts.now index x end result }
+    ensures within { (x : Touch) → slice_get (changelog chains.now.commits) index ≡ Some x
+        → IfSome result (IsWithin index x end) }
+{
+    if !is_crowded(counts, mark) {
+        return None;
+    }
+    let touch = chains.touch(index)?;
+    life_of(way, rules, mark, index, touch, end)
 }
 
 /// Puts a life last, if there is one.
@@ -182,27 +232,33 @@ pub(crate) fn keep(lives: &mut Vec<Life>, life: Option<Life>) -> Result<(), Allo
     Ok(())
 }
 
-/// The lives that can matter, in the order of their touches. It goes once over the changelog.
+/// The lives that can matter, in the order of their touches. It goes once over the touches of crowded usersets.
 pub(crate) fn lives_of(
     alloc: Global,
     way: Way,
     chains: &Chains,
     rules: &Rules,
-    crowds: &[u8],
+    crowds: &Crowds,
     ends: &[u64],
 ) -> Result<Vec<Life>, AllocError>
-    requires { AreEnds (changelog chains.now.commits) ends.now }
-    ensures holds { IfOk result (λ lives. Holds rules.now way (changelog chains.now.commits) crowds.now lives.items) }
+    requires ends { AreEnds (changelog chains.now.commits) ends.now }
+    requires marks { AreSetMarks (changelog chains.now.commits) (length ends.now) crowds.now.marks.items }
+    ensures holds { IfOk result (λ lives. Holds rules.now way (changelog chains.now.commits)
+        crowds.now.counts.items lives.items) }
     ensures exact { IfOk result (λ lives. AreExact (changelog chains.now.commits) lives.items) }
 {
     let mut lives = Vec::new(alloc);
     for index in 0..ends.len() {
-        if let Some(touch) = chains.touch(index) {
-            keep(
-                &mut lives,
-                life_of(way, rules, crowds, index, touch, ends[index]),
-            )?;
-        }
+        let life = life_at(
+            way,
+            chains,
+            rules,
+            &crowds.counts,
+            crowds.marks[index],
+            index,
+            ends[index],
+        );
+        keep(&mut lives, life)?;
     }
     Ok(lives)
 }
@@ -213,11 +269,13 @@ pub(crate) fn linked_lives(
     way: Way,
     chains: &Chains,
     rules: &Rules,
-    crowds: &[u8],
+    crowds: &Crowds,
     ends: &[u64],
 ) -> Result<Spans, AllocError>
-    requires { AreEnds (changelog chains.now.commits) ends.now }
-    ensures holds { IfOk result (λ lives. Holds rules.now way (changelog chains.now.commits) crowds.now lives) }
+    requires ends { AreEnds (changelog chains.now.commits) ends.now }
+    requires marks { AreSetMarks (changelog chains.now.commits) (length ends.now) crowds.now.marks.items }
+    ensures holds { IfOk result (λ lives. Holds rules.now way (changelog chains.now.commits)
+        crowds.now.counts.items lives) }
     ensures exact { IfOk result (λ lives. AreExact (changelog chains.now.commits) lives) }
 {
     let mut lives = lives_of(alloc, way, chains, rules, crowds, ends)?;

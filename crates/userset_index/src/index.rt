@@ -75,10 +75,10 @@ impl UsersetIndex {
         let ends = ends_of(alloc, chains)?;
         let crowds = count_crowds(alloc, chains, ends.len())?;
         let times = Times::of(alloc, chains, rules, &ends)?;
-        if !is_any_crowded(&crowds) {
+        if !is_any_crowded(&crowds.counts) {
             return Ok(UsersetIndex {
                 is_whole: true,
-                crowds,
+                crowds: crowds.counts,
                 own: Spans::new(alloc),
                 through: Spans::new(alloc),
                 objects: Spans::new(alloc),
@@ -90,7 +90,7 @@ impl UsersetIndex {
         let objects = linked_lives(alloc, Way::Object, chains, rules, &crowds, &ends)?;
         Ok(UsersetIndex {
             is_whole: true,
-            crowds,
+            crowds: crowds.counts,
             own,
             through,
             objects,

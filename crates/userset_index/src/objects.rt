@@ -5,15 +5,15 @@
 //! object once at a timestamp, however many of its usersets are stored then, and meets it twice only where it shares
 //! its mark with another object.
 
-ghost use Rattle.std.specs.Prelude.{◌≡◌, ℕ, true, Contains, IfOk, IfSome, OnOk};
+ghost use Rattle.std.specs.Prelude.{◌≡◌, ℕ, true, length, Contains, IfOk, IfSome, OnOk};
 ghost use Rattle.version_chains.specs.Commits.{changelog};
-ghost use Rattle.userset_index.specs.Building.{AreEnds};
+ghost use Rattle.userset_index.specs.Building.{AreEnds, AreSetMarks};
 ghost use Rattle.userset_index.specs.Index.{AreExact, AreTimely, HoldsThrough, IsTimely};
 ghost use Rattle.userset_index.specs.Lives.{is_alive};
 ghost use Rattle.userset_index.specs.Objects.{AreNumbered, IsCover, IsCoveredBy, IsNumbered, IsSameLife, KeepsOf, object_at};
 ghost use Rattle.userset_index.specs.declared.life.Life.{Life};
 
-use crate::build::{keep, lives_of};
+use crate::build::{Crowds, keep, lives_of};
 use crate::life::{Life, Way};
 use crate::spans::Spans;
 use marks::{MarkedSet, pair_mark};
@@ -152,11 +152,13 @@ fn lives_through(
     alloc: Global,
     chains: &Chains,
     rules: &Rules,
-    crowds: &[u8],
+    crowds: &Crowds,
     ends: &[u64],
 ) -> Result<Vec<Life>, AllocError>
-    requires { AreEnds (changelog chains.now.commits) ends.now }
-    ensures holds { IfOk result (λ lives. HoldsThrough rules.now (changelog chains.now.commits) crowds.now lives.items) }
+    requires ends { AreEnds (changelog chains.now.commits) ends.now }
+    requires marks { AreSetMarks (changelog chains.now.commits) (length ends.now) crowds.now.marks.items }
+    ensures holds { IfOk result (λ lives. HoldsThrough rules.now (changelog chains.now.commits)
+        crowds.now.counts.items lives.items) }
     ensures exact { IfOk result (λ lives. AreExact (changelog chains.now.commits) lives.items) }
 {
     let mut lives = lives_of(alloc, Way::Object, chains, rules, crowds, ends)?;
@@ -170,11 +172,13 @@ pub(crate) fn linked_through(
     alloc: Global,
     chains: &Chains,
     rules: &Rules,
-    crowds: &[u8],
+    crowds: &Crowds,
     ends: &[u64],
 ) -> Result<Spans, AllocError>
-    requires { AreEnds (changelog chains.now.commits) ends.now }
-    ensures holds { IfOk result (λ lives. HoldsThrough rules.now (changelog chains.now.commits) crowds.now lives) }
+    requires ends { AreEnds (changelog chains.now.commits) ends.now }
+    requires marks { AreSetMarks (changelog chains.now.commits) (length ends.now) crowds.now.marks.items }
+    ensures holds { IfOk result (λ lives. HoldsThrough rules.now (changelog chains.now.commits)
+        crowds.now.counts.items lives) }
     ensures exact { IfOk result (λ lives. AreExact (changelog chains.now.commits) lives) }
 {
     let mut lives = lives_through(alloc, chains, rules, crowds, ends)?;

@@ -9,11 +9,12 @@ use Rattle.tuple_text.specs.Order.{tuple_eq}
 use Rattle.tuple_text.specs.OrderLaws.{tuple_equiv}
 use Rattle.tuple_text.proofs.ValueLemmas.{tuple_eq-same, tuple_eq-itself}
 use Rattle.version_chains.specs.Commits.{Touch}
-use Rattle.marks.specs.Placed.{last_place}
+use Rattle.marks.specs.Placed.{indices_of, last_place, passes}
 use Rattle.marks.specs.Marks.{held_mark, tuple_mark}
 use Rattle.version_chains.specs.Arena.{IsLinked, touch_of, nobody, AreApartAt, AreUpTo}
 use Rattle.version_chains.specs.Jumps.{AreJumps, IsBack}
 use Rattle.version_chains.specs.declared.node.Node.{Node}
+use Rattle.marks.proofs.LeftLemmas.{AreLeft, left_none, tuples_left}
 use Rattle.marks.proofs.PlacedLemmas.{last_place-here, last_place-same, last_place-front, last_place-more, last_place-none, last_place-map, at_last_place, slice_get-cases, slice_get-kept, slice_get-next, slice_get-set, slice_get-front, length-more, length-set, map-same_items}
 
 -- an item within a list
@@ -26,6 +27,22 @@ item_within xs i h = elim (slice_get_cases xs i).1 [
 -- what an item is to a function
 pub item_of : {X Y : Type 0} (f : X → Y) (xs : List X) (i : ℕ) (x : X) → slice_get xs i ≡ Some x → slice_get (map f xs) i ≡ Some (f x)
 item_of f xs i x at = slice_get-map f xs i ∙ ap (option_map f) at
+
+-- a mark that stands at no place
+no_indices : (mark : ℕ) (marks : List ℕ) (n : ℕ) → last_place (nat_eq mark) marks n ≡ 0 → indices_of mark marks n ≡ []
+no_indices mark marks zero e = refl
+no_indices mark marks (suc n) e = pick (passes (nat_eq mark) (slice_get marks n)) e (no_indices mark marks n)
+  where
+    pick : (b : Bool) → cond b (suc n) (last_place (nat_eq mark) marks n) ≡ 0 → (last_place (nat_eq mark) marks n ≡ 0 → indices_of mark marks n ≡ [])
+        → cond b (n ∷ indices_of mark marks n) (indices_of mark marks n) ≡ []
+    pick true bad none = absurd cc
+    pick false e none = none e
+
+-- is that of no tuple
+pub unmarked : (t : TupleValue) (tuples : List TupleValue) (named : List ℕ) → named ≡ map tuple_mark tuples → last_place (nat_eq (tuple_mark t)) named (length named) ≡ 0
+    → (i : ℕ) (u : TupleValue) → slice_get tuples i ≡ Some u → tuple_eq u t ≡ false
+unmarked t tuples named are none = left_none (λ u. tuple_eq u t) tuples
+    (subst (AreLeft (λ u. tuple_eq u t) tuples) (no_indices (tuple_mark t) named (length named) none) (tuples_left t tuples named are))
 
 -- tuples are equal where their numbers are
 pub tuples_by_number : (tuples : List TupleValue) → AreApartAt tuples → (a b : ℕ) (t u : TupleValue) → slice_get tuples a ≡ Some t → slice_get tuples b ≡ Some u → nat_eq a b ≡ tuple_eq t u

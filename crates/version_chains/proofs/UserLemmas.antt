@@ -33,7 +33,7 @@ none_same u (y ∷ ys) h = pick (user_eq u y) refl h (none_same u ys)
 
 module _ (g : SetValue) (k : Bool) (s : ℕ) (h : Held) where
   -- a tuple that is given is the userset's
-  of_set : (t : TupleValue) → is_given g k s h.touches t ≡ true → t.set ≡ g
+  pub of_set : (t : TupleValue) → is_given g k s h.touches t ≡ true → t.set ≡ g
   of_set t e = set_eq-same t.set g (and-left (set_eq t.set g) _ e)
 
   -- and its user is of the kind

@@ -1,5 +1,6 @@
 -- What the arena of tuples and touches holds, and how it is linked. No public clause cites this module.
 use Rattle.std.specs.Prelude.{◌≡◌, ℕ, ◌-◌, ◌<◌, ◌≤◌, List, [], ◌++◌, map, length, slice_get, Some, nat_eq, unwrap_or}
+use Rattle.tuple_text.specs.Sets.{SetValue}
 use Rattle.tuple_text.specs.Tuples.{TupleValue}
 use Rattle.tuple_text.specs.declared.users.User.TheVariants.{Id}
 use Rattle.version_chains.specs.Commits.{Touch}
@@ -37,6 +38,10 @@ latest_of rows = map (λ r. r.latest) rows
 -- the tuple of a number
 abbrev pub IsNumber : List TupleValue → TupleValue → ℕ → Type 0
 IsNumber tuples t n = slice_get tuples n ≡ Some t
+
+-- the tuple of a number, if there is one, is of the userset
+abbrev pub IsOfSet : List TupleValue → SetValue → ℕ → Type 0
+IsOfSet tuples g n = (t : TupleValue) → IsNumber tuples t n → t.set ≡ g
 
 -- no tuple stands at two places
 abbrev pub AreApartAt : List TupleValue → Type 0

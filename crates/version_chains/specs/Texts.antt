@@ -29,6 +29,11 @@ pub record IsSpan (text : List ℕ) (p : Span) : Type 0 where
   pub third : IsCharBoundary text (relation_at p)
   pub last : IsCharBoundary text (end_at p)
 
+-- the userset stands there
+pub record IsSpanOf (text : List ℕ) (s : SetValue) (p : Span) : Type 0 where
+  pub is : IsSpan text p
+  pub set : set_in text p ≡ s
+
 -- more text stands behind what stood there
 pub record GoesOn (old new : List ℕ) : Type 0 where
   pub more : List ℕ

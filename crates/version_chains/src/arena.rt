@@ -3,9 +3,10 @@
 ghost use Rattle.std.specs.Prelude.{◌≡◌, ℕ, ◌<◌, ◌≤◌, ◌+◌, ◌∷◌, ◌++◌, [], Some, length, slice_get, IfOk, IfSome, OnOk, OnErr, MatchOption, false, true, None, option_map};
 ghost use Rattle.tuple_text.specs.Order.{tuple_eq};
 ghost use Rattle.tuple_text.specs.Refs.{set_value, user_value};
+ghost use Rattle.tuple_text.specs.Sets.{set_eq};
 ghost use Rattle.tuple_text.specs.TupleRefs.{tuple_value};
 ghost use Rattle.tuple_text.specs.Tuples.{tuple_of, TupleValue};
-ghost use Rattle.version_chains.specs.Arena.{AreApartAt, AreUpTo, Extends, IsNumber};
+ghost use Rattle.version_chains.specs.Arena.{AreApartAt, AreUpTo, Extends, IsNumber, IsOfSet};
 ghost use Rattle.version_chains.specs.Commits.{Touch, touches_to, until, last_live};
 ghost use Rattle.version_chains.specs.Given.{AreLaterFrom, AreTouchesKnown, Gives, IsTouchAt, IsUnnumbered, IsUntouched, IsWalkUntil, LeadsBack, has_mark_of, is_given, is_stored_by, newest_of};
 ghost use Rattle.marks.specs.Marks as marks;
@@ -105,7 +106,8 @@ fn push_tuple(
     ensures held_kept { OnErr result (held.new ≡ held.old) }
 {
     push_both(named, held, of.name, of.kind)?;
-    if let Err(fault) = rows.push(tuple, of.user) {
+    let near = held.older(rows.len());
+    if let Err(fault) = rows.push(tuple, of.user, near) {
         named.pop();
         held.pop();
         return Err(fault);
@@ -155,8 +157,23 @@ impl Arena {
         }
     }
 
-    /// The number of a tuple whose mark is at hand.
+    /// The number of a tuple whose mark is at hand. Most that are asked for are not there, which shows without a look at a tuple.
+    #[inline(always)]
     fn find_marked(&self, mark: u64, set: MarkedSet<'_>, user: MarkedUser<'_>) -> Option<usize>
+        requires { mark ≡ marks.tuple_mark (tuple_of (set_value set.set) (user_value user.user)) }
+        ensures found { MatchOption result (IsUnnumbered self.now (tuple_of (set_value set.entry.set) (user_value user.entry.user)))
+            (IsNumber self.now.tuples (tuple_of (set_value set.entry.set) (user_value user.entry.user))) }
+        ensures untouched { result ≡ None → IsUntouched self.now (tuple_of (set_value set.entry.set) (user_value user.entry.user)) }
+    {
+        if self.named.newest(mark) == 0 {
+            return None;
+        }
+        self.find_named(mark, set, user)
+    }
+
+    /// The same by going over the tuples with this mark.
+    #[inline(never)]
+    fn find_named(&self, mark: u64, set: MarkedSet<'_>, user: MarkedUser<'_>) -> Option<usize>
         requires { mark ≡ marks.tuple_mark (tuple_of (set_value set.set) (user_value user.user)) }
         ensures found { MatchOption result (IsUnnumbered self.now (tuple_of (set_value set.entry.set) (user_value user.entry.user)))
             (IsNumber self.now.tuples (tuple_of (set_value set.entry.set) (user_value user.entry.user))) }
@@ -312,19 +329,52 @@ impl Arena {
         }
     }
 
-    /// The user of the tuple, where it is of the kind and the tuple is of this userset and stored at the timestamp.
+    /// Whether the tuple of the number shares the texts of its userset with a tuple that is given.
+    #[inline(always)]
+    fn is_like(&self, number: usize, like: Option<usize>) -> bool
+        ensures { result ≡ true → (t : TupleValue) → IsNumber self.now.tuples t number
+            → (u : TupleValue) × (n : ℕ) × (like ≡ Some n) × IsNumber self.now.tuples u n × (t.set ≡ u.set) }
+    {
+        match like {
+            Some(like) => self.rows.share_set(number, like),
+            None => false,
+        }
+    }
+
+    /// Whether the tuple of the number is of this userset. Where it shares its texts with one that is, they are not compared.
+    #[inline(always)]
+    fn is_of_set(&self, number: usize, set: SetRef<'_>, like: Option<usize>) -> bool
+        requires { IfSome like (IsOfSet self.now.tuples (set_value set)) }
+        ensures { (t : TupleValue) → IsNumber self.now.tuples t number → result ≡ set_eq t.set (set_value set.entry) }
+    {
+        if self.is_like(number, like) {
+            return true;
+        }
+        match self.rows.get(number) {
+            Some(row) => row.set == set,
+            None => false,
+        }
+    }
+
+    /// The user of the tuple, where it is of the kind and the tuple is of this userset and stored at the timestamp. A tuple of that
+    /// userset may be at hand.
     pub fn given(
         &self,
         number: usize,
         set: SetRef<'_>,
+        like: Option<usize>,
         usersets: bool,
         at: u64,
     ) -> Option<MarkedUser<'_>>
+        requires { IfSome like (IsOfSet self.now.tuples (set_value set)) }
         ensures { (t : TupleValue) → IsNumber self.now.tuples t number
             → Gives result (is_given (set_value set.entry) usersets at self.now.touches t) t.user }
     {
         let row = self.rows.get(number)?;
-        if row.set == set && is_userset(row.user.user) == usersets && self.is_live(number, at) {
+        if self.is_of_set(number, set, like)
+            && is_userset(row.user.user) == usersets
+            && self.is_live(number, at)
+        {
             Some(row.user)
         } else {
             None

@@ -1,19 +1,19 @@
 //! Tuples as they are kept.
 
-ghost use Rattle.std.specs.Prelude.{◌≡◌, ◌<◌, ◌∷◌, ◌++◌, [], Some, length, slice_get, slice_set, option_map, string_bytes, IfOk, IfSome, OnOk, OnErr};
+ghost use Rattle.std.specs.Prelude.{◌≡◌, true, ◌<◌, ◌∷◌, ◌++◌, [], Some, length, slice_get, slice_set, option_map, string_bytes, IfOk, IfSome, OnOk, OnErr};
 ghost use Rattle.tuple_text.specs.Grammar.{IsUser};
-ghost use Rattle.tuple_text.specs.Refs.{user_value};
+ghost use Rattle.tuple_text.specs.Refs.{set_value, user_value};
 ghost use Rattle.tuple_text.specs.TupleRefs.{tuple_value};
 ghost use Rattle.marks.specs.Marks as marks;
-ghost use Rattle.version_chains.specs.Rows.{Kept, IsRow, kept_in, row_value, user_in};
-ghost use Rattle.version_chains.specs.Texts.{GoesOn, IsSpan};
+ghost use Rattle.version_chains.specs.Rows.{AreRows, Kept, IsRow, kept_in, row_value, user_in};
+ghost use Rattle.version_chains.specs.Texts.{GoesOn, IsSpan, IsSpanOf};
 
 use crate::row::{Row, RowRef};
-use crate::texts::{Span, push_set, set_at};
+use crate::texts::{Span, is_same_span, place_set, push_set, set_at};
 use marks::MarkedUser;
 use std::alloc::{AllocError, Global};
 use std::marker::Model;
-use tuple_text::{TupleRef, UserRef};
+use tuple_text::{SetRef, TupleRef, UserRef};
 
 /// Tuples, each with the mark of its user and the place of its newest touch. Their texts stand one behind the other in
 /// one, so that a tuple wants no memory of its own.
@@ -71,15 +71,37 @@ fn push_user(text: &mut String, user: UserRef<'_>) -> Result<Option<Span>, Alloc
     }
 }
 
-/// Adds the texts of a tuple at the end, and gives its row.
-fn push_texts(text: &mut String, tuple: TupleRef<'_>, user_mark: u64) -> Result<Row, AllocError>
-    requires { user_mark ≡ marks.user_mark (tuple_value tuple).user }
+/// Where the userset of the row at a place stands, if it is this one.
+fn known_set(text: &str, rows: &[Row], place: usize, set: SetRef<'_>) -> Option<Span>
+    requires { AreRows text.now rows.now }
+    ensures { IfSome result (IsSpanOf text.now (set_value set.entry)) }
+{
+    if place == 0 {
+        return None;
+    }
+    let row = rows.get(place - 1)?;
+    if set_at(text, row.set) == set {
+        Some(row.set)
+    } else {
+        None
+    }
+}
+
+/// Adds the texts of a tuple at the end, and gives its row. Its userset may stand there already.
+fn push_texts(
+    text: &mut String,
+    tuple: TupleRef<'_>,
+    user_mark: u64,
+    known: Option<Span>,
+) -> Result<Row, AllocError>
+    requires mark { user_mark ≡ marks.user_mark (tuple_value tuple).user }
+    requires known { IfSome known (IsSpanOf (string_bytes text.old) (tuple_value tuple).set) }
     ensures goes_on { GoesOn (string_bytes text.old) (string_bytes text.new) }
     ensures row { IfOk result (IsRow (string_bytes text.new)) }
     ensures kept { IfOk result (λ row. kept_in (string_bytes text.new) row
         ≡ record { tuple = tuple_value tuple.entry; latest = 0 }) }
 {
-    let set = push_set(text, tuple.set())?;
+    let set = place_set(text, tuple.set(), known)?;
     let user = push_user(text, tuple.user())?;
     Ok(Row {
         set,
@@ -116,6 +138,21 @@ impl Rows {
         }
     }
 
+    /// Whether two tuples share the texts of their userset.
+    #[inline(always)]
+    pub fn share_set(&self, one: usize, other: usize) -> bool
+        ensures { result ≡ true → (a : Kept) → slice_get self.now one ≡ Some a
+            → (b : Kept) × (slice_get self.now other ≡ Some b) × (a.tuple.set ≡ b.tuple.set) }
+    {
+        let Some(first) = self.rows.get(one) else {
+            return false;
+        };
+        let Some(second) = self.rows.get(other) else {
+            return false;
+        };
+        is_same_span(first.set, second.set)
+    }
+
     /// The place of the tuple's newest touch.
     pub fn latest(&self, number: usize) -> u32
         ensures { (r : Kept) → slice_get self.now number ≡ Some r → result ≡ r.latest }
@@ -126,13 +163,20 @@ impl Rows {
         }
     }
 
-    /// Adds a tuple without a touch. Where memory runs out, nothing changes.
-    pub fn push(&mut self, tuple: TupleRef<'_>, user_mark: u64) -> Result<(), AllocError>
+    /// Adds a tuple without a touch. It shares the texts of its userset with the tuple at the place `near`, if that has the same one.
+    /// Where memory runs out, nothing changes.
+    pub fn push(
+        &mut self,
+        tuple: TupleRef<'_>,
+        user_mark: u64,
+        near: usize,
+    ) -> Result<(), AllocError>
         requires { user_mark ≡ marks.user_mark (tuple_value tuple).user }
         ensures ok { OnOk result (self.new ≡ self.old ++ record { tuple = tuple_value tuple.entry; latest = 0 } ∷ []) }
         ensures err { OnErr result (self.new ≡ self.old) }
     {
-        let row = push_texts(&mut self.text, tuple, user_mark)?;
+        let known = known_set(&self.text, &self.rows, near, tuple.set());
+        let row = push_texts(&mut self.text, tuple, user_mark, known)?;
         self.rows.push(row)?;
         Ok(())
     }

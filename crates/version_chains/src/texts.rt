@@ -1,9 +1,9 @@
 //! Usersets whose texts stand one behind the other in one text.
 
-ghost use Rattle.std.specs.Prelude.{◌≡◌, IfOk, string_bytes};
+ghost use Rattle.std.specs.Prelude.{◌≡◌, true, IfOk, IfSome, string_bytes};
 ghost use Rattle.tuple_text.specs.Forms.{IsUserset};
 ghost use Rattle.tuple_text.specs.Refs.{set_value};
-ghost use Rattle.version_chains.specs.Texts.{GoesOn, IsSpan, set_in};
+ghost use Rattle.version_chains.specs.Texts.{GoesOn, IsSpan, IsSpanOf, set_in};
 
 use std::alloc::AllocError;
 use tuple_text::SetRef;
@@ -37,6 +37,17 @@ pub fn set_at(text: &str, span: Span) -> SetRef<'_>
     }
 }
 
+/// Whether two usersets stand at one place.
+#[inline(always)]
+pub fn is_same_span(one: Span, other: Span) -> bool
+    ensures { result ≡ true → one ≡ other }
+{
+    one.at == other.at
+        && one.namespace_len == other.namespace_len
+        && one.id_len == other.id_len
+        && one.relation_len == other.relation_len
+}
+
 /// Adds the parts of a userset at the end, and says where they stand.
 pub fn push_set(text: &mut String, set: SetRef<'_>) -> Result<Span, AllocError>
     requires { IsUserset (set_value set) }
@@ -57,4 +68,22 @@ pub fn push_set(text: &mut String, set: SetRef<'_>) -> Result<Span, AllocError>
         id_len: set.id.len() as u8,
         relation_len: set.relation.len() as u8,
     })
+}
+
+/// Says where a userset stands that is known to stand somewhere; else adds its parts at the end.
+pub fn place_set(
+    text: &mut String,
+    set: SetRef<'_>,
+    known: Option<Span>,
+) -> Result<Span, AllocError>
+    requires set { IsUserset (set_value set) }
+    requires known { IfSome known (IsSpanOf (string_bytes text.old) (set_value set)) }
+    ensures goes_on { GoesOn (string_bytes text.old) (string_bytes text.new) }
+    ensures span { IfOk result (IsSpan (string_bytes text.new)) }
+    ensures set { IfOk result (λ span. set_in (string_bytes text.new) span ≡ set_value set.entry) }
+{
+    match known {
+        Some(span) => Ok(span),
+        None => push_set(text, set),
+    }
 }

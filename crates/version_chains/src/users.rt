@@ -25,6 +25,8 @@ pub(crate) struct OfKind<'a> {
     usersets: bool,
     at: u64,
     place: usize,
+    // the tuple that was given last, with which others of the userset mostly share its texts
+    like: Option<usize>,
 }
 
 impl<'a> Model for OfKind<'a> {
@@ -39,7 +41,11 @@ impl<'a> Model for OfKind<'a> {
 
     ghost view = { λ it. users_before (set_value it.set) it.usersets it.at it.arena.now it.place };
 
-    ghost invariant = { λ it. IsLinkedPlace (has_mark_of (set_value it.set) it.usersets) it.arena.now.tuples it.place };
+    ghost use Rattle.std.specs.Prelude.{IfSome};
+    ghost use Rattle.version_chains.specs.Arena.{IsOfSet};
+
+    ghost invariant = { λ it. IsLinkedPlace (has_mark_of (set_value it.set) it.usersets) it.arena.now.tuples it.place
+        × IfSome it.like (IsOfSet it.arena.now.tuples (set_value it.set)) };
 }
 
 impl<'a> Iterator for OfKind<'a> {
@@ -53,8 +59,14 @@ impl<'a> Iterator for OfKind<'a> {
         while self.place > 0 {
             let number = self.place - 1;
             self.place = self.arena.sibling(number);
-            match self.arena.given(number, self.set, self.usersets, self.at) {
-                Some(user) => return Some(user),
+            match self
+                .arena
+                .given(number, self.set, self.like, self.usersets, self.at)
+            {
+                Some(user) => {
+                    self.like = Some(number);
+                    return Some(user);
+                }
                 None => {}
             }
         }
@@ -76,6 +88,7 @@ impl<'a> OfKind<'a> {
             usersets,
             at,
             place,
+            like: None,
         }
     }
 }

@@ -8,7 +8,7 @@ use Rattle.userset_index.proofs.build.linked_lives.Goals as goal
 pub returns-clause-holds : goal.returns-clause-holds
 returns-clause-holds c = IfOk-weaker c.of.result _ _
     (λ spans is. rw is (holds_permuted c.args.rules.now c.args.way
-    (changelog c.args.chains.now.commits) c.args.crowds.now
+    (changelog c.args.chains.now.commits) c.args.crowds.now.counts.items
     c.in_ok-lives.lives.items _ (search rules) c.in_ok-lives.ensures.holds)) c.of.ensures
 
 pub returns-clause-exact : goal.returns-clause-exact

@@ -5,7 +5,7 @@ use Rattle.userset_index.proofs.build.lives_of.Given as goal
 
 abbrev pub invariant-loop-index : goal.invariant-loop-index
 invariant-loop-index l = record {
-  holds : HoldsFirst l.index l.rules l.way (changelog l.chains.commits) l.crowds l.lives.items;
+  holds : HoldsFirst l.index l.rules l.way (changelog l.chains.commits) l.crowds.counts.items l.lives.items;
   timely : AreTimely (changelog l.chains.commits) l.lives.items;
   once : AreOfFirst l.index l.lives.items;
 }

@@ -7,7 +7,7 @@ use Rattle.userset_index.proofs.objects.linked_through.Goals as goal
 
 pub returns-clause-holds : goal.returns-clause-holds
 returns-clause-holds c = IfOk-weaker c.of.result _ _
-    (λ spans is. rw is (through_permuted c.args.rules.now (changelog c.args.chains.now.commits) c.args.crowds.now
+    (λ spans is. rw is (through_permuted c.args.rules.now (changelog c.args.chains.now.commits) c.args.crowds.now.counts.items
     c.in_ok-lives.lives.items _ (search rules) c.in_ok-lives.ensures.holds)) c.of.ensures
 
 pub returns-clause-exact : goal.returns-clause-exact

@@ -17,11 +17,11 @@ returns c =
     let touches = changelog c.args.chains.now.commits in
     let moved : IsPermutation c.in_ok-lives.lives.items c.deref.result.now = search rules in
     let read : c.deref-2.result.now ≡ c.in_ok-kept.kept.items = search rules in
-    let holds = holds_permuted ds Object touches c.args.crowds.now _ _ moved c.in_ok-lives.ensures.holds in
+    let holds = holds_permuted ds Object touches c.args.crowds.now.counts.items _ _ moved c.in_ok-lives.ensures.holds in
     let exact = c.in_ok-kept.ensures.exact (exact_permuted touches _ _ moved c.in_ok-lives.ensures.exact) in
     record {
       holds = IfOk-weaker c.all_numbered.result _ _
-          (λ numbered all. through_by_objects ds touches c.args.crowds.now _ _ numbered.items holds
+          (λ numbered all. through_by_objects ds touches c.args.crowds.now.counts.items _ _ numbered.items holds
           c.in_ok-kept.ensures.covers exact.timely
           (subst (λ (ls : List Life). AreNumbered ds touches ls numbered.items) read all))
           c.all_numbered.ensures.numbered;

@@ -26,6 +26,11 @@ returns-then-end-eq0-clause-ok c = λ more is_place.
           ∙ ap (λ (n : ℕ). cond (nat_eq m c.args.mark) c.args.place n) (sym (newest-more longest c.args.links.now more c.args.self.now.slots c.args.self.now.rest c.requires m));
     }
 
+pub place_at-older-requires : goal.place_at-older-requires
+place_at-older-requires c =
+    let same : c.if-eq.self.slots ≡ c.args.self.now.slots = search rules in
+    λ s is. c.requires.free (c.probe-end.result - 1) s (rw same at is)
+
 pub set-requires : goal.set-requires
 set-requires c =
     let some : 0 < c.probe-end.result = search rules in
@@ -37,7 +42,7 @@ pub returns-clause-older : goal.returns-clause-older
 returns-clause-older c =
     let some : 0 < c.probe-end.result = search rules in
     let same : c.if-eq.self.slots ≡ c.args.self.now.slots = search rules in
-    c.place-older.ensures ∙ ap (λ slots. place_of (slice_get slots (c.probe-end.result - 1))) same
+    c.place_at-older.ensures ∙ ap (λ slots. place_of (slice_get slots (c.probe-end.result - 1))) same
     ∙ place_at_end longest c.args.links.now c.args.self.now.slots c.args.self.now.rest c.args.mark c.probe-end.result c.probe-end.ensures some
 
 pub returns-clause-ok : goal.returns-clause-ok

@@ -1,46 +1,24 @@
-use Rattle.std.proofs.Common.{◌≡◌, ◌∙◌, ℕ, length, Some, ap, sym, subst}
+use Rattle.std.proofs.Common.{◌≡◌, ◌∙◌, ℕ, length, false, Some, ap, sym, subst, nat_eq}
 use Rattle.std.specs.Prelude.{slice_get}
 use Rattle.tuple_text.specs.Order.{tuple_eq}
 use Rattle.tuple_text.specs.Refs.{set_value, user_value}
-use Rattle.tuple_text.specs.Tuples.{tuple_of}
-use Rattle.tuple_text.proofs.ValueLemmas.{tuple_eq-same}
-use Rattle.marks.specs.Marks.{tuple_mark}
-use Rattle.marks.specs.Placed.{indices_of}
-use Rattle.marks.proofs.LeftLemmas.{AreLeft, left_behind, left_none, tuples_left}
+use Rattle.tuple_text.specs.Tuples.{TupleValue, tuple_of}
+use Rattle.marks.specs.Placed.{last_place}
 use Rattle.version_chains.specs.Arena.{Held, latest_of, tuples_of}
-use Rattle.version_chains.proofs.ArenaLemmas.{item_within, touches_known}
+use Rattle.version_chains.proofs.ArenaLemmas.{touches_known, unmarked}
 use Rattle.version_chains.proofs.arena.Arena.find_marked.Goals as goal
 
-pub loop-number-init : goal.loop-number-init
-loop-number-init c =
+pub returns-then-newest-eq0-clause-found : goal.returns-then-newest-eq0-clause-found
+returns-then-newest-eq0-clause-found c =
     let tuple = tuple_of (set_value c.args.set.set) (user_value c.args.user.user) in
     let named = c.self.inside.named in
-    let all = subst (λ (h : Held). AreLeft (λ u. tuple_eq u tuple) h.tuples (indices_of (tuple_mark tuple) named (length named))) c.self.view_is
-    (tuples_left tuple (tuples_of c.self.inside.rows) named c.self.invariant.0.names) in
-    subst (AreLeft (λ u. tuple_eq u tuple) c.args.self.now.tuples)
-    (sym (c.into_iter-number-iterator.ensures.into_iter_gives ∙ c.with-number-items.ensures ∙ ap (λ (m : ℕ). indices_of m named (length named)) c.requires)) all
+    let none : last_place (nat_eq c.args.mark) named (length named) ≡ 0 = sym c.newest.ensures ∙ c.if-newest-eq0.true in
+    let place = ap (λ (m : ℕ). last_place (nat_eq m) named (length named)) (sym c.requires) ∙ none in
+    subst (λ (h : Held). (i : ℕ) (u : TupleValue) → slice_get h.tuples i ≡ Some u → tuple_eq u tuple ≡ false) c.self.view_is
+    (unmarked tuple (tuples_of c.self.inside.rows) named c.self.invariant.0.names place)
 
-pub loop-number-preserved : goal.loop-number-preserved
-loop-number-preserved c =
-    let tuple = tuple_of (set_value c.args.set.set) (user_value c.args.user.user) in
-    let left = subst (AreLeft (λ u. tuple_eq u tuple) c.args.self.now.tuples) c.in-Some.ensures.steps c.loop-number.invariant in
-    let there = item_within c.args.self.now.tuples c.in-Some.number left.within.0 in
-    left_behind (λ u. tuple_eq u tuple) c.args.self.now.tuples c.in-Some.number _ there.0 there.1 (sym (c.is_named.ensures there.0 there.1) ∙ c.if-is_named.false) left
-
-pub returns-then-is_named-clause-found : goal.returns-then-is_named-clause-found
-returns-then-is_named-clause-found c =
-    let tuple = tuple_of (set_value c.args.set.set) (user_value c.args.user.user) in
-    let left = subst (AreLeft (λ u. tuple_eq u tuple) c.args.self.now.tuples) c.in-Some.ensures.steps c.loop-number.invariant in
-    let there = item_within c.args.self.now.tuples c.in-Some.number left.within.0 in
-    there.1 ∙ ap Some (tuple_eq-same there.0 tuple (sym (c.is_named.ensures there.0 there.1) ∙ c.if-is_named.true))
-
-pub returns-clause-found : goal.returns-clause-found
-returns-clause-found c =
-    let tuple = tuple_of (set_value c.args.set.set) (user_value c.args.user.user) in
-    left_none (λ u. tuple_eq u tuple) c.args.self.now.tuples (subst (AreLeft (λ u. tuple_eq u tuple) c.args.self.now.tuples) c.in-None.ensures.steps.0 c.loop-number.invariant)
-
-pub returns-clause-untouched : goal.returns-clause-untouched
-returns-clause-untouched c _ i x h =
+pub returns-then-newest-eq0-clause-untouched : goal.returns-then-newest-eq0-clause-untouched
+returns-then-newest-eq0-clause-untouched c _ i x h =
     let known = touches_known (tuples_of c.self.inside.rows) (latest_of c.self.inside.rows) c.self.inside.named c.self.inside.held c.self.inside.nodes.items c.self.invariant.0 in
     let w = known i x (subst (λ (y : Held). slice_get y.touches i ≡ Some x) (sym c.self.view_is) h) in
-    returns-clause-found c w.0 x.tuple (subst (λ (y : Held). slice_get y.tuples w.0 ≡ Some x.tuple) c.self.view_is w.1)
+    returns-then-newest-eq0-clause-found c w.0 x.tuple (subst (λ (y : Held). slice_get y.tuples w.0 ≡ Some x.tuple) c.self.view_is w.1)

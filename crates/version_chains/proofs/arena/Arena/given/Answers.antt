@@ -2,7 +2,7 @@ use Rattle.std.proofs.Common.{◌≡◌, ℕ, Bool, true, false, ◌&&◌, List,
 use Rattle.std.specs.Prelude.{slice_get}
 use Rattle.std.specs.Bool.{beq}
 use Rattle.tuple_text.specs.Refs.{set_value}
-use Rattle.tuple_text.specs.Sets.{SetValue, set_eq}
+use Rattle.tuple_text.specs.Sets.{set_eq}
 use Rattle.tuple_text.specs.Tuples.{TupleValue}
 use Rattle.tuple_text.specs.declared.users.User.{User}
 use Rattle.version_chains.specs.Arena.{Held, tuples_of}
@@ -11,7 +11,7 @@ use Rattle.marks.specs.Marks.{is_userset}
 use Rattle.version_chains.specs.Rows.{Kept, row_value}
 use Rattle.version_chains.proofs.RowLemmas.{row-kept}
 use Rattle.version_chains.proofs.arena.Arena.given.Goals as goal
-use Rattle.version_chains.proofs.arena.Arena.given.Goals.{else-eq-via-then-eq+then-is_userset-usersets+else-is_live, else-eq-via-then-eq+else-is_userset-usersets, else-eq-via-else-eq}
+use Rattle.version_chains.proofs.arena.Arena.given.Goals.{else-is_of_set-via-then-is_of_set+then-is_userset-usersets+else-is_live, else-is_of_set-via-then-is_of_set+else-is_userset-usersets, else-is_of_set-via-else-is_of_set}
 
 row_of : (rows : List Kept) (tuples : List TupleValue) (i : ℕ) (row : Kept) (t : TupleValue) → tuples_of rows ≡ tuples
     → Some row ≡ slice_get rows i → slice_get tuples i ≡ Some t → row.tuple ≡ t
@@ -43,14 +43,9 @@ third_false true true c h = h
 third_false true false c h = refl
 third_false false b c h = refl
 
-module _ (g : SetValue) (usersets : Bool) (t : TupleValue) (one : SetValue) (u : User) (set : one ≡ t.set)
-    (user : u ≡ t.user) where
-  same_set : (b r : Bool) → r ≡ set_eq one g → r ≡ b → set_eq t.set g ≡ b
-  same_set b r is test = ap (λ (x : SetValue). set_eq x g) (sym set) ∙ sym is ∙ test
-
-  same_kind : (b r : Bool) → r ≡ is_userset u → beq r usersets ≡ b → beq (is_userset t.user) usersets ≡ b
-  same_kind b r is test =
-      ap (λ (x : User). beq (is_userset x) usersets) (sym user) ∙ ap (λ (x : Bool). beq x usersets) (sym is) ∙ test
+same_kind : (usersets : Bool) (t : TupleValue) (u : User) → u ≡ t.user → (b r : Bool) → r ≡ is_userset u → beq r usersets ≡ b → beq (is_userset t.user) usersets ≡ b
+same_kind usersets t u user b r is test =
+    ap (λ (x : User). beq (is_userset x) usersets) (sym user) ∙ ap (λ (x : Bool). beq x usersets) (sym is) ∙ test
 
 pub returns-in_err-row : goal.returns-in_err-row
 returns-in_err-row c =
@@ -61,29 +56,27 @@ pub returns-then-is_live : goal.returns-then-is_live
 returns-then-is_live c = λ t is.
     let same = row_of c.self.inside.rows c.args.self.now.tuples c.args.number (row_value c.in_ok-row.row) t
     (ap (λ (h : Held). h.tuples) c.self.view_is) c.in_ok-row.ensures is in
-    let set = ap (λ (x : TupleValue). x.set) same in
     let user = ap (λ (x : TupleValue). x.user) same in (
-      all_true _ _ _ (same_set (set_value c.args.set) c.args.usersets t _ _ set user true _ c.eq.ensures c.if-eq.true)
-          (same_kind (set_value c.args.set) c.args.usersets t _ _ set user true _ c.is_userset.ensures
+      all_true _ _ _ (sym (c.is_of_set.ensures t is) ∙ c.if-is_of_set.true)
+          (same_kind c.args.usersets t _ user true _ c.is_userset.ensures
           c.if-is_userset-usersets.true)
           (sym (c.is_live.ensures t is) ∙ c.if-is_live.true),
       user,
     )
 
-pub returns-else-eq : goal.returns-else-eq
-returns-else-eq c = λ t is.
+pub returns-else-is_of_set : goal.returns-else-is_of_set
+returns-else-is_of_set c = λ t is.
     let same = row_of c.self.inside.rows c.args.self.now.tuples c.args.number (row_value c.in_ok-row.row) t
     (ap (λ (h : Held). h.tuples) c.self.view_is) c.in_ok-row.ensures is in
-    let set = ap (λ (x : TupleValue). x.set) same in
     let user = ap (λ (x : TupleValue). x.user) same in
-    elim c.else-eq.branch [
-      | else-eq-via-then-eq+then-is_userset-usersets+else-is_live w ↦ third_false (set_eq t.set (set_value c.args.set))
+    elim c.else-is_of_set.branch [
+      | else-is_of_set-via-then-is_of_set+then-is_userset-usersets+else-is_live w ↦ third_false (set_eq t.set (set_value c.args.set))
           (beq (is_userset t.user) c.args.usersets) _ (sym (w.is_live.ensures t is) ∙ w.if-is_live.false)
-      | else-eq-via-then-eq+else-is_userset-usersets w ↦ second_false (set_eq t.set (set_value c.args.set))
+      | else-is_of_set-via-then-is_of_set+else-is_userset-usersets w ↦ second_false (set_eq t.set (set_value c.args.set))
           (beq (is_userset t.user) c.args.usersets) (is_stored_by c.args.self.now.touches c.args.at t)
-          (same_kind (set_value c.args.set) c.args.usersets t _ _ set user false _ w.is_userset.ensures
+          (same_kind c.args.usersets t _ user false _ w.is_userset.ensures
           w.if-is_userset-usersets.false)
-      | else-eq-via-else-eq w ↦ first_false (set_eq t.set (set_value c.args.set))
+      | else-is_of_set-via-else-is_of_set w ↦ first_false (set_eq t.set (set_value c.args.set))
           (beq (is_userset t.user) c.args.usersets) (is_stored_by c.args.self.now.touches c.args.at t)
-          (same_set (set_value c.args.set) c.args.usersets t _ _ set user false _ c.eq.ensures w.if-eq.false)
+          (sym (c.is_of_set.ensures t is) ∙ w.if-is_of_set.false)
     ]

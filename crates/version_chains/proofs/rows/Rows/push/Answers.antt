@@ -1,9 +1,14 @@
-use Rattle.std.proofs.Common.{◌++◌, ◌∷◌, [], List, ap, ◌∙◌, map, sym, subst}
+use Rattle.std.proofs.Common.{◌++◌, ◌∷◌, [], List, ℕ, ap, ◌∙◌, map, sym, subst}
 use Rattle.std.specs.Prelude.{string_bytes}
 use Rattle.version_chains.specs.Rows.{AreRows, Kept, kept_in}
 use Rattle.version_chains.specs.declared.row.Row.{Row}
 use Rattle.version_chains.proofs.KeptLemmas.{all-kept, kept-more, on_err, rows-kept, rows-more}
 use Rattle.version_chains.proofs.rows.Rows.push.Goals as goal
+
+pub known_set-known-requires : goal.known_set-known-requires
+known_set-known-requires c =
+    subst (λ (rs : List Row). AreRows c.deref.result.now rs) (sym c.deref-2.ensures.value)
+    (subst (λ (text : List ℕ). AreRows text c.self.inside.rows.items) (sym c.deref.ensures) c.self.invariant)
 
 pub invariant_of-self : goal.invariant_of-self
 invariant_of-self c = rows-kept _ _ c.push_texts.ensures.goes_on c.self.inside.rows.items c.self.invariant

@@ -2,7 +2,7 @@ use Rattle.std.proofs.Common.{◌≡◌, ◌∙◌, ◌∷◌, ◌-◌, suc, sym
 use Rattle.tuple_text.specs.Refs.{set_value}
 use Rattle.version_chains.specs.Given.{has_mark_of, users_before}
 use Rattle.marks.specs.Placed.{IsLinkedPlace}
-use Rattle.version_chains.proofs.UserLemmas.{users_on, users_give, users_skip, users_smaller, user_at}
+use Rattle.version_chains.proofs.UserLemmas.{of_set, users_on, users_give, users_skip, users_smaller, user_at}
 use Rattle.version_chains.proofs.users.OfKindIterator.next.Goals.{After-sibling-self-inside}
 use Rattle.version_chains.proofs.users.OfKindIterator.next.Goals as goal
 
@@ -19,10 +19,12 @@ on c =
 
 pub invariant_of-self-in-Some : goal.invariant_of-self-in-Some
 invariant_of-self-in-Some c =
-    let it = c.loop-self.self-inside in
-    users_on (set_value it.set) it.usersets it.at it.arena.now (it.place - 1)
-    (on (goal.at.invariant_of-self-in-Some c).After-sibling-self-inside)
-    c.sibling-self-inside.result c.sibling-self-inside.ensures
+    let it = c.loop-self.self-inside in (
+      users_on (set_value it.set) it.usersets it.at it.arena.now (it.place - 1)
+          (on (goal.at.invariant_of-self-in-Some c).After-sibling-self-inside)
+          c.sibling-self-inside.result c.sibling-self-inside.ensures,
+      λ t is. of_set (set_value it.set) it.usersets it.at it.arena.now t (c.in-Some.ensures t is).0,
+    )
 
 pub returns-in-Some-clause-steps : goal.returns-in-Some-clause-steps
 returns-in-Some-clause-steps c =
@@ -54,6 +56,7 @@ loop-self-preserved c =
     record {
       on = users_on (set_value it.set) it.usersets it.at it.arena.now (it.place - 1)
           (on at) c.sibling-self-inside.result c.sibling-self-inside.ensures;
+      like = c.loop-self.invariant.like;
       left =
           sym (users_skip (set_value it.set) it.usersets it.at it.arena.now (it.place - 1)
           (on at) c.sibling-self-inside.result c.sibling-self-inside.ensures t.0 t.1 (c.in-None.ensures t.0 t.1))
