@@ -1,21 +1,20 @@
 -- Leaves that go through one tupleset, put together.
-use Rattle.std.proofs.Common.{◌≡◌, ℕ, zero, suc, List, [], ◌∷◌, ◌++◌, Some, String, Global, inl, inr, map, refl, sym, ◌∙◌, ap, subst, append_assoc, arith}
+use Rattle.std.proofs.Common.{◌≡◌, ℕ, zero, suc, List, [], ◌∷◌, ◌++◌, Some, inl, inr, map, refl, sym, ◌∙◌, ap, subst, append_assoc, arith}
 use Rattle.std.proofs.Math.Bool.{or_assoc, or_comm}
 use Rattle.std.proofs.lemmas.List.{map-append}
 use Rattle.std.proofs.lemmas.List.Folds.{list_any-append}
 use Rattle.std.proofs.lemmas.List.Sums.{sum_by-append}
 use Rattle.std.specs.List.{list_any}
-use Rattle.std.specs.Prelude.{Contains, slice_get, slice_set, string_bytes}
-use Rattle.rewrites.specs.Expression.{Expression, tuple_to}
+use Rattle.std.specs.Prelude.{slice_get, slice_set}
+use Rattle.rewrites.specs.Expression.{Expression}
 use Rattle.rewrites.specs.Joints.{IsPut}
 use Rattle.rewrites.specs.Leaves.{leaves_in, Collects}
-use Rattle.rewrites.specs.Parts.{computed_names, each_shown, part_expression, parts_shown}
+use Rattle.rewrites.specs.Parts.{each_shown, part_expression, parts_shown}
 use Rattle.rewrites.specs.Plain.{IsThinned, leaves}
 use Rattle.rewrites.specs.declared.parts.Part.{Part}
 use Rattle.rewrites.specs.declared.parts.Through.{Through}
 use Rattle.rewrites.proofs.PlainLemmas.{any_inside, leaves_in-push}
 use Rattle.rewrites.proofs.ThinnedLemmas.{thinned_again, thinned_both, thinned_itself, thinned_then}
-use Rattle.strata.proofs.Lists.{Contains-cons_cases, Contains-here, Contains-there, not_in_nil}
 use Rattle.goal_cone.specs.Leaves.{Grows}
 
 -- the order of what comes behind does not matter
@@ -34,21 +33,6 @@ pub put_grows : (old new : Through) (e : Expression) → leaves e ≡ e ∷ [] �
 put_grows old new e leaf (inl is) = rw (is, leaves_in-push (each_shown old) e, leaf) (thinned_itself (leaves_in (each_shown old) ++ e ∷ []))
 put_grows old new e leaf (inr (is, there)) =
     rw is (thinned_again (leaves_in (each_shown old)) (e ∷ []) (λ test t. any_inside test (each_shown old) e there (ap (list_any test) leaf ∙ t)))
-
--- a name that is read through a tupleset
-pub named_shown : (t : Through) (q : List ℕ) → Contains (computed_names t) q → Contains (each_shown t) (tuple_to (string_bytes t.tupleset) q)
-named_shown t q there = by_entries t.computed.entries there
-  where
-    by_entries : (es : List (String Global × Unit {0})) → Contains (map (λ e. string_bytes e.0) es) q
-        → Contains (map (λ e. tuple_to (string_bytes t.tupleset) (string_bytes e.0)) es) (tuple_to (string_bytes t.tupleset) q)
-    by_entries [] there = absurd (not_in_nil q there)
-    by_entries (e ∷ es) there = elim (Contains-cons_cases (string_bytes e.0) (map (λ e. string_bytes e.0) es) q there) [
-      | inl same ↦
-          subst (λ (x : List ℕ). Contains (map (λ e. tuple_to (string_bytes t.tupleset) (string_bytes e.0)) (e ∷ es)) (tuple_to (string_bytes t.tupleset) x)) same
-          (Contains-here (tuple_to (string_bytes t.tupleset) (string_bytes e.0)) (map (λ e. tuple_to (string_bytes t.tupleset) (string_bytes e.0)) es))
-      | inr later ↦ Contains-there (tuple_to (string_bytes t.tupleset) (string_bytes e.0)) (map (λ e. tuple_to (string_bytes t.tupleset) (string_bytes e.0)) es)
-          (tuple_to (string_bytes t.tupleset) q) (by_entries es later)
-    ]
 
 -- a part that grew stands at its place
 pub grown_at : (ps : List Part) (i : ℕ) (old new : Part) (e : Expression) → slice_get ps i ≡ Some old → Grows old new e

@@ -1,5 +1,5 @@
 -- What relations give through a tupleset, as it is gathered.
-use Rattle.std.proofs.Common.{◌≡◌, Bool, true, false, not, ℕ, suc, ◌+◌, ◌<◌, ◌≤◌, ◌^◌, List, [], ◌∷◌, ◌++◌, length, inl, inr, Option, None, Some, refl, sym, ◌∙◌, ap, subst, arith}
+use Rattle.std.proofs.Common.{◌≡◌, ℕ, suc, ◌+◌, ◌<◌, ◌≤◌, ◌^◌, List, [], ◌∷◌, ◌++◌, length, inl, inr, Option, None, Some, refl, sym, ◌∙◌, ap, subst, arith}
 use Rattle.std.proofs.lemmas.Bool.{cases_eq}
 use Rattle.std.proofs.lemmas.List.{length-append}
 use Rattle.std.proofs.lemmas.List.Elements.{Contains-append_cases, Contains-append_left, Contains-append_right}
@@ -29,10 +29,6 @@ use Rattle.goal_cone.proofs.StoredLemmas.{no_more}
 pub if_not_some : {X : Type 0} (o : Option X) → ((¬ (o ≡ None)) → ⊥) → o ≡ None
 if_not_some None h = refl
 if_not_some (Some x) h = absurd (h (λ e. cc))
-
-pub not_false : (b : Bool) → not b ≡ false → b ≡ true
-not_false true h = refl
-not_false false h = cc
 
 pub at_item : {X : Type 0} (xs : List X) (i : ℕ) (x : X) → slice_get xs i ≡ Some x → Contains xs x
 at_item xs i x at = (i, slice_get_within xs i x at, get_or_from_slice_get xs i x x at)

@@ -10,7 +10,6 @@ ghost use Rattle.rewrites.specs.Plain.{leaves};
 ghost use Rattle.rewrites.specs.View.{expression_of};
 ghost use Rattle.goal_cone.specs.Leaves.{Grows, HaveLeavesOf, IsNoted, numbered, read_shown};
 
-use indexmap::IndexMap;
 use namespaces::{RulePlace, Rules};
 use rewrites::{Part, Rewrite, Through};
 use std::alloc::{AllocError, Global};
@@ -58,37 +57,7 @@ impl<'r> Model for Leaves<'r> {
     ghost invariant = { λ l. ArePlaced l.rules.now l.placed.items };
 }
 
-/// What one relation gives through a tupleset.
-pub(crate) fn through_one(
-    alloc: Global,
-    tupleset: &String,
-    computed: &String,
-) -> Result<Through, AllocError>
-    ensures { IfOk result (λ t. each_shown t ≡ tuple_to (string_bytes tupleset.now) (string_bytes computed.now) ∷ []) }
-{
-    let tupleset = tupleset.clone()?;
-    let computed = computed.clone()?;
-    let mut names = IndexMap::new(alloc);
-    let _ = names.insert(computed, ())?;
-    Ok(Through {
-        tupleset,
-        computed: names,
-    })
-}
-
-/// Reads one more relation through a tupleset, unless it is read there already.
-fn read_more(through: &mut Through, computed: &String) -> Result<(), AllocError>
-    ensures { OnOk result (IsPut (each_shown through.old) (each_shown through.new)
-        (tuple_to (string_bytes through.old.tupleset) (string_bytes computed.now))) }
-{
-    if through.computed.contains_key(computed.as_str()) {
-        return Ok(());
-    }
-    let _ = through.computed.insert(computed.clone()?, ())?;
-    Ok(())
-}
-
-/// The same, if it is this tupleset. Whether it is.
+/// Reads one more relation through a tupleset, if it is this one. Whether it is.
 fn read_if(through: &mut Through, tupleset: &String, computed: &String) -> Result<bool, AllocError>
     ensures read { IfOk result (λ r. r ≡ true → IsPut (each_shown through.old) (each_shown through.new)
         (tuple_to (string_bytes tupleset.now) (string_bytes computed.now))) }
@@ -97,7 +66,7 @@ fn read_if(through: &mut Through, tupleset: &String, computed: &String) -> Resul
     if through.tupleset != *tupleset {
         return Ok(false);
     }
-    read_more(through, computed)?;
+    let _ = through.read_more(computed)?;
     Ok(true)
 }
 
@@ -129,7 +98,7 @@ fn put_through(
             return Ok(());
         }
     }
-    let through = through_one(alloc, tupleset, computed)?;
+    let through = Through::of(alloc, tupleset, computed)?;
     parts.push(Part::Through(through))?;
     Ok(())
 }

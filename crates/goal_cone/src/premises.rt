@@ -15,7 +15,7 @@ ghost use Rattle.goal_cone.specs.Pass.{AmongSets, IsRead, Passes, PassesOver, Pa
 ghost use Rattle.goal_cone.specs.Seen.{Sees, IsStuck};
 
 use crate::fault::ConeFault;
-use crate::leaves::{Leaves, ReadPart, through_one};
+use crate::leaves::{Leaves, ReadPart};
 use crate::seen::Seen;
 use crate::through::targets;
 use judgement::under;
@@ -143,7 +143,7 @@ fn see_premises(
             see(fact.alloc, fact.snapshot, set, fact.user, seen)
         }
         Rewrite::TupleTo { tupleset, computed } => {
-            let through = through_one(fact.alloc, tupleset, computed)?;
+            let through = Through::of(fact.alloc, tupleset, computed)?;
             let rules = fact.snapshot.timeline.rules();
             let declaring = namespaces_declaring(fact.alloc, rules, &through)?;
             see_through(fact, &through, declaring, seen, room)

@@ -1,6 +1,6 @@
 -- What the answer of a call rules out, and how often a reader was at its end. Each stands here, since a tactic in an answer reads all facts that are known there.
 use Rattle.std.proofs.Common.{◌≡◌, ℕ, ◌+◌, ◌⊎◌, inl, inr, Bool, true, false, not, Result, Ok, Err, arith}
-use Rattle.std.specs.Prelude.{IfOk, OnOk}
+use Rattle.std.specs.Prelude.{IfOk, OnOk, IsErrAnd}
 use Rattle.json_lines.specs.Joined.{ends_left}
 use Rattle.devices.specs.Moves.{end_count}
 use Rattle.json_lines.specs.declared.lines.InputFault.{InputFault}
@@ -22,13 +22,13 @@ more_is_not_last r one two = cc
 
 -- ---- the exit of a `?`, whose call gave x
 
-pub exit_ok : {T E : Type 0} (r : Result T E) (y : E) (P : T → Type 0) → r ≡ Err y → IfOk r P
-exit_ok (Ok t) y P is = absurd cc
-exit_ok (Err e) y P is = tt
+pub exit_ok : {T E : Type 0} (r : Result T E) (Q : E → Type 0) (P : T → Type 0) → IsErrAnd r Q → IfOk r P
+exit_ok (Ok t) Q P is = absurd is
+exit_ok (Err e) Q P is = tt
 
-pub exit_done : {T E : Type 0} (r : Result T E) (y : E) (P : Type 0) → r ≡ Err y → OnOk r P
-exit_done (Ok t) y P is = absurd cc
-exit_done (Err e) y P is = tt
+pub exit_done : {T E : Type 0} (r : Result T E) (Q : E → Type 0) (P : Type 0) → IsErrAnd r Q → OnOk r P
+exit_done (Ok t) Q P is = absurd is
+exit_done (Err e) Q P is = tt
 
 pub exit_is : {T U E : Type 0} (result : Result T E) (called : Result U E) (y x fault : E) → result ≡ Err y → y ≡ x → called ≡ Err x → result ≡ Err fault → called ≡ Err fault
 exit_is result called y x fault returned same was is = cc

@@ -3,7 +3,7 @@ use Rattle.std.proofs.Common.{◌≡◌, ℕ, ◌+◌, ◌-◌, ◌^◌, ◌<◌
 use Rattle.std.specs.Prelude.{All, ⊤}
 use Rattle.std.specs.List.{AllByRecursion}
 use Rattle.std.proofs.lemmas.List.Elements.{All-from_recursion}
-use Rattle.std.proofs.lemmas.Bool.{lt-ltb, le-ltb, eqb-false, ne_eqb, or_left, or_right, or_from, and_parts}
+use Rattle.std.proofs.lemmas.Bool.{lt-ltb, le-ltb, eqb-false, ne_eqb, not-true, or_left, or_right, or_from, and_parts}
 use Rattle.std.proofs.lemmas.List.Splits.{slice_split_at, slice_split_none, length-slice_split}
 use Rattle.refusals.specs.Refusals.{◌>>=◌}
 use Rattle.devices.specs.Given.{OfBytes, OfInput}
@@ -16,16 +16,12 @@ use Rattle.json_lines.specs.declared.reading.Stop.TheVariants.{Input, Line}
 use Rattle.json_lines.specs.declared.reading.LineFault.{LineFault}
 use Rattle.json_lines.proofs.Steps.{lacks_line, split_line, nothing_after}
 
-not_true : (b : Bool) → not b ≡ true → b ≡ false
-not_true true e = absurd cc
-not_true false e = refl
-
 pub none_passes : (xs : List ℕ) → lacks xs ≡ true → All (λ b. eqb b 10 ≡ false) xs
 none_passes xs h = All-from_recursion (λ b. eqb b 10 ≡ false) xs (along xs h)
   where
     along : (ys : List ℕ) → lacks ys ≡ true → AllByRecursion (λ b. eqb b 10 ≡ false) ys
     along [] e = tt
-    along (y ∷ ys) e = let a = and_parts (not (eqb y 10)) (lacks ys) e in (not_true (eqb y 10) a.0, along ys a.1)
+    along (y ∷ ys) e = let a = and_parts (not (eqb y 10)) (lacks ys) e in (not-true (eqb y 10) a.0, along ys a.1)
 
 -- a line within its limits
 abbrev pub Within : ℕ → List ℕ → Bool → Type 0

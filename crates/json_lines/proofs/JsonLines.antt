@@ -9,7 +9,6 @@ use Rattle.refusals.specs.Refusals.{Gives, Unless}
 use Rattle.refusals.proofs.Steps.{ErrHas, either_refused}
 use Rattle.json_lines.specs.Json.{is_blank, of_json, json_line, taken_line}
 use Rattle.json_lines.specs.Reading.{Refuses, stopped}
-use Rattle.json_lines.specs.declared.reading.Stop.{Stop}
 
 pub of_a_value : {S C : Type 0} (not_json : C) (taken : Data → Result S C) (bytes : List ℕ) (d : Data) → IsUtf8 bytes → read bytes ≡ Some d → json_line not_json taken bytes ≡ taken d
 unfolding json_line

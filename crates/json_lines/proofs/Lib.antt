@@ -11,6 +11,7 @@ pub mod NumberTexts
 pub mod Places
 pub mod InRange
 pub mod InputReads
+pub mod LinesReads
 pub mod ReadFaults
 pub mod RestLines
 pub mod RestReads

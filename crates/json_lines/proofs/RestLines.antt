@@ -2,7 +2,7 @@
 use Rattle.std.proofs.Common.{◌≡◌, ℕ, ◌+◌, ◌-◌, ◌^◌, ◌<◌, ◌≤◌, min, Bool, true, false, ltb, not, ◌&&◌, List, [], ◌∷◌, ◌++◌, length, Option, Some, None, option_map, Result, Ok, Err, arith, inl, inr, refl, sym, ap, ◌∙◌, append_assoc, append-nil, length-append}
 use Rattle.std.specs.Prelude.{IfErr, codes}
 use Rattle.std.specs.Result.{is_ok}
-use Rattle.std.proofs.lemmas.Bool.{cases_Bool, and_parts, lt-ltb, or_left, ne_eqb, true≢false}
+use Rattle.std.proofs.lemmas.Bool.{cases_Bool, and_parts, lt-ltb, not-false, or_left, ne_eqb, true≢false}
 use Rattle.std.proofs.lemmas.List.Splits.{join_with_byte-slice_split}
 use Rattle.std.proofs.lemmas.Slice.Eq.{bytes_eq-Decides}
 use Rattle.refusals.specs.Refusals.{◌>>=◌}
@@ -15,10 +15,6 @@ use Rattle.json_lines.specs.declared.reading.Stop.TheVariants.{Input, Line}
 use Rattle.json_lines.specs.declared.reading.LineFault.{LineFault}
 use Rattle.json_lines.proofs.Folds.{parts_of_line, reads_line, told, within_from, Within}
 use Rattle.json_lines.proofs.NextLines.{most_behind, takes_both}
-
-not_false : (b : Bool) → not b ≡ false → b ≡ true
-not_false true is = refl
-not_false false is = absurd cc
 
 -- ---- the bytes that were taken
 
@@ -106,7 +102,7 @@ unmarked_on used bytes ended u h other = record {
       let line = bytes ++ line_ending (not ended) in
       ap joined_of (append_assoc used line ys)
       ∙ u.same (line ++ ys) (λ no. absurd (true≢false (sym no)))
-      ∙ ap (behind used) (joined_line bytes (not ended) ys h other (λ no. none (not_false ended no)))
+      ∙ ap (behind used) (joined_line bytes (not ended) ys h other (λ no. none (not-false ended no)))
       ∙ twice_behind used line (joined_of ys);
 }
 
@@ -116,7 +112,7 @@ marked_on used bytes ended ys u h is none =
     let line = bytes ++ line_ending (not ended) in
     ap joined_of (append_assoc used line ys)
     ∙ u.same (line ++ ys) (λ no. absurd (true≢false (sym no)))
-    ∙ ap (behind used) (joined_marker bytes (not ended) ys h is (λ no. none (not_false ended no)))
+    ∙ ap (behind used) (joined_marker bytes (not ended) ys h is (λ no. none (not-false ended no)))
     ∙ ap (λ (l : List ℕ). Some (l, ys)) (append-nil used)
 
 -- a line that is too long is not the marker
@@ -250,7 +246,7 @@ module _ {S C : Type 0} (taken : ℕ → S → List ℕ → Result S C) (start :
   reads_line_on n room s now u read used bytes items whole ended after on h held size within reads of_line = record {
     same = λ ys none.
         let line = bytes ++ line_ending (not ended) in
-        let nothing : not ended ≡ false → ys ≡ [] = λ no. none (not_false ended no) in
+        let nothing : not ended ≡ false → ys ≡ [] = λ no. none (not-false ended no) in
         let left : 2 ^ 30 - length (used ++ line) + length line ≡ 2 ^ 30 - length used = omega (arith, length-append used line, size, within) in
         ap (read_all taken true start) (append_assoc used line ys)
         ∙ on.same (line ++ ys) (λ no. absurd (true≢false (sym no)))

@@ -1,7 +1,7 @@
 -- Bytes that end in a newline.
 use Rattle.std.proofs.Common.{◌≡◌, ℕ, ◌+◌, ◌-◌, ◌<◌, ◌≤◌, ◌⊎◌, inl, inr, Bool, true, false, eqb, not, List, [], ◌∷◌, ◌++◌, length, take, drop, get_or, get_or-drop, suc, arith, refl, sym, ap, ◌∙◌, append_assoc, length-append}
 use Rattle.std.proofs.Math.Seq.{take-length, take-suc}
-use Rattle.std.proofs.lemmas.Bool.{and_parts, cases_lt, eqb-true, false_from_ne_true, lt-ltb}
+use Rattle.std.proofs.lemmas.Bool.{and_parts, cases_lt, eqb-true, false_from_ne_true, lt-ltb, not-true}
 use Rattle.std.proofs.lemmas.List.{length-drop, length-take-le, take_at, take-append-drop}
 use Rattle.std.proofs.lemmas.List.Folds.{list_all-append}
 use Rattle.std.proofs.lemmas.List.Sums.{position_or_len_is}
@@ -33,19 +33,15 @@ ended b (x ∷ xs) h = at_rest (ended (eqb x 10) xs h)
     at_rest (inl none) = inr ([], rw none (ap (λ (y : ℕ). y ∷ []) (eqb-true x 10 (rw none at h))))
     at_rest (inr some) = inr (x ∷ some.0, ap (λ (l : List ℕ). x ∷ l) some.1)
 
-not_true : (b : Bool) → not b ≡ true → b ≡ false
-not_true true e = absurd cc
-not_true false e = refl
-
 lacking_ends : (xs : List ℕ) → lacks xs ≡ true → ends_in_newline false xs ≡ false
 lacking_ends [] h = refl
 lacking_ends (x ∷ xs) h =
-    let a = and_parts (not (eqb x 10)) (lacks xs) h in rw (not_true (eqb x 10) a.0) (lacking_ends xs a.1)
+    let a = and_parts (not (eqb x 10)) (lacks xs) h in rw (not-true (eqb x 10) a.0) (lacking_ends xs a.1)
 
 lacking_some : (b : Bool) (xs : List ℕ) → lacks xs ≡ true → 0 < length xs → ends_in_newline b xs ≡ false
 lacking_some b [] h lt = absurd (omega arith)
 lacking_some b (x ∷ xs) h lt =
-    let a = and_parts (not (eqb x 10)) (lacks xs) h in rw (not_true (eqb x 10) a.0) (lacking_ends xs a.1)
+    let a = and_parts (not (eqb x 10)) (lacks xs) h in rw (not-true (eqb x 10) a.0) (lacking_ends xs a.1)
 
 -- from any place in whole lines on there is a newline
 pub newline_there : (xs : List ℕ) (at : ℕ) → has_whole_lines xs ≡ true → at < length xs

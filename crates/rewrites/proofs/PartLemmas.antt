@@ -1,12 +1,15 @@
 -- Parts, as they are numbered, and nodes that say what expressions say.
-use Rattle.std.proofs.Common.{rules, ◌≡◌, ℕ, zero, suc, ◌+◌, ◌<◌, List, [], ◌∷◌, ◌++◌, Some, length, drop, map, get_or, add-one, option_map, refl, sym, ◌∙◌, ap, subst, append_assoc}
+use Rattle.std.proofs.Common.{rules, ◌≡◌, ℕ, zero, suc, ◌+◌, ◌<◌, List, [], ◌∷◌, ◌++◌, Some, false, String, Global, length, drop, map, get_or, add-one, option_map, refl, sym, ◌∙◌, ap, subst, append_assoc}
 use Rattle.std.proofs.Math.Seq.{drop-cons, get_or-append_seam}
 use Rattle.std.proofs.lemmas.List.{append-nil, map-append, length-map, get_or_append_left}
 use Rattle.std.proofs.lemmas.Option.{unwrap_or-slice_get, slice_get-map, slice_get_within, get_or_from_slice_get}
 use Rattle.std.specs.Global.{Vec}
-use Rattle.std.specs.Prelude.{slice_get, slice_set}
+use Rattle.std.specs.Prelude.{is_some, slice_get, slice_set, string_bytes}
+use Rattle.std.specs.String.{string_eq}
+use Rattle.indexmap.specs.IndexMap.{get_by_text, insert_entry}
+use Rattle.indexmap.proofs.CallerLemmas.{insert_entry-new}
 use Rattle.rewrites.specs.Alike.{IsAlike, gives, bars}
-use Rattle.rewrites.specs.Expression.{Expression, union, inter, minus, no_child}
+use Rattle.rewrites.specs.Expression.{Expression, tuple_to, union, inter, minus, no_child}
 use Rattle.rewrites.specs.Joints.{joined, JoinAlike}
 use Rattle.rewrites.specs.View.{children, expression_of}
 use Rattle.rewrites.specs.Parts.{each_shown, through_expression, throughs_shown, part_expression, parts_shown, part_at, node_expression, nodes_shown, IsGrown, Says, HasPart, AllSay}
@@ -16,6 +19,7 @@ use Rattle.rewrites.specs.declared.parts.Node
 use Rattle.rewrites.specs.declared.parts.Node.{Node, the_lemmas}
 use Rattle.rewrites.specs.declared.parts.Through.{Through}
 use Rattle.rewrites.specs.declared.plain.Joint.{Joint}
+use Rattle.rewrites.proofs.Names.{none_there}
 use Rattle.rewrites.proofs.AlikeLemmas.{or_none, and_all, alike_itself, alike_then, alike_back, alike_front, alike_more, alike_last, alike_swapped, nested_alike, minus_alike, joined_on, joined_on_alike}
 
 -- ---- growth
@@ -30,6 +34,18 @@ grown_then a b c (x, p) (y, q) = (x ++ y, rw (q, p, append_assoc) refl)
 pub later : (P : List Expression → Type 0) (old new : List Expression) → ((more : List Expression) → P (old ++ more)) → IsGrown old new
     → (more : List Expression) → P (new ++ more)
 later P old new h (added, is) more = rw (is, append_assoc) (h (added ++ more))
+
+-- ---- a tupleset, and the relations that are read through it
+
+-- one that is not read yet goes behind the others
+pub one_more_shown : (t : Through) (name : String Global) (q : List ℕ) (entries : List (String Global × Unit {0})) → string_bytes name ≡ q
+    → is_some (get_by_text t.computed q) ≡ false → entries ≡ insert_entry string_eq t.computed.entries name (tt {0})
+    → map (λ e. tuple_to (string_bytes t.tupleset) (string_bytes e.0)) entries ≡ each_shown t ++ tuple_to (string_bytes t.tupleset) q ∷ []
+one_more_shown t name q entries text absent is =
+    let apart : is_some (get_by_text t.computed (string_bytes name)) ≡ false = rw text absent in
+    let last : entries ≡ t.computed.entries ++ (name, tt {0}) ∷ [] =
+    is ∙ insert_entry-new string_eq t.computed name (tt {0}) (none_there (get_by_text t.computed (string_bytes name)) apart) in
+    rw (last, ← text) (map-append (λ e. tuple_to (string_bytes t.tupleset) (string_bytes e.0)) t.computed.entries ((name, tt {0}) ∷ []))
 
 -- ---- one part
 

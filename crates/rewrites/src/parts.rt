@@ -3,7 +3,7 @@
 ghost use Rattle.std.specs.Prelude.{◌≡◌, ◌↔◌, IsTrue, Contains, ◌∷◌, ◌++◌, [], List, Some, true, false, if◌then◌else◌, map, slice_get, string_bytes, IfOk, OnOk};
 ghost use Rattle.rewrites.specs.Alike.{IsAlike};
 ghost use Rattle.rewrites.specs.Expression.{Expression, tuple_to, minus};
-ghost use Rattle.rewrites.specs.Joints.{JoinAlike};
+ghost use Rattle.rewrites.specs.Joints.{IsPut, JoinAlike};
 ghost use Rattle.rewrites.specs.Parts.{computed_names, each_shown, throughs_shown, parts_shown, part_expression, nodes_shown, node_expression, rule_shown, HasPart, IsGrown, Says, AllSay};
 ghost use Rattle.rewrites.specs.View.{expression_of};
 ghost use Rattle.rewrites.specs.declared.plain.Joint.TheVariants.{Union, Inter};
@@ -22,11 +22,38 @@ pub struct Through {
 }
 
 impl Through {
+    /// A tupleset through which one relation is read.
+    pub fn of(alloc: Global, tupleset: &String, computed: &String) -> Result<Through, AllocError>
+        ensures { IfOk result (λ t. each_shown t ≡ tuple_to (string_bytes tupleset.now) (string_bytes computed.now) ∷ []) }
+    {
+        let mut names = IndexMap::new(alloc);
+        let _ = names.insert(computed.clone()?, ())?;
+        Ok(Through {
+            tupleset: tupleset.clone()?,
+            computed: names,
+        })
+    }
+
     /// Whether a relation of this name is read through the tupleset.
     pub fn reads(&self, name: &str) -> bool
         ensures { IsTrue result ↔ Contains (computed_names self.now) name.now }
     {
         self.computed.contains_key(name)
+    }
+
+    /// Reads one more relation through the tupleset, unless it is read there already. Whether it was not.
+    pub fn read_more(&mut self, computed: &String) -> Result<bool, AllocError>
+        ensures put { OnOk result (IsPut (each_shown self.old) (each_shown self.new)
+            (tuple_to (string_bytes self.old.tupleset) (string_bytes computed.now))) }
+        ensures more { IfOk result (λ r. each_shown self.new
+            ≡ (if r then each_shown self.old ++ tuple_to (string_bytes self.old.tupleset) (string_bytes computed.now) ∷ []
+            else each_shown self.old)) }
+    {
+        if self.computed.contains_key(computed.as_str()) {
+            return Ok(false);
+        }
+        let _ = self.computed.insert(computed.clone()?, ())?;
+        Ok(true)
     }
 }
 
@@ -100,36 +127,11 @@ impl Numbering {
     }
 }
 
-/// A tupleset through which one relation is read.
-fn through_one(alloc: Global, tupleset: &String, computed: &String) -> Result<Through, AllocError>
-    ensures { IfOk result (λ t. each_shown t ≡ tuple_to (string_bytes tupleset.now) (string_bytes computed.now) ∷ []) }
-{
-    let mut names = IndexMap::new(alloc);
-    let _ = names.insert(computed.clone()?, ())?;
-    Ok(Through {
-        tupleset: tupleset.clone()?,
-        computed: names,
-    })
-}
-
 /// Whether it is this tupleset.
 fn is_of(through: &Through, tupleset: &String) -> bool
     ensures { result ≡ true → string_bytes through.now.tupleset ≡ string_bytes tupleset.now }
 {
     through.tupleset == *tupleset
-}
-
-/// Reads one more relation through a tupleset, unless it is read there already.
-fn read_through(through: &mut Through, computed: &String) -> Result<bool, AllocError>
-    ensures { IfOk result (λ r. each_shown through.new
-        ≡ (if r then each_shown through.old ++ tuple_to (string_bytes through.old.tupleset) (string_bytes computed.now) ∷ []
-        else each_shown through.old)) }
-{
-    if through.computed.contains_key(computed.as_str()) {
-        return Ok(false);
-    }
-    let _ = through.computed.insert(computed.clone()?, ())?;
-    Ok(true)
 }
 
 /// The children of a union that go through tuplesets, one tupleset after the other, and by their marks where these stand.
@@ -150,10 +152,10 @@ impl Throughs {
         let mark = text_mark(0, tupleset.as_str());
         let place = self.places.get(&mark).copied().unwrap_or(self.each.len());
         if place < self.each.len() && is_of(&self.each[place], tupleset) {
-            let is_read = read_through(&mut self.each[place], computed)?;
+            let is_read = self.each[place].read_more(computed)?;
             return Ok(is_read);
         }
-        let through = through_one(self.alloc, tupleset, computed)?;
+        let through = Through::of(self.alloc, tupleset, computed)?;
         let place = self.each.len();
         self.each.push(through)?;
         let _ = self.places.insert(mark, place)?;

@@ -26,10 +26,6 @@ other_beq true false h e = true≢false e
 other_beq false true h e = true≢false (sym e)
 other_beq false false h e = true≢false h
 
-pub not_false : (a : Bool) → not a ≡ false → a ≡ true
-not_false true h = refl
-not_false false h = absurd (true≢false h)
-
 pub is_other : (d g : Bool) → not (beq d g) ≡ true → d ≡ not g
 is_other true true h = absurd (true≢false (sym h))
 is_other true false h = refl

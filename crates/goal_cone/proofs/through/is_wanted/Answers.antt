@@ -1,4 +1,5 @@
 use Rattle.std.proofs.Common.{rules, ◌≡◌, ◌∙◌, ℕ, List, [], Some, true, false, ap, sym}
+use Rattle.std.proofs.lemmas.Bool.{not-false}
 use Rattle.std.proofs.lemmas.List.{nil_from_length}
 use Rattle.namespaces.specs.Lookup.{namespace_names, namespace_numbered}
 use Rattle.strata.proofs.LastTuple.{placed}
@@ -7,7 +8,7 @@ use Rattle.tuple_text.specs.Refs.{set_value}
 use Rattle.rewrites.specs.Parts.{computed_names}
 use Rattle.snapshots.specs.Snapshots.{rules_in}
 use Rattle.wide_rules.proofs.LiveLemmas.{none_absent}
-use Rattle.goal_cone.proofs.TargetLemmas.{has_declaring, if_not_some, not_false}
+use Rattle.goal_cone.proofs.TargetLemmas.{has_declaring, if_not_some}
 use Rattle.goal_cone.proofs.through.is_wanted.Goals.{then-not-has-via-then-not-has, then-not-has-via-else-not-has+then-is_absent, then-not-has-via-else-not-has+else-is_absent+then-stores_none}
 use Rattle.goal_cone.proofs.through.is_wanted.Goals as goal
 
@@ -15,7 +16,7 @@ pub returns-in_ok-names-in-Some : goal.returns-in_ok-names-in-Some
 returns-in_ok-names-in-Some c = λ declaring unwanted g k stored is read.
     let s = c.args.snapshot.now in
     let ds = s.timeline.declarations in
-    let none : c.in_ok-names-in-Some.names.items ≡ [] = nil_from_length c.in_ok-names-in-Some.names.items (let empty : c.is_empty.result ≡ true = not_false c.is_empty.result unwanted in search rules) in
+    let none : c.in_ok-names-in-Some.names.items ≡ [] = nil_from_length c.in_ok-names-in-Some.names.items (let empty : c.is_empty.result ≡ true = not-false c.is_empty.result unwanted in search rules) in
     let read_there = rw c.rules-rules.ensures at (c.in_ok-names-in-Some.ensures (rw c.rules-rules.ensures declaring)) in
     let name : namespace_numbered c.args.number ds ≡ Some c.in-Some.namespace.now = search rules in
     let one : c.in-Some.namespace.now ≡ g.namespace = (let both : Some c.in-Some.namespace.now ≡ Some g.namespace = sym name ∙ placed g.namespace (namespace_names ds) c.args.number is in cc) in

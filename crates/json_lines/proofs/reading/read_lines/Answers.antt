@@ -5,9 +5,10 @@ use Rattle.json_lines.specs.Reading.{IsReadFault}
 use Rattle.json_lines.specs.declared.lines.InputFault.TheVariants.{TooLong, OutOfMemory}
 use Rattle.json_lines.specs.declared.reading.Stop.TheVariants.{Input}
 use Rattle.json_lines.proofs.Exits.{no_error, same_error, same_fault, input_is_no_line, no_memory_fault, no_long_fault}
-use Rattle.json_lines.proofs.Folds.{Within, within_from, room_left, came_in_all, goes_on, line_came, cut_ends, over_ends, step_cut, last_ends, read_fails}
+use Rattle.json_lines.proofs.Folds.{Within, within_from, room_left, came_in_all, goes_on, cut_ends, over_ends, step_cut, last_ends, read_fails}
 use Rattle.devices.proofs.Given.{next-trans}
 use Rattle.json_lines.proofs.InputReads.{unread}
+use Rattle.json_lines.proofs.LinesReads.{stops}
 use Rattle.json_lines.proofs.reading.read_lines.Goals as goal
 
 pub returns-in-Err-clause-read : goal.returns-in-Err-clause-read
@@ -22,25 +23,25 @@ pub returns-in-Err-next-clause-read : goal.returns-in-Err-next-clause-read
 returns-in-Err-next-clause-read g c =
     let follows = c.loop-number.invariant.follows in
     let came = c.next.ensures.most (g.R.Source.given c.args.reader.now ++ follows.0) follows.1 in
-    record {
-      exact =
-          cut_ends (taken_line g.T.Cause.LineCause.not_json g.T.TakeJson.taken) c.args.value.now g.R.Source.given g.R.Source.ends c.args.reader.now c.next.new.reader c.loop-number.number c.loop-number.room c.loop-number.value follows.0 came.0 c.in-Err-next.fault follows.3 came.1
-          (λ e. rw (← c.min.ensures) (c.next.ensures.long (cc (e)) (g.R.Source.given c.args.reader.now ++ follows.0) follows.1));
-      failed = λ e.
-          let cut = c.next.ensures.cut (c.in-Err-next.is ∙ ap Err (same_fault _ _ _ refl e)) in
-          rw e (read_fails (taken_line g.T.Cause.LineCause.not_json g.T.TakeJson.taken) c.args.value.now g.R.Source.given g.R.Source.ends c.args.reader.now c.next.new.reader c.loop-number.number c.loop-number.room c.loop-number.value follows.0 c.next.new.line.items
-          follows.3 (cut.0 (g.R.Source.given c.args.reader.now ++ follows.0) follows.1) cut.1 (omega (arith, cut.2, c.next.new.line.ok.0, c.min.ensures)));
-      ended = tt;
-      most =
-          came_in_all g.R.Source.given c.args.reader.now c.next.new.reader (2 ^ 30) c.loop-number.room c.min.result 65536 follows.0 follows.2 (omega (arith, c.min.ensures)) came;
-      known = next-trans g.R.Source.given g.R.Source.ends g.R.Read.remaining c.args.reader.now c.loop-number.reader c.next.new.reader c.loop-number.invariant.known c.next.ensures.known;
-      line =
-          line_came (taken_line g.T.Cause.LineCause.not_json g.T.TakeJson.taken) c.args.value.now g.R.Source.given c.args.reader.now c.next.new.reader c.loop-number.number c.loop-number.room c.loop-number.value
-          follows.0 came.0 follows.3 came.1;
-      counted = λ e. c.next.ensures.failed (c.in-Err-next.is ∙ ap Err (same_fault _ _ _ refl e)) ∙ ap (λ (n : ℕ). n + 1) c.loop-number.invariant.kept;
-      kept = tt;
-      unfailed = λ n. c.next.ensures.kept (λ e. n (ap Input (same_error _ _ _ c.in-Err-next.is e))) ∙ c.loop-number.invariant.kept;
-    }
+    stops g.R.Source.given g.R.Source.ends g.R.Source.failures g.R.Read.remaining
+    (taken_line g.T.Cause.LineCause.not_json g.T.TakeJson.taken) c.args.reader.now
+    c.loop-number.reader c.next.new.reader c.args.value.now c.loop-number.value c.loop-number.value c.loop-number.number
+    c.loop-number.room c.min.result c.loop-number.lines follows c.next.ensures.most (omega (arith, c.min.ensures))
+    c.loop-number.invariant.known c.next.ensures.known (Input c.in-Err-next.fault)
+    (cut_ends (taken_line g.T.Cause.LineCause.not_json g.T.TakeJson.taken) c.args.value.now
+    g.R.Source.given g.R.Source.ends c.args.reader.now c.next.new.reader c.loop-number.number c.loop-number.room
+    c.loop-number.value follows.0 came.0 c.in-Err-next.fault follows.3 came.1
+    (λ e. rw (← c.min.ensures) (c.next.ensures.long (cc (e)) (g.R.Source.given c.args.reader.now ++ follows.0) follows.1)))
+    (λ e.
+    let cut = c.next.ensures.cut (c.in-Err-next.is ∙ ap Err (same_fault _ _ _ refl e)) in
+    rw e (read_fails (taken_line g.T.Cause.LineCause.not_json g.T.TakeJson.taken) c.args.value.now
+    g.R.Source.given g.R.Source.ends c.args.reader.now c.next.new.reader c.loop-number.number c.loop-number.room
+    c.loop-number.value follows.0 c.next.new.line.items follows.3
+    (cut.0 (g.R.Source.given c.args.reader.now ++ follows.0) follows.1) cut.1
+    (omega (arith, cut.2, c.next.new.line.ok.0, c.min.ensures))))
+    (λ e. c.next.ensures.failed (c.in-Err-next.is ∙ ap Err (same_fault _ _ _ refl e))
+    ∙ ap (λ (n : ℕ). n + 1) c.loop-number.invariant.kept)
+    (λ n. c.next.ensures.kept (λ e. n (ap Input (same_error _ _ _ c.in-Err-next.is e))) ∙ c.loop-number.invariant.kept)
 
 pub returns-in-Err-next-clause-told : goal.returns-in-Err-next-clause-told
 returns-in-Err-next-clause-told g c = λ cause e. absurd (input_is_no_line _ c.in-Err-next.fault cause refl e)
@@ -48,26 +49,21 @@ returns-in-Err-next-clause-told g c = λ cause e. absurd (input_is_no_line _ c.i
 pub returns-then-is_over-clause-read : goal.returns-then-is_over-clause-read
 returns-then-is_over-clause-read g c =
     let follows = c.loop-number.invariant.follows in
-    let came = c.next.ensures.most (g.R.Source.given c.args.reader.now ++ follows.0) follows.1 in
-    record {
-      exact =
-          let len : length c.next.new.line.items ≡ c.len.result = omega (arith, c.len.ensures, c.next.new.line.ok.0) in
-          over_ends (taken_line g.T.Cause.LineCause.not_json g.T.TakeJson.taken) c.args.value.now g.R.Source.given g.R.Source.ends c.args.reader.now c.next.new.reader c.loop-number.number c.loop-number.room c.loop-number.value follows.0 c.next.new.line.items c.in-Ok-next.more c.next.new.self
-          follows.3 (c.in-Ok-next.ensures.line.1 (g.R.Source.given c.args.reader.now ++ follows.0) follows.1) c.in-Ok-next.ensures.line.0
-          (λ no. (c.next.ensures.last (c.in-Ok-next.is ∙ ap Ok no), let stopped = rw no at c.in-Ok-next.ensures.ends in omega (arith, stopped, c.loop-number.invariant.going)))
-          (rw len (sym c.is_over.ensures ∙ c.if-is_over.true));
-      failed = λ e. absurd (no_long_fault _ refl e);
-      ended = tt;
-      most =
-          came_in_all g.R.Source.given c.args.reader.now c.next.new.reader (2 ^ 30) c.loop-number.room c.min.result 65536 follows.0 follows.2 (omega (arith, c.min.ensures)) came;
-      known = next-trans g.R.Source.given g.R.Source.ends g.R.Read.remaining c.args.reader.now c.loop-number.reader c.next.new.reader c.loop-number.invariant.known c.in-Ok-next.ensures.known;
-      line =
-          line_came (taken_line g.T.Cause.LineCause.not_json g.T.TakeJson.taken) c.args.value.now g.R.Source.given c.args.reader.now c.next.new.reader c.loop-number.number c.loop-number.room c.loop-number.value
-          follows.0 came.0 follows.3 came.1;
-      counted = λ e. absurd (no_long_fault _ refl e);
-      kept = tt;
-      unfailed = λ _. c.next.ensures.kept (λ e. no_error _ _ _ c.in-Ok-next.is e) ∙ c.loop-number.invariant.kept;
-    }
+    let len : length c.next.new.line.items ≡ c.len.result = omega (arith, c.len.ensures, c.next.new.line.ok.0) in
+    stops g.R.Source.given g.R.Source.ends g.R.Source.failures g.R.Read.remaining
+    (taken_line g.T.Cause.LineCause.not_json g.T.TakeJson.taken) c.args.reader.now
+    c.loop-number.reader c.next.new.reader c.args.value.now c.loop-number.value c.loop-number.value c.loop-number.number
+    c.loop-number.room c.min.result c.loop-number.lines follows c.next.ensures.most (omega (arith, c.min.ensures))
+    c.loop-number.invariant.known c.in-Ok-next.ensures.known (Input TooLong)
+    (over_ends (taken_line g.T.Cause.LineCause.not_json g.T.TakeJson.taken) c.args.value.now
+    g.R.Source.given g.R.Source.ends c.args.reader.now c.next.new.reader c.loop-number.number c.loop-number.room
+    c.loop-number.value follows.0 c.next.new.line.items c.in-Ok-next.more c.next.new.self
+    follows.3 (c.in-Ok-next.ensures.line.1 (g.R.Source.given c.args.reader.now ++ follows.0) follows.1) c.in-Ok-next.ensures.line.0
+    (λ no. (c.next.ensures.last (c.in-Ok-next.is ∙ ap Ok no), let stopped = rw no at c.in-Ok-next.ensures.ends in omega (arith, stopped, c.loop-number.invariant.going)))
+    (rw len (sym c.is_over.ensures ∙ c.if-is_over.true)))
+    (λ e. absurd (no_long_fault _ refl e))
+    (λ e. absurd (no_long_fault _ refl e))
+    (λ _. c.next.ensures.kept (λ e. no_error _ _ _ c.in-Ok-next.is e) ∙ c.loop-number.invariant.kept)
 
 pub returns-then-is_over-clause-told : goal.returns-then-is_over-clause-told
 returns-then-is_over-clause-told g c = λ cause e. absurd (input_is_no_line _ TooLong cause refl e)
@@ -75,28 +71,23 @@ returns-then-is_over-clause-told g c = λ cause e. absurd (input_is_no_line _ To
 pub returns-in-Err-take_line-clause-read : goal.returns-in-Err-take_line-clause-read
 returns-in-Err-take_line-clause-read g c =
     let follows = c.loop-number.invariant.follows in
-    let came = c.next.ensures.most (g.R.Source.given c.args.reader.now ++ follows.0) follows.1 in
-    record {
-      exact =
-          let len : length c.next.new.line.items ≡ c.len.result = omega (arith, c.len.ensures, c.next.new.line.ok.0) in
-          let w : Within c.loop-number.room c.next.new.line.items c.in-Ok-next.more =
-          within_from c.loop-number.room c.next.new.line.items c.in-Ok-next.more (omega (arith, c.in-Ok-next.ensures.bound, c.next.new.line.ok.0, c.min.ensures)) (rw len (sym c.is_over.ensures ∙ c.if-is_over.false)) in
-          step_cut (taken_line g.T.Cause.LineCause.not_json g.T.TakeJson.taken) c.args.value.now g.R.Source.given g.R.Source.ends c.args.reader.now c.next.new.reader c.loop-number.number c.loop-number.room c.loop-number.value follows.0 c.next.new.line.items c.in-Ok-next.more c.next.new.self c.in-Err-take_line.stop
-          follows.3 (c.in-Ok-next.ensures.line.1 (g.R.Source.given c.args.reader.now ++ follows.0) follows.1) c.in-Ok-next.ensures.line.0
-          (λ no. (c.next.ensures.last (c.in-Ok-next.is ∙ ap Ok no), let stopped = rw no at c.in-Ok-next.ensures.ends in omega (arith, stopped, c.loop-number.invariant.going)))
-          w (rw (← c.deref.ensures.value) c.in-Err-take_line.ensures.refused);
-      failed = λ e. absurd (rw e at c.in-Err-take_line.ensures.refused);
-      ended = tt;
-      most =
-          came_in_all g.R.Source.given c.args.reader.now c.next.new.reader (2 ^ 30) c.loop-number.room c.min.result 65536 follows.0 follows.2 (omega (arith, c.min.ensures)) came;
-      known = next-trans g.R.Source.given g.R.Source.ends g.R.Read.remaining c.args.reader.now c.loop-number.reader c.next.new.reader c.loop-number.invariant.known c.in-Ok-next.ensures.known;
-      line =
-          line_came (taken_line g.T.Cause.LineCause.not_json g.T.TakeJson.taken) c.args.value.now g.R.Source.given c.args.reader.now c.next.new.reader c.loop-number.number c.loop-number.room c.loop-number.value
-          follows.0 came.0 follows.3 came.1;
-      counted = λ e. absurd (rw e at c.in-Err-take_line.ensures.refused);
-      kept = tt;
-      unfailed = λ _. c.next.ensures.kept (λ e. no_error _ _ _ c.in-Ok-next.is e) ∙ c.loop-number.invariant.kept;
-    }
+    let len : length c.next.new.line.items ≡ c.len.result = omega (arith, c.len.ensures, c.next.new.line.ok.0) in
+    let w : Within c.loop-number.room c.next.new.line.items c.in-Ok-next.more =
+    within_from c.loop-number.room c.next.new.line.items c.in-Ok-next.more (omega (arith, c.in-Ok-next.ensures.bound, c.next.new.line.ok.0, c.min.ensures)) (rw len (sym c.is_over.ensures ∙ c.if-is_over.false)) in
+    stops g.R.Source.given g.R.Source.ends g.R.Source.failures g.R.Read.remaining
+    (taken_line g.T.Cause.LineCause.not_json g.T.TakeJson.taken) c.args.reader.now
+    c.loop-number.reader c.next.new.reader c.args.value.now c.loop-number.value _ c.loop-number.number
+    c.loop-number.room c.min.result c.loop-number.lines follows c.next.ensures.most (omega (arith, c.min.ensures))
+    c.loop-number.invariant.known c.in-Ok-next.ensures.known c.in-Err-take_line.stop
+    (step_cut (taken_line g.T.Cause.LineCause.not_json g.T.TakeJson.taken) c.args.value.now
+    g.R.Source.given g.R.Source.ends c.args.reader.now c.next.new.reader c.loop-number.number c.loop-number.room
+    c.loop-number.value follows.0 c.next.new.line.items c.in-Ok-next.more c.next.new.self c.in-Err-take_line.stop
+    follows.3 (c.in-Ok-next.ensures.line.1 (g.R.Source.given c.args.reader.now ++ follows.0) follows.1) c.in-Ok-next.ensures.line.0
+    (λ no. (c.next.ensures.last (c.in-Ok-next.is ∙ ap Ok no), let stopped = rw no at c.in-Ok-next.ensures.ends in omega (arith, stopped, c.loop-number.invariant.going)))
+    w (rw (← c.deref.ensures.value) c.in-Err-take_line.ensures.refused))
+    (λ e. absurd (rw e at c.in-Err-take_line.ensures.refused))
+    (λ e. absurd (rw e at c.in-Err-take_line.ensures.refused))
+    (λ _. c.next.ensures.kept (λ e. no_error _ _ _ c.in-Ok-next.is e) ∙ c.loop-number.invariant.kept)
 
 pub returns-in-Err-take_line-clause-told : goal.returns-in-Err-take_line-clause-told
 returns-in-Err-take_line-clause-told g c = λ cause e. (c.loop-number.number, c.loop-number.value, c.deref.result.now, rw e at c.in-Err-take_line.ensures.refused)

@@ -1,12 +1,13 @@
 use Rattle.std.proofs.Common.{rules, ◌≡◌, ◌<◌, ◌∙◌, ◌∷◌, ◌+◌, ℕ, List, length, slice_index_or, drop, add-one, refl}
 use mathlib.Core.Bool.{beq}
 use Rattle.std.proofs.Math.Seq.{drop-cons}
+use Rattle.std.proofs.lemmas.Bool.{not-false}
 use Rattle.std.proofs.lemmas.Result.{IfOk-weaker}
 use Rattle.rewrites.specs.Expression.{Expression, minus}
 use Rattle.rewrites.specs.Parts.{node_expression, nodes_shown}
 use Rattle.rewrites.specs.declared.parts.Node.{Node, the_lemmas}
 use Rattle.wide_rules.specs.Asked.{joined_of}
-use Rattle.wide_rules.proofs.AskedLemmas.{same_beq, other_beq, not_false, left_step, left_stops, tells_as, tells_minus}
+use Rattle.wide_rules.proofs.AskedLemmas.{same_beq, other_beq, left_step, left_stops, tells_as, tells_minus}
 use Rattle.wide_rules.proofs.asking.+node.Goals as goal
 
 pub node_does-returns-else-does-is_given-clause-tells : goal.node_does-returns-else-does-is_given-clause-tells
@@ -20,7 +21,7 @@ node_does-returns-else-does-is_given-clause-tells g t c =
     c.node_does-in-Minus.new.answers r is
     (tells_minus c.args.fact.now q c.args.is_given base subtract c.args.answers.now c.node_does.new.answers c.node_does-in-Minus.new.answers
     c.in_ok-does-in-Minus.does r c.in_ok-does-in-Minus.ensures.tells
-    (same_beq c.in_ok-does-in-Minus.does c.args.is_given (not_false (beq c.in_ok-does-in-Minus.does c.args.is_given) c.if-does-is_given.false)) second))
+    (same_beq c.in_ok-does-in-Minus.does c.args.is_given (not-false (beq c.in_ok-does-in-Minus.does c.args.is_given) c.if-does-is_given.false)) second))
     (rw c.node_does.ensures.same at c.node_does-in-Minus.ensures.tells)
 
 -- the first of the nodes that are left, and those behind it

@@ -22,13 +22,13 @@ loop-self-init g c = record {
 }
 
 pub returns-in_err-whole-clause-part : goal.returns-in_err-whole-clause-part
-returns-in_err-whole-clause-part g c = let p = err_from_is_err_and c.from_residual.result c.from_residual.ensures.1 in exit_ok _ _ _ p.1
+returns-in_err-whole-clause-part g c = exit_ok c.from_residual.result _ _ c.from_residual.ensures.1
 
 pub returns-in_err-whole-clause-refused : goal.returns-in_err-whole-clause-refused
-returns-in_err-whole-clause-refused g c = let p = err_from_is_err_and c.from_residual.result c.from_residual.ensures.1 in exit_ok _ _ _ p.1
+returns-in_err-whole-clause-refused g c = exit_ok c.from_residual.result _ _ c.from_residual.ensures.1
 
 pub returns-in_err-whole-clause-ended : goal.returns-in_err-whole-clause-ended
-returns-in_err-whole-clause-ended g c = let p = err_from_is_err_and c.from_residual.result c.from_residual.ensures.1 in exit_done _ _ _ p.1
+returns-in_err-whole-clause-ended g c = exit_done c.from_residual.result _ _ c.from_residual.ensures.1
 
 pub returns-then-is_marker-clause-part : goal.returns-then-is_marker-clause-part
 returns-then-is_marker-clause-part g c =
@@ -43,13 +43,13 @@ pub returns-then-is_marker-clause-ended : goal.returns-then-is_marker-clause-end
 returns-then-is_marker-clause-ended g c = let unended : c.loop-self.self.ended ≡ false = sym (ap (λ (r : RestValue). r.ended) c.self.view_is) ∙ c.loop-self-test.true in ended_on _ _ _ _ c.loop-self.self.ended c.loop-self.invariant.ended unended c.in_ok-whole.ensures.ended
 
 pub returns-in_err-read-clause-part : goal.returns-in_err-read-clause-part
-returns-in_err-read-clause-part g c = let p = err_from_is_err_and c.from_residual-in_err-read.result c.from_residual-in_err-read.ensures.1 in exit_ok _ _ _ p.1
+returns-in_err-read-clause-part g c = exit_ok c.from_residual-in_err-read.result _ _ c.from_residual-in_err-read.ensures.1
 
 pub returns-in_err-read-clause-refused : goal.returns-in_err-read-clause-refused
-returns-in_err-read-clause-refused g c = let p = err_from_is_err_and c.from_residual-in_err-read.result c.from_residual-in_err-read.ensures.1 in exit_ok _ _ _ p.1
+returns-in_err-read-clause-refused g c = exit_ok c.from_residual-in_err-read.result _ _ c.from_residual-in_err-read.ensures.1
 
 pub returns-in_err-read-clause-ended : goal.returns-in_err-read-clause-ended
-returns-in_err-read-clause-ended g c = let p = err_from_is_err_and c.from_residual-in_err-read.result c.from_residual-in_err-read.ensures.1 in exit_done _ _ _ p.1
+returns-in_err-read-clause-ended g c = exit_done c.from_residual-in_err-read.result _ _ c.from_residual-in_err-read.ensures.1
 
 pub returns-in_err-whole-clause-asked : goal.returns-in_err-whole-clause-asked
 returns-in_err-whole-clause-asked g c =

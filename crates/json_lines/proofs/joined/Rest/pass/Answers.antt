@@ -18,7 +18,7 @@ loop-self-preserved g c = record {
 }
 
 pub returns-in_err-next-clause-taken : goal.returns-in_err-next-clause-taken
-returns-in_err-next-clause-taken g c = let p = err_from_is_err_and c.from_residual.result c.from_residual.ensures.1 in exit_done _ _ _ p.1
+returns-in_err-next-clause-taken g c = exit_done c.from_residual.result _ _ c.from_residual.ensures.1
 
 pub returns-clause-taken : goal.returns-clause-taken
 returns-clause-taken g c = used_all _ _ _ _ c.loop-self.invariant.used (sym (ap (λ (r : RestValue). r.at_hand) c.self.view_is) ∙ c.self.invariant.0 c.loop-self-test.false)
@@ -35,7 +35,7 @@ returns-in_err-next-clause-read g c =
           handed_on g.R.Source.given g.R.Source.ends g.R.Source.failures g.R.Read.remaining c.args.self
           c.args.reader.now c.next.new.reader c.from_residual.result c.next.result asked p.0
           c.in_err-next.field-0.0 p.1 p.2 c.in_err-next.was;
-      ended = exit_done _ _ _ p.1;
+      ended = exit_done c.from_residual.result _ _ c.from_residual.ensures.1;
       over = λ e. let still = (c.loop-self.invariant.over e).0 in let going : c.self.inside.ended ≡ c.loop-self.self.ended = ap (λ (r : RestValue). r.ended) c.self.view_is in absurd (true≢false (sym still ∙ sym going ∙ c.loop-self-test.true));
     }
 

@@ -18,10 +18,10 @@ pub returns-then-self-clause-refused : goal.returns-then-self-clause-refused
 returns-then-self-clause-refused g c = tt
 
 pub returns-in_err-read-clause-exact : goal.returns-in_err-read-clause-exact
-returns-in_err-read-clause-exact g c = let p = err_from_is_err_and c.from_residual.result c.from_residual.ensures.1 in exit_ok _ _ _ p.1
+returns-in_err-read-clause-exact g c = exit_ok c.from_residual.result _ _ c.from_residual.ensures.1
 
 pub returns-in_err-read-clause-refused : goal.returns-in_err-read-clause-refused
-returns-in_err-read-clause-refused g c = let p = err_from_is_err_and c.from_residual.result c.from_residual.ensures.1 in exit_ok _ _ _ p.1
+returns-in_err-read-clause-refused g c = exit_ok c.from_residual.result _ _ c.from_residual.ensures.1
 
 pub returns-clause-refused : goal.returns-clause-refused
 returns-clause-refused g c = c.in_ok-read.ensures.refused
@@ -51,7 +51,7 @@ returns-in_err-read-clause-read g c =
           handed_on g.R.Source.given g.R.Source.ends g.R.Source.failures g.R.Read.remaining c.args.self
           c.args.reader.now c.part.new.reader c.from_residual.result c.part.result c.part.ensures.asked p.0
           c.in_err-read.field-0.0 p.1 p.2 c.in_err-read.was;
-      ended = exit_done _ _ _ p.1;
+      ended = exit_done c.from_residual.result _ _ c.from_residual.ensures.1;
       over = λ e. absurd (true≢false (sym e ∙ unended));
     }
 

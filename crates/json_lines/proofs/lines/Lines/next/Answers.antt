@@ -79,16 +79,16 @@ pub returns-in-Err-clause-known : goal.returns-in-Err-clause-known
 returns-in-Err-clause-known g c = next-trans g.R.Source.given g.R.Source.ends g.R.Read.remaining c.args.reader.now c.loop-turn.reader c.ready.new.reader c.loop-turn.invariant.known c.in-Err.ensures.known
 
 pub returns-in_err-take_piece-clause-line : goal.returns-in_err-take_piece-clause-line
-returns-in_err-take_piece-clause-line g c = let p = err_from_is_err_and c.from_residual.result c.from_residual.ensures.1 in exit_ok _ _ _ p.1
+returns-in_err-take_piece-clause-line g c = exit_ok c.from_residual.result _ _ c.from_residual.ensures.1
 
 pub returns-in_err-take_piece-clause-last : goal.returns-in_err-take_piece-clause-last
 returns-in_err-take_piece-clause-last g c = let p = err_from_is_err_and c.from_residual.result c.from_residual.ensures.1 in λ e. absurd (no_value _ _ _ p.1 e)
 
 pub returns-in_err-take_piece-clause-bound : goal.returns-in_err-take_piece-clause-bound
-returns-in_err-take_piece-clause-bound g c = let p = err_from_is_err_and c.from_residual.result c.from_residual.ensures.1 in exit_done _ _ _ p.1
+returns-in_err-take_piece-clause-bound g c = exit_done c.from_residual.result _ _ c.from_residual.ensures.1
 
 pub returns-in_err-take_piece-clause-reached : goal.returns-in_err-take_piece-clause-reached
-returns-in_err-take_piece-clause-reached g c = let p = err_from_is_err_and c.from_residual.result c.from_residual.ensures.1 in exit_done _ _ _ p.1
+returns-in_err-take_piece-clause-reached g c = exit_done c.from_residual.result _ _ c.from_residual.ensures.1
 
 pub returns-in_err-take_piece-clause-cut : goal.returns-in_err-take_piece-clause-cut
 returns-in_err-take_piece-clause-cut g c = let p = err_from_is_err_and c.from_residual.result c.from_residual.ensures.1 in λ e. absurd (piece_is_not_read _ p.0 c.in_err-take_piece.field-0.0 p.1 p.2 c.in_err-take_piece.ensures.causes e)
