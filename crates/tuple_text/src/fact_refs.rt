@@ -21,7 +21,7 @@ impl<'a> FactRef<'a> {
     ghost use Rattle.tuple_text.specs.Tuples.{fact_of};
 
     /// The fact of parts that are known to be in form.
-    pub(crate) fn from_parts(set: SetRef<'a>, user: u64) -> FactRef<'a>
+    pub fn from_parts(set: SetRef<'a>, user: u64) -> FactRef<'a>
         requires { IsHead (set_value set) }
         ensures { fact_value result ≡ fact_of (set_value set.entry) user }
     {

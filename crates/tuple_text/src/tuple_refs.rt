@@ -23,7 +23,7 @@ impl<'a> TupleRef<'a> {
     ghost use Rattle.tuple_text.specs.Tuples.{tuple_of};
 
     /// The tuple of parts that are known to be in form.
-    pub(crate) fn from_parts(set: SetRef<'a>, user: UserRef<'a>) -> TupleRef<'a>
+    pub fn from_parts(set: SetRef<'a>, user: UserRef<'a>) -> TupleRef<'a>
         requires set { IsHead (set_value set) }
         requires user { IsUser (user_value user) }
         ensures { tuple_value result ≡ tuple_of (set_value set.entry) (user_value user.entry) }

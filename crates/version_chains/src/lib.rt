@@ -41,5 +41,8 @@ mod users;
 pub use chains::Chains;
 pub use fault::AppendFault;
 pub use history::History;
+pub use row::RowRef;
+pub use rows::Rows;
+pub use texts::{Span, push_set, set_at};
 pub use touch::TouchRef;
 pub use users::{Users, Usersets};

@@ -10,8 +10,8 @@ use tuple_text::SetRef;
 pub struct Row {
     pub set: Span,
     pub user: Option<Span>,
-    pub user_mark: u64,
     pub latest: u32,
+    pub user_mark: u64,
 }
 
 /// A tuple with the mark of its user, and the place of its newest touch.

@@ -106,8 +106,8 @@ fn push_texts(
     Ok(Row {
         set,
         user,
-        user_mark,
         latest: 0,
+        user_mark,
     })
 }
 
@@ -119,6 +119,16 @@ impl Rows {
             text: String::new(alloc),
             rows: Vec::new(alloc),
         }
+    }
+
+    /// No tuple, and memory for so many with so many bytes of text.
+    pub fn with_room(alloc: Global, tuples: usize, bytes: usize) -> Result<Rows, AllocError>
+        ensures { IfOk result (λ rows. rows ≡ []) }
+    {
+        Ok(Rows {
+            text: String::with_capacity(alloc, bytes)?,
+            rows: Vec::with_capacity(alloc, tuples)?,
+        })
     }
 
     pub fn len(&self) -> usize
