@@ -79,7 +79,7 @@ module _ (tuples : List TupleValue) (latest named held : List ℕ) (nodes : List
         let same_place : jump.0 ≡ j = (let e = jump.2 in omega (arith, e, place)) in
         let target : far ≡ jump.1 = (let e : Some far ≡ Some jump.1 = sym there ∙ subst (λ (k : ℕ). slice_get nodes k ≡ Some jump.1) same_place jump.4 in cc) in
         let number : far.tuple ≡ n.tuple = ap (λ (m : Node). m.tuple) target ∙ jump.5 in
-        let tuple : (touch_of tuples far).tuple ≡ x.tuple = ap (λ (k : ℕ). (touch_of tuples (record { at = 0; live = false; tuple = k; older = 0; depth = 0; jump = 0 })).tuple) number ∙ ap (λ (y : Touch). y.tuple) same in
+        let tuple : (touch_of tuples far).tuple ≡ x.tuple = ap (λ (k : ℕ). (touch_of tuples (record { at = 0; tuple = k; older = 0; jump = 0; depth = 0; rank = 0; live = false })).tuple) number ∙ ap (λ (y : Touch). y.tuple) same in
         let within = slice_get_within nodes j far there in
         let item = slice_get-map (touch_of tuples) nodes j ∙ ap (option_map (touch_of tuples)) there in
         let passes : linked (touch_of tuples far) ≡ true = ap (λ (t : TupleValue). tuple_eq t x.tuple) tuple ∙ tuple_eq-itself x.tuple in

@@ -53,7 +53,7 @@ impl Model for Arena {
 }
 
 /// How many touches a tuple has before its newest where the last one up to a timestamp is looked for by time.
-const MANY_TOUCHES: u32 = 16;
+const MANY_TOUCHES: u16 = 16;
 
 /// At how many touches up to a timestamp, of any tuples, such a look goes on.
 const NEAR_TOUCHES: usize = 8;
@@ -427,14 +427,15 @@ impl Arena {
         ensures room { self.old.room ≤ self.new.room + 1 }
     {
         let older = self.rows.latest(number);
-        let (depth, jump) = next_links(self.nodes.as_slice(), older);
+        let links = next_links(self.nodes.as_slice(), older);
         let node = Node {
             at,
-            live,
             tuple: number as u32,
             older,
-            depth,
-            jump,
+            jump: links.jump,
+            depth: links.depth,
+            rank: links.rank,
+            live,
         };
         self.nodes.push_reserved(node);
         let place = self.nodes.len() as u32;

@@ -21,7 +21,7 @@ found rows i known =
 
 pub invariant_of-self : goal.invariant_of-self
 invariant_of-self c =
-    let node : Node = record { at = c.args.at; live = c.args.live; tuple = c.args.number; older = c.latest-older.result; depth = c.next_links-depth.result.0; jump = c.next_links-depth.result.1 } in
+    let node : Node = record { at = c.args.at; tuple = c.args.number; older = c.latest-older.result; jump = c.next_links-links.result.jump; depth = c.next_links-links.result.depth; rank = c.next_links-links.result.rank; live = c.args.live } in
     let items : c.push_reserved.new.self.items ≡ c.self.inside.nodes.items ++ node ∷ [] = search rules in
     let len : c.len-place.result ≡ length c.push_reserved.new.self.items = search rules in
     let more = length-more c.self.inside.nodes.items node in
@@ -34,7 +34,7 @@ invariant_of-self c =
     let latest = latest-touched c.self.inside.rows c.args.number row.0 row.1 c.len-place.result in
     let same = length-touched c.self.inside.rows c.args.number row.0 row.1 c.len-place.result in
     let rows = c.set_latest.ensures row.0 row.1 in
-    let on = subst (λ (ns : List Node). Goes ns c.latest-older.result c.next_links-depth.result.1) c.as_slice.ensures.value (c.next_links-depth.ensures.first, c.next_links-depth.ensures.later) in
+    let on = subst (λ (ns : List Node). Goes ns c.latest-older.result c.next_links-links.result.jump) c.as_slice.ensures.value (c.next_links-links.ensures.first, c.next_links-links.ensures.later) in
     let late = up_to_nodes (tuples_of c.self.inside.rows) c.self.inside.nodes.items c.args.at (subst (λ (h : Held). AreUpTo c.args.at h.touches) (sym c.self.view_is) c.requires.late) in
     (rw (items, rows, tuples, latest, count) (more_touches (tuples_of c.self.inside.rows) (latest_of c.self.inside.rows) c.self.inside.named c.self.inside.held c.self.inside.nodes.items c.self.invariant.0 node known is on late), rw (rows, same) c.self.invariant.1)
 
@@ -47,7 +47,7 @@ returns-clause-tuples c =
 
 pub returns-clause-pushes : goal.returns-clause-pushes
 returns-clause-pushes c t is =
-    let node : Node = record { at = c.args.at; live = c.args.live; tuple = c.args.number; older = c.latest-older.result; depth = c.next_links-depth.result.0; jump = c.next_links-depth.result.1 } in
+    let node : Node = record { at = c.args.at; tuple = c.args.number; older = c.latest-older.result; jump = c.next_links-links.result.jump; depth = c.next_links-links.result.depth; rank = c.next_links-links.result.rank; live = c.args.live } in
     let items : c.push_reserved.new.self.items ≡ c.self.inside.nodes.items ++ node ∷ [] = search rules in
     let known : c.args.number < length (tuples_of c.self.inside.rows) = subst (λ (h : Held). c.args.number < length h.tuples) (sym c.self.view_is) c.requires.known in
     let row = found c.self.inside.rows c.args.number known in
