@@ -1,87 +1,79 @@
--- One more link, and one less.
-use Rattle.std.proofs.Common.{◌≡◌, ◌≢◌, ℕ, zero, suc, Result, Ok, Err, ◌+◌, ◌-◌, ◌≤◌, Bool, true, false, cond, List, [], ◌∷◌, ◌++◌, length, map, nat_lt, take, refl, sym, ◌∙◌, ap, subst, Option, Some, ◌⊎◌, inl, inr, arith, nat_eq, None}
-use Rattle.std.specs.Prelude.{slice_get, option_map}
-use Rattle.std.proofs.lemmas.List.{append-nil, map-append}
+-- One more mark with the place before it, and one less.
+use Rattle.std.proofs.Common.{◌≡◌, ◌≢◌, ℕ, zero, suc, Result, Ok, Err, ◌+◌, ◌-◌, ◌≤◌, Bool, true, false, cond, List, [], ◌∷◌, ◌++◌, length, nat_lt, take, refl, sym, ◌∙◌, ap, subst, Option, Some, ◌⊎◌, inl, inr, arith, nat_eq}
+use Rattle.std.specs.Prelude.{slice_get, unwrap_or, option_to_list}
+use Rattle.std.proofs.lemmas.List.{append-nil}
 use Rattle.std.specs.Result.{OnErr}
-use Rattle.std.proofs.lemmas.Option.{slice_get_within, slice_get_past, slice_get-map}
+use Rattle.std.proofs.lemmas.Option.{slice_get_within, slice_get_past}
 use Rattle.std.proofs.lemmas.Bool.{eqb-true, eq-eqb}
 use Rattle.std.proofs.lemmas.Bool.Decides.{nat_tests}
 use Rattle.marks.specs.Placed.{last_place, most}
 use Rattle.marks.specs.Links.{AreLinked, IsPlaceOf, IsSet, IsTable, has_mark, longest, newest_of}
-use Rattle.marks.specs.declared.places.Link.{Link}
 use Rattle.marks.specs.declared.table.Table.{Table}
-use Rattle.marks.proofs.PlacedLemmas.{at_last_place, length-more, slice_get-cases, slice_get-kept, slice_get-next, last_place-front, last_place-more, last_place-within, with_last}
+use Rattle.marks.proofs.PlacedLemmas.{at_last_place, length-more, slice_get-cases, slice_get-front, slice_get-kept, slice_get-next, last_place-front, last_place-more, last_place-within, with_last}
 use Rattle.marks.proofs.TableLemmas.{newest-less, probed-less}
 
-abbrev marks_of : List Link → List ℕ
-marks_of links = map (λ l. l.mark) links
-
-length-marks : (links : List Link) → length (marks_of links) ≡ length links
-length-marks [] = refl
-length-marks (l ∷ links) = ap suc (length-marks links)
-
-marks-more : (links : List Link) (link : Link) → marks_of (links ++ link ∷ []) ≡ marks_of links ++ link.mark ∷ []
-marks-more links link = map-append (λ (l : Link). l.mark) links (link ∷ [])
-
--- the links before one that is added or taken away
-before_link : (links : List Link) (link : Link) (mark i : ℕ) → i ≤ length links → last_place (nat_eq mark) (marks_of (links ++ link ∷ [])) i ≡ last_place (nat_eq mark) (marks_of links) i
-before_link links link mark i h =
-    ap (λ (ms : List ℕ). last_place (nat_eq mark) ms i) (marks-more links link)
-    ∙ last_place-front (nat_eq mark) (marks_of links) (link.mark ∷ []) i (rw (length-marks links) h)
-
-with_link : (links : List Link) (link : Link) (mark : ℕ) → last_place (nat_eq mark) (marks_of (links ++ link ∷ [])) (length (links ++ link ∷ [])) ≡ cond (nat_eq mark link.mark) (suc (length links)) (last_place (nat_eq mark) (marks_of links) (length links))
-with_link links link mark =
-    ap (last_place (nat_eq mark) (marks_of (links ++ link ∷ []))) (sym (length-marks (links ++ link ∷ [])))
-    ∙ ap (λ (ms : List ℕ). last_place (nat_eq mark) ms (length ms)) (marks-more links link)
-    ∙ last_place-more (nat_eq mark) (marks_of links) link.mark
-    ∙ ap (λ (n : ℕ). cond (nat_eq mark link.mark) (suc n) (last_place (nat_eq mark) (marks_of links) n)) (length-marks links)
-
--- the last place of a mark, one link further
-pub one_further : (links : List Link) (i : ℕ) (link : Link) (mark new old : ℕ) → new ≡ cond (nat_eq mark link.mark) (i + 1) old → old ≡ last_place (nat_eq mark) (marks_of links) i
-    → slice_get links i ≡ Some link → new ≡ last_place (nat_eq mark) (marks_of links) (i + 1)
-one_further links i link mark new old is before at =
+-- the last place of a mark, one further
+pub one_further : (marks : List ℕ) (i here mark new old : ℕ) → new ≡ cond (nat_eq mark here) (i + 1) old → old ≡ last_place (nat_eq mark) marks i
+    → slice_get marks i ≡ Some here → new ≡ last_place (nat_eq mark) marks (i + 1)
+one_further marks i here mark new old is before at =
     let next : i + 1 ≡ suc i = omega arith in
-    let here : slice_get (marks_of links) i ≡ Some link.mark = slice_get-map (λ (l : Link). l.mark) links i ∙ ap (λ (o : Option Link). option_map (λ (l : Link). l.mark) o) at in
-    is ∙ ap (λ (n : ℕ). cond (nat_eq mark link.mark) (i + 1) n) before ∙ rw (next, here) refl
+    is ∙ ap (λ (n : ℕ). cond (nat_eq mark here) (i + 1) n) before ∙ rw (next, at) refl
 
--- a place of the links that are there
-pub place_there : (links : List Link) (i : ℕ) (link : Link) → slice_get links i ≡ Some link → IsPlaceOf links link.mark (i + 1)
-place_there links i link at j is = let same : i ≡ j = omega (arith, is) in (link, subst (λ (k : ℕ). slice_get links k ≡ Some link) same at, refl)
+-- a place of the marks that are there
+pub place_there : (marks : List ℕ) (i mark : ℕ) → slice_get marks i ≡ Some mark → IsPlaceOf marks mark (i + 1)
+place_there marks i mark at j is = let same : i ≡ j = omega (arith, is) in subst (λ (k : ℕ). slice_get marks k ≡ Some mark) same at
 
-pub set_there : (links : List Link) (old new : Table) (mark place : ℕ) → IsPlaceOf links mark place
-    → ((more : List Link) → IsPlaceOf (links ++ more) mark place → IsSet links (links ++ more) old new mark place) → IsSet links links old new mark place
-set_there links old new mark place is set =
-    subst (λ (more : List Link). IsSet links more old new mark place) (append-nil links)
-    (set [] (subst (λ (more : List Link). IsPlaceOf more mark place) (sym (append-nil links)) is))
+pub set_there : (marks : List ℕ) (old new : Table) (mark place : ℕ) → IsPlaceOf marks mark place
+    → ((more : List ℕ) → IsPlaceOf (marks ++ more) mark place → IsSet marks (marks ++ more) old new mark place) → IsSet marks marks old new mark place
+set_there marks old new mark place is set =
+    subst (λ (more : List ℕ). IsSet marks more old new mark place) (append-nil marks)
+    (set [] (subst (λ (more : List ℕ). IsPlaceOf more mark place) (sym (append-nil marks)) is))
 
--- one more link
-module _ (links : List Link) (newest new : Table) (link : Link) (are : AreLinked links newest)
-    (newest_is : link.older ≡ newest_of links newest link.mark) (set : IsSet links (links ++ link ∷ []) newest new link.mark (length links + 1)) where
-  earlier : (i : ℕ) (l : Link) → (slice_get links i ≡ Some l) ⊎ ((i ≡ length links) × (link ≡ l)) → l.older ≡ last_place (nat_eq l.mark) (marks_of (links ++ link ∷ [])) i
-  earlier i l (inl h) = let within = slice_get_within links i l h in are.earlier i l h ∙ sym (before_link links link l.mark i (omega (arith, within)))
-  earlier i l (inr h) =
-      subst (λ (x : Link). x.older ≡ last_place (nat_eq x.mark) (marks_of (links ++ link ∷ [])) i) h.1
-      (subst (λ (k : ℕ). link.older ≡ last_place (nat_eq link.mark) (marks_of (links ++ link ∷ [])) k) (sym h.0)
-      (newest_is ∙ are.latest link.mark ∙ sym (before_link links link link.mark (length links) (omega arith))))
+-- the places before one that is added or taken away
+before_last : (marks : List ℕ) (last mark i : ℕ) → i ≤ length marks → last_place (nat_eq mark) (marks ++ last ∷ []) i ≡ last_place (nat_eq mark) marks i
+before_last marks last mark i h = last_place-front (nat_eq mark) marks (last ∷ []) i h
 
-  pub more_links : AreLinked (links ++ link ∷ []) new
+-- what is added last to two lists of one length
+last_beside : (marks older : List ℕ) (last place : ℕ) → length older ≡ length marks → slice_get (older ++ place ∷ []) (length marks) ≡ Some place
+last_beside marks older last place even = subst (λ (n : ℕ). slice_get (older ++ place ∷ []) n ≡ Some place) even (slice_get-next older place)
+
+-- one more mark
+module _ (marks older : List ℕ) (newest new : Table) (last place : ℕ) (are : AreLinked marks older newest)
+    (newest_is : place ≡ newest_of marks newest last) (set : IsSet marks (marks ++ last ∷ []) newest new last (length marks + 1)) where
+  earlier : (i mark q : ℕ) → (slice_get marks i ≡ Some mark) ⊎ ((i ≡ length marks) × (last ≡ mark)) → slice_get (older ++ place ∷ []) i ≡ Some q
+      → q ≡ last_place (nat_eq mark) (marks ++ last ∷ []) i
+  earlier i mark q (inl h) at =
+      let within = slice_get_within marks i mark h in
+      let even = are.even in
+      let there : slice_get older i ≡ Some q = sym (slice_get-front older (place ∷ []) i (omega (arith, within, even))) ∙ at in
+      are.earlier i mark q h there ∙ sym (before_last marks last mark i (omega (arith, within)))
+  earlier i mark q (inr h) at =
+      let there : slice_get (older ++ place ∷ []) i ≡ Some place = subst (λ (k : ℕ). slice_get (older ++ place ∷ []) k ≡ Some place) (sym h.0) (last_beside marks older last place are.even) in
+      let same : q ≡ place = (let both : Some q ≡ Some place = sym at ∙ there in cc) in
+      same
+      ∙ subst (λ (m : ℕ). place ≡ last_place (nat_eq m) (marks ++ last ∷ []) i) h.1
+      (subst (λ (k : ℕ). place ≡ last_place (nat_eq last) (marks ++ last ∷ []) k) (sym h.0)
+      (newest_is ∙ are.latest last ∙ sym (before_last marks last last (length marks) (omega arith))))
+
+  pub more_links : AreLinked (marks ++ last ∷ []) (older ++ place ∷ []) new
   more_links = record {
     probed = set.table;
-    earlier = λ i l h. earlier i l (slice_get-cases links link i l h);
+    even = let even = are.even in let long = length-more older place in let more = length-more marks last in omega (arith, even, long, more);
+    earlier = λ i mark q h at. earlier i mark q (slice_get-cases marks last i mark h) at;
     latest = λ mark.
         set.newest mark
-        ∙ ap (λ (n : ℕ). cond (nat_eq mark link.mark) (length links + 1) n) (are.latest mark)
-        ∙ ap (λ (n : ℕ). cond (nat_eq mark link.mark) n (last_place (nat_eq mark) (marks_of links) (length links))) (let e : length links + 1 ≡ suc (length links) = omega arith in e)
-        ∙ sym (with_link links link mark);
+        ∙ ap (λ (n : ℕ). cond (nat_eq mark last) (length marks + 1) n) (are.latest mark)
+        ∙ ap (λ (n : ℕ). cond (nat_eq mark last) n (last_place (nat_eq mark) marks (length marks))) (let e : length marks + 1 ≡ suc (length marks) = omega arith in e)
+        ∙ sym (last_place-more (nat_eq mark) marks last);
   }
 
--- the place of the link that comes
-pub next_place : (links : List Link) (link : Link) → IsPlaceOf (links ++ link ∷ []) link.mark (length links + 1)
-next_place links link i is = let last : length links ≡ i = omega (arith, is) in (link, subst (λ (k : ℕ). slice_get (links ++ link ∷ []) k ≡ Some link) last (slice_get-next links link), refl)
+-- the place of the mark that comes
+pub next_place : (marks : List ℕ) (mark : ℕ) → IsPlaceOf (marks ++ mark ∷ []) mark (length marks + 1)
+next_place marks mark i is = let last : length marks ≡ i = omega (arith, is) in subst (λ (k : ℕ). slice_get (marks ++ mark ∷ []) k ≡ Some mark) last (slice_get-next marks mark)
 
--- the links before the last
-pub split_last : (links : List Link) (link : Link) → slice_get links (length links - 1) ≡ Some link → links ≡ take (length links - 1) links ++ link ∷ []
-split_last links link there = let within = slice_get_within links (length links - 1) link there in with_last links (length links - 1) link there (omega (arith, within))
+-- the marks before the last
+pub split_last : (marks : List ℕ) (mark : ℕ) → slice_get marks (length marks - 1) ≡ Some mark → marks ≡ take (length marks - 1) marks ++ mark ∷ []
+split_last marks mark there = let within = slice_get_within marks (length marks - 1) mark there in with_last marks (length marks - 1) mark there (omega (arith, within))
 
 last-apart : (xs ys : List ℕ) (x y : ℕ) → xs ++ x ∷ [] ≡ ys ++ y ∷ [] → xs ≡ ys
 last-apart [] [] x y e = refl
@@ -93,117 +85,122 @@ last-apart (a ∷ xs) (b ∷ ys) x y e =
     let same = last-apart xs ys x y others in
     rw (first, same) refl
 
-pub marks_before : (links front : List Link) (link : Link) (marks : List ℕ) (mark : ℕ) → links ≡ front ++ link ∷ [] → marks_of links ≡ marks ++ mark ∷ [] → marks_of front ≡ marks
-marks_before links front link marks mark split is = last-apart (marks_of front) marks link.mark mark (sym (marks-more front link) ∙ ap marks_of (sym split) ∙ is)
+pub marks_before : (all front marks : List ℕ) (last mark : ℕ) → all ≡ front ++ last ∷ [] → all ≡ marks ++ mark ∷ [] → front ≡ marks
+marks_before all front marks last mark split is = last-apart front marks last mark (sym split ∙ is)
 
--- one link less
-module _ (links : List Link) (link : Link) (newest : Table) (are : AreLinked (links ++ link ∷ []) newest) where
-  newest_of_last : newest_of (links ++ link ∷ []) newest link.mark ≡ suc (length links)
+-- what was taken from the end of a list that is not empty
+pub popped : (older rest : List ℕ) (o : Option ℕ) (place : ℕ) → o ≡ Some place → older ≡ rest ++ option_to_list o → older ≡ rest ++ unwrap_or o 0 ∷ []
+popped older rest o place is split = rw is (rw is at split)
+
+-- one mark less
+module _ (marks older : List ℕ) (last place : ℕ) (newest : Table) (are : AreLinked (marks ++ last ∷ []) (older ++ place ∷ []) newest) where
+  newest_of_last : newest_of (marks ++ last ∷ []) newest last ≡ suc (length marks)
   newest_of_last =
-      are.latest link.mark ∙ with_link links link link.mark
-      ∙ ap (λ (b : Bool). cond b (suc (length links)) (last_place (nat_eq link.mark) (marks_of links) (length links))) (eq-eqb link.mark link.mark refl)
+      are.latest last ∙ last_place-more (nat_eq last) marks last
+      ∙ ap (λ (b : Bool). cond b (suc (length marks)) (last_place (nat_eq last) marks (length marks))) (eq-eqb last last refl)
 
-  pub last_is_there : newest_of (links ++ link ∷ []) newest link.mark ≢ 0
-  last_is_there none = let e : 0 ≡ suc (length links) = sym none ∙ newest_of_last in omega (arith, e)
+  pub last_is_there : newest_of (marks ++ last ∷ []) newest last ≢ 0
+  last_is_there none = let e : 0 ≡ suc (length marks) = sym none ∙ newest_of_last in omega (arith, e)
 
-  older_is : link.older ≡ last_place (nat_eq link.mark) (marks_of links) (length links)
-  older_is = are.earlier (length links) link (slice_get-next links link) ∙ before_link links link link.mark (length links) (omega arith)
+  even_less : length older ≡ length marks
+  even_less = let even = are.even in let long = length-more older place in let more = length-more marks last in omega (arith, even, long, more)
+
+  older_is : place ≡ last_place (nat_eq last) marks (length marks)
+  older_is =
+      are.earlier (length marks) last place (slice_get-next marks last) (last_beside marks older last place even_less)
+      ∙ before_last marks last last (length marks) (omega arith)
 
   -- the place before it with its mark
-  pub older_place : IsPlaceOf (links ++ link ∷ []) link.mark link.older
+  pub older_place : IsPlaceOf (marks ++ last ∷ []) last place
   older_place i is =
-      let w = at_last_place (nat_eq link.mark) (marks_of links) (length links) i (sym older_is ∙ is) in
-      by_link w.0 (slice_get links i) refl (sym (slice_get-map (λ (l : Link). l.mark) links i) ∙ w.1) (eqb-true link.mark w.0 w.2)
-    where
-      by_link : (mark : ℕ) (o : Option Link) → slice_get links i ≡ o → option_map (λ (l : Link). l.mark) o ≡ Some mark → link.mark ≡ mark
-          → (l : Link) × (slice_get (links ++ link ∷ []) i ≡ Some l) × (l.mark ≡ link.mark)
-      by_link mark None at h same = absurd cc
-      by_link mark (Some l) at h same = (l, slice_get-kept links (link ∷ []) i l at, let e : l.mark ≡ mark = cc in e ∙ sym same)
+      let w = at_last_place (nat_eq last) marks (length marks) i (sym older_is ∙ is) in
+      slice_get-kept marks (last ∷ []) i last (w.1 ∙ ap Some (sym (eqb-true last w.0 w.2)))
 
-  pub less_links : (new : Table) → IsSet (links ++ link ∷ []) (links ++ link ∷ []) newest new link.mark link.older → AreLinked links new
+  pub less_links : (new : Table) → IsSet (marks ++ last ∷ []) (marks ++ last ∷ []) newest new last place → AreLinked marks older new
   less_links new set = record {
-    probed = probed-less longest links link new.slots new.rest set.table past;
-    earlier = λ i l h. let within = slice_get_within links i l h in are.earlier i l (slice_get-kept links (link ∷ []) i l h) ∙ before_link links link l.mark i (omega (arith, within));
-    latest = λ mark. newest-less longest links link new.slots new.rest set.table past mark ∙ set.newest mark ∙ by_test mark (nat_eq mark link.mark) refl;
+    probed = probed-less longest marks last new.slots new.rest set.table past;
+    even = even_less;
+    earlier = λ i mark q h at.
+        let within = slice_get_within marks i mark h in
+        are.earlier i mark q (slice_get-kept marks (last ∷ []) i mark h) (slice_get-kept older (place ∷ []) i q at)
+        ∙ before_last marks last mark i (omega (arith, within));
+    latest = λ mark. newest-less longest marks last new.slots new.rest set.table past mark ∙ set.newest mark ∙ by_test mark (nat_eq mark last) refl;
   }
     where
-      past : newest_of (links ++ link ∷ []) new link.mark ≢ suc (length links)
+      past : newest_of (marks ++ last ∷ []) new last ≢ suc (length marks)
       past e =
-          let within = last_place-within (nat_eq link.mark) (marks_of links) (length links) in
-          let is : link.older ≡ suc (length links) = ap (λ (b : Bool). cond b link.older (newest_of (links ++ link ∷ []) newest link.mark)) (sym (eq-eqb link.mark link.mark refl)) ∙ sym (set.newest link.mark) ∙ e in
-          let older = older_is in
-          omega (arith, within, is, older)
+          let within = last_place-within (nat_eq last) marks (length marks) in
+          let is : place ≡ suc (length marks) = ap (λ (b : Bool). cond b place (newest_of (marks ++ last ∷ []) newest last)) (sym (eq-eqb last last refl)) ∙ sym (set.newest last) ∙ e in
+          let place_is = older_is in
+          omega (arith, within, is, place_is)
 
-      by_test : (mark : ℕ) (b : Bool) → nat_eq mark link.mark ≡ b → cond b link.older (newest_of (links ++ link ∷ []) newest mark) ≡ last_place (nat_eq mark) (marks_of links) (length links)
-      by_test mark true t = older_is ∙ ap (λ (m : ℕ). last_place (nat_eq m) (marks_of links) (length links)) (sym (eqb-true mark link.mark t))
+      by_test : (mark : ℕ) (b : Bool) → nat_eq mark last ≡ b → cond b place (newest_of (marks ++ last ∷ []) newest mark) ≡ last_place (nat_eq mark) marks (length marks)
+      by_test mark true t = older_is ∙ ap (λ (m : ℕ). last_place (nat_eq m) marks (length marks)) (sym (eqb-true mark last t))
       by_test mark false t =
-          are.latest mark ∙ with_link links link mark
-          ∙ ap (λ (b : Bool). cond b (suc (length links)) (last_place (nat_eq mark) (marks_of links) (length links))) t
+          are.latest mark ∙ last_place-more (nat_eq mark) marks last
+          ∙ ap (λ (b : Bool). cond b (suc (length marks)) (last_place (nat_eq mark) marks (length marks))) t
 
 -- ---- the marks that callers see
 
-pub newest_shown : (links ls : List Link) (table : Table) (marks : List ℕ) (mark place : ℕ) → AreLinked links table
-    → marks_of links ≡ marks → ls ≡ links → place ≡ newest_of ls table mark
-    → place ≡ last_place (nat_eq mark) marks (length marks)
-newest_shown links ls table marks mark place are shown same is =
-    is ∙ ap (λ (l : List Link). newest_of l table mark) same ∙ rw (← shown, length-marks links) (are.latest mark)
+pub newest_shown : (marks ms older : List ℕ) (table : Table) (now : List ℕ) (mark place : ℕ) → AreLinked marks older table
+    → marks ≡ now → ms ≡ marks → place ≡ newest_of ms table mark
+    → place ≡ last_place (nat_eq mark) now (length now)
+newest_shown marks ms older table now mark place are shown same is =
+    is ∙ ap (λ (l : List ℕ). newest_of l table mark) same ∙ rw (← shown) (are.latest mark)
 
-pub older_shown : (links : List Link) (table : Table) (marks : List ℕ) (index : ℕ) (link : Link) → AreLinked links table
-    → marks_of links ≡ marks → slice_get links index ≡ Some link
-    → (mark : ℕ) → slice_get marks index ≡ Some mark → link.older ≡ last_place (nat_eq mark) marks index
-older_shown links table marks index link are shown there mark is =
-    let here : slice_get marks index ≡ Some link.mark =
-    rw (← shown, slice_get-map (λ (l : Link). l.mark) links index, there) refl in
-    let same : link.mark ≡ mark = let both = sym here ∙ is in cc in
-    rw (← shown, ← same) (are.earlier index link there)
+pub older_shown : (marks older : List ℕ) (table : Table) (now : List ℕ) (index place : ℕ) → AreLinked marks older table
+    → marks ≡ now → slice_get older index ≡ Some place
+    → (mark : ℕ) → slice_get now index ≡ Some mark → place ≡ last_place (nat_eq mark) now index
+older_shown marks older table now index place are shown there mark is =
+    rw (← shown) (are.earlier index mark place (rw shown is) there)
 
-pub none_shown : (links ls : List Link) (marks : List ℕ) (index : ℕ) → marks_of links ≡ marks → ls ≡ links
-    → false ≡ nat_lt index (length ls)
-    → (mark : ℕ) → slice_get marks index ≡ Some mark → 0 ≡ last_place (nat_eq mark) marks index
-none_shown links ls marks index shown same none mark is =
-    let past : length ls ≤ index = grind (arith, nat_tests) in
-    let within = slice_get_within marks index mark is in
-    absurd (omega (arith, within, past, ap length same, ap length shown, length-marks links))
+pub none_shown : (marks older os : List ℕ) (table : Table) (now : List ℕ) (index : ℕ) → AreLinked marks older table
+    → marks ≡ now → os ≡ older → false ≡ nat_lt index (length os)
+    → (mark : ℕ) → slice_get now index ≡ Some mark → 0 ≡ last_place (nat_eq mark) now index
+none_shown marks older os table now index are shown same none mark is =
+    let past : length os ≤ index = grind (arith, nat_tests) in
+    let within = slice_get_within now index mark is in
+    let even = are.even in
+    absurd (omega (arith, within, past, ap length same, ap length shown, even))
 
-pub marks_shown : (links more : List Link) (link : Link) (marks : List ℕ) → marks_of links ≡ marks
-    → more ≡ links ++ link ∷ [] → marks_of more ≡ marks ++ link.mark ∷ []
-marks_shown links more link marks shown is = rw (is, marks-more links link, shown) refl
+pub refused_shown : {T E : Type 0} (r : Result T E) (marks ms now : List ℕ) → marks ≡ now → ms ≡ marks → OnErr r (ms ≡ now)
+refused_shown (Ok x) marks ms now shown same = tt
+refused_shown (Err e) marks ms now shown same = same ∙ shown
 
-pub refused_shown : {T E : Type 0} (r : Result T E) (links ls : List Link) (marks : List ℕ) → marks_of links ≡ marks
-    → ls ≡ links → OnErr r (marks_of ls ≡ marks)
-refused_shown (Ok x) links ls marks shown same = tt
-refused_shown (Err e) links ls marks shown same = rw (same, shown) refl
+-- ---- the marks as a caller holds them, and a table in which the same is found
 
--- ---- the links as a caller holds them, and a table in which the same is found
+abbrev pub Kept : List ℕ → List ℕ → Table → Type 0
+Kept marks older table = AreLinked marks older table × (length marks ≤ most)
 
-pub same_links : (links ls : List Link) (table : Table) → ls ≡ links → AreLinked links table × (length links ≤ most)
-    → AreLinked ls table × (length ls ≤ most)
-same_links links ls table same are = subst (λ (xs : List Link). AreLinked xs table × (length xs ≤ most)) (sym same) are
+pub same_links : (marks ms older os : List ℕ) (table : Table) → ms ≡ marks → os ≡ older → Kept marks older table → Kept ms os table
+same_links marks ms older os table same even are =
+    subst (λ (xs : List ℕ). Kept xs os table) (sym same) (subst (λ (ys : List ℕ). Kept marks ys table) (sym even) are)
 
-pub other_table : (links ls : List Link) (old new : Table) → AreLinked links old × (length links ≤ most) → ls ≡ links
-    → IsTable ls new → ((m : ℕ) → newest_of ls new m ≡ newest_of ls old m) → AreLinked links new × (length links ≤ most)
-other_table links ls old new are same table found = (
+pub other_table : (marks ms older : List ℕ) (old new : Table) → Kept marks older old → ms ≡ marks
+    → IsTable ms new → ((m : ℕ) → newest_of ms new m ≡ newest_of ms old m) → Kept marks older new
+other_table marks ms older old new are same table found = (
   record {
-    probed = subst (λ (xs : List Link). IsTable xs new) same table;
+    probed = subst (λ (xs : List ℕ). IsTable xs new) same table;
+    even = are.0.even;
     earlier = are.0.earlier;
-    latest = λ m. subst (λ (xs : List Link). newest_of xs new m ≡ newest_of xs old m) same (found m) ∙ are.0.latest m;
+    latest = λ m. subst (λ (xs : List ℕ). newest_of xs new m ≡ newest_of xs old m) same (found m) ∙ are.0.latest m;
   },
   are.1,
 )
 
--- ---- the link at a place that is not 0
+-- ---- the mark at a place that is not 0
 
-pub link_there : (links : List Link) (place mark : ℕ) (link : Link) → (place ≡ 0 → ⊥)
-    → slice_get links (place - 1) ≡ Some link → nat_eq link.mark mark ≡ has_mark links place mark
-link_there links zero mark link some there = absurd (some refl)
-link_there links (suc i) mark link some there =
+pub mark_there : (marks : List ℕ) (place mark here : ℕ) → (place ≡ 0 → ⊥)
+    → slice_get marks (place - 1) ≡ Some here → nat_eq here mark ≡ has_mark marks place mark
+mark_there marks zero mark here some there = absurd (some refl)
+mark_there marks (suc i) mark here some there =
     let less : suc i - 1 ≡ i = omega arith in
-    let here : slice_get links i ≡ Some link = rw less at there in
-    rw here refl
+    let at : slice_get marks i ≡ Some here = rw less at there in
+    rw at refl
 
-pub no_link : (links : List Link) (place mark : ℕ) → (place ≡ 0 → ⊥) → false ≡ nat_lt (place - 1) (length links)
-    → false ≡ has_mark links place mark
-no_link links zero mark some none = absurd (some refl)
-no_link links (suc i) mark some none =
-    let past : length links ≤ i = grind (arith, nat_tests) in
-    rw (slice_get_past links i past) refl
+pub no_mark : (marks : List ℕ) (place mark : ℕ) → (place ≡ 0 → ⊥) → false ≡ nat_lt (place - 1) (length marks)
+    → false ≡ has_mark marks place mark
+no_mark marks zero mark some none = absurd (some refl)
+no_mark marks (suc i) mark some none =
+    let past : length marks ≤ i = grind (arith, nat_tests) in
+    rw (slice_get_past marks i past) refl

@@ -11,27 +11,22 @@ use std::marker::Model;
 /// How many places there may be, so that each is a number of 32 bits.
 pub const MOST_PLACES: usize = u32::MAX as usize;
 
-/// A place's mark, and the place before it with the same mark.
-#[derive(Clone, Copy, Drop)]
-pub struct Link {
-    pub mark: u64,
-    pub older: u32,
-}
-
 /// A list of marks, from each of which a walk leads back over the places with this mark. Places count from 1, and 0
 /// is no place.
 ///
-/// The newest places are kept in a table with short probes. Marks come from texts that a stranger chose, so he can choose
+/// Marks stand apart from the places before them with the same mark, so that a line of the cache holds more of what a
+/// look-up compares. The newest places are kept in a table with short probes. Marks come from texts that a stranger chose, so he can choose
 /// them for the same slots; those for which these have no room stand in a tree, which finds each in the logarithm of their
 /// number.
 #[derive(Drop)]
 pub struct Places {
-    links: Vec<Link>,
+    marks: Vec<u64>,
+    older: Vec<u32>,
     newest: Table,
 }
 
 impl Model for Places {
-    ghost use Rattle.std.specs.Prelude.{ℕ, List, map};
+    ghost use Rattle.std.specs.Prelude.{ℕ, List};
 
     ghost Value = { List ℕ };
 
@@ -39,9 +34,9 @@ impl Model for Places {
     ghost use Rattle.marks.specs.Links.{AreLinked};
     ghost use Rattle.marks.specs.Placed.{most};
 
-    ghost view = { λ p. map (λ l. l.mark) p.links.items };
+    ghost view = { λ p. p.marks.items };
 
-    ghost invariant = { λ p. AreLinked p.links.items p.newest × (length p.links.items ≤ most) };
+    ghost invariant = { λ p. AreLinked p.marks.items p.older.items p.newest × (length p.marks.items ≤ most) };
 }
 
 impl Places {
@@ -49,7 +44,8 @@ impl Places {
         ensures { result ≡ [] }
     {
         Places {
-            links: Vec::new(alloc),
+            marks: Vec::new(alloc),
+            older: Vec::new(alloc),
             newest: Table::new(alloc),
         }
     }
@@ -60,7 +56,8 @@ impl Places {
         ensures { IfOk result (λ places. places ≡ []) }
     {
         Ok(Places {
-            links: Vec::with_capacity(alloc, count)?,
+            marks: Vec::with_capacity(alloc, count)?,
+            older: Vec::with_capacity(alloc, count)?,
             newest: Table::with_room(alloc, count)?,
         })
     }
@@ -69,15 +66,15 @@ impl Places {
     pub fn newest(&self, mark: u64) -> usize
         ensures { result ≡ last_place (nat_eq mark) self.now (length self.now) }
     {
-        self.newest.newest(&self.links, mark) as usize
+        self.newest.newest(&self.marks, mark) as usize
     }
 
     /// The place before the one at this index, with the same mark.
     pub fn older(&self, index: usize) -> usize
         ensures { (mark : ℕ) → slice_get self.now index ≡ Some mark → result ≡ last_place (nat_eq mark) self.now index }
     {
-        match self.links.get(index) {
-            Some(link) => link.older as usize,
+        match self.older.get(index) {
+            Some(place) => *place as usize,
             None => 0,
         }
     }
@@ -98,14 +95,16 @@ impl Places {
         ensures ok { OnOk result (self.new ≡ self.old ++ mark ∷ []) }
         ensures err { OnErr result (self.new ≡ self.old) }
     {
-        if self.links.len() >= MOST_PLACES {
+        if self.marks.len() >= MOST_PLACES {
             return Err(AllocError);
         }
-        self.links.reserve(1)?;
-        self.newest.spread(*self.links.allocator(), &self.links)?;
-        let place = self.links.len() as u32 + 1;
-        let older = self.newest.set(&self.links, mark, place)?;
-        self.links.push_reserved(Link { mark, older });
+        self.marks.reserve(1)?;
+        self.older.reserve(1)?;
+        self.newest.spread(*self.marks.allocator(), &self.marks)?;
+        let place = self.marks.len() as u32 + 1;
+        let older = self.newest.set(&self.marks, mark, place)?;
+        self.marks.push_reserved(mark);
+        self.older.push_reserved(older);
         Ok(())
     }
 
@@ -113,11 +112,12 @@ impl Places {
     pub fn pop(&mut self)
         ensures { (marks : List ℕ) (mark : ℕ) → self.old ≡ marks ++ mark ∷ [] → self.new ≡ marks }
     {
-        if let Some(&link) = self.links.last() {
-            if self.newest.set(&self.links, link.mark, link.older).is_err() {
+        if let Some(&mark) = self.marks.last() {
+            let older = self.older.pop().unwrap_or(0);
+            if self.newest.set(&self.marks, mark, older).is_err() {
                 unreachable!();
             }
-            self.links.pop();
+            self.marks.pop();
         }
     }
 }

@@ -1,15 +1,13 @@
 //! The newest place of each mark, in a table of slots.
 
-ghost use Rattle.std.specs.Prelude.{◌≡◌, ◌<◌, ◌≤◌, ◌-◌, ◌++◌, ℕ, List, map, length, slice_get, nat_eq, None, Some, unwrap_or, IfOk, OnOk, OnErr};
+ghost use Rattle.std.specs.Prelude.{◌≡◌, ◌<◌, ◌≤◌, ◌-◌, ◌++◌, ℕ, List, length, slice_get, nat_eq, None, Some, unwrap_or, IfOk, OnOk, OnErr};
 ghost use Rattle.std.specs.BTreeMap.{get, Updates};
 ghost use Rattle.std.specs.Ordering.{nat_cmp};
 ghost use Rattle.marks.specs.Links.{IsPlaceOf, IsSet, IsTable, has_mark, longest, newest_of, probe_in, start_of, stops, tag_of};
 ghost use Rattle.marks.specs.Placed.{last_place, most, passes};
 ghost use Rattle.marks.specs.Slots.{place_of};
-ghost use Rattle.marks.specs.declared.places.Link.{Link};
 ghost use Rattle.marks.specs.declared.slots.Slot.{Slot};
 
-use crate::places::Link;
 use crate::slots::{Slot, Slots};
 use std::alloc::{AllocError, Global};
 use std::collections::BTreeMap;
@@ -51,36 +49,36 @@ fn tag_of(mark: u64) -> u8
     ((mark % TAGS) as u8).max(1)
 }
 
-/// Whether there is a link with the mark at this place.
-fn has_mark(links: &[Link], place: u32, mark: u64) -> bool
-    ensures { result ≡ has_mark links.now place mark }
+/// Whether the mark stands at this place.
+fn has_mark(marks: &[u64], place: u32, mark: u64) -> bool
+    ensures { result ≡ has_mark marks.now place mark }
 {
     if place == 0 {
         return false;
     }
-    match links.get((place - 1) as usize) {
-        Some(link) => link.mark == mark,
+    match marks.get((place - 1) as usize) {
+        Some(there) => *there == mark,
         None => false,
     }
 }
 
 /// Whether the mark's probe ends at this slot.
-fn ends_at(slots: &Slots, at: usize, links: &[Link], mark: u64) -> bool
-    ensures { result ≡ passes (stops links.now mark) (slice_get slots.now at) }
+fn ends_at(slots: &Slots, at: usize, marks: &[u64], mark: u64) -> bool
+    ensures { result ≡ passes (stops marks.now mark) (slice_get slots.now at) }
 {
     match slots.tag(at) {
-        Some(tag) => tag == 0 || tag == tag_of(mark) && has_mark(links, slots.place(at), mark),
+        Some(tag) => tag == 0 || tag == tag_of(mark) && has_mark(marks, slots.place(at), mark),
         None => false,
     }
 }
 
 /// The slot at which the mark's probe ends, counted from 1; 0 where it meets neither the mark's slot nor a free one.
-fn probe(slots: &Slots, links: &[Link], mark: u64) -> usize
-    ensures { result ≡ probe_in longest links.now slots.now mark }
+fn probe(slots: &Slots, marks: &[u64], mark: u64) -> usize
+    ensures { result ≡ probe_in longest marks.now slots.now mark }
 {
     let start = start_of(mark, slots.len().saturating_sub(LONGEST - 1));
     for step in 0..LONGEST {
-        if ends_at(slots, start + step, links, mark) {
+        if ends_at(slots, start + step, marks, mark) {
             return start + step + 1;
         }
     }
@@ -110,23 +108,23 @@ fn put_in_tree(tree: &mut BTreeMap<u64, u32>, mark: u64, place: u32) -> Result<u
     Ok(tree.insert(mark, place)?.unwrap_or(0))
 }
 
-/// Room for so many marks, with the newest place of each mark of the links.
-fn table_of(alloc: Global, links: &[Link], count: usize) -> Result<Table, AllocError>
-    requires { length links.now ≤ most }
-    ensures table { IfOk result (IsTable links.now) }
-    ensures newest { IfOk result (λ t. (mark : ℕ) → newest_of links.now t mark ≡ last_place (nat_eq mark) (map (λ l. l.mark) links.now) (length links.now)) }
+/// Room for so many marks, with the newest place of each of these.
+fn table_of(alloc: Global, marks: &[u64], count: usize) -> Result<Table, AllocError>
+    requires { length marks.now ≤ most }
+    ensures table { IfOk result (IsTable marks.now) }
+    ensures newest { IfOk result (λ t. (mark : ℕ) → newest_of marks.now t mark ≡ last_place (nat_eq mark) marks.now (length marks.now)) }
 {
     let mut table = Table::with_room(alloc, count)?;
-    for (index, link) in links.iter().enumerate() {
-        table.set(links, link.mark, index as u32 + 1)?;
+    for (index, mark) in marks.iter().enumerate() {
+        table.set(marks, *mark, index as u32 + 1)?;
     }
     Ok(table)
 }
 
 impl Table {
     pub fn new(alloc: Global) -> Table
-        ensures table { (links : List Link) → IsTable links result }
-        ensures none { (links : List Link) (mark : ℕ) → newest_of links result mark ≡ 0 }
+        ensures table { (marks : List ℕ) → IsTable marks result }
+        ensures none { (marks : List ℕ) (mark : ℕ) → newest_of marks result mark ≡ 0 }
     {
         Table {
             slots: Slots::new(alloc),
@@ -137,8 +135,8 @@ impl Table {
 
     /// Room for so many marks: twice as many slots, and those behind the last start.
     pub fn with_room(alloc: Global, count: usize) -> Result<Table, AllocError>
-        ensures table { (links : List Link) → IfOk result (IsTable links) }
-        ensures none { (links : List Link) → IfOk result (λ t. (mark : ℕ) → newest_of links t mark ≡ 0) }
+        ensures table { (marks : List ℕ) → IfOk result (IsTable marks) }
+        ensures none { (marks : List ℕ) → IfOk result (λ t. (mark : ℕ) → newest_of marks t mark ≡ 0) }
     {
         let slots = count.saturating_mul(2).saturating_add(LONGEST - 1);
         Ok(Table {
@@ -149,28 +147,28 @@ impl Table {
     }
 
     /// The newest place of the mark, or 0 where it has none.
-    pub fn newest(&self, links: &[Link], mark: u64) -> u32
-        requires { IsTable links.now self.now }
-        ensures { result ≡ newest_of links.now self.now mark }
+    pub fn newest(&self, marks: &[u64], mark: u64) -> u32
+        requires { IsTable marks.now self.now }
+        ensures { result ≡ newest_of marks.now self.now mark }
     {
-        let end = probe(&self.slots, links, mark);
+        let end = probe(&self.slots, marks, mark);
         if end > 0 {
             return place_at(&self.slots, end - 1);
         }
         self.rest.get(&mark).copied().unwrap_or(0)
     }
 
-    /// Makes a place the mark's newest, and gives the one that was its newest before. Its link may be yet to come. Where
+    /// Makes a place the mark's newest, and gives the one that was its newest before. The mark may be yet to come there. Where
     /// the mark has a place already, no memory is wanted.
-    pub fn set(&mut self, links: &[Link], mark: u64, place: u32) -> Result<u32, AllocError>
-        requires { IsTable links.now self.old }
-        ensures older { IfOk result (λ older. older ≡ newest_of links.now self.old mark) }
-        ensures ok { OnOk result ((more : List Link) → IsPlaceOf (links.now ++ more) mark place → IsSet links.now (links.now ++ more) self.old self.new mark place) }
-        ensures err { OnErr result ((m : ℕ) → newest_of links.now self.new m ≡ newest_of links.now self.old m) }
-        ensures table { OnErr result (IsTable links.now self.new) }
-        ensures unknown { OnErr result (newest_of links.now self.old mark ≡ 0) }
+    pub fn set(&mut self, marks: &[u64], mark: u64, place: u32) -> Result<u32, AllocError>
+        requires { IsTable marks.now self.old }
+        ensures older { IfOk result (λ older. older ≡ newest_of marks.now self.old mark) }
+        ensures ok { OnOk result ((more : List ℕ) → IsPlaceOf (marks.now ++ more) mark place → IsSet marks.now (marks.now ++ more) self.old self.new mark place) }
+        ensures err { OnErr result ((m : ℕ) → newest_of marks.now self.new m ≡ newest_of marks.now self.old m) }
+        ensures table { OnErr result (IsTable marks.now self.new) }
+        ensures unknown { OnErr result (newest_of marks.now self.old mark ≡ 0) }
     {
-        let end = probe(&self.slots, links, mark);
+        let end = probe(&self.slots, marks, mark);
         if end == 0 {
             let older = put_in_tree(&mut self.rest, mark, place)?;
             return Ok(older);
@@ -189,17 +187,17 @@ impl Table {
     }
 
     /// Makes the table anew where no slot is to spare, with room for about twice as many marks as before, but for no more than
-    /// twice the links, since marks without a place are left behind. What is found stays.
-    pub fn spread(&mut self, alloc: Global, links: &[Link]) -> Result<(), AllocError>
-        requires newest { (mark : ℕ) → newest_of links.now self.old mark ≡ last_place (nat_eq mark) (map (λ l. l.mark) links.now) (length links.now) }
-        requires table { IsTable links.now self.old }
-        requires few { length links.now ≤ most }
-        ensures table { IsTable links.now self.new }
-        ensures same { (mark : ℕ) → newest_of links.now self.new mark ≡ newest_of links.now self.old mark }
+    /// twice the marks, since those without a place are left behind. What is found stays.
+    pub fn spread(&mut self, alloc: Global, marks: &[u64]) -> Result<(), AllocError>
+        requires newest { (mark : ℕ) → newest_of marks.now self.old mark ≡ last_place (nat_eq mark) marks.now (length marks.now) }
+        requires table { IsTable marks.now self.old }
+        requires few { length marks.now ≤ most }
+        ensures table { IsTable marks.now self.new }
+        ensures same { (mark : ℕ) → newest_of marks.now self.new mark ≡ newest_of marks.now self.old mark }
     {
         if self.spare == 0 {
-            let count = self.slots.len().min(links.len() * 2).max(FEWEST);
-            *self = table_of(alloc, links, count)?;
+            let count = self.slots.len().min(marks.len() * 2).max(FEWEST);
+            *self = table_of(alloc, marks, count)?;
         }
         Ok(())
     }

@@ -9,7 +9,7 @@ place_at-requires c = c.requires.free (c.probe-end.result - 1)
 pub returns-then-end-gt0 : goal.returns-then-end-gt0
 returns-then-end-gt0 c =
     let some : 0 < c.probe-end.result = search rules in
-    c.place_at.ensures ∙ place_at_end longest c.args.links.now c.args.self.now.slots c.args.self.now.rest c.args.mark c.probe-end.result c.probe-end.ensures some
+    c.place_at.ensures ∙ place_at_end longest c.args.marks.now c.args.self.now.slots c.args.self.now.rest c.args.mark c.probe-end.result c.probe-end.ensures some
 
 pub returns : goal.returns
 returns c =
