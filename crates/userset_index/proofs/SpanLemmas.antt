@@ -11,7 +11,7 @@ use Rattle.version_chains.proofs.ArenaLemmas.{item_of}
 use Rattle.marks.proofs.PlacedLemmas.{and-left, at_last_place, last_place-here, last_place-map, last_place-within, slice_get-cases, slice_get-kept, newest_first-here, newest_first-not_here, newest_first-past}
 use Rattle.marks.proofs.WalkLemmas.{left_older}
 use Rattle.userset_index.specs.Lives.{is_alive, is_sought, touches_alive}
-use Rattle.userset_index.specs.Spans.{AreBounded, IsBounded, IsPlaceOf, IsSpanAt, Steps, found_first, lives_of, marks_of}
+use Rattle.userset_index.specs.Spans.{AreBounded, IsBounded, IsPlaceOf, IsSpanAt, Steps, found_first, life_of, lives_of, marks_of}
 use Rattle.userset_index.specs.declared.life.Life.{Life}
 use Rattle.userset_index.specs.declared.spans.Span.{Span}
 
@@ -56,81 +56,81 @@ pub place_kept : (mark : ℕ) (lives more : List Life) (place : ℕ) → IsPlace
 place_kept mark lives more place of i e = let w = of i e in (w.0, slice_get-kept lives more i w.0 w.1, w.2)
 
 -- one more life, whose bounds hold for it and for those of its mark behind its jump
-pub bounded_behind : (lives : List Life) (s : Span) → s.jump ≤ length lives → IsPlaceOf s.life.mark lives s.jump
-    → (s.first ≤ s.life.from) × (s.life.until ≤ s.last)
-    → ((k : ℕ) (l : Life) → s.jump ≤ k → slice_get lives k ≡ Some l → l.mark ≡ s.life.mark → (s.first ≤ l.from) × (l.until ≤ s.last))
-    → IsBounded (lives ++ s.life ∷ []) (length lives) s
+pub bounded_behind : (lives : List Life) (s : Span) → s.jump ≤ length lives → IsPlaceOf s.mark lives s.jump
+    → (s.first ≤ s.from) × (s.until ≤ s.last)
+    → ((k : ℕ) (l : Life) → s.jump ≤ k → slice_get lives k ≡ Some l → l.mark ≡ s.mark → (s.first ≤ l.from) × (l.until ≤ s.last))
+    → IsBounded (lives ++ life_of s ∷ []) (length lives) s
 bounded_behind lives s back of own others = record {
   back = back;
-  of = place_kept s.life.mark lives (s.life ∷ []) s.jump of;
-  bounds = λ k l behind near here same. elim (slice_get-cases lives s.life k l here) [
+  of = place_kept s.mark lives (life_of s ∷ []) s.jump of;
+  bounds = λ k l behind near here same. elim (slice_get-cases lives (life_of s) k l here) [
     | inl old ↦ others k l behind old same
     | inr new ↦ subst (λ (x : Life). (s.first ≤ x.from) × (x.until ≤ s.last)) new.1 own
   ];
 }
 
-pub more_bounded : (spans : List Span) (s : Span) → AreBounded spans → IsBounded (lives_of spans ++ s.life ∷ []) (length spans) s → AreBounded (spans ++ s ∷ [])
+pub more_bounded : (spans : List Span) (s : Span) → AreBounded spans → IsBounded (lives_of spans ++ life_of s ∷ []) (length spans) s → AreBounded (spans ++ s ∷ [])
 more_bounded spans s are is i t here =
-    subst (λ (lives : List Life). IsBounded lives i t) (sym (map-append (λ (s : Span). s.life) spans (s ∷ []))) (elim (slice_get-cases spans s i t here) [
+    subst (λ (lives : List Life). IsBounded lives i t) (sym (map-append life_of spans (s ∷ []))) (elim (slice_get-cases spans s i t here) [
       | inl old ↦ kept (are i t old) (slice_get_within spans i t old)
-      | inr new ↦ subst (λ (j : ℕ). IsBounded (lives_of spans ++ s.life ∷ []) j t) (sym new.0) (subst (IsBounded (lives_of spans ++ s.life ∷ []) (length spans)) new.1 is)
+      | inr new ↦ subst (λ (j : ℕ). IsBounded (lives_of spans ++ life_of s ∷ []) j t) (sym new.0) (subst (IsBounded (lives_of spans ++ life_of s ∷ []) (length spans)) new.1 is)
     ])
   where
-    old_one : (k : ℕ) (l : Life) → k ≤ i → i < length spans → slice_get (lives_of spans ++ s.life ∷ []) k ≡ Some l → slice_get (lives_of spans) k ≡ Some l
-    old_one k l near less here = elim (slice_get-cases (lives_of spans) s.life k l here) [
+    old_one : (k : ℕ) (l : Life) → k ≤ i → i < length spans → slice_get (lives_of spans ++ life_of s ∷ []) k ≡ Some l → slice_get (lives_of spans) k ≡ Some l
+    old_one k l near less here = elim (slice_get-cases (lives_of spans) (life_of s) k l here) [
       | inl old ↦ old
-      | inr new ↦ absurd (let e = new.0 in let long = length-map spans (λ (s : Span). s.life) in omega (arith, e, long, near, less))
+      | inr new ↦ absurd (let e = new.0 in let long = length-map spans life_of in omega (arith, e, long, near, less))
     ]
 
-    kept : IsBounded (lives_of spans) i t → i < length spans → IsBounded (lives_of spans ++ s.life ∷ []) i t
+    kept : IsBounded (lives_of spans) i t → i < length spans → IsBounded (lives_of spans ++ life_of s ∷ []) i t
     kept b less = record {
       back = b.back;
-      of = place_kept t.life.mark (lives_of spans) (s.life ∷ []) t.jump b.of;
+      of = place_kept t.mark (lives_of spans) (life_of s ∷ []) t.jump b.of;
       bounds = λ k l behind near here same. b.bounds k l behind near (old_one k l near less here) same;
     }
 
 -- a span by its place
-pub life_at : (spans : List Span) (place : ℕ) (s : Span) → (at : IsSpanAt spans place s) → slice_get (lives_of spans) at.0 ≡ Some s.life
-life_at spans place s at = item_of (λ (s : Span). s.life) spans at.0 s at.2
+pub life_at : (spans : List Span) (place : ℕ) (s : Span) → (at : IsSpanAt spans place s) → slice_get (lives_of spans) at.0 ≡ Some (life_of s)
+life_at spans place s at = item_of life_of spans at.0 s at.2
 
 -- the mark of a span at a place of a mark
-pub mark_at : (mark : ℕ) (spans : List Span) (place : ℕ) (s : Span) → IsPlaceOf mark (lives_of spans) place → IsSpanAt spans place s → s.life.mark ≡ mark
+pub mark_at : (mark : ℕ) (spans : List Span) (place : ℕ) (s : Span) → IsPlaceOf mark (lives_of spans) place → IsSpanAt spans place s → s.mark ≡ mark
 mark_at mark spans place s of at =
     let w = of at.0 at.1 in
-    let same : Some s.life ≡ Some w.0 = sym (life_at spans place s at) ∙ w.1 in
-    let e : s.life ≡ w.0 = cc in
+    let same : Some (life_of s) ≡ Some w.0 = sym (life_at spans place s at) ∙ w.1 in
+    let e : life_of s ≡ w.0 = cc in
     ap (λ (l : Life). l.mark) e ∙ w.2
 
 -- a life that goes behind the others
 module _ (spans : List Span) (life : Life) (older : ℕ) (is : older ≡ last_place (nat_eq life.mark) (marks_of (lives_of spans)) (length spans)) where
   long : length (lives_of spans) ≡ length spans
-  long = length-map spans (λ (s : Span). s.life)
+  long = length-map spans life_of
 
   newest : older ≡ last_place (nat_eq life.mark) (marks_of (lives_of spans)) (length (lives_of spans))
   newest = is ∙ ap (last_place (nat_eq life.mark) (marks_of (lives_of spans))) (sym long)
 
   -- with a jump to the one before it
-  pub bounded_alone : (depth : ℕ) → IsBounded (lives_of spans ++ life ∷ []) (length spans) (record { life = life; first = life.from; last = life.until; jump = older; depth = depth })
-  bounded_alone depth =
-      subst (λ (n : ℕ). IsBounded (lives_of spans ++ life ∷ []) n (record { life = life; first = life.from; last = life.until; jump = older; depth = depth })) long
-      (bounded_behind (lives_of spans) (record { life = life; first = life.from; last = life.until; jump = older; depth = depth })
+  pub bounded_alone : IsBounded (lives_of spans ++ life ∷ []) (length spans) (record { mark = life.mark; from = life.from; until = life.until; first = life.from; last = life.until; touch = life.touch; jump = older })
+  bounded_alone =
+      subst (λ (n : ℕ). IsBounded (lives_of spans ++ life ∷ []) n (record { mark = life.mark; from = life.from; until = life.until; first = life.from; last = life.until; touch = life.touch; jump = older })) long
+      (bounded_behind (lives_of spans) (record { mark = life.mark; from = life.from; until = life.until; first = life.from; last = life.until; touch = life.touch; jump = older })
       (mark_within life.mark (lives_of spans) older newest) (of_mark life.mark (lives_of spans) older newest) (omega arith, omega arith)
       (λ k l behind here same. none_behind life.mark (lives_of spans) older newest k l behind here same))
 
   -- with the jump of the one to which the one before it jumps
   module _ (are : AreBounded spans) (near far : Span) (at_near : IsSpanAt spans older near) (at_far : IsSpanAt spans near.jump far)
-      (first last depth : ℕ) (firsts : (first ≤ life.from) × (first ≤ near.first) × (first ≤ far.first)) (lasts : (life.until ≤ last) × (near.last ≤ last) × (far.last ≤ last)) where
+      (first last : ℕ) (firsts : (first ≤ life.from) × (first ≤ near.first) × (first ≤ far.first)) (lasts : (life.until ≤ last) × (near.last ≤ last) × (far.last ≤ last)) where
     near_is : IsBounded (lives_of spans) at_near.0 near
     near_is = are at_near.0 near at_near.2
 
     far_is : IsBounded (lives_of spans) at_far.0 far
     far_is = are at_far.0 far at_far.2
 
-    near_mark : near.life.mark ≡ life.mark
+    near_mark : near.mark ≡ life.mark
     near_mark = mark_at life.mark spans older near (of_mark life.mark (lives_of spans) older newest) at_near
 
-    far_mark : far.life.mark ≡ life.mark
-    far_mark = mark_at near.life.mark spans near.jump far near_is.of at_far ∙ near_mark
+    far_mark : far.mark ≡ life.mark
+    far_mark = mark_at near.mark spans near.jump far near_is.of at_far ∙ near_mark
 
     wider : (near_first near_last : ℕ) (l : Life) → first ≤ near_first → near_last ≤ last → (near_first ≤ l.from) × (l.until ≤ near_last) → (first ≤ l.from) × (l.until ≤ last)
     wider near_first near_last l a b h = let f = h.0 in let t = h.1 in (omega (arith, a, f), omega (arith, b, t))
@@ -144,12 +144,12 @@ module _ (spans : List Span) (life : Life) (older : ℕ) (is : older ≡ last_pl
       ]
     ]
 
-    pub bounded_joined : IsBounded (lives_of spans ++ life ∷ []) (length spans) (record { life = life; first = first; last = last; jump = far.jump; depth = depth })
+    pub bounded_joined : IsBounded (lives_of spans ++ life ∷ []) (length spans) (record { mark = life.mark; from = life.from; until = life.until; first = first; last = last; touch = life.touch; jump = far.jump })
     bounded_joined =
         let within = slice_get_within spans at_far.0 far at_far.2 in
         let back = far_is.back in
-        subst (λ (n : ℕ). IsBounded (lives_of spans ++ life ∷ []) n (record { life = life; first = first; last = last; jump = far.jump; depth = depth })) long
-        (bounded_behind (lives_of spans) (record { life = life; first = first; last = last; jump = far.jump; depth = depth })
+        subst (λ (n : ℕ). IsBounded (lives_of spans ++ life ∷ []) n (record { mark = life.mark; from = life.from; until = life.until; first = first; last = last; touch = life.touch; jump = far.jump })) long
+        (bounded_behind (lives_of spans) (record { mark = life.mark; from = life.from; until = life.until; first = first; last = last; touch = life.touch; jump = far.jump })
         (omega (arith, back, within, long)) (subst (λ (m : ℕ). IsPlaceOf m (lives_of spans) far.jump) far_mark far_is.of) (firsts.0, lasts.0) others)
 
 -- ---- steps of a walk
@@ -174,7 +174,7 @@ not_second false b h = refl
 
 -- where the timestamp is outside of the bounds, all up to the jump is passed over
 pub steps_past : (lives : List Life) (i : ℕ) (s : Span) (at : ℕ) → IsBounded lives i s → (at < s.first) ⊎ (s.last < at)
-    → Steps s.life.mark at lives i (record { place = s.jump; found = None })
+    → Steps s.mark at lives i (record { place = s.jump; found = None })
 steps_past lives i s at b out = record {
   nearer = b.back;
   of = b.of;
@@ -182,18 +182,18 @@ steps_past lives i s at b out = record {
       let back = b.back in
       let long : s.jump + (suc i - s.jump) ≡ suc i = omega (arith, back) in
       ap (map (λ (l : Life). l.touch))
-      (ap (newest_first (is_sought s.life.mark at) lives) (sym long)
-      ∙ newest_first-past (is_sought s.life.mark at) lives s.jump (suc i - s.jump)
-      (λ k l behind near here. none k l behind (let n : k ≤ i = omega (arith, near, long) in n) here (nat_eq s.life.mark l.mark) refl));
+      (ap (newest_first (is_sought s.mark at) lives) (sym long)
+      ∙ newest_first-past (is_sought s.mark at) lives s.jump (suc i - s.jump)
+      (λ k l behind near here. none k l behind (let n : k ≤ i = omega (arith, near, long) in n) here (nat_eq s.mark l.mark) refl));
 }
   where
-    none : (k : ℕ) (l : Life) → s.jump ≤ k → k ≤ i → slice_get lives k ≡ Some l → (b : Bool) → nat_eq s.life.mark l.mark ≡ b → is_sought s.life.mark at l ≡ false
-    none k l behind near here false t = sought_other s.life.mark at l t
+    none : (k : ℕ) (l : Life) → s.jump ≤ k → k ≤ i → slice_get lives k ≡ Some l → (b : Bool) → nat_eq s.mark l.mark ≡ b → is_sought s.mark at l ≡ false
+    none k l behind near here false t = sought_other s.mark at l t
     none k l behind near here true t =
-        let bounds = b.bounds k l behind near here (sym (eqb-true s.life.mark l.mark t)) in
+        let bounds = b.bounds k l behind near here (sym (eqb-true s.mark l.mark t)) in
         let first = bounds.0 in
         let last = bounds.1 in
-        sought_not s.life.mark at l (elim out [
+        sought_not s.mark at l (elim out [
           | inl early ↦ not_both (leb l.from at) (leb at l.until) (lt-leb l.from at (omega (arith, early, first)))
           | inr late ↦ not_second (leb l.from at) (leb at l.until) (lt-leb at l.until (omega (arith, late, last)))
         ])

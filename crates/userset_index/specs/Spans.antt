@@ -5,8 +5,11 @@ use Rattle.userset_index.specs.declared.life.Life.{Life}
 use Rattle.userset_index.specs.declared.spans.Span.{Span}
 use Rattle.userset_index.specs.declared.spans.Step.{Step}
 
+abbrev pub life_of : Span → Life
+life_of s = record { mark = s.mark; touch = s.touch; from = s.from; until = s.until }
+
 abbrev pub lives_of : List Span → List Life
-lives_of spans = map (λ s. s.life) spans
+lives_of spans = map life_of spans
 
 abbrev pub marks_of : List Life → List ℕ
 marks_of lives = map (λ l. l.mark) lives
@@ -23,8 +26,8 @@ IsPlaceOf mark lives place = (i : ℕ) → place ≡ suc i → (l : Life) × (sl
 -- behind that place
 pub record IsBounded (lives : List Life) (i : ℕ) (s : Span) : Type 0 where
   pub back : s.jump ≤ i
-  pub of : IsPlaceOf s.life.mark lives s.jump
-  pub bounds : (k : ℕ) (l : Life) → s.jump ≤ k → k ≤ i → slice_get lives k ≡ Some l → l.mark ≡ s.life.mark
+  pub of : IsPlaceOf s.mark lives s.jump
+  pub bounds : (k : ℕ) (l : Life) → s.jump ≤ k → k ≤ i → slice_get lives k ≡ Some l → l.mark ≡ s.mark
       → (s.first ≤ l.from) × (l.until ≤ s.last)
 
 abbrev pub AreBounded : List Span → Type 0

@@ -4,6 +4,7 @@ ghost use Rattle.std.specs.Prelude.{◌≡◌, ◌<◌, ◌≤◌, ◌^◌, ◌+
 ghost use Rattle.std.specs.List.{list_any};
 ghost use Rattle.tuple_text.specs.Refs.{set_value};
 ghost use Rattle.tuple_text.specs.Sets.{SetValue};
+ghost use Rattle.tuple_text.specs.declared.users.User.TheVariants.{Set};
 ghost use Rattle.namespaces.specs.Lookup.{rule_at, rule_of};
 ghost use Rattle.version_chains.specs.Commits.{Touch, changelog};
 ghost use Rattle.marks.specs.Marks.{set_mark};
@@ -13,7 +14,6 @@ ghost use Rattle.userset_index.specs.Index.{AreExact, Holds};
 ghost use Rattle.userset_index.specs.Index as spec;
 
 use crate::life::{Life, Way};
-use crate::spans::Spans;
 use marks::{MarkedSet, pair_mark};
 use namespaces::Rules;
 use std::alloc::{AllocError, Global};
@@ -49,8 +49,8 @@ pub(crate) fn is_any_crowded(crowds: &[u8]) -> bool
     crowds.iter().any(|count| *count > FEW)
 }
 
-/// How many touches are of usersets, by the beginning of the mark of the userset that they are stored in; and of each touch of a userset
-/// that mark, so that no pass makes it again.
+/// How many touches are of usersets, by the beginning of the mark of the userset that they are stored in; and of each
+/// touch of a userset that mark, so that no pass over lives makes it again.
 #[derive(Drop)]
 pub(crate) struct Crowds {
     pub counts: Vec<u8>,
@@ -62,6 +62,14 @@ fn mark_at(chains: &Chains, index: usize) -> Option<u64>
     ensures { IsMarkAt (changelog chains.now.commits) index result }
 {
     let touch = chains.touch(index)?;
+    mark_of(touch)
+}
+
+/// The same of a touch that is at hand.
+fn mark_of(touch: TouchRef<'_>) -> Option<u64>
+    ensures { (g : SetValue) → (touch_value touch.entry).tuple.user ≡ Set g
+        → result ≡ Some (set_mark (touch_value touch.entry).tuple.set) }
+{
     match touch.user.user {
         UserRef::Set(_) => Some(MarkedSet::of(touch.set).mark),
         UserRef::Id(_) => None,
@@ -78,22 +86,33 @@ fn count_one(counts: &mut Vec<u8>, mark: Option<u64>) {
     }
 }
 
-/// Counts the touches of usersets, by the userset that they are stored in. It goes once over the changelog.
-pub(crate) fn count_crowds(
+/// Counts the touches of usersets, by the userset that they are stored in. It goes once over the changelog, and keeps
+/// nothing of a touch: in most traces no userset is crowded.
+pub(crate) fn count_crowds(alloc: Global, chains: &Chains) -> Result<Vec<u8>, AllocError> {
+    let mut counts = vec![in alloc; 0u8; COUNTS]?;
+    for index in 0..usize::MAX {
+        let Some(touch) = chains.touch(index) else {
+            break;
+        };
+        count_one(&mut counts, mark_of(touch));
+    }
+    Ok(counts)
+}
+
+/// Of each touch of a userset the mark of the userset that it is stored in. It goes once over the changelog.
+pub(crate) fn set_marks(
     alloc: Global,
     chains: &Chains,
     touches: usize,
-) -> Result<Crowds, AllocError>
-    ensures { IfOk result (λ c. AreSetMarks (changelog chains.now.commits) touches c.marks.items) }
+) -> Result<Vec<u64>, AllocError>
+    ensures { IfOk result (λ marks. AreSetMarks (changelog chains.now.commits) touches marks.items) }
 {
-    let mut counts = vec![in alloc; 0u8; COUNTS]?;
     let mut marks = Vec::with_capacity(alloc, touches)?;
     for index in 0..touches {
         let mark = mark_at(chains, index);
-        count_one(&mut counts, mark);
         marks.push(mark.unwrap_or(0))?;
     }
-    Ok(Crowds { counts, marks })
+    Ok(marks)
 }
 
 /// A later touch of a tuple has a later timestamp: no commit touches a tuple twice. It computes nothing.
@@ -261,24 +280,4 @@ pub(crate) fn lives_of(
         keep(&mut lives, life)?;
     }
     Ok(lives)
-}
-
-/// The lives that can matter, in the order of their first timestamps, so that a walk passes over those that are later.
-pub(crate) fn linked_lives(
-    alloc: Global,
-    way: Way,
-    chains: &Chains,
-    rules: &Rules,
-    crowds: &Crowds,
-    ends: &[u64],
-) -> Result<Spans, AllocError>
-    requires ends { AreEnds (changelog chains.now.commits) ends.now }
-    requires marks { AreSetMarks (changelog chains.now.commits) (length ends.now) crowds.now.marks.items }
-    ensures holds { IfOk result (λ lives. Holds rules.now way (changelog chains.now.commits)
-        crowds.now.counts.items lives) }
-    ensures exact { IfOk result (λ lives. AreExact (changelog chains.now.commits) lives) }
-{
-    let mut lives = lives_of(alloc, way, chains, rules, crowds, ends)?;
-    lives.sort_unstable_by_key(|life| life.from);
-    Spans::of(alloc, &lives)
 }

@@ -1,17 +1,19 @@
 //! The index.
 
-ghost use Rattle.std.specs.Prelude.{◌≡◌, ◌&&◌, length, false, IfOk, IfSome};
+ghost use Rattle.std.specs.Prelude.{◌≡◌, ◌&&◌, length, false, IfOk, IfSome, IsPermutation};
 ghost use Rattle.tuple_text.specs.Refs.{set_value};
 ghost use Rattle.marks.specs.Marks as marks;
 ghost use Rattle.userset_index.specs.Index as spec;
 ghost use Rattle.userset_index.specs.Index.{AreNamespaces, IsUsersetIndex};
 ghost use Rattle.userset_index.specs.Lives.{touches_alive};
 
-use crate::build::{count_crowds, ends_of, is_any_crowded, is_crowded, linked_lives, object_mark};
-use crate::life::Way;
+use crate::build::{
+    Crowds, count_crowds, ends_of, is_any_crowded, is_crowded, lives_of, object_mark, set_marks,
+};
+use crate::life::{Life, Way};
 use crate::moments::Times;
 use crate::numbers::Numbers;
-use crate::objects::linked_through;
+use crate::objects::lives_through;
 use crate::spans::{Alive, Spans};
 use marks::{MarkedSet, pair_mark};
 use namespaces::Rules;
@@ -49,6 +51,15 @@ impl Model for UsersetIndex {
     } };
 }
 
+/// These lives in the order of their first timestamps, so that a walk passes over those that are later. The list that
+/// they came in is let go.
+fn linked(alloc: Global, mut lives: Vec<Life>) -> Result<Spans, AllocError>
+    ensures { IfOk result (λ spans. IsPermutation lives.items spans) }
+{
+    lives.sort_unstable_by_key(|life| life.from);
+    Spans::of(alloc, &lives)
+}
+
 impl UsersetIndex {
     /// No index, in which nothing is crowded.
     pub fn new(alloc: Global) -> UsersetIndex
@@ -66,34 +77,40 @@ impl UsersetIndex {
 
     /// Makes the index of a store under these rules.
     ///
-    /// It takes time in the logarithm of the touches for each touch of a userset, and of its memory some 270 bytes for
-    /// each that adds one to a crowded userset. Where a rule of many places reads tuplesets, it takes some 110 bytes more
+    /// It takes time in the logarithm of the touches for each touch of a userset, and of its memory some 210 bytes for
+    /// each that adds one to a crowded userset. Where a rule of many places reads tuplesets, it takes some 100 bytes more
     /// for each touch that adds a userset, and for each that ends one.
     pub fn of(alloc: Global, chains: &Chains, rules: &Rules) -> Result<UsersetIndex, AllocError>
         ensures { IfOk result (λ index. IsUsersetIndex rules.now chains.now.commits index) }
     {
-        let ends = ends_of(alloc, chains)?;
-        let crowds = count_crowds(alloc, chains, ends.len())?;
-        let times = Times::of(alloc, chains, rules, &ends)?;
-        if !is_any_crowded(&crowds.counts) {
+        let counts = count_crowds(alloc, chains)?;
+        if !is_any_crowded(&counts) {
             return Ok(UsersetIndex {
                 is_whole: true,
-                crowds: crowds.counts,
+                crowds: counts,
                 own: Spans::new(alloc),
                 through: Spans::new(alloc),
                 objects: Spans::new(alloc),
-                times,
+                times: Times::alone(alloc, chains, rules)?,
             });
         }
-        let own = linked_lives(alloc, Way::Own, chains, rules, &crowds, &ends)?;
-        let through = linked_through(alloc, chains, rules, &crowds, &ends)?;
-        let objects = linked_lives(alloc, Way::Object, chains, rules, &crowds, &ends)?;
+        let ends = ends_of(alloc, chains)?;
+        let times = Times::of(alloc, chains, rules, &ends)?;
+        let marks = set_marks(alloc, chains, ends.len())?;
+        let crowds = Crowds { counts, marks };
+        let objects = lives_of(alloc, Way::Object, chains, rules, &crowds, &ends)?;
+        let through = lives_through(alloc, chains, rules, &objects)?;
+        let own = lives_of(alloc, Way::Own, chains, rules, &crowds, &ends)?;
+        // What was kept of each touch goes before the lives are linked, which takes more memory than they do.
+        let Crowds { counts, marks } = crowds;
+        drop(marks);
+        drop(ends);
         Ok(UsersetIndex {
             is_whole: true,
-            crowds: crowds.counts,
-            own,
-            through,
-            objects,
+            crowds: counts,
+            own: linked(alloc, own)?,
+            through: linked(alloc, through)?,
+            objects: linked(alloc, objects)?,
             times,
         })
     }

@@ -8,6 +8,7 @@ ghost use Rattle.userset_index.specs.Index.{HaveMoments, IsCovered};
 ghost use Rattle.userset_index.specs.Moments.{Awaits, AtLeast, HoldsStays, IsGiven, IsHeld, IsStayOf};
 ghost use Rattle.userset_index.specs.Numbers.{Has};
 
+use crate::build::ends_of;
 use crate::life::Life;
 use crate::numbers::Numbers;
 use crate::spans::Spans;
@@ -313,6 +314,18 @@ impl Times {
             moments: Spans::of(alloc, &all.lives)?,
             numbers: all.numbers,
         })
+    }
+
+    /// The same where the ends of touches serve nothing else.
+    pub(crate) fn alone(alloc: Global, chains: &Chains, rules: &Rules) -> Result<Times, AllocError>
+        ensures { IfOk result (λ t. t.is_whole ≡ true
+            → HaveMoments rules.now (changelog chains.now.commits) t.moments t.numbers.items) }
+    {
+        if !is_any_wide(rules) {
+            return Ok(Times::new(alloc));
+        }
+        let ends = ends_of(alloc, chains)?;
+        Times::of(alloc, chains, rules, &ends)
     }
 
     /// Those namespaces, and those of a moment.

@@ -5,17 +5,16 @@
 //! object once at a timestamp, however many of its usersets are stored then, and meets it twice only where it shares
 //! its mark with another object.
 
-ghost use Rattle.std.specs.Prelude.{◌≡◌, ℕ, true, length, Contains, IfOk, IfSome, OnOk};
+ghost use Rattle.std.specs.Prelude.{◌≡◌, ℕ, List, true, Contains, IfOk, IfSome, OnOk};
 ghost use Rattle.version_chains.specs.Commits.{changelog};
-ghost use Rattle.userset_index.specs.Building.{AreEnds, AreSetMarks};
-ghost use Rattle.userset_index.specs.Index.{AreExact, AreTimely, HoldsThrough, IsTimely};
+ghost use Rattle.userset_index.specs.Index.{AreExact, AreTimely, Holds, HoldsThrough, IsTimely};
 ghost use Rattle.userset_index.specs.Lives.{is_alive};
 ghost use Rattle.userset_index.specs.Objects.{AreNumbered, IsCover, IsCoveredBy, IsNumbered, IsSameLife, KeepsOf, object_at};
 ghost use Rattle.userset_index.specs.declared.life.Life.{Life};
+ghost use Rattle.userset_index.specs.declared.life.Way.TheVariants.{Object};
 
-use crate::build::{Crowds, keep, lives_of};
-use crate::life::{Life, Way};
-use crate::spans::Spans;
+use crate::build::keep;
+use crate::life::Life;
 use marks::{MarkedSet, pair_mark};
 use namespaces::Rules;
 use std::alloc::{AllocError, Global};
@@ -147,41 +146,23 @@ fn all_numbered(
     Ok(all)
 }
 
-/// Lives by which usersets are looked for through a userset, one of an object at a time.
-fn lives_through(
+/// Lives by which usersets are looked for through a userset, one of an object at a time, of those by which they are
+/// looked for by their objects.
+pub(crate) fn lives_through(
     alloc: Global,
     chains: &Chains,
     rules: &Rules,
-    crowds: &Crowds,
-    ends: &[u64],
+    objects: &[Life],
 ) -> Result<Vec<Life>, AllocError>
-    requires ends { AreEnds (changelog chains.now.commits) ends.now }
-    requires marks { AreSetMarks (changelog chains.now.commits) (length ends.now) crowds.now.marks.items }
-    ensures holds { IfOk result (λ lives. HoldsThrough rules.now (changelog chains.now.commits)
-        crowds.now.counts.items lives.items) }
+    requires { AreExact (changelog chains.now.commits) objects.now }
+    ensures holds { (crowds : List ℕ) → Holds rules.now Object (changelog chains.now.commits) crowds objects.now
+        → IfOk result (λ lives. HoldsThrough rules.now (changelog chains.now.commits) crowds lives.items) }
     ensures exact { IfOk result (λ lives. AreExact (changelog chains.now.commits) lives.items) }
 {
-    let mut lives = lives_of(alloc, Way::Object, chains, rules, crowds, ends)?;
-    lives.sort_unstable_by_key(|life| (life.mark, life.from));
+    let mut lives = Vec::with_capacity(alloc, objects.len())?;
+    lives.extend_from_slice(objects)?;
+    lives.sort_unstable_by_key(|life: &Life| (life.mark, life.from));
     let kept = thinned(alloc, chains, &lives)?;
+    drop(lives);
     all_numbered(alloc, chains, rules, &kept)
-}
-
-/// These, in the order of their first timestamps, so that a walk passes over those that are later.
-pub(crate) fn linked_through(
-    alloc: Global,
-    chains: &Chains,
-    rules: &Rules,
-    crowds: &Crowds,
-    ends: &[u64],
-) -> Result<Spans, AllocError>
-    requires ends { AreEnds (changelog chains.now.commits) ends.now }
-    requires marks { AreSetMarks (changelog chains.now.commits) (length ends.now) crowds.now.marks.items }
-    ensures holds { IfOk result (λ lives. HoldsThrough rules.now (changelog chains.now.commits)
-        crowds.now.counts.items lives) }
-    ensures exact { IfOk result (λ lives. AreExact (changelog chains.now.commits) lives) }
-{
-    let mut lives = lives_through(alloc, chains, rules, crowds, ends)?;
-    lives.sort_unstable_by_key(|life| life.from);
-    Spans::of(alloc, &lives)
 }

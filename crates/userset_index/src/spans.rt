@@ -1,28 +1,30 @@
 //! Lives, found by their mark and a timestamp.
 
-ghost use Rattle.std.specs.Prelude.{◌≡◌, ◌∷◌, ◌++◌, [], Some, length, slice_get, nat_eq, IfOk, IfSome};
+ghost use Rattle.std.specs.Prelude.{◌≡◌, ◌≤◌, ◌∷◌, ◌++◌, [], Some, length, slice_get, nat_eq, IfOk, IfSome};
 ghost use Rattle.std.specs.Iterator.{YieldsFirstBy, item_count};
-ghost use Rattle.marks.specs.Placed.{last_place};
+ghost use Rattle.marks.specs.Placed.{last_place, most};
 ghost use Rattle.userset_index.specs.Lives.{touches_alive, is_alive};
-ghost use Rattle.userset_index.specs.Spans.{AreBounded, IsBounded, IsPlaceOf, IsSpanAt, Steps, lives_of, marks_of};
+ghost use Rattle.userset_index.specs.Spans.{AreBounded, IsBounded, IsPlaceOf, IsSpanAt, Steps, life_of, lives_of, marks_of};
 
 use crate::life::Life;
-use marks::Places;
+use marks::{MOST_PLACES, Places};
 use std::alloc::{AllocError, Global};
 use std::marker::Model;
 
 /// A life, and of the lives with its mark that stand behind the place `jump`, up to this one, the least first
-/// timestamp and the greatest last one. `depth` counts the lives with its mark up to this one.
+/// timestamp and the greatest last one.
 ///
 /// The jumps are those of a skew-binary list, as in the store: a walk passes over a stretch of lives at once where
 /// none of it holds the timestamp, and so finds the next that does in the logarithm of their number.
 #[derive(Clone, Copy, Drop)]
 pub(crate) struct Span {
-    pub(crate) life: Life,
+    pub(crate) mark: u64,
+    pub(crate) from: u64,
+    pub(crate) until: u64,
     pub(crate) first: u64,
     pub(crate) last: u64,
-    pub(crate) jump: usize,
-    pub(crate) depth: u32,
+    pub(crate) touch: u32,
+    pub(crate) jump: u32,
 }
 
 /// Lives in the order in which they were added. From each a link leads to the one before it with the same mark. A
@@ -47,33 +49,37 @@ impl Model for Spans {
     ghost invariant = { λ s. (s.links ≡ marks_of (lives_of s.spans.items)) × AreBounded s.spans.items };
 }
 
-/// Whether a timestamp is among those of a life.
-fn is_alive(life: &Life, at: u64) -> bool
-    ensures { result ≡ is_alive at life.now }
+/// Whether a timestamp is among those of a span's life.
+fn is_alive(span: &Span, at: u64) -> bool
+    ensures { result ≡ is_alive at (life_of span.now) }
 {
-    life.from <= at && at <= life.until
+    span.from <= at && at <= span.until
 }
 
 /// The span at a place, which counts from 1.
-fn at_place(spans: &[Span], place: usize) -> Option<&Span>
+fn at_place(spans: &[Span], place: u32) -> Option<&Span>
     ensures { IfSome result (λ s. IsSpanAt spans.now place s.now) }
 {
     if place == 0 {
         return None;
     }
-    spans.get(place - 1)
+    spans.get((place - 1) as usize)
 }
 
-/// The span that stands where a jump of this one leads, if a jump from there is as long.
-fn far_behind<'a>(spans: &'a [Span], near: &Span) -> Option<&'a Span>
+/// The rank of the jump of the span at a place; 0 where there is none. Jumps of one rank pass over equally many lives.
+fn rank_at(ranks: &[u8], place: u32) -> u8 {
+    if place == 0 {
+        return 0;
+    }
+    ranks.get((place - 1) as usize).copied().unwrap_or(0)
+}
+
+/// The span that stands where a jump of this one, which stands at a place, leads, if a jump from there is as long.
+fn far_behind<'a>(spans: &'a [Span], ranks: &[u8], place: u32, near: &Span) -> Option<&'a Span>
     ensures { IfSome result (λ s. IsSpanAt spans.now near.now.jump s.now) }
 {
     let far = at_place(spans, near.jump)?;
-    let depth = match at_place(spans, far.jump) {
-        Some(span) => span.depth,
-        None => 0,
-    };
-    if near.depth.abs_diff(far.depth) == far.depth.abs_diff(depth) {
+    if rank_at(ranks, place) == rank_at(ranks, near.jump) {
         Some(far)
     } else {
         None
@@ -81,34 +87,36 @@ fn far_behind<'a>(spans: &'a [Span], near: &Span) -> Option<&'a Span>
 }
 
 /// The span of a life that goes behind the others, where the one before it with the same mark stands at the place
-/// `older`.
-fn span_behind(spans: &[Span], older: usize, life: Life) -> Span
+/// `older`, and the rank of its jump.
+fn span_behind(spans: &[Span], ranks: &[u8], older: u32, life: Life) -> (Span, u8)
     requires bounded { AreBounded spans.now }
     requires older { older ≡ last_place (nat_eq life.mark) (marks_of (lives_of spans.now)) (length spans.now) }
-    ensures life { result.life ≡ life }
-    ensures bounded { IsBounded (lives_of spans.now ++ life ∷ []) (length spans.now) result }
+    requires touch { life.touch ≤ most }
+    ensures life { life_of result.0 ≡ life }
+    ensures bounded { IsBounded (lives_of spans.now ++ life ∷ []) (length spans.now) result.0 }
 {
     let alone = Span {
-        life,
+        mark: life.mark,
+        from: life.from,
+        until: life.until,
         first: life.from,
         last: life.until,
+        touch: life.touch as u32,
         jump: older,
-        depth: 1,
     };
     let Some(near) = at_place(spans, older) else {
-        return alone;
+        return (alone, 1);
     };
-    let depth = near.depth.saturating_add(1);
-    let Some(far) = far_behind(spans, near) else {
-        return Span { depth, ..alone };
+    let Some(far) = far_behind(spans, ranks, older, near) else {
+        return (alone, 1);
     };
-    Span {
+    let joined = Span {
         first: life.from.min(near.first).min(far.first),
         last: life.until.max(near.last).max(far.last),
         jump: far.jump,
-        depth,
         ..alone
-    }
+    };
+    (joined, rank_at(ranks, older).saturating_add(1))
 }
 
 /// Where a walk stands after a step, and the touch of the life that it met there, if the timestamp is one of that
@@ -129,16 +137,22 @@ impl Spans {
         }
     }
 
-    /// These lives, in this order.
+    /// These lives, in this order. Ranks of jumps are needed only here.
     pub(crate) fn of(alloc: Global, lives: &[Life]) -> Result<Spans, AllocError>
         ensures { IfOk result (λ spans. spans ≡ lives.now) }
     {
         let mut links = Places::with_room(alloc, lives.len())?;
         let mut spans = Vec::with_capacity(alloc, lives.len())?;
+        let mut ranks = Vec::with_capacity(alloc, lives.len())?;
         for life in lives {
-            let span = span_behind(&spans, links.newest(life.mark), *life);
+            let older = links.newest(life.mark);
+            if older > MOST_PLACES || life.touch > MOST_PLACES {
+                return Err(AllocError);
+            }
+            let (span, rank) = span_behind(&spans, &ranks, older as u32, *life);
             links.push(life.mark)?;
             spans.push(span)?;
+            ranks.push(rank)?;
         }
         Ok(Spans { links, spans })
     }
@@ -155,13 +169,13 @@ impl Spans {
         };
         if at < span.first || span.last < at {
             return Step {
-                place: span.jump,
+                place: span.jump as usize,
                 found: None,
             };
         }
         Step {
             place: self.links.older(index),
-            found: is_alive(&span.life, at).then_some(span.life.touch),
+            found: is_alive(span, at).then_some(span.touch as usize),
         }
     }
 

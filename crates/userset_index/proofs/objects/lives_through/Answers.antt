@@ -11,22 +11,25 @@ use Rattle.userset_index.proofs.ExactLemmas.{exact_permuted}
 use Rattle.userset_index.proofs.ObjectLemmas.{through_by_objects}
 use Rattle.userset_index.proofs.objects.lives_through.Goals as goal
 
-pub returns : goal.returns
-returns c =
+pub returns-clause-holds : goal.returns-clause-holds
+returns-clause-holds c = λ crowds of_objects.
     let ds = c.args.rules.now in
     let touches = changelog c.args.chains.now.commits in
-    let moved : IsPermutation c.in_ok-lives.lives.items c.deref.result.now = search rules in
+    let moved : IsPermutation c.args.objects.now c.deref.result.now = search rules in
     let read : c.deref-2.result.now ≡ c.in_ok-kept.kept.items = search rules in
-    let holds = holds_permuted ds Object touches c.args.crowds.now.counts.items _ _ moved c.in_ok-lives.ensures.holds in
-    let exact = c.in_ok-kept.ensures.exact (exact_permuted touches _ _ moved c.in_ok-lives.ensures.exact) in
-    record {
-      holds = IfOk-weaker c.all_numbered.result _ _
-          (λ numbered all. through_by_objects ds touches c.args.crowds.now.counts.items _ _ numbered.items holds
-          c.in_ok-kept.ensures.covers exact.timely
-          (subst (λ (ls : List Life). AreNumbered ds touches ls numbered.items) read all))
-          c.all_numbered.ensures.numbered;
-      exact = IfOk-weaker c.all_numbered.result _ _
-          (λ numbered all. subst (λ (ls : List Life). AreExact touches ls → AreExact touches numbered.items) read all
-          exact)
-          c.all_numbered.ensures.exact;
-    }
+    let holds = holds_permuted ds Object touches crowds _ _ moved of_objects in
+    let exact = c.in_ok-kept.ensures.exact (exact_permuted touches _ _ moved c.requires) in
+    IfOk-weaker c.all_numbered.result _ _
+    (λ numbered all. through_by_objects ds touches crowds _ _ numbered.items holds c.in_ok-kept.ensures.covers
+    exact.timely (subst (λ (ls : List Life). AreNumbered ds touches ls numbered.items) read all))
+    c.all_numbered.ensures.numbered
+
+pub returns-clause-exact : goal.returns-clause-exact
+returns-clause-exact c =
+    let touches = changelog c.args.chains.now.commits in
+    let moved : IsPermutation c.args.objects.now c.deref.result.now = search rules in
+    let read : c.deref-2.result.now ≡ c.in_ok-kept.kept.items = search rules in
+    let exact = c.in_ok-kept.ensures.exact (exact_permuted touches _ _ moved c.requires) in
+    IfOk-weaker c.all_numbered.result _ _
+    (λ numbered all. subst (λ (ls : List Life). AreExact touches ls → AreExact touches numbered.items) read all exact)
+    c.all_numbered.ensures.exact

@@ -3,10 +3,10 @@ use Rattle.userset_index.proofs.SpanLemmas.{bounded_alone, bounded_joined}
 use Rattle.userset_index.proofs.spans.span_behind.Goals as goal
 
 pub returns-in_default-clause-bounded : goal.returns-in_default-clause-bounded
-returns-in_default-clause-bounded c = bounded_alone c.args.spans.now c.args.life c.args.older c.requires.older 1
+returns-in_default-clause-bounded c = bounded_alone c.args.spans.now c.args.life c.args.older c.requires.older
 
 pub returns-in_default-far_behind-clause-bounded : goal.returns-in_default-far_behind-clause-bounded
-returns-in_default-far_behind-clause-bounded c = bounded_alone c.args.spans.now c.args.life c.args.older c.requires.older c.saturating_add-depth.result
+returns-in_default-far_behind-clause-bounded c = bounded_alone c.args.spans.now c.args.life c.args.older c.requires.older
 
 pub returns-clause-bounded : goal.returns-clause-bounded
 returns-clause-bounded c =
@@ -19,4 +19,4 @@ returns-clause-bounded c =
     let last_near : near.last ≤ c.max-2.result = search rules in
     let last_far : far.last ≤ c.max-2.result = search rules in
     bounded_joined c.args.spans.now c.args.life c.args.older c.requires.older c.requires.bounded near far c.in-Some.ensures c.in-Some-far_behind.ensures
-    c.min-2.result c.max-2.result c.saturating_add-depth.result (first_own, first_near, first_far) (last_own, last_near, last_far)
+    c.min-2.result c.max-2.result (first_own, first_near, first_far) (last_own, last_near, last_far)

@@ -2,7 +2,7 @@ use Rattle.std.proofs.Common.{◌≡◌, [], ◌+◌, ◌++◌, ◌∷◌, subst
 use Rattle.version_chains.specs.Commits.{changelog}
 use Rattle.userset_index.specs.Building.{AreSetMarks}
 use Rattle.userset_index.proofs.BuildLemmas.{set_mark_by, set_marks_next, set_marks_none}
-use Rattle.userset_index.proofs.build.count_crowds.Goals as goal
+use Rattle.userset_index.proofs.build.set_marks.Goals as goal
 
 pub loop-index-init : goal.loop-index-init
 loop-index-init c =
