@@ -63,8 +63,11 @@ two_pass s t e p q second ok =
     ap (λ (x : Bool). level s x (turn_passes s [] (walked s.rules [] (walk_from nothing_held) t) e) (walked s.rules [] (walked s.rules [] (walk_from nothing_held) t) e)) (turn s 1 t nothing_held p)
     ∙ (ap₂ (λ (y : Bool) (w : Walk). level s (may_be_placed s 1 nothing_held) y w) turned ended ∙ ok)
 
+abbrev pub rows_of_two : Shape → Text → Text → List Row
+rows_of_two s t e = finished s.rules (placed s 2 e (placed s 1 t nothing_held).held).held
+
 two_rows : (s : Shape) (t e : Text) → is_plain_word t ≡ true → is_plain_word e ≡ true → placed s 1 t nothing_held ≡ at (placed s 1 t nothing_held).held 2
-    → rows_after s.rules [] (t ∷ e ∷ []) ≡ finished s.rules (placed s 2 e (placed s 1 t nothing_held).held).held
+    → rows_after s.rules [] (t ∷ e ∷ []) ≡ rows_of_two s t e
 two_rows s t e p q second =
     let after = step s 1 t nothing_held p ∙ second in
     ap (λ (w : Walk). finished s.rules w.held) (ap (λ (w : Walk). walked s.rules [] w e) after ∙ step s 2 e (placed s 1 t nothing_held).held q)
@@ -79,17 +82,14 @@ pub audit_taken : (t e : Text) → is_plain_word t ≡ true → is_plain_word e 
 unfolding clap_on_literals
 audit_taken t e p q = below_audit t e ∙ ap (λ (b : Bool). b && true) (two_pass (sub 0) t e p q refl refl)
 
-abbrev pub audit_rows : Text → Text → List Row
-audit_rows t e = finished (sub 0).rules (placed (sub 0) 2 e (placed (sub 0) 1 t nothing_held).held).held
-
 within_audit : (t e : Text) → subcommand_of program (codes "audit" ∷ t ∷ e ∷ []) ≡ Some (codes "audit", rows_after (sub 0).rules [] (t ∷ e ∷ []))
 unfolding clap_on_literals
 within_audit t e = refl
 
-pub audit_is : (t e : Text) → is_plain_word t ≡ true → is_plain_word e ≡ true → subcommand_of program (codes "audit" ∷ t ∷ e ∷ []) ≡ Some (codes "audit", audit_rows t e)
+pub audit_is : (t e : Text) → is_plain_word t ≡ true → is_plain_word e ≡ true → subcommand_of program (codes "audit" ∷ t ∷ e ∷ []) ≡ Some (codes "audit", rows_of_two (sub 0) t e)
 audit_is t e p q = within_audit t e ∙ ap (λ (rows : List Row). Some (codes "audit", rows)) (two_rows (sub 0) t e p q refl)
 
-pub audit_found : (t e : Text) → IsAuditFound (audit_rows t e) t (Some e)
+pub audit_found : (t e : Text) → IsAuditFound (rows_of_two (sub 0) t e) t (Some e)
 audit_found t e = record { trace = refl; evidence = refl; make = refl; workers = refl; slice = refl; early = refl }
 
 -- ---- `audit` with a word and `--make`
@@ -132,43 +132,26 @@ one_passes s t p ok =
 abbrev pub make_rows : Text → List Row
 make_rows t = finished (sub 1).rules (placed (sub 1) 1 t nothing_held).held
 
-below_make : (t : Text) → takes program (codes "make" ∷ t ∷ []) ≡ (level_passes (sub 1) [] nothing_held (t ∷ []) false && true)
-unfolding clap_on_literals
-below_make t = refl
-
 pub make_taken : (t : Text) → is_plain_word t ≡ true → takes program (codes "make" ∷ t ∷ []) ≡ true
 unfolding clap_on_literals
-make_taken t p = below_make t ∙ ap (λ (b : Bool). b && true) (one_passes (sub 1) t p refl)
-
-within_make : (t : Text) → subcommand_of program (codes "make" ∷ t ∷ []) ≡ Some (codes "make", rows_after (sub 1).rules [] (t ∷ []))
-unfolding clap_on_literals
-within_make t = refl
+make_taken t p = ap (λ (b : Bool). b && true) (one_passes (sub 1) t p refl)
 
 pub make_is : (t : Text) → is_plain_word t ≡ true → subcommand_of program (codes "make" ∷ t ∷ []) ≡ Some (codes "make", make_rows t)
-make_is t p = within_make t ∙ ap (λ (w : Walk). Some (codes "make", finished (sub 1).rules w.held)) (step (sub 1) 1 t nothing_held p)
+unfolding clap_on_literals
+make_is t p = ap (λ (w : Walk). Some (codes "make", finished (sub 1).rules w.held)) (step (sub 1) 1 t nothing_held p)
 
 pub make_found : (t : Text) → IsMakeFound (make_rows t) t
 make_found t = record { trace = refl; list = refl }
 
 -- ---- `history` with two words
 
-abbrev pub history_rows : Text → Text → List Row
-history_rows t e = finished (sub 2).rules (placed (sub 2) 2 e (placed (sub 2) 1 t nothing_held).held).held
-
-below_history : (t e : Text) → takes program (codes "history" ∷ t ∷ e ∷ []) ≡ (level_passes (sub 2) [] nothing_held (t ∷ e ∷ []) false && true)
-unfolding clap_on_literals
-below_history t e = refl
-
 pub history_taken : (t e : Text) → is_plain_word t ≡ true → is_plain_word e ≡ true → takes program (codes "history" ∷ t ∷ e ∷ []) ≡ true
 unfolding clap_on_literals
-history_taken t e p q = below_history t e ∙ ap (λ (b : Bool). b && true) (two_pass (sub 2) t e p q refl refl)
+history_taken t e p q = ap (λ (b : Bool). b && true) (two_pass (sub 2) t e p q refl refl)
 
-within_history : (t e : Text) → subcommand_of program (codes "history" ∷ t ∷ e ∷ []) ≡ Some (codes "history", rows_after (sub 2).rules [] (t ∷ e ∷ []))
+pub history_is : (t e : Text) → is_plain_word t ≡ true → is_plain_word e ≡ true → subcommand_of program (codes "history" ∷ t ∷ e ∷ []) ≡ Some (codes "history", rows_of_two (sub 2) t e)
 unfolding clap_on_literals
-within_history t e = refl
+history_is t e p q = ap (λ (rows : List Row). Some (codes "history", rows)) (two_rows (sub 2) t e p q refl)
 
-pub history_is : (t e : Text) → is_plain_word t ≡ true → is_plain_word e ≡ true → subcommand_of program (codes "history" ∷ t ∷ e ∷ []) ≡ Some (codes "history", history_rows t e)
-history_is t e p q = within_history t e ∙ ap (λ (rows : List Row). Some (codes "history", rows)) (two_rows (sub 2) t e p q refl)
-
-pub history_found : (t e : Text) → IsHistoryFound (history_rows t e) t e
+pub history_found : (t e : Text) → IsHistoryFound (rows_of_two (sub 2) t e) t e
 history_found t e = record { trace = refl; tuple = refl }

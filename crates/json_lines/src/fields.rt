@@ -56,16 +56,8 @@ pub fn optional_text_of<'a>(field: Option<&JsonRef<'_, 'a>>) -> Option<Option<&'
     ensures { option_map (option_map (λ s. s.now)) result ≡ optional_text_of (option_map value_data (option_copied field.entry)) }
 {
     match field {
-        None => Some(None),
-        Some(found) => {
-            if found.is_null() {
-                return Some(None);
-            }
-            match found.as_str() {
-                Some(text) => Some(Some(text)),
-                None => None,
-            }
-        }
+        Some(found) if !found.is_null() => found.as_str().map(Some),
+        _ => Some(None),
     }
 }
 
@@ -75,16 +67,8 @@ pub fn optional_number_at(value: &JsonRef<'_, '_>, name: &str) -> Option<Option<
     ensures { result ≡ optional_number_at name.now (value_data value.now) }
 {
     match value.get(name) {
-        None => Some(None),
-        Some(found) => {
-            if found.is_null() {
-                return Some(None);
-            }
-            match found.as_u64() {
-                Some(number) => Some(Some(number)),
-                None => None,
-            }
-        }
+        Some(found) if !found.is_null() => found.as_u64().map(Some),
+        _ => Some(None),
     }
 }
 

@@ -13,8 +13,8 @@ use Rattle.tuple_text.specs.declared.users.User.TheVariants.{Id, Set}
 use Rattle.tuple_text.proofs.ValueLemmas.{tuple_eq-same, tuple_eq-itself, fact_eq-itself, fact_eq-same}
 use Rattle.marks.specs.Marks.{tuple_mark}
 use Rattle.marks.specs.Placed.{indices_of, last_place, IsLinkedPlace}
-use Rattle.marks.proofs.IndexLemmas.{indices_from}
-use Rattle.marks.proofs.LeftLemmas.{AreLeft, left_behind, tuples_left}
+use Rattle.marks.proofs.IndexLemmas.{indices_from, walked_over}
+use Rattle.marks.proofs.LeftLemmas.{AreLeft, left_behind, left_none, tuples_left}
 use Rattle.marks.proofs.PlacedLemmas.{last_place-within, length-more, read_item, slice_get-front, slice_get-next}
 use Rattle.marks.proofs.WalkLemmas.{linked_item}
 use Rattle.rewrites.proofs.Names.{by_bool, clash}
@@ -73,6 +73,14 @@ module _ {X : Type 0} (view : X → FactValue) (kept : List X) (i : ℕ) where
     pub same_left : fact_eq f (view x) ≡ true → Contains (map view kept) f
     same_left same = fact_there x f here (fact_eq-same f (view x) same)
 
+-- where no index is left, the fact is not there
+pub found_nowhere : (fs : List FactValue) (f : FactValue) → AreLeft (λ t. tuple_eq t (fact_tuple f)) (map fact_tuple fs) []
+    → IsTrue false ↔ Contains fs f
+found_nowhere fs f none = (
+  λ t. absurd (let e : IsTrue false = t in cc),
+  λ h. absurd (absent_fact fs f (left_none (λ t. tuple_eq t (fact_tuple f)) (map fact_tuple fs) none) h),
+)
+
 -- a fact is there where one of them is equal to it
 pub there_if_any : (fs : List FactValue) (f : FactValue) → IsTrue (list_any (fact_eq f) fs) ↔ Contains fs f
 there_if_any fs f = (Contains-from_any fact_eq-same f fs, list_any-from_Contains fact_equiv f fs)
@@ -116,6 +124,15 @@ module _ (fs : List FactValue) (f : FactValue) (marks : List ℕ) (place : ℕ)
       ∙ ap (indices_of own marks) long
       ∙ sym (indices_from own marks place (length fs) (is own last)) in
       subst (AreLeft (λ t. tuple_eq t (fact_tuple f)) (map fact_tuple fs)) same all
+
+-- a walk over the places of a fact's own mark leaves the index before its place, and those that come behind it
+pub left_next : (tuples : List TupleValue) (f : FactValue) (marks : List ℕ) (place older : ℕ)
+    → IsLinkedPlace (nat_eq (tuple_mark (fact_tuple f))) marks place
+    → AreLeft (λ t. tuple_eq t (fact_tuple f)) tuples (indices_of (tuple_mark (fact_tuple f)) marks place) → 0 < place
+    → ((n : ℕ) → slice_get marks (place - 1) ≡ Some n → older ≡ last_place (nat_eq n) marks (place - 1))
+    → AreLeft (λ t. tuple_eq t (fact_tuple f)) tuples ((place - 1) ∷ indices_of (tuple_mark (fact_tuple f)) marks older)
+left_next tuples f marks place older on left some link =
+    subst (AreLeft (λ t. tuple_eq t (fact_tuple f)) tuples) (walked_over (tuple_mark (fact_tuple f)) marks place older on some link) left
 
 -- a walk over a mark's places comes to an earlier one
 pub smaller : (mark : ℕ) (marks : List ℕ) (place older : ℕ) → IsLinkedPlace (nat_eq mark) marks place → 0 < place

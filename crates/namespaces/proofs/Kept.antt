@@ -1,5 +1,5 @@
 -- Relations that are kept, place by place and from one list to the next.
-use Rattle.std.proofs.Common.{◌≡◌, ℕ, zero, suc, ◌+◌, ◌<◌, ◌≤◌, true, false, ◌&&◌, ◌==◌, List, [], ◌∷◌, length, drop, slice_get, None, Some, refl, sym, ◌∙◌, add-one, arith}
+use Rattle.std.proofs.Common.{◌≡◌, ℕ, zero, suc, ◌+◌, ◌<◌, ◌≤◌, Bool, true, false, ◌&&◌, ◌==◌, List, [], ◌∷◌, length, drop, slice_get, Option, None, Some, refl, sym, ◌∙◌, add-one, arith}
 use Rattle.std.specs.Str.{bytes_eq}
 use Rattle.std.specs.List.{list_any}
 use Rattle.std.specs.Cmp.{unsigned_Decides}
@@ -7,7 +7,10 @@ use Rattle.namespaces.specs.Declaration.{Relation}
 use Rattle.namespaces.specs.Lookup.{relation_named, relation_names}
 use Rattle.namespaces.specs.Adding.{has_repeats}
 use Rattle.namespaces.specs.Changing.{keeps_names, keeps_strata}
-use Rattle.namespaces.specs.Kept.{keeps_name_at, keeps_stratum_at}
+use Rattle.namespaces.specs.Kept.{has_one_name, keeps_name_at, has_one_stratum, keeps_stratum_at}
+use Rattle.namespaces.specs.Shown.{show_relation, show_relations}
+use Rattle.namespaces.proofs.Indexes.{length-mapped}
+use Rattle.namespaces.proofs.Tables.{Entry}
 use Rattle.rewrites.proofs.Names.{by_bool, clash, same_name, one_name, or_false, and_true}
 
 drop-nil : (i : ℕ) → drop {A = Relation} i [] ≡ []
@@ -18,27 +21,37 @@ strata-none : (rs : List Relation) → keeps_strata rs [] ≡ true
 strata-none [] = refl
 strata-none (r ∷ rs) = refl
 
-pub names_step : (old new : List Relation) (i : ℕ) → i < length old
-    → keeps_names (drop i old) (drop i new) ≡ (keeps_name_at old new i && keeps_names (drop (i + 1) old) (drop (i + 1) new))
-names_step old new i h = rw add-one (by old new i h)
+-- A test that goes from place to place, as far as the old list, is that of one place and that of the places behind it.
+kept_step : (kept : List Relation → List Relation → Bool) (one : Option Relation → Option Relation → Bool)
+    → ((r : Relation) (rs : List Relation) → kept (r ∷ rs) [] ≡ (one (Some r) None && kept rs []))
+    → ((r s : Relation) (rs ss : List Relation) → kept (r ∷ rs) (s ∷ ss) ≡ (one (Some r) (Some s) && kept rs ss))
+    → (old new : List Relation) (i : ℕ) → i < length old
+    → kept (drop i old) (drop i new) ≡ (one (slice_get old i) (slice_get new i) && kept (drop (i + 1) old) (drop (i + 1) new))
+kept_step kept one past step old new i h = rw add-one (by old new i h)
   where
-    by : (old new : List Relation) (i : ℕ) → i < length old → keeps_names (drop i old) (drop i new) ≡ (keeps_name_at old new i && keeps_names (drop (suc i) old) (drop (suc i) new))
+    by : (old new : List Relation) (i : ℕ) → i < length old
+        → kept (drop i old) (drop i new) ≡ (one (slice_get old i) (slice_get new i) && kept (drop (suc i) old) (drop (suc i) new))
     by [] new i h = absurd (omega arith)
-    by (r ∷ rs) [] zero h = refl
-    by (r ∷ rs) (s ∷ ss) zero h = refl
+    by (r ∷ rs) [] zero h = past r rs
+    by (r ∷ rs) (s ∷ ss) zero h = step r s rs ss
     by (r ∷ rs) [] (suc i) h = rw (drop-nil i) at (by rs [] i (omega arith))
     by (r ∷ rs) (s ∷ ss) (suc i) h = by rs ss i (omega arith)
 
-pub strata_step : (old new : List Relation) (i : ℕ) → i < length old
-    → keeps_strata (drop i old) (drop i new) ≡ (keeps_stratum_at old new i && keeps_strata (drop (i + 1) old) (drop (i + 1) new))
-strata_step old new i h = rw add-one (by old new i h)
-  where
-    by : (old new : List Relation) (i : ℕ) → i < length old → keeps_strata (drop i old) (drop i new) ≡ (keeps_stratum_at old new i && keeps_strata (drop (suc i) old) (drop (suc i) new))
-    by [] new i h = absurd (omega arith)
-    by (r ∷ rs) [] zero h = sym (strata-none rs)
-    by (r ∷ rs) (s ∷ ss) zero h = refl
-    by (r ∷ rs) [] (suc i) h = rw (drop-nil i) at (by rs [] i (omega arith))
-    by (r ∷ rs) (s ∷ ss) (suc i) h = by rs ss i (omega arith)
+pub names_step : (old new : List Entry) (i : ℕ) → i < length old
+    → keeps_names (drop i (show_relations old)) (drop i (show_relations new))
+    ≡ (keeps_name_at (show_relations old) (show_relations new) i
+    && keeps_names (drop (i + 1) (show_relations old)) (drop (i + 1) (show_relations new)))
+names_step old new i h =
+    kept_step keeps_names has_one_name (λ r rs. refl) (λ r s rs ss. refl) (show_relations old) (show_relations new) i
+    (rw (length-mapped show_relation old) h)
+
+pub strata_step : (old new : List Entry) (i : ℕ) → i < length old
+    → keeps_strata (drop i (show_relations old)) (drop i (show_relations new))
+    ≡ (keeps_stratum_at (show_relations old) (show_relations new) i
+    && keeps_strata (drop (i + 1) (show_relations old)) (drop (i + 1) (show_relations new)))
+strata_step old new i h =
+    kept_step keeps_strata has_one_stratum (λ r rs. sym (strata-none rs)) (λ r s rs ss. refl) (show_relations old) (show_relations new) i
+    (rw (length-mapped show_relation old) h)
 
 pub keeps_names-same : (rs : List Relation) → keeps_names rs rs ≡ true
 keeps_names-same [] = refl

@@ -31,23 +31,23 @@ pub exclusion_at-get : (key : List ℕ) (ms : Members) → exclusion_at key ms �
 exclusion_at-get key no_members = refl
 exclusion_at-get key (member k d ms) = rw (← is_eq-slice_cmp key k) (member_step exclusion (slice_cmp nat_cmp key k) d _ _ (exclusion_at-get key ms))
 
-pub expression-get : (d : Data)
+pub expression_get : (d : Data)
     → expression d ≡ only_form d (needed (get (codes "union") d) >>= child_list) (needed (get (codes "intersection") d) >>= child_list) (needed (get (codes "exclusion") d) >>= exclusion)
 unfolding only_form forms_in
-expression-get null = refl
-expression-get (boolean b) = refl
-expression-get (number n) = refl
-expression-get (string s) = refl
-expression-get (array ds) = refl
-expression-get (object ms) = rw (child_list_at-get (codes "union") ms, child_list_at-get (codes "intersection") ms, exclusion_at-get (codes "exclusion") ms) refl
+expression_get null = refl
+expression_get (boolean b) = refl
+expression_get (number n) = refl
+expression_get (string s) = refl
+expression_get (array ds) = refl
+expression_get (object ms) = rw (child_list_at-get (codes "union") ms, child_list_at-get (codes "intersection") ms, exclusion_at-get (codes "exclusion") ms) refl
 
-pub exclusion-get : (d : Data) → exclusion d ≡ ((needed (get (codes "base") d) >>= expression) >>= λ a. (needed (get (codes "subtract") d) >>= expression) >>= λ b. Ok (minus a b))
-exclusion-get null = refl
-exclusion-get (boolean b) = refl
-exclusion-get (number n) = refl
-exclusion-get (string s) = refl
-exclusion-get (array ds) = refl
-exclusion-get (object ms) = rw (expression_at-get (codes "base") ms, expression_at-get (codes "subtract") ms) refl
+pub exclusion_get : (d : Data) → exclusion d ≡ ((needed (get (codes "base") d) >>= expression) >>= λ a. (needed (get (codes "subtract") d) >>= expression) >>= λ b. Ok (minus a b))
+exclusion_get null = refl
+exclusion_get (boolean b) = refl
+exclusion_get (number n) = refl
+exclusion_get (string s) = refl
+exclusion_get (array ds) = refl
+exclusion_get (object ms) = rw (expression_at-get (codes "base") ms, expression_at-get (codes "subtract") ms) refl
 
 pub child_list-as_array : (d : Data) → child_list d ≡ (needed (as_array d) >>= expressions)
 child_list-as_array null = refl

@@ -12,7 +12,6 @@ use Rattle.namespaces.specs.Fault.{Fails}
 use Rattle.namespaces.specs.Declaration as declaration
 use Rattle.namespaces.specs.Adding.{has_repeats}
 use Rattle.namespaces.specs.Lookup.{relation_names}
-use Rattle.namespaces.specs.Kept.{has_one_name, keeps_name_at, has_one_stratum, keeps_stratum_at}
 use Rattle.namespaces.specs.Shown.{show_relation, show_relations}
 use Rattle.namespaces.specs.declared.relation.Relation.{Relation}
 use Rattle.namespaces.proofs.Repeats.{has_repeats-there, has_repeats-push}
@@ -103,13 +102,6 @@ carried RelationsChanged false r rs f h = cc
 carried StratumChanged true r rs f h = cc
 carried StratumChanged false r rs f h = cc
 
--- ---- the relations at one place of two tables
-
-pub name_there : (old new : List Entry) (i : ℕ) (was now : Option Entry) → was ≡ slice_get old i → now ≡ slice_get new i
-    → has_one_name (option_map show_relation was) (option_map show_relation now) ≡ keeps_name_at (show_relations old) (show_relations new) i
-name_there old new i was now e f = rw (slice_get-map show_relation old i, slice_get-map show_relation new i, ← e, ← f) refl
-
-pub stratum_there : (old new : List Entry) (i : ℕ) (was now : Option Entry) → was ≡ slice_get old i
-    → now ≡ slice_get new i
-    → has_one_stratum (option_map show_relation was) (option_map show_relation now) ≡ keeps_stratum_at (show_relations old) (show_relations new) i
-stratum_there old new i was now e f = rw (slice_get-map show_relation old i, slice_get-map show_relation new i, ← e, ← f) refl
+-- the relation at a place
+pub shown_there : (es : List Entry) (i : ℕ) → slice_get (show_relations es) i ≡ option_map show_relation (slice_get es i)
+shown_there es i = slice_get-map show_relation es i

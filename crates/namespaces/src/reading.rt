@@ -83,6 +83,7 @@ fn tuple_to(alloc: Global, value: &Value) -> Result<Rewrite, RulesFault>
 
 /// The rule of an expression.
 #[cycle(reading)]
+#[tactic(auto, using(crate::proofs::Shapes::expression_get), unfolding(crate::specs::Shape::only_form))]
 fn expression(alloc: Global, value: &Value) -> Result<Rewrite, RulesFault>
     ensures { Gives expression_of result (shape.expression (view value.now)) }
 {
@@ -109,6 +110,7 @@ fn expression(alloc: Global, value: &Value) -> Result<Rewrite, RulesFault>
 
 /// The rule of the object at `exclusion`.
 #[cycle(reading)]
+#[tactic(auto, using(crate::proofs::Shapes::exclusion_get))]
 fn exclusion(alloc: Global, value: &Value) -> Result<Rewrite, RulesFault>
     ensures { Gives expression_of result (shape.exclusion (view value.now)) }
 {

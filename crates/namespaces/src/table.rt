@@ -224,6 +224,7 @@ fn is_over_limits(full: bool, relations: &IndexMap<String, Relation>) -> bool
 }
 
 /// Whether the new relations begin with the names of the old ones.
+#[tactic(auto, using(crate::proofs::Kept::names_step))]
 pub(crate) fn keeps_names(
     old: &IndexMap<String, Relation>,
     new: &IndexMap<String, Relation>,
@@ -239,6 +240,7 @@ pub(crate) fn keeps_names(
 }
 
 /// Whether the relation at a place keeps its name.
+#[tactic(auto, using(crate::proofs::Tables::shown_there))]
 fn keeps_name(
     old: &IndexMap<String, Relation>,
     new: &IndexMap<String, Relation>,
@@ -253,6 +255,7 @@ fn keeps_name(
 }
 
 /// Whether each old relation has the stratum of the new one in its place.
+#[tactic(auto, using(crate::proofs::Kept::strata_step))]
 pub(crate) fn keeps_strata(
     old: &IndexMap<String, Relation>,
     new: &IndexMap<String, Relation>,
@@ -268,6 +271,7 @@ pub(crate) fn keeps_strata(
 }
 
 /// Whether the relation at a place keeps its stratum, where it still is.
+#[tactic(auto, using(crate::proofs::Tables::shown_there))]
 fn keeps_stratum(
     old: &IndexMap<String, Relation>,
     new: &IndexMap<String, Relation>,

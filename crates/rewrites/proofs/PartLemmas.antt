@@ -165,27 +165,35 @@ last_node old new ns ms ts us t n part h more =
     (union_last (nodes_shown parts ns) (throughs_shown ts) (nodes_shown parts ms ++ throughs_shown us) (through_expression t)
     (rw (map-append through_expression ts (t ∷ [])) at here))
 
--- the next child of a union is a node
-pub union_step : (old new : List Expression) (ns : List Node) (ts : List Through) (n : Node) (e : Expression) (rest all : List Expression) → Says old new n e
-    → ((more : List Expression) → JoinAlike Joint.Union ((nodes_shown (old ++ more) ns ++ throughs_shown ts) ++ e ∷ rest) all)
-    → (more : List Expression) → JoinAlike Joint.Union ((nodes_shown (new ++ more) (ns ++ n ∷ []) ++ throughs_shown ts) ++ rest) all
-union_step old new ns ts n e rest all says h more =
-    let parts = new ++ more in
-    let here = later (λ p. JoinAlike Joint.Union ((nodes_shown p ns ++ throughs_shown ts) ++ e ∷ rest) all) old new h says.grown more in
-    rw (nodes_pushed parts ns n)
-    (union_node (nodes_shown parts ns) (throughs_shown ts) rest all e (node_expression parts n) (says.alike more) here)
+-- the rules from a place on: that one, and those behind it
+pub left_shown : (rs : List Rewrite) (i : ℕ) (r : Rewrite) → i < length rs → r ≡ get_or rs i r
+    → map expression_of (drop i rs) ≡ expression_of r ∷ map expression_of (drop (i + 1) rs)
+left_shown rs i r within is = rw (drop-cons rs i r within, add-one, ← is) refl
 
--- the next child of an intersection is a node
-pub inter_step : (old new : List Expression) (ns : List Node) (n : Node) (e : Expression) (rest all : List Expression) → Says old new n e
-    → ((more : List Expression) → JoinAlike Joint.Inter (nodes_shown (old ++ more) ns ++ e ∷ rest) all)
-    → (more : List Expression) → JoinAlike Joint.Inter (nodes_shown (new ++ more) (ns ++ n ∷ []) ++ rest) all
-inter_step old new ns n e rest all says h more =
-    let parts = new ++ more in
-    let nodes = nodes_shown parts ns in
-    let here = later (λ p. JoinAlike Joint.Inter (nodes_shown p ns ++ e ∷ rest) all) old new h says.grown more in
-    rw (nodes_pushed parts ns n)
-    (joined_on_alike Joint.Inter nodes (nodes ++ node_expression parts n ∷ []) rest all e (node_expression parts n) (says.alike more)
-    (alike_itself (joined Joint.Inter (nodes ++ node_expression parts n ∷ []))) here)
+module _ (rs : List Rewrite) (i : ℕ) (r : Rewrite) (within : i < length rs) (is : r ≡ get_or rs i r)
+    (old new : List Expression) (ns : List Node) (n : Node) (says : Says old new n (expression_of r)) (all : List Expression) where
+  -- the next child of a union is a node
+  pub union_step : (ts : List Through)
+      → ((more : List Expression) → JoinAlike Joint.Union ((nodes_shown (old ++ more) ns ++ throughs_shown ts) ++ map expression_of (drop i rs)) all)
+      → (more : List Expression) → JoinAlike Joint.Union ((nodes_shown (new ++ more) (ns ++ n ∷ []) ++ throughs_shown ts) ++ map expression_of (drop (i + 1) rs)) all
+  union_step ts h more =
+      let parts = new ++ more in
+      let here = later (λ p. JoinAlike Joint.Union ((nodes_shown p ns ++ throughs_shown ts) ++ map expression_of (drop i rs)) all) old new h says.grown more in
+      rw (nodes_pushed parts ns n)
+      (union_node (nodes_shown parts ns) (throughs_shown ts) (map expression_of (drop (i + 1) rs)) all (expression_of r) (node_expression parts n)
+      (says.alike more) (rw (left_shown rs i r within is) at here))
+
+  -- the next child of an intersection is a node
+  pub inter_step : ((more : List Expression) → JoinAlike Joint.Inter (nodes_shown (old ++ more) ns ++ map expression_of (drop i rs)) all)
+      → (more : List Expression) → JoinAlike Joint.Inter (nodes_shown (new ++ more) (ns ++ n ∷ []) ++ map expression_of (drop (i + 1) rs)) all
+  inter_step h more =
+      let parts = new ++ more in
+      let nodes = nodes_shown parts ns in
+      let here = later (λ p. JoinAlike Joint.Inter (nodes_shown p ns ++ map expression_of (drop i rs)) all) old new h says.grown more in
+      rw (nodes_pushed parts ns n)
+      (joined_on_alike Joint.Inter nodes (nodes ++ node_expression parts n ∷ []) (map expression_of (drop (i + 1) rs)) all (expression_of r)
+      (node_expression parts n) (says.alike more) (alike_itself (joined Joint.Inter (nodes ++ node_expression parts n ∷ [])))
+      (rw (left_shown rs i r within is) at here))
 
 -- ---- a whole node
 
@@ -212,8 +220,3 @@ says_minus old now new n a b e f g n_is e_is first second = record {
       (minus_alike (node_expression (new ++ more) a) f (node_expression (new ++ more) b) g
       (later (λ p. IsAlike (node_expression p a) f) now new first.alike second.grown more) (second.alike more));
 }
-
--- the rules from a place on: that one, and those behind it
-pub left_shown : (rs : List Rewrite) (i : ℕ) (r : Rewrite) → i < length rs → r ≡ get_or rs i r
-    → map expression_of (drop i rs) ≡ expression_of r ∷ map expression_of (drop (i + 1) rs)
-left_shown rs i r within is = rw (drop-cons rs i r within, add-one, ← is) refl

@@ -37,21 +37,22 @@ good_moved s w l (Some None) (Some (x ∷ xs)) ea eb = (
   drained s.lanes l x xs eb,
 )
 
+-- a slice goes from a hand to the end of a list
+given_up : (h : ℕ → ℕ) (hands : List (Option ℕ)) (w x : ℕ) (kept : List ℕ) → slice_get hands w ≡ Some (Some x)
+    → sum_by (hand_sum h) (set hands w None) + sum_by h (kept ++ x ∷ []) ≡ sum_by (hand_sum h) hands + sum_by h kept
+given_up h hands w x kept held =
+    let emptied = sum_set (hand_sum h) hands w (Some x) None held in
+    omega (arith, emptied, sum_by-append h kept (x ∷ []), sum_by-cons h x [])
+
 good_finished : (s : State) (w : ℕ) (a : Option (Option ℕ)) → slice_get s.hands w ≡ a → Good s (finished s w a)
 good_finished s w None ea = same s
 good_finished s w (Some None) ea = same s
-good_finished s w (Some (Some x)) ea = (
-  (λ h. let a = sum_set (hand_sum h) s.hands w (Some x) None ea in omega (arith, sum_by-append h s.done (x ∷ []), sum_by-cons h x [])),
-  λ l. ([], refl),
-)
+good_finished s w (Some (Some x)) ea = ((λ h. omega (arith, given_up h s.hands w x s.done ea)), λ l. ([], refl))
 
 good_failed : (s : State) (w : ℕ) (a : Option (Option ℕ)) → slice_get s.hands w ≡ a → Good s (failed s w a)
 good_failed s w None ea = same s
 good_failed s w (Some None) ea = same s
-good_failed s w (Some (Some x)) ea = (
-  (λ h. let a = sum_set (hand_sum h) s.hands w (Some x) None ea in omega (arith, sum_by-append h s.lost (x ∷ []), sum_by-cons h x [])),
-  λ l. ([], refl),
-)
+good_failed s w (Some (Some x)) ea = ((λ h. omega (arith, given_up h s.hands w x s.lost ea)), λ l. ([], refl))
 
 good : (s : State) (e : Event) → Good s (after s e)
 good s (Take w) = good_moved s w w (slice_get s.hands w) (slice_get s.lanes w) refl refl

@@ -1,13 +1,13 @@
 use Rattle.std.proofs.Common.{rules, ap, ◌∙◌, sym, map, option_map, string_bytes, Some, None, List}
 use Rattle.clap.specs.Words.{Text, subcommand_of, takes}
 use Rattle.command_line.specs.Commands.{program}
-use Rattle.command_line.proofs.Plain.{audit_rows, audit_is, audit_found, audit_taken, made_rows, made_is, made_found, made_taken, make_rows, make_is, make_found, make_taken, history_rows, history_is, history_found, history_taken}
+use Rattle.command_line.proofs.Plain.{sub, rows_of_two, audit_is, audit_found, audit_taken, made_rows, made_is, made_found, made_taken, make_rows, make_is, make_found, make_taken, history_is, history_found, history_taken}
 use Rattle.command_line.specs.Asked.{asked_by, command_of}
 use Rattle.command_line.proofs.First.{named}
 use Rattle.command_line.proofs.request.read_words.Goals as goal
 
 pub returns-in-Some-clause-audit : goal.returns-in-Some-clause-audit
-returns-in-Some-clause-audit c t e ws p q = c.in-Some.ensures.audit (audit_rows t e) t (Some e) (c.in-Ok.ensures.matches ∙ (ap (λ (words : List Text). subcommand_of program words) ws ∙ audit_is t e p q)) (audit_found t e)
+returns-in-Some-clause-audit c t e ws p q = c.in-Some.ensures.audit (rows_of_two (sub 0) t e) t (Some e) (c.in-Ok.ensures.matches ∙ (ap (λ (words : List Text). subcommand_of program words) ws ∙ audit_is t e p q)) (audit_found t e)
 
 pub returns-in-Some-clause-audit_made : goal.returns-in-Some-clause-audit_made
 returns-in-Some-clause-audit_made c t ws p = c.in-Some.ensures.audit (made_rows t) t None (c.in-Ok.ensures.matches ∙ (ap (λ (words : List Text). subcommand_of program words) ws ∙ made_is t p)) (made_found t)
@@ -16,7 +16,7 @@ pub returns-in-Some-clause-make : goal.returns-in-Some-clause-make
 returns-in-Some-clause-make c t ws p = c.in-Some.ensures.make (make_rows t) t (c.in-Ok.ensures.matches ∙ (ap (λ (words : List Text). subcommand_of program words) ws ∙ make_is t p)) (make_found t)
 
 pub returns-in-Some-clause-history : goal.returns-in-Some-clause-history
-returns-in-Some-clause-history c t u ws p q = c.in-Some.ensures.history (history_rows t u) t u (c.in-Ok.ensures.matches ∙ (ap (λ (words : List Text). subcommand_of program words) ws ∙ history_is t u p q)) (history_found t u)
+returns-in-Some-clause-history c t u ws p q = c.in-Some.ensures.history (rows_of_two (sub 2) t u) t u (c.in-Ok.ensures.matches ∙ (ap (λ (words : List Text). subcommand_of program words) ws ∙ history_is t u p q)) (history_found t u)
 
 pub returns-in-Some-clause-first : goal.returns-in-Some-clause-first
 returns-in-Some-clause-first c =
@@ -30,13 +30,13 @@ returns-in-Ok c = record {
   first = search rules;
   asked = search rules;
   audit = λ t e ws p q.
-      let bad = c.in-None.ensures.audit (audit_rows t e) t (Some e) (c.in-Ok.ensures.matches ∙ (ap (λ (words : List Text). subcommand_of program words) ws ∙ audit_is t e p q)) (audit_found t e) in absurd cc;
+      let bad = c.in-None.ensures.audit (rows_of_two (sub 0) t e) t (Some e) (c.in-Ok.ensures.matches ∙ (ap (λ (words : List Text). subcommand_of program words) ws ∙ audit_is t e p q)) (audit_found t e) in absurd cc;
   audit_made = λ t ws p.
       let bad = c.in-None.ensures.audit (made_rows t) t None (c.in-Ok.ensures.matches ∙ (ap (λ (words : List Text). subcommand_of program words) ws ∙ made_is t p)) (made_found t) in absurd cc;
   make = λ t ws p.
       let bad = c.in-None.ensures.make (make_rows t) t (c.in-Ok.ensures.matches ∙ (ap (λ (words : List Text). subcommand_of program words) ws ∙ make_is t p)) (make_found t) in absurd cc;
   history = λ t u ws p q.
-      let bad = c.in-None.ensures.history (history_rows t u) t u (c.in-Ok.ensures.matches ∙ (ap (λ (words : List Text). subcommand_of program words) ws ∙ history_is t u p q)) (history_found t u) in absurd cc;
+      let bad = c.in-None.ensures.history (rows_of_two (sub 2) t u) t u (c.in-Ok.ensures.matches ∙ (ap (λ (words : List Text). subcommand_of program words) ws ∙ history_is t u p q)) (history_found t u) in absurd cc;
 }
 
 -- and clap takes them, but where memory runs out

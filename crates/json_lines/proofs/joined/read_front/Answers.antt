@@ -10,18 +10,6 @@ returns-clause-most g c =
     let given = g.R.Source.given c.args.reader.now in
     c.part.ensures.asked.most given (rw c.in_ok-new.ensures (sym (append-nil given)))
 
-pub returns-in_err-new-clause-front : goal.returns-in_err-new-clause-front
-returns-in_err-new-clause-front g c = exit_ok c.from_residual.result _ _ c.from_residual.ensures.1
-
-pub returns-in_err-new-clause-none : goal.returns-in_err-new-clause-none
-returns-in_err-new-clause-none g c = exit_ok c.from_residual.result _ _ c.from_residual.ensures.1
-
-pub returns-in_err-new-clause-refused : goal.returns-in_err-new-clause-refused
-returns-in_err-new-clause-refused g c = exit_ok c.from_residual.result _ _ c.from_residual.ensures.1
-
-pub returns-in_err-new-clause-ended : goal.returns-in_err-new-clause-ended
-returns-in_err-new-clause-ended g c = exit_ok c.from_residual.result _ _ c.from_residual.ensures.1
-
 pub returns-in_err-new-clause-long : goal.returns-in_err-new-clause-long
 returns-in_err-new-clause-long g c = let p = err_from_is_err_and c.from_residual.result c.from_residual.ensures.1 in λ e. absurd (memory_is_not_long _ p.0 p.0 p.1 refl p.2 e)
 
@@ -36,18 +24,6 @@ returns-in_err-new-clause-failed g c = let p = err_from_is_err_and c.from_residu
 
 pub returns-in_err-new-clause-kept : goal.returns-in_err-new-clause-kept
 returns-in_err-new-clause-kept g c = λ _. refl
-
-pub returns-in_err-read-clause-front : goal.returns-in_err-read-clause-front
-returns-in_err-read-clause-front g c = exit_ok c.from_residual-in_err-read.result _ _ c.from_residual-in_err-read.ensures.1
-
-pub returns-in_err-read-clause-none : goal.returns-in_err-read-clause-none
-returns-in_err-read-clause-none g c = exit_ok c.from_residual-in_err-read.result _ _ c.from_residual-in_err-read.ensures.1
-
-pub returns-in_err-read-clause-refused : goal.returns-in_err-read-clause-refused
-returns-in_err-read-clause-refused g c = exit_ok c.from_residual-in_err-read.result _ _ c.from_residual-in_err-read.ensures.1
-
-pub returns-in_err-read-clause-ended : goal.returns-in_err-read-clause-ended
-returns-in_err-read-clause-ended g c = exit_ok c.from_residual-in_err-read.result _ _ c.from_residual-in_err-read.ensures.1
 
 pub returns-in_err-read-clause-long : goal.returns-in_err-read-clause-long
 returns-in_err-read-clause-long g c = let given = g.R.Source.given c.args.reader.now in let p = err_from_is_err_and c.from_residual-in_err-read.result c.from_residual-in_err-read.ensures.1 in λ e. c.part.ensures.asked.long (exit_is c.from_residual-in_err-read.result c.part.result p.0 c.in_err-read.field-0.0 TooLong p.1 p.2 c.in_err-read.was e) given (rw c.in_ok-new.ensures (sym (append-nil given)))

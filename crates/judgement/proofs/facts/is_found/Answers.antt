@@ -1,11 +1,11 @@
-use Rattle.std.proofs.Common.{◌≡◌, ◌∙◌, ℕ, length, map, IsTrue, false, ap, sym, subst, refl}
+use Rattle.std.proofs.Common.{◌≡◌, ◌∙◌, ℕ, length, map, ap, sym, subst, refl}
 use Rattle.tuple_text.specs.Order.{tuple_eq}
 use Rattle.tuple_text.specs.Refs.{set_value}
 use Rattle.tuple_text.specs.Tuples.{fact_of, fact_tuple}
 use Rattle.marks.specs.Marks.{tuple_mark}
 use Rattle.marks.specs.Placed.{indices_of}
-use Rattle.marks.proofs.LeftLemmas.{AreLeft, left_none, tuples_left}
-use Rattle.judgement.proofs.MarkedLemmas.{absent_fact, other_left, same_left, within_kept}
+use Rattle.marks.proofs.LeftLemmas.{AreLeft, tuples_left}
+use Rattle.judgement.proofs.MarkedLemmas.{found_nowhere, other_left, same_left, within_kept}
 use Rattle.judgement.proofs.facts.is_found.Goals as goal
 
 pub loop-index-init : goal.loop-index-init
@@ -39,10 +39,5 @@ returns-then-is_of_marked g c =
 
 pub returns : goal.returns
 returns g c =
-    let fact = fact_of (set_value c.args.set.set) c.args.user in
-    let facts = map g.F.KnownFact.fact c.args.facts.now in
-    let none = subst (AreLeft (λ t. tuple_eq t (fact_tuple fact)) (map fact_tuple facts)) c.in-None.ensures.steps.0 c.loop-index.invariant in
-    let absent = left_none (λ t. tuple_eq t (fact_tuple fact)) (map fact_tuple facts) none in (
-      λ t. absurd (let e : IsTrue false = t in cc),
-      λ h. absurd (absent_fact facts fact absent h),
-    )
+    found_nowhere (map g.F.KnownFact.fact c.args.facts.now) (fact_of (set_value c.args.set.set) c.args.user)
+    (rw c.in-None.ensures.steps.0 at c.loop-index.invariant)

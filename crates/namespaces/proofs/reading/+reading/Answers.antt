@@ -2,17 +2,8 @@ use Rattle.std.proofs.Common.{sym, codes, arith, rules}
 use Rattle.serde_json.specs.View.{view}
 use Rattle.rewrites.specs.declared.rewrite.Rewrite.{the_lemmas}
 use Rattle.namespaces.specs.Shape.{only_form}
-use Rattle.namespaces.proofs.Shapes.{expression-get, exclusion-get, below_get, below_member_of, below_array}
+use Rattle.namespaces.proofs.Shapes.{expression_get, below_get, below_member_of, below_array}
 use Rattle.namespaces.proofs.reading.+reading.Goals as goal
-
-pub exclusion-returns-in_err-base : goal.exclusion-returns-in_err-base
-exclusion-returns-in_err-base t c = rw (exclusion-get (view c.args.value.now)) (search (rules, the_lemmas))
-
-pub exclusion-returns-in_err-subtract : goal.exclusion-returns-in_err-subtract
-exclusion-returns-in_err-subtract t c = rw (exclusion-get (view c.args.value.now)) (search (rules, the_lemmas))
-
-pub exclusion-returns : goal.exclusion-returns
-exclusion-returns t c = rw (exclusion-get (view c.args.value.now)) (search (rules, the_lemmas))
 
 pub expression_at-expression-requires : goal.expression_at-expression-requires
 expression_at-expression-requires t c = (
@@ -24,49 +15,13 @@ expression_at-expression-requires t c = (
   tt,
 )
 
-pub expression-returns-then-count_forms-ne1 : goal.expression-returns-then-count_forms-ne1
-unfolding only_form
-expression-returns-then-count_forms-ne1 t c = rw (expression-get (view c.args.value.now)) (search (rules, the_lemmas))
-
-pub expression-returns-then-has : goal.expression-returns-then-has
-unfolding only_form
-expression-returns-then-has t c = rw (expression-get (view c.args.value.now)) (search (rules, the_lemmas))
-
-pub expression-returns-in_err-text_at : goal.expression-returns-in_err-text_at
-unfolding only_form
-expression-returns-in_err-text_at t c = rw (expression-get (view c.args.value.now)) (search (rules, the_lemmas))
-
-pub expression-returns-then-has-2 : goal.expression-returns-then-has-2
-unfolding only_form
-expression-returns-then-has-2 t c = rw (expression-get (view c.args.value.now)) (search (rules, the_lemmas))
-
-pub expression-returns-in-Some : goal.expression-returns-in-Some
-unfolding only_form
-expression-returns-in-Some t c = rw (expression-get (view c.args.value.now)) (search (rules, the_lemmas))
-
-pub expression-returns-in_err-child_list : goal.expression-returns-in_err-child_list
-unfolding only_form
-expression-returns-in_err-child_list t c = rw (expression-get (view c.args.value.now)) (search (rules, the_lemmas))
-
 pub expression-returns-in-Some-get : goal.expression-returns-in-Some-get
 unfolding only_form
-expression-returns-in-Some-get t c = rw (expression-get (view c.args.value.now)) (search (rules, the_lemmas))
-
-pub expression-returns-in_err-child_list-2 : goal.expression-returns-in_err-child_list-2
-unfolding only_form
-expression-returns-in_err-child_list-2 t c = rw (expression-get (view c.args.value.now)) (search (rules, the_lemmas))
+expression-returns-in-Some-get t c = rw (expression_get (view c.args.value.now)) (search (rules, the_lemmas))
 
 pub expression-returns-in-Some-get-2 : goal.expression-returns-in-Some-get-2
 unfolding only_form
-expression-returns-in-Some-get-2 t c = rw (expression-get (view c.args.value.now)) (search (rules, the_lemmas))
-
-pub expression-returns-in_err-member : goal.expression-returns-in_err-member
-unfolding only_form
-expression-returns-in_err-member t c = rw (expression-get (view c.args.value.now)) (search (rules, the_lemmas))
-
-pub expression-returns : goal.expression-returns
-unfolding only_form
-expression-returns t c = rw (expression-get (view c.args.value.now)) (search (rules, the_lemmas))
+expression-returns-in-Some-get-2 t c = rw (expression_get (view c.args.value.now)) (search (rules, the_lemmas))
 
 pub expression-child_list-requires : goal.expression-child_list-requires
 expression-child_list-requires t c = (omega (arith, below_get (codes "union") (view c.args.value.now) (view c.in-Some-get.list.now) (sym c.in-Some-get.ensures)), tt)

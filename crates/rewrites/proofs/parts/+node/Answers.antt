@@ -14,19 +14,12 @@ use Rattle.rewrites.proofs.PartLemmas.{grown_then, later, left_shown, union_show
 use Rattle.rewrites.proofs.parts.+node.Goals as goal
 
 pub inter_of-loop-child-preserved : goal.inter_of-loop-child-preserved
-inter_of-loop-child-preserved t c =
-    let es = c.deref-child-items.result.now in
-    let child = c.child-item.result in
-    let old = parts_shown c.loop-child.numbering.parts.items in
-    let new = parts_shown c.node_of.new.numbering.parts.items in
-    let left = left_shown es c.loop-child.child-index child c.loop-child-test.true c.child-item.is in (
-      grown_then (parts_shown c.args.numbering.now.parts.items) old new c.loop-child.invariant.0
-          c.in_ok-node_of.ensures.grown,
-      rw c.in_ok-push.ensures.items
-          (inter_step old new c.loop-child.nodes.items c.in_ok-node_of.field-0 (expression_of child) _
-          (map expression_of es) c.in_ok-node_of.ensures
-          (rw left at c.loop-child.invariant.1)),
-    )
+inter_of-loop-child-preserved t c = (
+  grown_then _ _ _ c.loop-child.invariant.0 c.in_ok-node_of.ensures.grown,
+  rw c.in_ok-push.ensures.items
+      (inter_step c.deref-child-items.result.now c.loop-child.child-index c.child-item.result c.loop-child-test.true
+      c.child-item.is _ _ c.loop-child.nodes.items c.in_ok-node_of.field-0 c.in_ok-node_of.ensures _ c.loop-child.invariant.1),
+)
 
 pub inter_of-returns : goal.inter_of-returns
 inter_of-returns t c =
@@ -93,16 +86,10 @@ union_of-loop-child-preserved-then-branch t c =
     )
 
 pub union_of-loop-child-preserved : goal.union_of-loop-child-preserved
-union_of-loop-child-preserved t c =
-    let es = c.deref-child-items.result.now in
-    let child = c.child-item.result in
-    let old = parts_shown c.loop-child.numbering.parts.items in
-    let new = parts_shown c.node_of.new.numbering.parts.items in
-    let left = left_shown es c.loop-child.child-index child c.loop-child-test.true c.child-item.is in (
-      grown_then (parts_shown c.args.numbering.now.parts.items) old new c.loop-child.invariant.0
-          c.in_ok-node_of.ensures.grown,
-      rw (c.in_ok-push.ensures.items, c.in_ok-put_through.ensures.same c.if-branch.false)
-          (union_step old new c.loop-child.nodes.items c.loop-child.throughs.each.items c.in_ok-node_of.field-0
-          (expression_of child) _ (map expression_of es)
-          c.in_ok-node_of.ensures (rw left at c.loop-child.invariant.1)),
-    )
+union_of-loop-child-preserved t c = (
+  grown_then _ _ _ c.loop-child.invariant.0 c.in_ok-node_of.ensures.grown,
+  rw (c.in_ok-push.ensures.items, c.in_ok-put_through.ensures.same c.if-branch.false)
+      (union_step c.deref-child-items.result.now c.loop-child.child-index c.child-item.result c.loop-child-test.true
+      c.child-item.is _ _ c.loop-child.nodes.items c.in_ok-node_of.field-0 c.in_ok-node_of.ensures _
+      c.loop-child.throughs.each.items c.loop-child.invariant.1),
+)

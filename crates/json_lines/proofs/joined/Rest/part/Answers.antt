@@ -21,35 +21,14 @@ loop-self-init g c = record {
   kept = refl;
 }
 
-pub returns-in_err-whole-clause-part : goal.returns-in_err-whole-clause-part
-returns-in_err-whole-clause-part g c = exit_ok c.from_residual.result _ _ c.from_residual.ensures.1
-
-pub returns-in_err-whole-clause-refused : goal.returns-in_err-whole-clause-refused
-returns-in_err-whole-clause-refused g c = exit_ok c.from_residual.result _ _ c.from_residual.ensures.1
-
-pub returns-in_err-whole-clause-ended : goal.returns-in_err-whole-clause-ended
-returns-in_err-whole-clause-ended g c = exit_done c.from_residual.result _ _ c.from_residual.ensures.1
-
 pub returns-then-is_marker-clause-part : goal.returns-then-is_marker-clause-part
 returns-then-is_marker-clause-part g c =
     let seen = sought_is c.args.marked c.in_ok-whole.whole c.deref.result.now c.next.new.line.items c.is_marker.result true c.if-marked.true c.deref.ensures.value c.is_marker.ensures c.if-is_marker.true in
     part_found (taken_line g.T.Cause.LineCause.not_json g.T.TakeJson.taken) c.args.value.now (λ n s. refl) (g.R.Source.given c.args.reader.now) (g.R.Source.given c.loop-self.reader) (g.R.Source.given c.next.new.reader) c.args.self.now c.loop-self.self c.next.new.self
     c.args.marked c.loop-self.number c.loop-self.value c.loop-self.read c.in_ok-whole.whole c.next.new.line.items c.loop-self.invariant.going c.in_ok-whole.ensures.line (sym (ap (λ (r : RestValue). r.ended) c.self.view_is) ∙ c.loop-self-test.true) seen
 
-pub returns-then-is_marker-clause-refused : goal.returns-then-is_marker-clause-refused
-returns-then-is_marker-clause-refused g c = c.loop-self.invariant.refused
-
 pub returns-then-is_marker-clause-ended : goal.returns-then-is_marker-clause-ended
 returns-then-is_marker-clause-ended g c = let unended : c.loop-self.self.ended ≡ false = sym (ap (λ (r : RestValue). r.ended) c.self.view_is) ∙ c.loop-self-test.true in ended_on _ _ _ _ c.loop-self.self.ended c.loop-self.invariant.ended unended c.in_ok-whole.ensures.ended
-
-pub returns-in_err-read-clause-part : goal.returns-in_err-read-clause-part
-returns-in_err-read-clause-part g c = exit_ok c.from_residual-in_err-read.result _ _ c.from_residual-in_err-read.ensures.1
-
-pub returns-in_err-read-clause-refused : goal.returns-in_err-read-clause-refused
-returns-in_err-read-clause-refused g c = exit_ok c.from_residual-in_err-read.result _ _ c.from_residual-in_err-read.ensures.1
-
-pub returns-in_err-read-clause-ended : goal.returns-in_err-read-clause-ended
-returns-in_err-read-clause-ended g c = exit_done c.from_residual-in_err-read.result _ _ c.from_residual-in_err-read.ensures.1
 
 pub returns-in_err-whole-clause-asked : goal.returns-in_err-whole-clause-asked
 returns-in_err-whole-clause-asked g c =
@@ -137,9 +116,3 @@ returns-clause-part g c =
     part_ended (taken_line g.T.Cause.LineCause.not_json g.T.TakeJson.taken) c.args.value.now (λ n s. refl) (g.R.Source.given c.args.reader.now) (g.R.Source.given c.loop-self.reader) c.args.self.now c.loop-self.self
     c.args.marked c.loop-self.number c.loop-self.value c.loop-self.read c.loop-self.invariant.going
     (sym (ap (λ (r : RestValue). r.ended) c.self.view_is) ∙ c.loop-self-test.false) (sym (ap (λ (r : RestValue). r.at_hand) c.self.view_is) ∙ c.self.invariant.0 c.loop-self-test.false)
-
-pub returns-clause-refused : goal.returns-clause-refused
-returns-clause-refused g c = c.loop-self.invariant.refused
-
-pub returns-clause-ended : goal.returns-clause-ended
-returns-clause-ended g c = c.loop-self.invariant.ended
