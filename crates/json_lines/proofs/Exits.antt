@@ -1,12 +1,12 @@
 -- What the answer of a call rules out, and how often a reader was at its end. Each stands here, since a tactic in an answer reads all facts that are known there.
-use Rattle.std.proofs.Common.{◌≡◌, ℕ, ◌+◌, ◌⊎◌, inl, inr, Bool, true, false, not, Result, Ok, Err, arith}
-use Rattle.std.specs.Prelude.{IfOk, OnOk, IsErrAnd}
+use Rattle.std.proofs.Common.{◌≡◌, ℕ, ◌+◌, Bool, true, false, not, Result, Ok, Err, arith}
+use Rattle.std.specs.Prelude.{OnOk, IsErrAnd}
 use Rattle.json_lines.specs.Joined.{ends_left}
 use Rattle.devices.specs.Moves.{end_count}
 use Rattle.json_lines.specs.declared.lines.InputFault.{InputFault}
 use Rattle.json_lines.specs.declared.lines.InputFault.TheVariants.{Read, TooLong, OutOfMemory}
 use Rattle.json_lines.specs.declared.reading.Stop.{Stop}
-use Rattle.json_lines.specs.declared.reading.Stop.TheVariants.{Input, Line}
+use Rattle.json_lines.specs.declared.reading.Stop.TheVariants.{Input}
 
 pub no_error : {T E : Type 0} (r : Result T E) (t : T) (e : E) → r ≡ Ok t → r ≡ Err e → ⊥
 no_error r t e one two = cc
@@ -14,17 +14,7 @@ no_error r t e one two = cc
 pub same_error : {T E : Type 0} (r : Result T E) (x y : E) → r ≡ Err x → r ≡ Err y → x ≡ y
 same_error r x y one two = cc
 
-pub no_value : {T E : Type 0} (r : Result T E) (e : E) (t : T) → r ≡ Err e → r ≡ Ok t → ⊥
-no_value r e t one two = cc
-
-pub more_is_not_last : {E : Type 0} (r : Result Bool E) → r ≡ Ok true → r ≡ Ok false → ⊥
-more_is_not_last r one two = cc
-
 -- ---- the exit of a `?`, whose call gave x
-
-pub exit_ok : {T E : Type 0} (r : Result T E) (Q : E → Type 0) (P : T → Type 0) → IsErrAnd r Q → IfOk r P
-exit_ok (Ok t) Q P is = absurd is
-exit_ok (Err e) Q P is = tt
 
 pub exit_done : {T E : Type 0} (r : Result T E) (Q : E → Type 0) (P : Type 0) → IsErrAnd r Q → OnOk r P
 exit_done (Ok t) Q P is = absurd is
@@ -47,9 +37,6 @@ memory_is_not_read r y x returned same memory is = cc
 pub same_fault : {C : Type 0} (s : Stop C) (f h : InputFault) → s ≡ Input f → s ≡ Input h → f ≡ h
 same_fault s f h one two = cc
 
-pub input_is_no_line : {C : Type 0} (s : Stop C) (f : InputFault) (c : C) → s ≡ Input f → s ≡ Line c → ⊥
-input_is_no_line s f c one two = cc
-
 pub no_memory_fault : {C : Type 0} (s : Stop C) → s ≡ Input OutOfMemory → s ≡ Input Read → ⊥
 no_memory_fault s one two = cc
 
@@ -59,28 +46,11 @@ no_long_fault s one two = cc
 pub long_is_not_read : {T : Type 0} (r : Result T InputFault) → r ≡ Err TooLong → r ≡ Err Read → ⊥
 long_is_not_read r one two = cc
 
-pub read_is_not_long : {T : Type 0} (r : Result T InputFault) → r ≡ Err Read → r ≡ Err TooLong → ⊥
-read_is_not_long r one two = cc
-
-pub piece_is_not_read : {T : Type 0} (r : Result T InputFault) (y x : InputFault) → r ≡ Err y → y ≡ x → (x ≡ TooLong) ⊎ (x ≡ OutOfMemory) → r ≡ Err Read → ⊥
-piece_is_not_read r y x returned same (inl long) is = cc
-piece_is_not_read r y x returned same (inr memory) is = cc
-
 -- ---- how often the reader was at its end
 
 pub ended_on : (all now new left : ℕ) (ended : Bool) → now + ends_left ended ≡ all → ended ≡ false → new + left ≡ now + 1 → new + left ≡ all
 ended_on all now new left true is unended on = absurd cc
 ended_on all now new left false is unended on = omega (arith, is, on)
-
-pub ended_all : (all now : ℕ) (ended : Bool) → now + ends_left ended ≡ all → ended ≡ true → now ≡ all
-ended_all all now true is ended = omega (arith, is)
-ended_all all now false is ended = absurd cc
-
-pub ended_within : (old new : ℕ) (before after : Bool) → new + ends_left after ≡ old + 1 → after ≡ true
-    → before ≡ false → new ≡ old + ends_left before
-ended_within old new true after is ended unended = absurd cc
-ended_within old new false true is ended unended = omega (arith, is)
-ended_within old new false false is ended unended = absurd cc
 
 pub ended_by : (more : Bool) (before now new : ℕ) → new ≡ now + end_count {E = InputFault} (Ok more) → now ≡ before → new + ends_left (not more) ≡ before + 1
 ended_by true before now new is same = omega (arith, is, same)

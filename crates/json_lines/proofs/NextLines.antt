@@ -19,9 +19,6 @@ pub record Passed (given now : List ℕ) (at_hand : List ℕ) (all : ℕ) (lines
   pub size : length bytes + room ≡ all
   pub started : IsStarted whole bytes lines
 
-pub passed_start : (given at_hand : List ℕ) (all : ℕ) → Passed given given at_hand all at_hand all true
-passed_start given at_hand all = record { bytes = []; lacking = refl; takes = λ before is. is; size = omega arith; started = refl }
-
 -- what is taken behind the bytes so far
 pub takes_both : (a b c at_hand mid left one two : List ℕ) → Takes a b at_hand mid one → Takes b c mid left two → Takes a c at_hand left (one ++ two)
 takes_both a b c at_hand mid left one two t u before is =

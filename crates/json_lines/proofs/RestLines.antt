@@ -6,7 +6,7 @@ use Rattle.std.proofs.lemmas.Bool.{cases_Bool, and_parts, lt-ltb, not-false, or_
 use Rattle.std.proofs.lemmas.List.Splits.{join_with_byte-slice_split}
 use Rattle.std.proofs.lemmas.Slice.Eq.{bytes_eq-Decides}
 use Rattle.refusals.specs.Refusals.{◌>>=◌}
-use Rattle.json_lines.specs.Joined.{RestValue, IsHeld, IsNextLine, IsPart, ComesPast, IsTaken, is_marker, lines_joined, bytes_of, joined_of, line_taken, ends_left}
+use Rattle.json_lines.specs.Joined.{RestValue, IsHeld, IsNextLine, IsPart, ComesPast, is_marker, lines_joined, bytes_of, joined_of, line_taken, ends_left}
 use Rattle.json_lines.specs.Lines.{lacks, line_ending, Takes, ComeAtMost}
 use Rattle.json_lines.specs.Reading.{passes_limit, parts, at_line, read_from, read_all, Fails, Reads, IsOfLine}
 use Rattle.json_lines.specs.declared.lines.InputFault.TheVariants.{TooLong, Read, OutOfMemory}
@@ -53,10 +53,6 @@ pub one_less : (b c : List ℕ) (mid new : RestValue) (whole : Bool) (items : Li
 one_less b c mid new whole items n limit line unended le =
     let less = left_after line.bytes new.ended new.room mid.room line.size in
     omega (arith, less, rw unended at le)
-
--- all of it, where nothing is left at hand
-pub used_all : (a b : List ℕ) (old new : RestValue) → Used a b old new → new.at_hand ≡ [] → IsTaken a b old.at_hand (λ input. length input ≤ old.room)
-used_all a b old new u none = (u.bytes, rw none at u.takes, omega (arith, u.size))
 
 pub used_all_most : (a b : List ℕ) (old new : RestValue) (few : ℕ) → Used a b old new → new.at_hand ≡ [] → ComeAtMost (old.room + few) a b old.at_hand
 used_all_most a b old new few u none before is = (u.bytes, rw none at (u.takes before is) ∙ ap (λ (l : List ℕ). before ++ l) (append-nil u.bytes), omega (arith, u.size))
@@ -327,16 +323,3 @@ module _ {S C : Type 0} (taken : ℕ → S → List ℕ → Result S C) (start :
     at_end = λ not_found. (refl, ended, none, λ is. ap joined_of (sym (append-nil go.used.bytes)) ∙ (go.unmarked is).same [] (λ e. refl));
     sought = λ found. absurd (true≢false (sym found));
   }
-
--- where no marker is sought, it is all that is left
-pub part_is_all : {S C T : Type 0} (taken : ℕ → S → List ℕ → Result S C) (a b : List ℕ) (old new : RestValue) (start s : S) (read : Result T (LineFault C)) (found : Bool)
-    → IsPart taken a b old new start s false read found → IsTaken a b old.at_hand (λ input. (length input ≤ old.room) × Reads read s (read_all taken true start input))
-part_is_all taken a b old new start s read true p = absurd (true≢false (sym (p.sought refl)))
-part_is_all taken a b old new start s read false p = let end = p.at_end refl in (p.passed, rw end.2 at p.takes, (omega (arith, p.size), rw end.0 at p.reads))
-
--- and the reader is at its end behind it
-pub part_is_last : {S C T : Type 0} (taken : ℕ → S → List ℕ → Result S C) (a b : List ℕ) (old new : RestValue)
-    (start s : S) (read : Result T (LineFault C)) (found : Bool)
-    → IsPart taken a b old new start s false read found → new.ended ≡ true
-part_is_last taken a b old new start s read true p = absurd (true≢false (sym (p.sought refl)))
-part_is_last taken a b old new start s read false p = (p.at_end refl).1

@@ -36,9 +36,6 @@ split_line xs false h =
 
 -- ---- bytes that are taken piece by piece
 
-pub takes_nothing : (given at_hand : List ℕ) → Takes given given at_hand at_hand []
-takes_nothing given at_hand before is = is
-
 pub takes_then : (a b c at_hand mid left line : List ℕ) → Takes a b at_hand mid line → Takes b c mid left [] → Takes a c at_hand left line
 takes_then a b c at_hand mid left line one two before is = two (before ++ line) (one before is ∙ sym (append_assoc before line mid)) ∙ append_assoc before line left
 

@@ -2,9 +2,9 @@ use Rattle.std.proofs.Common.{◌≡◌, ◌+◌, Ok, Err, ◌∙◌, sym, refl,
 use Rattle.json_lines.specs.Json.{taken_line}
 use Rattle.json_lines.specs.Lines.{line_ending}
 use Rattle.json_lines.specs.Reading.{IsReadFault}
-use Rattle.json_lines.specs.declared.lines.InputFault.TheVariants.{TooLong, OutOfMemory}
+use Rattle.json_lines.specs.declared.lines.InputFault.TheVariants.{TooLong}
 use Rattle.json_lines.specs.declared.reading.Stop.TheVariants.{Input}
-use Rattle.json_lines.proofs.Exits.{no_error, same_error, same_fault, input_is_no_line, no_memory_fault, no_long_fault}
+use Rattle.json_lines.proofs.Exits.{no_error, same_error, same_fault, no_memory_fault, no_long_fault}
 use Rattle.json_lines.proofs.Folds.{Within, within_from, room_left, came_in_all, goes_on, cut_ends, over_ends, step_cut, last_ends, read_fails}
 use Rattle.devices.proofs.Given.{next-trans}
 use Rattle.json_lines.proofs.InputReads.{unread}
@@ -15,9 +15,6 @@ pub returns-in-Err-clause-read : goal.returns-in-Err-clause-read
 returns-in-Err-clause-read g c =
     unread IsReadFault (λ e. e.line) _ _ g.R.Source.given g.R.Source.ends g.R.Source.failures g.R.Read.remaining
     c.args.reader.now _ refl (no_memory_fault _ refl) (λ input. tt)
-
-pub returns-in-Err-clause-told : goal.returns-in-Err-clause-told
-returns-in-Err-clause-told g c = λ cause e. absurd (input_is_no_line _ OutOfMemory cause refl e)
 
 pub returns-in-Err-next-clause-read : goal.returns-in-Err-next-clause-read
 returns-in-Err-next-clause-read g c =
@@ -43,9 +40,6 @@ returns-in-Err-next-clause-read g c =
     ∙ ap (λ (n : ℕ). n + 1) c.loop-number.invariant.kept)
     (λ n. c.next.ensures.kept (λ e. n (ap Input (same_error _ _ _ c.in-Err-next.is e))) ∙ c.loop-number.invariant.kept)
 
-pub returns-in-Err-next-clause-told : goal.returns-in-Err-next-clause-told
-returns-in-Err-next-clause-told g c = λ cause e. absurd (input_is_no_line _ c.in-Err-next.fault cause refl e)
-
 pub returns-then-is_over-clause-read : goal.returns-then-is_over-clause-read
 returns-then-is_over-clause-read g c =
     let follows = c.loop-number.invariant.follows in
@@ -64,9 +58,6 @@ returns-then-is_over-clause-read g c =
     (λ e. absurd (no_long_fault _ refl e))
     (λ e. absurd (no_long_fault _ refl e))
     (λ _. c.next.ensures.kept (λ e. no_error _ _ _ c.in-Ok-next.is e) ∙ c.loop-number.invariant.kept)
-
-pub returns-then-is_over-clause-told : goal.returns-then-is_over-clause-told
-returns-then-is_over-clause-told g c = λ cause e. absurd (input_is_no_line _ TooLong cause refl e)
 
 pub returns-in-Err-take_line-clause-read : goal.returns-in-Err-take_line-clause-read
 returns-in-Err-take_line-clause-read g c =
@@ -88,9 +79,6 @@ returns-in-Err-take_line-clause-read g c =
     (λ e. absurd (rw e at c.in-Err-take_line.ensures.refused))
     (λ e. absurd (rw e at c.in-Err-take_line.ensures.refused))
     (λ _. c.next.ensures.kept (λ e. no_error _ _ _ c.in-Ok-next.is e) ∙ c.loop-number.invariant.kept)
-
-pub returns-in-Err-take_line-clause-told : goal.returns-in-Err-take_line-clause-told
-returns-in-Err-take_line-clause-told g c = λ cause e. (c.loop-number.number, c.loop-number.value, c.deref.result.now, rw e at c.in-Err-take_line.ensures.refused)
 
 pub returns-then-not-more-clause-read : goal.returns-then-not-more-clause-read
 returns-then-not-more-clause-read g c =
@@ -114,26 +102,6 @@ returns-then-not-more-clause-read g c =
       kept = c.next.ensures.kept (λ e. no_error _ _ _ c.in-Ok-next.is e) ∙ c.loop-number.invariant.kept;
       unfailed = tt;
     }
-
-pub returns-then-not-more-clause-told : goal.returns-then-not-more-clause-told
-returns-then-not-more-clause-told g c = tt
-
-pub returns-clause-read : goal.returns-clause-read
-returns-clause-read g c =
-    record {
-      exact = absurd (omega arith);
-      failed = λ e. absurd (no_long_fault _ refl e);
-      ended = tt;
-      most = absurd (omega arith);
-      known = c.loop-number.invariant.known;
-      line = absurd (omega arith);
-      counted = λ e. absurd (no_long_fault _ refl e);
-      kept = tt;
-      unfailed = λ _. c.loop-number.invariant.kept;
-    }
-
-pub returns-clause-told : goal.returns-clause-told
-returns-clause-told g c = λ cause e. absurd (input_is_no_line _ TooLong cause refl e)
 
 pub loop-number-preserved : goal.loop-number-preserved
 loop-number-preserved g c =

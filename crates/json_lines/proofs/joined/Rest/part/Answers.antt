@@ -2,10 +2,10 @@ use Rattle.std.proofs.Common.{Bool, ◌≡◌, ◌∙◌, ◌+◌, ◌^◌, ◌&
 use Rattle.std.proofs.lemmas.Result.{err_from_is_err_and}
 use Rattle.json_lines.specs.Joined.{is_marker, ends_left, RestValue}
 use Rattle.json_lines.specs.Json.{taken_line}
-use Rattle.json_lines.proofs.Exits.{no_error, exit_ok, exit_done, ended_on}
+use Rattle.json_lines.proofs.Exits.{no_error, ended_on}
 use Rattle.devices.proofs.Given.{next-refl, next-trans}
 use Rattle.json_lines.proofs.RestLines.{one_less, of_line_alone, sought_is, not_sought, going_first, going_on, going_past, part_ended, part_found}
-use Rattle.json_lines.proofs.RestReads.{asked_all, asked_behind, handed_on, no_memory_behind, went_well}
+use Rattle.json_lines.proofs.RestReads.{asked_behind, handed_on, no_memory_behind, went_well}
 use Rattle.json_lines.proofs.joined.Rest.part.Goals as goal
 use Rattle.json_lines.proofs.joined.Rest.part.Goals.{else-marked-via-then-marked+else-is_marker, else-marked-via-else-marked}
 
@@ -27,46 +27,28 @@ returns-then-is_marker-clause-part g c =
     part_found (taken_line g.T.Cause.LineCause.not_json g.T.TakeJson.taken) c.args.value.now (λ n s. refl) (g.R.Source.given c.args.reader.now) (g.R.Source.given c.loop-self.reader) (g.R.Source.given c.next.new.reader) c.args.self.now c.loop-self.self c.next.new.self
     c.args.marked c.loop-self.number c.loop-self.value c.loop-self.read c.in_ok-whole.whole c.next.new.line.items c.loop-self.invariant.going c.in_ok-whole.ensures.line (sym (ap (λ (r : RestValue). r.ended) c.self.view_is) ∙ c.loop-self-test.true) seen
 
-pub returns-then-is_marker-clause-ended : goal.returns-then-is_marker-clause-ended
-returns-then-is_marker-clause-ended g c = let unended : c.loop-self.self.ended ≡ false = sym (ap (λ (r : RestValue). r.ended) c.self.view_is) ∙ c.loop-self-test.true in ended_on _ _ _ _ c.loop-self.self.ended c.loop-self.invariant.ended unended c.in_ok-whole.ensures.ended
-
 pub returns-in_err-whole-clause-asked : goal.returns-in_err-whole-clause-asked
 returns-in_err-whole-clause-asked g c =
     let p = err_from_is_err_and c.from_residual.result c.from_residual.ensures.1 in
     let asked =
-    asked_behind g.R.Source.given g.R.Source.ends g.R.Source.failures g.R.Read.remaining c.args.self.now
-    c.args.reader.now c.next.new.reader c.loop-self.reader c.loop-self.self c.next.result
-    c.loop-self.invariant.going.used c.loop-self.invariant.known c.loop-self.invariant.kept c.next.ensures.asked in
-    handed_on g.R.Source.given g.R.Source.ends g.R.Source.failures g.R.Read.remaining c.args.self.now
-    c.args.reader.now c.next.new.reader c.from_residual.result c.next.result asked
-    p.0 c.in_err-whole.field-0.0 p.1 p.2 c.in_err-whole.was
+    asked_behind _ _ _ _ _ _ _ _ _ _ c.loop-self.invariant.going.used c.loop-self.invariant.known
+    c.loop-self.invariant.kept c.next.ensures.asked in
+    handed_on _ _ _ _ _ _ _ _ _ asked p.0 c.in_err-whole.field-0.0 p.1 p.2 c.in_err-whole.was
 
 pub returns-then-is_marker-clause-asked : goal.returns-then-is_marker-clause-asked
 returns-then-is_marker-clause-asked g c =
     let asked =
-    asked_behind g.R.Source.given g.R.Source.ends g.R.Source.failures g.R.Read.remaining c.args.self.now
-    c.args.reader.now c.next.new.reader c.loop-self.reader c.loop-self.self c.next.result
-    c.loop-self.invariant.going.used c.loop-self.invariant.known c.loop-self.invariant.kept c.next.ensures.asked in
-    went_well g.R.Source.given g.R.Source.ends g.R.Source.failures g.R.Read.remaining c.args.self.now
-    c.args.reader.now c.next.new.reader _ c.next.result asked _ _ c.in_ok-whole.was refl
+    asked_behind _ _ _ _ _ _ _ _ _ _ c.loop-self.invariant.going.used c.loop-self.invariant.known
+    c.loop-self.invariant.kept c.next.ensures.asked in
+    went_well _ _ _ _ _ _ _ _ _ asked _ _ c.in_ok-whole.was refl
 
 pub returns-in_err-read-clause-asked : goal.returns-in_err-read-clause-asked
 returns-in_err-read-clause-asked g c =
     let p = err_from_is_err_and c.from_residual-in_err-read.result c.from_residual-in_err-read.ensures.1 in
     let asked =
-    asked_behind g.R.Source.given g.R.Source.ends g.R.Source.failures g.R.Read.remaining c.args.self.now
-    c.args.reader.now c.next.new.reader c.loop-self.reader c.loop-self.self c.next.result
-    c.loop-self.invariant.going.used c.loop-self.invariant.known c.loop-self.invariant.kept c.next.ensures.asked in
-    no_memory_behind g.R.Source.given g.R.Source.ends g.R.Source.failures g.R.Read.remaining c.args.self.now
-    c.args.reader.now c.next.new.reader c.from_residual-in_err-read.result
-    c.next.result asked _ p.0 c.in_err-read.field-0.0 c.in_ok-whole.was p.1 p.2 c.in_err-read.ensures.memory
-
-pub returns-clause-asked : goal.returns-clause-asked
-returns-clause-asked g c =
-    asked_all g.R.Source.given g.R.Source.ends g.R.Source.failures g.R.Read.remaining c.args.self.now c.args.reader.now
-    c.loop-self.reader c.loop-self.self _ c.loop-self.invariant.going.used
-    (sym (ap (λ (r : RestValue). r.at_hand) c.self.view_is) ∙ c.self.invariant.0 c.loop-self-test.false)
-    c.loop-self.invariant.known c.loop-self.invariant.kept
+    asked_behind _ _ _ _ _ _ _ _ _ _ c.loop-self.invariant.going.used c.loop-self.invariant.known
+    c.loop-self.invariant.kept c.next.ensures.asked in
+    no_memory_behind _ _ _ _ _ _ _ _ _ asked _ p.0 c.in_err-read.field-0.0 c.in_ok-whole.was p.1 p.2 c.in_err-read.ensures.memory
 
 pub loop-self-preserved-then-is_ok : goal.loop-self-preserved-then-is_ok
 loop-self-preserved-then-is_ok g c =

@@ -2,10 +2,10 @@ use Rattle.std.proofs.Common.{◌≡◌, ◌∙◌, ap, sym}
 use Rattle.std.proofs.lemmas.Bool.{true≢false}
 use Rattle.std.proofs.lemmas.Result.{err_from_is_err_and}
 use Rattle.json_lines.specs.Joined.{RestValue}
-use Rattle.json_lines.proofs.Exits.{no_error, exit_done, ended_on, ended_all}
+use Rattle.json_lines.proofs.Exits.{no_error, exit_done, ended_on}
 use Rattle.devices.proofs.Given.{next-trans}
-use Rattle.json_lines.proofs.RestLines.{used_all, used_on}
-use Rattle.json_lines.proofs.RestReads.{asked_all, asked_behind, handed_on}
+use Rattle.json_lines.proofs.RestLines.{used_on}
+use Rattle.json_lines.proofs.RestReads.{asked_behind, handed_on}
 use Rattle.json_lines.proofs.joined.Rest.pass.Goals as goal
 
 pub loop-self-preserved : goal.loop-self-preserved
@@ -16,12 +16,6 @@ loop-self-preserved g c = record {
   known = next-trans g.R.Source.given g.R.Source.ends g.R.Read.remaining c.args.reader.now c.loop-self.reader c.next.new.reader c.loop-self.invariant.known c.next.ensures.asked.known;
   kept = c.next.ensures.asked.kept (λ e. no_error _ _ _ c.in_ok-next.was e) ∙ c.loop-self.invariant.kept;
 }
-
-pub returns-in_err-next-clause-taken : goal.returns-in_err-next-clause-taken
-returns-in_err-next-clause-taken g c = exit_done c.from_residual.result _ _ c.from_residual.ensures.1
-
-pub returns-clause-taken : goal.returns-clause-taken
-returns-clause-taken g c = used_all _ _ _ _ c.loop-self.invariant.used (sym (ap (λ (r : RestValue). r.at_hand) c.self.view_is) ∙ c.self.invariant.0 c.loop-self-test.false)
 
 pub returns-in_err-next-clause-read : goal.returns-in_err-next-clause-read
 returns-in_err-next-clause-read g c =
@@ -37,16 +31,4 @@ returns-in_err-next-clause-read g c =
           c.in_err-next.field-0.0 p.1 p.2 c.in_err-next.was;
       ended = exit_done c.from_residual.result _ _ c.from_residual.ensures.1;
       over = λ e. let still = (c.loop-self.invariant.over e).0 in let going : c.self.inside.ended ≡ c.loop-self.self.ended = ap (λ (r : RestValue). r.ended) c.self.view_is in absurd (true≢false (sym still ∙ sym going ∙ c.loop-self-test.true));
-    }
-
-pub returns-clause-read : goal.returns-clause-read
-returns-clause-read g c =
-    record {
-      asked =
-          asked_all g.R.Source.given g.R.Source.ends g.R.Source.failures g.R.Read.remaining c.args.self
-          c.args.reader.now c.loop-self.reader c.loop-self.self _ c.loop-self.invariant.used
-          (sym (ap (λ (r : RestValue). r.at_hand) c.self.view_is) ∙ c.self.invariant.0 c.loop-self-test.false)
-          c.loop-self.invariant.known c.loop-self.invariant.kept;
-      ended = ended_all _ _ c.loop-self.self.ended c.loop-self.invariant.ended (sym (ap (λ (r : RestValue). r.ended) c.self.view_is) ∙ c.loop-self-test.false);
-      over = λ e. (c.loop-self.invariant.over e).1;
     }
