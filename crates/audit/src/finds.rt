@@ -7,7 +7,8 @@ use evidence_maker::{Found, Made};
 use marks::MarkedSet;
 use std::alloc::{AllocError, Global};
 use std::collections::BTreeMap;
-use trace_lines::{Entry, Trace};
+use trace_lines::Trace;
+use tuple_text::FactRef;
 
 /// How many facts the steps may name that are kept: some megabytes of them.
 const MOST_FACTS: usize = 1 << 15;
@@ -24,10 +25,10 @@ fn facts_of(made: &Made) -> usize {
     facts
 }
 
-/// The mark of the entry's userset, another one for each reply.
-fn key_of(entry: &Entry) -> u64 {
-    let mark = MarkedSet::of(entry.goal.set()).mark;
-    if entry.reply { mark } else { !mark }
+/// The mark of the goal's userset, another one for each reply.
+fn key_of(goal: FactRef<'_>, reply: bool) -> u64 {
+    let mark = MarkedSet::of(goal.set()).mark;
+    if reply { mark } else { !mark }
 }
 
 /// For each userset and reply what was made for the last entry that has them. Those of one mark share a place. Where the steps name too many
@@ -48,16 +49,26 @@ impl Finds {
         }
     }
 
-    /// What was made for an entry of the userset and reply of this one.
-    pub(crate) fn found<'a>(&'a self, trace: &'a Trace, entry: &Entry) -> Option<Found<'a>> {
+    /// What was made for an entry of the userset and reply of these.
+    pub(crate) fn found<'a>(
+        &'a self,
+        trace: &'a Trace,
+        goal: FactRef<'_>,
+        reply: bool,
+    ) -> Option<Found<'a>> {
         if self.made.is_empty() {
             return None;
         }
-        match self.made.get(&key_of(entry)) {
-            Some((i, made)) if *i < trace.len() => Some(Found {
-                entry: trace.entry(*i),
-                steps: &made.steps,
-            }),
+        match self.made.get(&key_of(goal, reply)) {
+            Some((i, made)) if *i < trace.len() => {
+                let entry = trace.entry(*i);
+                Some(Found {
+                    set: entry.goal.set(),
+                    user: entry.goal.user(),
+                    reply: entry.reply,
+                    steps: &made.steps,
+                })
+            }
             _ => None,
         }
     }
@@ -82,7 +93,8 @@ impl Finds {
     /// tried no more. A step of one fact is not kept, since it is tried for each entry.
     pub(crate) fn keep(
         &mut self,
-        entry: &Entry,
+        goal: FactRef<'_>,
+        reply: bool,
         i: usize,
         made: Option<Made>,
     ) -> Result<(), AllocError> {
@@ -92,12 +104,12 @@ impl Finds {
                 if facts < 2 {
                     return Ok(());
                 }
-                let key = key_of(entry);
+                let key = key_of(goal, reply);
                 self.forget(key);
                 self.put(key, i, made, facts)
             }
             None => {
-                self.forget(key_of(entry));
+                self.forget(key_of(goal, reply));
                 Ok(())
             }
         }

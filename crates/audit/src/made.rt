@@ -80,9 +80,9 @@ fn records_of(alloc: Global, trace: &Trace) -> Result<(String, Vec<u64>), AllocE
     // bounded by the lines of the trace, and for each entry by the limits of the search
     for i in 0..trace.len() {
         let entry = trace.entry(i);
-        let made = made_for(&mut maker, i, finds.found(trace, entry))?;
+        let made = made_for(&mut maker, i, finds.found(trace, entry.goal, entry.reply))?;
         push_record(entry.line, made.as_ref(), &mut text, &mut given_up)?;
-        finds.keep(entry, i, made)?;
+        finds.keep(entry.goal, entry.reply, i, made)?;
     }
     Ok((text, given_up))
 }

@@ -103,9 +103,9 @@ fn found_making(
     ensures found { IfOk result (IsFoundMade trace.now i) }
 {
     let entry = trace.entry(i);
-    let (judged, made) = judgement_made(maker, i, finds.found(trace, entry))?;
+    let (judged, made) = judgement_made(maker, i, finds.found(trace, entry.goal, entry.reply))?;
     let what = found_where(trace, i, judged);
-    finds.keep(entry, i, made)?;
+    finds.keep(entry.goal, entry.reply, i, made)?;
     Ok(Found {
         line: entry.line,
         what,

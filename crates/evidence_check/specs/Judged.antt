@@ -36,13 +36,20 @@ by_goal known goal reply =
     if is_among known.yes goal then by_reply reply
     else (if is_among known.no goal then by_reply (not reply) else Silent)
 
-abbrev pub by_steps : Option ℕ → KnownValue → EntryValue → Judged
-by_steps (Some k) known e = Bad k
-by_steps None known e = by_goal known e.goal e.reply
+abbrev pub settled_by : Option ℕ → KnownValue → FactValue → Bool → Judged
+settled_by (Some k) known goal reply = Bad k
+settled_by None known goal reply = by_goal known goal reply
 
--- the judgement of an entry by the steps that were given for it
+abbrev pub by_steps : Option ℕ → KnownValue → EntryValue → Judged
+by_steps bad known e = settled_by bad known e.goal e.reply
+
+-- the judgement of a reply to a goal at a timestamp, by the steps that were given for it
+abbrev pub judged_at : TraceValue → ℕ → FactValue → Bool → Option (List StepValue) → Judged
+judged_at t at goal reply None = Missing
+judged_at t at goal reply (Some steps) =
+    settled_by (first_bad (rule_at t.declarations at) (store_at t.commits at) nothing_known 1 steps)
+    (after_steps nothing_known steps) goal reply
+
+-- that of an entry
 abbrev pub judged : TraceValue → EntryValue → Option (List StepValue) → Judged
-judged t e None = Missing
-judged t e (Some steps) =
-    by_steps (first_bad (rule_at t.declarations e.snapshot) (store_at t.commits e.snapshot) nothing_known 1 steps)
-    (after_steps nothing_known steps) e
+judged t e steps = judged_at t e.snapshot e.goal e.reply steps

@@ -38,7 +38,8 @@ pub(crate) fn judge_at<'t>(
 {
     let trace = asked.trace();
     if place < trace.len() {
-        judge_borrowed(alloc, asked, trace.entry(place), steps)
+        let entry = trace.entry(place);
+        judge_borrowed(alloc, asked, entry.snapshot, entry.goal, entry.reply, steps)
     } else {
         Ok(Judged::Missing)
     }

@@ -14,7 +14,7 @@ ghost use Rattle.trace_lines.specs.Values.{EntryValue, entry_value};
 ghost use Rattle.evidence_check.specs.Accepted.{IsProved, IsDisproved, with_no, after_step, after_steps, nothing_known};
 ghost use Rattle.evidence_check.specs.Growing.{AreFresh, IsBorneOut};
 ghost use Rattle.evidence_check.specs.Evidences.{evidence_value, steps_of};
-ghost use Rattle.evidence_check.specs.Judged.{is_accepted, first_bad, by_reply, by_goal, judged};
+ghost use Rattle.evidence_check.specs.Judged.{is_accepted, first_bad, by_reply, by_goal, judged, judged_at};
 ghost use Rattle.evidence_check.specs.Members.{IsRight, IsWrong};
 ghost use Rattle.evidence_check.specs.Steps.{yes_step, no_step, step_values, borrowed_step, borrowed_steps};
 ghost use Rattle.evidence_check.specs.declared.judged.Judged.TheVariants.{Supported, Contradicted};
@@ -365,8 +365,8 @@ fn by_reply(agrees: bool) -> Judged
 }
 
 /// What is known of the goal settles it.
-fn by_goal(known: &Known<MarkedFact<'_>>, goal: &Fact, reply: bool) -> Judged
-    ensures { result ≡ by_goal known.now goal.now reply }
+fn by_goal(known: &Known<MarkedFact<'_>>, goal: FactRef<'_>, reply: bool) -> Judged
+    ensures { result ≡ by_goal known.now (fact_value goal.entry) reply }
 {
     if known.yes(goal.set(), goal.user()) {
         by_reply(reply)
@@ -395,25 +395,28 @@ fn nothing_known<'a>(
     Known::with_room(alloc, yes, no)
 }
 
-/// How borrowed steps judge an entry.
+/// How borrowed steps judge a reply to a goal at a timestamp.
 pub(crate) fn judge_borrowed<'t>(
     alloc: Global,
     asked: &mut AskedRules<'t>,
-    entry: &Entry,
+    at: u64,
+    goal: FactRef<'_>,
+    reply: bool,
     steps: &[StepRef<'_>],
 ) -> Result<Judged, AllocError>
     ensures asked { asked.new ≡ asked.old }
-    ensures judged { IfOk result (λ j. j ≡ judged asked.old (entry_value entry.now) (Some (borrowed_steps steps.now))) }
+    ensures judged { IfOk result (λ j. j ≡ judged_at asked.old at (fact_value goal.entry) reply
+        (Some (borrowed_steps steps.now))) }
 {
     let mut known = nothing_known(alloc, steps)?;
-    match first_bad(alloc, asked, entry.snapshot, &mut known, steps)? {
+    match first_bad(alloc, asked, at, &mut known, steps)? {
         Some(step) => Ok(Judged::Bad { step }),
-        None => Ok(by_goal(&known, &entry.goal, entry.reply)),
+        None => Ok(by_goal(&known, goal, reply)),
     }
 }
 
 /// How steps judge an entry, whether or not evidence has them.
-pub fn judge_steps(trace: &Trace, entry: &Entry, steps: &Steps) -> Result<Judged, AllocError>
+pub fn judge_steps(trace: &Trace, entry: &Entry<'_>, steps: &Steps) -> Result<Judged, AllocError>
     ensures { IfOk result (λ j. j ≡ judged trace.now (entry_value entry.now) (Some (step_values steps.now.items))) }
 {
     let mut asked = AskedRules::new(*steps.allocator(), trace);
@@ -423,24 +426,41 @@ pub fn judge_steps(trace: &Trace, entry: &Entry, steps: &Steps) -> Result<Judged
 /// The same, where many entries are judged. What is asked of rules of many places for one is kept for those behind.
 pub fn judge_steps_by(
     asked: &mut AskedRules<'_>,
-    entry: &Entry,
+    entry: &Entry<'_>,
     steps: &Steps,
 ) -> Result<Judged, AllocError>
     ensures asked { asked.new ≡ asked.old }
     ensures judged { IfOk result (λ j. j ≡ judged asked.old (entry_value entry.now) (Some (step_values steps.now.items))) }
 {
     let alloc = *steps.allocator();
-    judge_borrowed(alloc, asked, entry, &borrowed_steps(alloc, steps)?)
+    let borrowed = borrowed_steps(alloc, steps)?;
+    judge_borrowed(
+        alloc,
+        asked,
+        entry.snapshot,
+        entry.goal,
+        entry.reply,
+        &borrowed,
+    )
 }
 
-fn judge(trace: &Trace, entry: &Entry, steps: Option<&Steps>) -> Result<Judged, AllocError>
-    ensures { IfOk result (λ j. j
-        ≡ judged trace.now (entry_value entry.now) (option_map (λ s. step_values s.now.items) steps.entry)) }
+fn judge(
+    trace: &Trace,
+    at: u64,
+    goal: FactRef<'_>,
+    reply: bool,
+    steps: Option<&Steps>,
+) -> Result<Judged, AllocError>
+    ensures { IfOk result (λ j. j ≡ judged_at trace.now at (fact_value goal.entry) reply
+        (option_map (λ s. step_values s.now.items) steps.entry)) }
 {
-    match steps {
-        None => Ok(Judged::Missing),
-        Some(steps) => judge_steps(trace, entry, steps),
-    }
+    let Some(steps) = steps else {
+        return Ok(Judged::Missing);
+    };
+    let alloc = *steps.allocator();
+    let mut asked = AskedRules::new(alloc, trace);
+    let steps = borrowed_steps(alloc, steps)?;
+    judge_borrowed(alloc, &mut asked, at, goal, reply, &steps)
 }
 
 /// How the evidence judges entry `i`: by the first step that is not accepted, and else by what is known of the
@@ -457,5 +477,12 @@ pub fn judge_entry(trace: &Trace, evidence: &Evidence, i: usize) -> Result<Judge
         → (e : EntryValue) → slice_get trace.now.entries i ≡ Some e → IsWrong trace.now e) }
 {
     valid_strata(trace);
-    judge(trace, trace.entry(i), evidence.steps(i))
+    let entry = trace.entry(i);
+    judge(
+        trace,
+        entry.snapshot,
+        entry.goal,
+        entry.reply,
+        evidence.steps(i),
+    )
 }

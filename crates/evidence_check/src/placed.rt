@@ -41,7 +41,7 @@ fn lines_of(alloc: Global, trace: &Trace) -> Result<Vec<u64>, AllocError>
     ensures lines { IfOk result (λ v. v.items ≡ entry_lines trace.now.entries) }
     ensures rising { IfOk result (λ v. IsStrictlyIncreasing v.items) }
 {
-    let mut lines = Vec::new(alloc);
+    let mut lines = Vec::with_capacity(alloc, trace.len())?;
     for i in 0..trace.len() {
         lines.push(trace.entry(i).line)?;
     }

@@ -8,12 +8,14 @@ use crate::maker::{Made, made_of};
 use evidence_check::{AskedRules, Step, Steps};
 use std::alloc::{AllocError, Global};
 use trace_lines::Entry;
-use tuple_text::Fact;
+use tuple_text::{Fact, SetRef};
 
-/// What was found for an entry.
+/// What was found for an entry of this userset, user and reply.
 #[derive(Clone, Copy)]
 pub struct Found<'a> {
-    pub entry: &'a Entry,
+    pub set: SetRef<'a>,
+    pub user: u64,
+    pub reply: bool,
     pub steps: &'a Steps,
 }
 
@@ -63,7 +65,7 @@ fn changed_steps(alloc: Global, steps: &[Step], change: Change) -> Result<Steps,
 pub(crate) fn made_like(
     alloc: Global,
     asked: &mut AskedRules<'_>,
-    entry: &Entry,
+    entry: &Entry<'_>,
     found: Option<Found<'_>>,
 ) -> Result<Option<Made>, AllocError>
     ensures asked { asked.new ≡ asked.old }
@@ -72,11 +74,11 @@ pub(crate) fn made_like(
     let Some(found) = found else {
         return Ok(None);
     };
-    if found.entry.reply != entry.reply || found.entry.goal.set() != entry.goal.set() {
+    if found.reply != entry.reply || found.set != entry.goal.set() {
         return Ok(None);
     }
     let change = Change {
-        from: found.entry.goal.user(),
+        from: found.user,
         to: entry.goal.user(),
     };
     let steps = changed_steps(alloc, found.steps, change)?;

@@ -1,6 +1,7 @@
 //! Making evidence for a decision.
 
 ghost use Rattle.std.specs.Prelude.{◌≡◌, ◌<◌, ◌≤◌, ◌↔◌, ◌^◌, ◌⊎◌, [], ◌∷◌, IsTrue, IfOk, IfSome, Err, None, Some, length, slice_get};
+ghost use Rattle.tuple_text.specs.FactRefs.{fact_value};
 ghost use Rattle.tuple_text.specs.Grammar.{IsFact};
 ghost use Rattle.namespaces.specs.Lookup.{rule_at};
 ghost use Rattle.version_chains.specs.Commits.{store_at};
@@ -24,7 +25,7 @@ use record_text::record_bytes;
 use std::alloc::{AllocError, Global};
 use std::marker::Model;
 use trace_lines::{Entry, Trace};
-use tuple_text::Fact;
+use tuple_text::FactRef;
 
 /// Steps that are made for an entry, and how they judge it.
 #[derive(Drop)]
@@ -49,7 +50,7 @@ fn fits(line: u64, steps: &[Step]) -> bool
 /// The steps as evidence for the entry, where they are accepted and settle the goal, and a record may hold them.
 pub(crate) fn made_of(
     asked: &mut AskedRules<'_>,
-    entry: &Entry,
+    entry: &Entry<'_>,
     steps: Steps,
 ) -> Result<Option<Made>, AllocError>
     ensures asked { asked.new ≡ asked.old }
@@ -67,8 +68,8 @@ pub(crate) fn made_of(
 }
 
 /// A goal has a text, by its type, and a line is a number of 64 bits.
-fn has_text(line: u64, goal: &Fact)
-    ensures fact { IsFact goal.now }
+fn has_text(line: u64, goal: FactRef<'_>)
+    ensures fact { IsFact (fact_value goal.entry) }
     ensures line { line < 2 ^ 64 }
 {
     let _ = goal.set();
@@ -76,20 +77,20 @@ fn has_text(line: u64, goal: &Fact)
 }
 
 /// The goal holds, said in one step.
-fn yes_alone(alloc: Global, entry: &Entry) -> Result<Steps, AllocError>
-    ensures { IfOk result (λ v. step_values v.items ≡ yes_step entry.now.goal ∷ []) }
+fn yes_alone(alloc: Global, entry: &Entry<'_>) -> Result<Steps, AllocError>
+    ensures { IfOk result (λ v. step_values v.items ≡ yes_step (fact_value entry.now.goal) ∷ []) }
 {
     let mut steps = Vec::new(alloc);
-    steps.push(Step::Yes(entry.goal.clone()?))?;
+    steps.push(Step::Yes(entry.goal.to_fact(alloc)?))?;
     Ok(steps)
 }
 
 /// The goal does not hold, said in one step.
-fn no_alone(alloc: Global, entry: &Entry) -> Result<Steps, AllocError>
-    ensures { IfOk result (λ v. step_values v.items ≡ no_step (entry.now.goal ∷ []) ∷ []) }
+fn no_alone(alloc: Global, entry: &Entry<'_>) -> Result<Steps, AllocError>
+    ensures { IfOk result (λ v. step_values v.items ≡ no_step (fact_value entry.now.goal ∷ []) ∷ []) }
 {
     let mut facts = Vec::new(alloc);
-    facts.push(entry.goal.clone()?)?;
+    facts.push(entry.goal.to_fact(alloc)?)?;
     let mut steps = Vec::new(alloc);
     steps.push(Step::No(facts))?;
     Ok(steps)
@@ -101,16 +102,17 @@ fn made_for<'t>(
     asked: &mut AskedRules<'t>,
     leaves: &mut Leaves<'t>,
     rules: &mut KeptRules<'t>,
-    entry: &Entry,
+    entry: &Entry<'_>,
     found: Option<Found<'_>>,
 ) -> Result<Made, MakeFault>
-    requires { leaves.old.declarations ≡ asked.old.declarations }
+    requires rules { leaves.old.declarations ≡ asked.old.declarations }
+    requires goal { IsFact (fact_value entry.now.goal) }
+    requires line { entry.now.line < 2 ^ 64 }
     ensures asked { asked.new ≡ asked.old }
     ensures leaves { leaves.new.declarations ≡ leaves.old.declarations }
     ensures made { IfOk result (IsMadeFor asked.old (entry_value entry.now)) }
     ensures gave_up { result ≡ Err MakeFault.GaveUp → IsOutOfReach asked.old (entry_value entry.now) }
 {
-    has_text(entry.line, &entry.goal);
     let yes = yes_alone(alloc, entry)?;
     if let Some(made) = made_of(asked, entry, yes)? {
         return Ok(made);
@@ -123,7 +125,8 @@ fn made_for<'t>(
         return Ok(made);
     }
     let snapshot = asked.trace().timeline().at(entry.snapshot);
-    let cone = explore_by(alloc, leaves, &snapshot, &entry.goal)?;
+    let goal = entry.goal.to_fact(alloc)?;
+    let cone = explore_by(alloc, leaves, &snapshot, &goal)?;
     let mut gates = Gates::of(alloc, &snapshot, &cone, leaves, rules)?;
     let steps = settle(alloc, asked, entry.snapshot, &cone, &mut gates)?;
     let short = needed_steps(alloc, &mut gates, &steps)?;
@@ -184,12 +187,13 @@ impl<'t> Maker<'t> {
         ensures gave_up { result ≡ Err MakeFault.GaveUp → (e : EntryValue) → slice_get self.old.entries i ≡ Some e → IsOutOfReach self.old e }
     {
         let entry = self.asked.trace().entry(i);
+        has_text(entry.line, entry.goal);
         made_for(
             self.alloc,
             &mut self.asked,
             &mut self.leaves,
             &mut self.rules,
-            entry,
+            &entry,
             found,
         )
     }

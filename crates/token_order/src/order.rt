@@ -2,16 +2,18 @@
 
 ghost use Rattle.std.specs.Prelude.{◌≡◌, ◌<◌, ◌≤◌, length, slice_get, take, drop, map, All, Some};
 ghost use Rattle.std.specs.List.Sorted.{IsStrictlyIncreasing};
-ghost use Rattle.trace_lines.specs.Values.{EntryValue, entry_value};
+ghost use Rattle.trace_lines.specs.Values.{EntryValue};
 ghost use Rattle.token_order.specs.Found.{is_content, is_above, is_short_of, is_stale, line_if_short, old_token, not_latest, open_snapshot, may_stand_for_content, is_token_of, is_wrong_token, is_unknown_version, order_of};
 
 use crate::findings::OrderFindings;
-use trace_lines::{Entry, EntryKind, Trace};
+use trace_lines::{EntryKind, Trace};
 use zookie::{TokenKind, Zookie};
 
-fn is_stale(entry: &Entry) -> bool
-    ensures { result ≡ is_stale (entry_value entry.now) }
+fn is_stale(trace: &Trace, i: usize) -> bool
+    requires { i < length trace.now.entries }
+    ensures { (e : EntryValue) → slice_get trace.now.entries i ≡ Some e → result ≡ is_stale e }
 {
+    let entry = trace.entry(i);
     match (entry.kind, entry.zookie) {
         (EntryKind::Check, Some(zookie)) => entry.snapshot < zookie.at(),
         _ => false,
@@ -108,9 +110,11 @@ fn may_stand_for_content(kind: Option<TokenKind>) -> bool
     }
 }
 
-fn is_wrong_token(entry: &Entry) -> bool
-    ensures { result ≡ is_wrong_token (entry_value entry.now) }
+fn is_wrong_token(trace: &Trace, i: usize) -> bool
+    requires { i < length trace.now.entries }
+    ensures { (e : EntryValue) → slice_get trace.now.entries i ≡ Some e → result ≡ is_wrong_token e }
 {
+    let entry = trace.entry(i);
     match entry.kind {
         EntryKind::Check => false,
         EntryKind::Content => entry.reply && !is_token_of(entry.snapshot, entry.zookie),
@@ -133,13 +137,12 @@ pub fn order_of(trace: &Trace, i: usize) -> OrderFindings
     requires { i < length trace.now.entries }
     ensures { (e : EntryValue) → slice_get trace.now.entries i ≡ Some e → result ≡ order_of trace.now i e }
 {
-    let entry = trace.entry(i);
     OrderFindings {
-        stale: is_stale(entry),
+        stale: is_stale(trace, i),
         old_token: old_token(trace, i),
         not_latest: not_latest(trace, i),
         open_snapshot: open_snapshot(trace, i),
-        wrong_token: is_wrong_token(entry),
+        wrong_token: is_wrong_token(trace, i),
         unknown_version: is_unknown_version(trace, i),
     }
 }

@@ -181,7 +181,8 @@ position_from-found test n (x ∷ xs) j h = elim (cases_Bool (test x)) [
       record { place = suc later.place; place_is = omega (arith, later.place_is); item = later.item; there = later.there; passes = later.passes }
 ]
 
-slice_get-take : {X : Type 0} (i : ℕ) (xs : List X) (k : ℕ) (x : X) → slice_get (take i xs) k ≡ Some x → (k < i) × (slice_get xs k ≡ Some x)
+-- what stands among the first items
+pub slice_get-take : {X : Type 0} (i : ℕ) (xs : List X) (k : ℕ) (x : X) → slice_get (take i xs) k ≡ Some x → (k < i) × (slice_get xs k ≡ Some x)
 slice_get-take i xs k x h =
     let within = slice_get_within (take i xs) k x h in
     let len = length-take i xs in

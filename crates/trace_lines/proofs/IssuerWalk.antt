@@ -1,14 +1,13 @@
 -- Going over the versions with one mark, in search of the entry that issued one of them.
-use Rattle.std.proofs.Common.{◌≡◌, ℕ, ◌<◌, Bool, true, false, List, [], ◌∷◌, length, get_or, Option, Some, None, ◌∙◌, ap, subst, sym, refl}
+use Rattle.std.proofs.Common.{◌≡◌, ℕ, ◌<◌, Bool, true, false, List, [], ◌∷◌, length, get_or, slice_get, Some, None, ◌∙◌, ap, subst, sym, refl}
+use Rattle.std.proofs.lemmas.Option.{slice_get_within}
 use Rattle.marks.specs.Placed.{indices_of}
 use Rattle.marks.proofs.LeftLemmas.{AreLeft, left_first, left_behind, left_none}
 use Rattle.marks.proofs.PlacedLemmas.{read_item}
 use Rattle.trace_lines.specs.Issued.{Issue, issued_by, AreIssued}
-use Rattle.trace_lines.specs.Recorded.{shown}
-use Rattle.trace_lines.specs.Values.{entry_value}
+use Rattle.trace_lines.specs.Recorded.{Recorded, shown}
 use Rattle.trace_lines.specs.VersionMarks.{version_mark}
 use Rattle.trace_lines.specs.Versions.{Version, version_eq, is_version, entry_version, issuer}
-use Rattle.trace_lines.specs.declared.recorded.Recorded.{Recorded}
 use Rattle.trace_lines.specs.declared.versions.Versions.{Versions}
 use Rattle.trace_lines.proofs.IssuedVersions.{version_eq-same, version_mark-same, not_issued}
 use Rattle.trace_lines.proofs.Recording.{IsIssuer, issued_count, issuer_at}
@@ -40,14 +39,14 @@ module _ (rs : List Recorded) (versions : Versions) (are : AreIssued versions (s
       here = issuer_at rs versions are m n left_here.within.0 (read_item versions.entries.items versions.entries.items m n refl issuer_within read)
 
       pub issuer_entry : n < length rs
-      issuer_entry = here.within
+      issuer_entry = slice_get_within rs n here.kept here.there
 
-      pub issuer_behind : (r : Recorded) → is_version v (entry_version (entry_value (get_or rs n r).entry)) ≡ false → IsIssuerLeft rest
-      issuer_behind r other =
-          left_behind wanted (issued_by (shown rs)) m rest here.issue here.here
-          (subst (λ (o : Option Version). is_version v o ≡ false) (here.names r) other) left_here
+      module _ (answer : Bool) (says : (r : Recorded) → slice_get rs n ≡ Some r → answer ≡ is_version v (entry_version r.entry)) where
+        said : answer ≡ is_version v (Some here.issue.version)
+        said = says here.kept here.there ∙ ap (is_version v) here.names
 
-      pub issuer_found : (r : Recorded) → is_version v (entry_version (entry_value (get_or rs n r).entry)) ≡ true → issuer (shown rs) v ≡ Some n
-      issuer_found r is =
-          let same = version_eq-same v here.issue.version (subst (λ (o : Option Version). is_version v o ≡ true) (here.names r) is) in
-          ap (issuer (shown rs)) same ∙ here.first
+        pub issuer_behind : answer ≡ false → IsIssuerLeft rest
+        issuer_behind other = left_behind wanted (issued_by (shown rs)) m rest here.issue here.here (sym said ∙ other) left_here
+
+        pub issuer_found : answer ≡ true → issuer (shown rs) v ≡ Some n
+        issuer_found same = ap (issuer (shown rs)) (version_eq-same v here.issue.version (sym said ∙ same)) ∙ here.first

@@ -1,5 +1,6 @@
 pub mod Answers
 pub mod Declared
+pub mod EntryLemmas
 pub mod FrontLemmas
 pub mod IssuedVersions
 pub mod IssuerWalk
@@ -13,6 +14,7 @@ pub mod Placing
 pub mod Recording
 pub mod RefusedEdges
 pub mod RisingLines
+pub mod ToldTuples
 pub mod TraceTold
 pub mod WrittenCommits
 pub mod WrittenLines

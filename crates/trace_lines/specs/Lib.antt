@@ -3,6 +3,7 @@ pub mod Declaring
 pub mod EdgeCauses
 pub mod Issued
 pub mod Kept
+pub mod KeptEntries
 pub mod LineCode
 pub mod LineFields
 pub mod LineValues

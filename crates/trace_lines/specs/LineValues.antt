@@ -23,13 +23,17 @@ pub data LineValue : Type 0 where
   -- an entry, which has no place yet
   records : EntryValue → LineValue
 
+-- what a line of this value says that records a check
+abbrev pub entry_in : EntryKind → Data → Result LineValue Cause
+entry_in kind d = entry_of kind 0 0 d >>= λ e. Ok (records e)
+
 abbrev pub said_of_kind : List ℕ → Data → Option (List ℕ) → Result LineValue Cause
 said_of_kind text d None = Err causes.Kind
 said_of_kind text d (Some kind) =
     if bytes_eq kind (codes "namespace") then Ok (declares text)
     else (if bytes_eq kind (codes "commit") then (commit_of d >>= λ c. Ok (commits c))
-    else (if bytes_eq kind (codes "content") then (entry_of Content 0 0 d >>= λ e. Ok (records e))
-    else (if bytes_eq kind (codes "check") then (entry_of Check 0 0 d >>= λ e. Ok (records e))
+    else (if bytes_eq kind (codes "content") then entry_in Content d
+    else (if bytes_eq kind (codes "check") then entry_in Check d
     else Err causes.Kind)))
 
 -- what a line of this text and this value says

@@ -1,5 +1,6 @@
 -- What a trace says.
-use Rattle.std.specs.Prelude.{ℕ, ◌+◌, ◌-◌, max, Bool, List, [], length, slice_get, Option, None, Some, option_map, map, string_bytes}
+use Rattle.std.specs.Prelude.{ℕ, ◌+◌, ◌-◌, max, Bool, List, [], length, slice_get, Option, None, Some, option_map, map}
+use Rattle.tuple_text.specs.FactRefs.{fact_value}
 use Rattle.tuple_text.specs.Tuples.{FactValue}
 use Rattle.zookie.specs.Tokens.{Token}
 use Rattle.namespaces.specs.Declaration.{Declaration}
@@ -23,11 +24,11 @@ abbrev pub entry_value : Entry → EntryValue
 entry_value e = record {
   kind = e.kind;
   line = e.line;
-  goal = e.goal;
+  goal = fact_value e.goal;
   snapshot = e.snapshot;
   reply = e.reply;
   zookie = e.zookie;
-  version = option_map (λ s. string_bytes s) e.version;
+  version = option_map (λ s. s.now) e.version;
   before = e.before;
 }
 

@@ -11,7 +11,7 @@ ghost use Rattle.tuple_text.specs.TupleRefs.{tuple_values};
 ghost use Rattle.trace_lines.specs.Causes.{Gives};
 ghost use Rattle.edge_checks.specs.Indexed.{IsIndex};
 ghost use Rattle.trace_lines.specs.LineValues.{commits, declares, put_line, records};
-ghost use Rattle.trace_lines.specs.LineViews.{commit_value, owned_value};
+ghost use Rattle.trace_lines.specs.LineViews.{commit_value};
 ghost use Rattle.trace_lines.specs.Said.{said_line};
 ghost use Rattle.trace_lines.specs.Values.{empty_trace, entry_value, next_line};
 ghost use Rattle.trace_lines.specs.Traces.{is_declared, are_declared, is_begun, namespace_line, change_line, declaration_line, commit_checked, commit_of, with_commit, commit_line, entry_of, recorded, with_entry, entry_line, value_line};
@@ -28,10 +28,11 @@ ghost use Rattle.userset_index.specs.Index.{IsUsersetIndex};
 
 use crate::cause::Cause;
 use crate::checks::{self, entry_from, entry_of};
-use crate::commits::{CommitRef, OwnedCommit, commit_of, tuple_refs};
+use crate::commits::{CommitRef, commit_of};
 use crate::declaring::{change, declare, late_change};
+use crate::entries::{Entries, OwnedEntry};
 use crate::entry::{Entry, EntryKind};
-use crate::recorded::Recorded;
+use crate::owned::OwnedCommit;
 use crate::told::{Said, TraceLine};
 use crate::trace::Trace;
 use crate::versions::{Versions, version_of};
@@ -58,7 +59,7 @@ pub struct TraceBuilder {
     // of the rules and the sample
     index: EdgeIndex,
     commit_lines: Vec<u64>,
-    recorded: Vec<Recorded>,
+    recorded: Entries,
     versions: Versions,
 }
 
@@ -81,13 +82,13 @@ impl Model for TraceBuilder {
       declarations = t.rules;
       commits = t.chains.commits;
       commit_lines = t.commit_lines.items;
-      entries = shown t.recorded.items;
+      entries = shown t.recorded;
     } };
 
     ghost invariant = { λ t. (t.chains.limit ≡ 2 ^ 32 - 1)
-        × IsKept t.chains.commits t.commit_lines.items (shown t.recorded.items) (contents t.recorded.items)
+        × IsKept t.chains.commits t.commit_lines.items (shown t.recorded) (contents t.recorded)
         × IsOrderly t.rules t.chains.commits t.sample × IsIndex t.rules t.index t.sample
-        × AreIssued t.versions (shown t.recorded.items) };
+        × AreIssued t.versions (shown t.recorded) };
 }
 
 // Written out, since one that is derived is a part of each function that lets a builder go, with all its parts.
@@ -163,7 +164,7 @@ impl TraceBuilder {
             sample: Sample::new(alloc),
             index: EdgeIndex::new(alloc),
             commit_lines: Vec::new(alloc),
-            recorded: Vec::new(alloc),
+            recorded: Entries::new(alloc),
             versions: Versions::new(alloc),
         }
     }
@@ -366,8 +367,10 @@ impl TraceBuilder {
         requires { next_line self.old ≤ line }
         ensures { Gives (λ _. self.new) result (entry_line kind line self.old (value_data value.now)) }
     {
-        let entry = entry_of(self.alloc, kind, line, self.commit_lines.len(), value)?;
-        self.take_recorded(entry)
+        match entry_of(kind, line, self.commit_lines.len(), value) {
+            Ok(entry) => self.take_recorded(&entry),
+            Err(cause) => Err(cause),
+        }
     }
 
     /// Takes a line that says this of a check.
@@ -375,8 +378,10 @@ impl TraceBuilder {
         requires { next_line self.old ≤ line }
         ensures { Gives (λ _. self.new) result (said_line kind line self.old said.entry) }
     {
-        let entry = entry_from(self.alloc, kind, line, self.commit_lines.len(), said)?;
-        self.take_recorded(entry)
+        match entry_from(kind, line, self.commit_lines.len(), said) {
+            Ok(entry) => self.take_recorded(&entry),
+            Err(cause) => Err(cause),
+        }
     }
 
     /// Takes a line of this text, where it is written plainly.
@@ -397,10 +402,10 @@ impl TraceBuilder {
 
     /// Takes an entry that stands behind all others.
     #[tactic(auto, unfolding(crate::specs::Traces::with_entry))]
-    fn take_recorded(&mut self, entry: Entry) -> Result<(), Cause>
-        requires line { next_line self.old ≤ entry.line }
-        requires before { entry.before ≡ length self.old.commit_lines }
-        ensures { Gives (λ _. self.new) result (with_entry self.old (entry_value entry)) }
+    fn take_recorded(&mut self, entry: &Entry<'_>) -> Result<(), Cause>
+        requires line { next_line self.old ≤ entry.now.line }
+        requires before { entry.now.before ≡ length self.old.commit_lines }
+        ensures { Gives (λ _. self.new) result (with_entry self.old (entry_value entry.now)) }
     {
         if !self.is_declared(entry.goal.set()) {
             return Err(Cause::Unknown);
@@ -409,14 +414,14 @@ impl TraceBuilder {
     }
 
     /// Puts an entry that stands behind all others last.
-    fn record(&mut self, entry: Entry) -> Result<(), Cause>
-        requires line { next_line self.old ≤ entry.line }
-        requires before { entry.before ≡ length self.old.commit_lines }
-        ensures { Gives (λ _. self.new) result (recorded self.old (entry_value entry)) }
+    fn record(&mut self, entry: &Entry<'_>) -> Result<(), Cause>
+        requires line { next_line self.old ≤ entry.now.line }
+        requires before { entry.now.before ≡ length self.old.commit_lines }
+        ensures { Gives (λ _. self.new) result (recorded self.old (entry_value entry.now)) }
     {
         match entry.kind {
             EntryKind::Check => {
-                let content = self.content_named(&entry);
+                let content = self.content_named(entry);
                 self.push(entry, content)
             }
             EntryKind::Content => self.issue(entry),
@@ -424,40 +429,43 @@ impl TraceBuilder {
     }
 
     /// The entry that issued the version which stands in this one.
-    fn content_named(&self, entry: &Entry) -> Option<usize>
+    fn content_named(&self, entry: &Entry<'_>) -> Option<usize>
         ensures { result ≡ option_and_then (issuer self.now.entries) (entry_version (entry_value entry.now)) }
     {
         self.versions.issuer(&self.recorded, version_of(entry)?)
     }
 
     /// Puts an entry last that issues no version, and names the one that `content` issued.
-    fn push(&mut self, entry: Entry, content: Option<usize>) -> Result<(), Cause>
-        requires line { next_line self.old ≤ entry.line }
-        requires before { entry.before ≡ length self.old.commit_lines }
-        requires issues_nothing { version_issued entry.kind (entry_version (entry_value entry)) ≡ None }
-        requires content { content ≡ content_among self.old.entries (entry_value entry) }
-        ensures { Gives (λ _. self.new) result (recorded self.old (entry_value entry)) }
+    fn push(&mut self, entry: &Entry<'_>, content: Option<usize>) -> Result<(), Cause>
+        requires line { next_line self.old ≤ entry.now.line }
+        requires before { entry.now.before ≡ length self.old.commit_lines }
+        requires issues_nothing { version_issued entry.now.kind (entry_version (entry_value entry.now)) ≡ None }
+        requires content { content ≡ content_among self.old.entries (entry_value entry.now) }
+        ensures { Gives (λ _. self.new) result (recorded self.old (entry_value entry.now)) }
     {
-        self.recorded.push(Recorded::new(entry, content))?;
+        self.recorded.push(entry, content)?;
         Ok(())
     }
 
     /// Puts a content check last. An object's version is issued once.
-    fn issue(&mut self, entry: Entry) -> Result<(), Cause>
-        requires line { next_line self.old ≤ entry.line }
-        requires before { entry.before ≡ length self.old.commit_lines }
-        requires kind { entry.kind ≡ Content }
-        ensures { Gives (λ _. self.new) result (recorded self.old (entry_value entry)) }
+    fn issue(&mut self, entry: &Entry<'_>) -> Result<(), Cause>
+        requires line { next_line self.old ≤ entry.now.line }
+        requires before { entry.now.before ≡ length self.old.commit_lines }
+        requires kind { entry.now.kind ≡ Content }
+        ensures { Gives (λ _. self.new) result (recorded self.old (entry_value entry.now)) }
     {
-        let Some(version) = version_of(&entry) else {
+        let Some(version) = version_of(entry) else {
             return self.push(entry, None);
         };
         if self.versions.issuer(&self.recorded, version).is_some() {
             return Err(Cause::RepeatedVersion);
         }
-        self.recorded.reserve(1)?;
-        self.versions.push(version, self.recorded.len())?;
-        self.recorded.push_reserved(Recorded::new(entry, None));
+        let number = self.recorded.len();
+        self.recorded.push(entry, None)?;
+        if let Err(fault) = self.versions.push(version, number) {
+            self.recorded.pop();
+            return Err(fault.into());
+        }
         Ok(())
     }
 
@@ -499,20 +507,25 @@ impl TraceBuilder {
 
     fn put_commit(&mut self, line: u64, commit: &OwnedCommit) -> Result<(), Cause>
         requires { next_line self.old ≤ line }
-        ensures { Gives (λ _. self.new) result (put_line line self.old (commits (owned_value commit.now))) }
+        ensures { Gives (λ _. self.new) result (put_line line self.old (commits commit.now)) }
     {
-        let adds = tuple_refs(self.alloc, &commit.adds)?;
-        let removes = tuple_refs(self.alloc, &commit.removes)?;
-        self.append(line, commit.at, &adds, &removes)
+        let tuples = commit.tuples(self.alloc)?;
+        let (adds, removes) = tuples.split_at(commit.adds());
+        self.append(line, commit.at(), adds, removes)
     }
 
-    fn put_entry(&mut self, line: u64, mut entry: Entry) -> Result<(), Cause>
+    #[tactic(auto, unfolding(crate::specs::Traces::with_entry))]
+    fn put_entry(&mut self, line: u64, told: &OwnedEntry) -> Result<(), Cause>
         requires { next_line self.old ≤ line }
-        ensures { Gives (λ _. self.new) result (put_line line self.old (records (entry_value entry))) }
+        ensures { Gives (λ _. self.new) result (put_line line self.old (records told.now)) }
     {
+        if !self.is_declared(told.goal().set()) {
+            return Err(Cause::Unknown);
+        }
+        let mut entry = told.as_entry();
         entry.line = line;
         entry.before = self.commit_lines.len();
-        self.take_recorded(entry)
+        self.record(&entry)
     }
 
     /// Puts in what the line of this number says.
@@ -524,7 +537,7 @@ impl TraceBuilder {
         match line.into_said() {
             Said::Declares(text) => self.put_declaration(number, &text),
             Said::Commits(commit) => self.put_commit(number, &commit),
-            Said::Records(entry) => self.put_entry(number, entry),
+            Said::Records(entry) => self.put_entry(number, &entry),
         }
     }
 }

@@ -11,27 +11,25 @@ ghost use Rattle.trace_lines.specs.LineFields.{check_fields};
 
 use crate::cause::Cause;
 use crate::entry::{Entry, EntryKind};
-use crate::texts::{goal_of, label_of, token_of, version_in};
+use crate::texts::{goal_of, token_of, version_in};
 use json_lines::JsonRef;
 use json_lines::fields::{flag_of, number_of, optional_text_of, text_of};
-use std::alloc::Global;
 
 /// The check that a line records.
-pub(crate) fn entry_of(
-    alloc: Global,
+pub(crate) fn entry_of<'a>(
     kind: EntryKind,
     line: u64,
     before: usize,
-    value: &JsonRef<'_, '_>,
-) -> Result<Entry, Cause>
+    value: &JsonRef<'_, 'a>,
+) -> Result<Entry<'a>, Cause>
     ensures { Gives entry_value result (entry_of kind line before (value_data value.now)) }
 {
     let names = ["goal", "snapshot", "reply", "zookie", "version"];
     let mut places = [None, None, None, None, None];
     // A slice: the proof knows what a call leaves in one, and not in an array.
-    let found: &mut [Option<JsonRef<'_, '_>>] = &mut places;
+    let found: &mut [Option<JsonRef<'_, 'a>>] = &mut places;
     value.get_all(&names, found);
-    entry_in(alloc, kind, line, before, found)
+    entry_in(kind, line, before, found)
 }
 
 /// What the fields of a check say.
@@ -68,32 +66,29 @@ fn said_in<'a>(kind: EntryKind, fields: &[Option<JsonRef<'_, 'a>>]) -> Option<Sa
 }
 
 /// The check that fields record.
-fn entry_in(
-    alloc: Global,
+fn entry_in<'a>(
     kind: EntryKind,
     line: u64,
     before: usize,
-    fields: &[Option<JsonRef<'_, '_>>],
-) -> Result<Entry, Cause>
+    fields: &[Option<JsonRef<'_, 'a>>],
+) -> Result<Entry<'a>, Cause>
     ensures { (d : Data) → map (option_map value_data) fields.now ≡ check_fields d → Gives entry_value result (entry_of kind line before d) }
 {
     let said = said_in(kind, fields).ok_or(Cause::Shape)?;
-    entry_from(alloc, kind, line, before, said)
+    entry_from(kind, line, before, said)
 }
 
 /// The check that says this.
-pub(crate) fn entry_from(
-    alloc: Global,
+pub(crate) fn entry_from<'a>(
     kind: EntryKind,
     line: u64,
     before: usize,
-    said: Said<'_>,
-) -> Result<Entry, Cause>
+    said: Said<'a>,
+) -> Result<Entry<'a>, Cause>
     ensures { Gives entry_value result (entry_said kind line before (Some said.entry)) }
 {
-    let goal = goal_of(alloc, said.goal)?;
+    let goal = goal_of(said.goal)?;
     let zookie = token_of(said.zookie)?;
-    let version = label_of(alloc, said.version)?;
     Ok(Entry {
         kind,
         line,
@@ -101,7 +96,7 @@ pub(crate) fn entry_from(
         snapshot: said.snapshot,
         reply: said.reply,
         zookie,
-        version,
+        version: said.version,
         before,
     })
 }

@@ -1,12 +1,12 @@
 //! Lines that commit changes.
 
-ghost use Rattle.std.specs.Prelude.{◌≡◌, IfOk, map, option_map};
+ghost use Rattle.std.specs.Prelude.{◌≡◌, map, option_map};
 ghost use Rattle.serde_json.specs.Data.{Data};
 ghost use Rattle.json_lines.specs.Data.{items_data, value_data};
 ghost use Rattle.tuple_text.specs.TupleRefs.{tuple_values};
 ghost use Rattle.trace_lines.specs.Causes.{Gives};
 ghost use Rattle.trace_lines.specs.LineFields.{commit_fields};
-ghost use Rattle.trace_lines.specs.LineViews.{commit_value, owned_value};
+ghost use Rattle.trace_lines.specs.LineViews.{commit_value};
 ghost use Rattle.trace_lines.specs.Said.{commit_said};
 ghost use Rattle.trace_lines.specs.Traces.{commit_of};
 
@@ -14,8 +14,8 @@ use crate::cause::Cause;
 use crate::texts::tuples_of;
 use json_lines::fields::{number_of, strings_of};
 use json_lines::{JsonItems, JsonRef};
-use std::alloc::{AllocError, Global};
-use tuple_text::{Tuple, TupleRef};
+use std::alloc::Global;
+use tuple_text::TupleRef;
 
 /// What a line commits. The tuples borrow from the line.
 pub(crate) struct CommitRef<'a> {
@@ -27,25 +27,6 @@ pub(crate) struct CommitRef<'a> {
 impl<'a> Drop for CommitRef<'a> {
     fn drop(self) {
         let CommitRef {
-            at: _,
-            adds,
-            removes,
-        } = self;
-        drop(adds);
-        drop(removes);
-    }
-}
-
-/// What a line commits, in texts of its own.
-pub(crate) struct OwnedCommit {
-    pub(crate) at: u64,
-    pub(crate) adds: Vec<Tuple>,
-    pub(crate) removes: Vec<Tuple>,
-}
-
-impl Drop for OwnedCommit {
-    fn drop(self) {
-        let OwnedCommit {
             at: _,
             adds,
             removes,
@@ -98,39 +79,4 @@ fn commit_said<'a>(
     let adds = tuples_of(alloc, add)?;
     let removes = tuples_of(alloc, remove)?;
     Ok(CommitRef { at, adds, removes })
-}
-
-/// Tuples with texts of their own.
-fn owned_tuples(alloc: Global, tuples: &[TupleRef<'_>]) -> Result<Vec<Tuple>, AllocError>
-    ensures { IfOk result (λ v. v.items ≡ tuple_values tuples.now) }
-{
-    let mut owned = Vec::with_capacity(alloc, tuples.len())?;
-    for tuple in tuples {
-        owned.push(tuple.to_tuple(alloc)?)?;
-    }
-    Ok(owned)
-}
-
-/// Tuples, borrowed.
-pub(crate) fn tuple_refs(alloc: Global, tuples: &[Tuple]) -> Result<Vec<TupleRef<'_>>, AllocError>
-    ensures { IfOk result (λ v. tuple_values v.items ≡ tuples.now) }
-{
-    let mut refs = Vec::with_capacity(alloc, tuples.len())?;
-    for tuple in tuples {
-        refs.push(tuple.as_ref())?;
-    }
-    Ok(refs)
-}
-
-impl CommitRef<'_> {
-    /// The same, in texts of its own.
-    pub(crate) fn to_owned(&self, alloc: Global) -> Result<OwnedCommit, AllocError>
-        ensures { IfOk result (λ c. owned_value c ≡ commit_value self.now) }
-    {
-        Ok(OwnedCommit {
-            at: self.at,
-            adds: owned_tuples(alloc, &self.adds)?,
-            removes: owned_tuples(alloc, &self.removes)?,
-        })
-    }
 }

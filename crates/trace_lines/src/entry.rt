@@ -1,6 +1,6 @@
 //! Recorded decisions.
 
-use tuple_text::Fact;
+use tuple_text::FactRef;
 use zookie::Zookie;
 
 /// What was asked (Zanzibar, section 2.4).
@@ -12,38 +12,20 @@ pub enum EntryKind {
     Content,
 }
 
-/// A recorded decision.
-#[derive(Debug)]
-pub struct Entry {
+/// A recorded decision. Its texts are borrowed from the trace that keeps it, or from the line that says it.
+#[derive(Clone, Copy, Debug)]
+pub struct Entry<'a> {
     pub kind: EntryKind,
     pub reply: bool,
     /// The line that it stands on, from 1.
     pub line: u64,
-    pub goal: Fact,
+    pub goal: FactRef<'a>,
     /// The timestamp at which it was evaluated.
     pub snapshot: u64,
     /// The zookie of a check's request, or the one that a content check issued.
     pub zookie: Option<Zookie>,
     /// The label of the content's version, 1 to 128 bytes.
-    pub version: Option<String>,
+    pub version: Option<&'a str>,
     /// How many commits stand on earlier lines.
     pub before: usize,
-}
-
-// Written out, as that of a trace.
-impl Drop for Entry {
-    fn drop(self) {
-        let Entry {
-            kind: _,
-            reply: _,
-            line: _,
-            goal,
-            snapshot: _,
-            zookie: _,
-            version,
-            before: _,
-        } = self;
-        drop(goal);
-        drop(version);
-    }
 }

@@ -15,7 +15,7 @@
 //!
 //! ```text
 //! let trace = read_trace(alloc, &mut reader)?;
-//! let goal = &trace.entry(0).goal;
+//! let goal = trace.entry(0).goal;
 //! ```
 #![tactic(auto)]
 
@@ -24,11 +24,12 @@ mod cause;
 mod checks;
 mod commits;
 mod declaring;
+mod entries;
 mod entry;
 mod front;
 pub mod laws;
+mod owned;
 mod read;
-mod recorded;
 mod texts;
 mod told;
 mod trace;

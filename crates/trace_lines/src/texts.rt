@@ -1,7 +1,8 @@
 //! The texts in a line of a trace.
 
-ghost use Rattle.std.specs.Prelude.{◌≡◌, option_map, option_copied, string_bytes, Ok};
+ghost use Rattle.std.specs.Prelude.{◌≡◌, option_map, option_copied};
 ghost use Rattle.json_lines.specs.Data.{value_data, items_data};
+ghost use Rattle.tuple_text.specs.FactRefs.{fact_value};
 ghost use Rattle.tuple_text.specs.TupleRefs.{tuple_value, tuple_values};
 ghost use Rattle.trace_lines.specs.Causes.{Gives};
 ghost use Rattle.trace_lines.specs.Texts.{tuple_of_text, tuples_of, goal_of, token_of, is_label, label_in, fits_reply, version_in};
@@ -11,7 +12,7 @@ use crate::entry::EntryKind;
 use json_lines::fields::optional_text_of;
 use json_lines::{JsonItems, JsonRef};
 use std::alloc::Global;
-use tuple_text::{Fact, TupleFault, TupleRef, parse_fact, read_tuple};
+use tuple_text::{FactRef, TupleRef, read_fact, read_tuple};
 use zookie::Zookie;
 
 fn tuple_of_text(text: Option<&str>) -> Result<TupleRef<'_>, Cause>
@@ -42,12 +43,11 @@ pub(crate) fn tuples_of<'a>(
 }
 
 /// The goal that a text is.
-pub(crate) fn goal_of(alloc: Global, text: &str) -> Result<Fact, Cause>
-    ensures { Gives (λ f. f) result (goal_of text.now) }
+pub(crate) fn goal_of(text: &str) -> Result<FactRef<'_>, Cause>
+    ensures { Gives fact_value result (goal_of text.now) }
 {
-    match parse_fact(alloc, text) {
+    match read_fact(text) {
         Ok(fact) => Ok(fact),
-        Err(TupleFault::OutOfMemory) => Err(Cause::OutOfMemory),
         Err(fault) => Err(Cause::Text(fault)),
     }
 }
@@ -110,15 +110,5 @@ pub(crate) fn version_in<'a>(
         Some(label)
     } else {
         None
-    }
-}
-
-/// A label of its own.
-pub(crate) fn label_of(alloc: Global, text: Option<&str>) -> Result<Option<String>, Cause>
-    ensures { Gives (option_map (λ s. string_bytes s)) result (Ok (option_map (λ s. s.now) text.entry)) }
-{
-    match text {
-        None => Ok(None),
-        Some(text) => Ok(Some(String::from_str(alloc, text)?)),
     }
 }

@@ -5,14 +5,16 @@ ghost use Rattle.serde_json.specs.Read.{read};
 ghost use Rattle.json_lines.specs.Data.{value_data};
 ghost use Rattle.json_lines.specs.Json.{of_json};
 ghost use Rattle.trace_lines.specs.Causes.{Gives};
-ghost use Rattle.trace_lines.specs.LineValues.{commits, entry_told, line_said};
+ghost use Rattle.trace_lines.specs.LineValues.{commits, entry_in, entry_told, line_said};
 ghost use Rattle.trace_lines.specs.LineViews.{commit_value, said_value};
 ghost use Rattle.trace_lines.specs.declared.cause.Cause.TheVariants.{NotJson};
 
 use crate::cause::Cause;
 use crate::checks::{self, entry_from, entry_of};
-use crate::commits::{CommitRef, OwnedCommit, commit_of};
-use crate::entry::{Entry, EntryKind};
+use crate::commits::{CommitRef, commit_of};
+use crate::entries::OwnedEntry;
+use crate::entry::EntryKind;
+use crate::owned::OwnedCommit;
 use crate::written::{check_written, commit_written};
 use json::Scratch;
 use json_lines::fields::text_at;
@@ -27,7 +29,7 @@ pub(crate) enum Said {
     Declares(String),
     Commits(OwnedCommit),
     /// An entry, whose place is not known.
-    Records(Entry),
+    Records(OwnedEntry),
 }
 
 /// What a line of a trace says by itself, in texts of its own.
@@ -49,6 +51,16 @@ impl Model for TraceLine {
     ghost view = { λ l. said_value l.said };
 }
 
+/// What a line of this value says that records a check.
+fn entry_in(alloc: Global, kind: EntryKind, value: &JsonRef<'_, '_>) -> Result<Said, Cause>
+    ensures { Gives said_value result (entry_in kind (value_data value.now)) }
+{
+    match entry_of(kind, 0, 0, value) {
+        Ok(entry) => Ok(Said::Records(OwnedEntry::of(alloc, &entry)?)),
+        Err(cause) => Err(cause),
+    }
+}
+
 /// What a line of this text and value says.
 #[tactic(auto, unfolding(crate::specs::LineValues::line_said))]
 fn said_in(alloc: Global, text: &str, value: &JsonRef<'_, '_>) -> Result<Said, Cause>
@@ -59,11 +71,11 @@ fn said_in(alloc: Global, text: &str, value: &JsonRef<'_, '_>) -> Result<Said, C
             if kind == "namespace" {
                 Ok(Said::Declares(String::from_str(alloc, text)?))
             } else if kind == "commit" {
-                Ok(Said::Commits(commit_of(alloc, value)?.to_owned(alloc)?))
+                commit_told(alloc, &commit_of(alloc, value)?)
             } else if kind == "content" {
-                Ok(Said::Records(entry_of(alloc, EntryKind::Content, 0, 0, value)?))
+                entry_in(alloc, EntryKind::Content, value)
             } else if kind == "check" {
-                Ok(Said::Records(entry_of(alloc, EntryKind::Check, 0, 0, value)?))
+                entry_in(alloc, EntryKind::Check, value)
             } else {
                 Err(Cause::Kind)
             }
@@ -76,14 +88,17 @@ fn said_in(alloc: Global, text: &str, value: &JsonRef<'_, '_>) -> Result<Said, C
 fn entry_told(alloc: Global, kind: EntryKind, check: checks::Said<'_>) -> Result<Said, Cause>
     ensures { Gives said_value result (entry_told kind check.entry) }
 {
-    Ok(Said::Records(entry_from(alloc, kind, 0, 0, check)?))
+    match entry_from(kind, 0, 0, check) {
+        Ok(entry) => Ok(Said::Records(OwnedEntry::of(alloc, &entry)?)),
+        Err(cause) => Err(cause),
+    }
 }
 
 /// What a line says that commits this.
 fn commit_told(alloc: Global, commit: &CommitRef<'_>) -> Result<Said, Cause>
     ensures { Gives said_value result (Ok (commits (commit_value commit.now))) }
 {
-    Ok(Said::Commits(commit.to_owned(alloc)?))
+    Ok(Said::Commits(OwnedCommit::of(alloc, commit.at, &commit.adds, &commit.removes)?))
 }
 
 /// What a line of this text says, where it is written plainly.

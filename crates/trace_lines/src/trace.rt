@@ -9,8 +9,8 @@ ghost use Rattle.trace_lines.specs.Timelines.{timeline_of};
 ghost use Rattle.trace_lines.specs.Values.{entry_lines, entry_value};
 ghost use Rattle.trace_lines.specs.Versions.{content_of, AreIssuedOnce};
 
+use crate::entries::Entries;
 use crate::entry::Entry;
-use crate::recorded::Recorded;
 use namespaces::Rules;
 use snapshots::Timeline;
 use std::marker::Model;
@@ -24,7 +24,7 @@ pub struct Trace {
     // of the chains and the rules
     pub(crate) usersets: UsersetIndex,
     pub(crate) commit_lines: Vec<u64>,
-    pub(crate) recorded: Vec<Recorded>,
+    pub(crate) recorded: Entries,
 }
 
 impl Model for Trace {
@@ -48,11 +48,11 @@ impl Model for Trace {
       declarations = t.rules;
       commits = t.chains.commits;
       commit_lines = t.commit_lines.items;
-      entries = shown t.recorded.items;
+      entries = shown t.recorded;
     } };
 
-    ghost invariant = { λ t. IsKept t.chains.commits t.commit_lines.items (shown t.recorded.items) (contents t.recorded.items)
-        × AreIssuedOnce (shown t.recorded.items)
+    ghost invariant = { λ t. IsKept t.chains.commits t.commit_lines.items (shown t.recorded) (contents t.recorded)
+        × AreIssuedOnce (shown t.recorded)
         × ((at : ℕ) → HasValidStrata (rule_at t.rules at) (store_at t.chains.commits at))
         × IsUsersetIndex t.rules t.chains.commits t.usersets };
 }
@@ -107,18 +107,18 @@ impl Trace {
         self.recorded.len()
     }
 
-    /// Entry `i`.
-    pub fn entry(&self, i: usize) -> &Entry
+    /// Entry `i`. Its texts are borrowed from the trace.
+    pub fn entry(&self, i: usize) -> Entry<'_>
         requires { i < length self.now.entries }
-        ensures value { slice_get self.now.entries i ≡ Some (entry_value result.now) }
+        ensures value { slice_get self.now.entries i ≡ Some (entry_value result) }
 
         // Each commit has a line: the first ones, `before` many, an earlier line, and the others a later one.
         ensures counted { length self.now.commit_lines ≡ length self.now.commits }
-        ensures before { result.now.before ≤ length self.now.commits }
-        ensures earlier { All (λ l. l < result.now.line) (take result.now.before self.now.commit_lines) }
-        ensures later { All (λ l. result.now.line < l) (drop result.now.before self.now.commit_lines) }
+        ensures before { result.before ≤ length self.now.commits }
+        ensures earlier { All (λ l. l < result.line) (take result.before self.now.commit_lines) }
+        ensures later { All (λ l. result.line < l) (drop result.before self.now.commit_lines) }
     {
-        &self.recorded[i].entry
+        self.recorded.entry(i)
     }
 
     /// The entry that issued the version which check `i` names, on an earlier line for its goal's object. `None` where
@@ -128,11 +128,11 @@ impl Trace {
         ensures value { result ≡ content_of self.now.entries i }
         ensures earlier { IfSome result (λ c. c < i) }
     {
-        self.recorded[i].content()
+        self.recorded.content(i)
     }
 
     /// The entries, of which at most one issued a version of an object.
-    pub(crate) fn recorded(&self) -> &[Recorded]
+    pub(crate) fn recorded(&self) -> &Entries
         ensures { AreIssuedOnce self.now.entries }
     {
         &self.recorded

@@ -5,35 +5,21 @@ ghost use Rattle.trace_lines.specs.Issued.{AreIssued, version_value};
 ghost use Rattle.trace_lines.specs.Recorded.{shown};
 ghost use Rattle.trace_lines.specs.Values.{entry_value};
 ghost use Rattle.trace_lines.specs.VersionMarks.{version_mark};
-ghost use Rattle.trace_lines.specs.Versions.{entry_version, is_version, issuer};
+ghost use Rattle.trace_lines.specs.Versions.{entry_version, issuer};
 
+use crate::entries::Entries;
 use crate::entry::Entry;
-use crate::recorded::Recorded;
 use crate::version_ref::VersionRef;
 use marks::Places;
 use std::alloc::{AllocError, Global};
 
 /// The version that stands in an entry.
-pub(crate) fn version_of(entry: &Entry) -> Option<VersionRef<'_>>
+pub(crate) fn version_of<'a>(entry: &Entry<'a>) -> Option<VersionRef<'a>>
     ensures { option_map version_value result ≡ entry_version (entry_value entry.now) }
 {
-    match &entry.version {
-        Some(label) => Some(VersionRef::of(entry.goal.set(), label.as_str())),
+    match entry.version {
+        Some(label) => Some(VersionRef::of(entry.goal.set(), label)),
         None => None,
-    }
-}
-
-fn is_version(version: VersionRef<'_>, entry: &Entry) -> bool
-    ensures { result ≡ is_version (version_value version.entry) (entry_version (entry_value entry.now)) }
-{
-    match &entry.version {
-        Some(label) => {
-            let object = entry.goal.set();
-            version.object.namespace == object.namespace
-                && version.object.id == object.id
-                && version.label == label.as_str()
-        }
-        None => false,
     }
 }
 
@@ -58,13 +44,13 @@ impl Versions {
     }
 
     /// Which of these entries issued the version.
-    pub(crate) fn issuer(&self, recorded: &[Recorded], version: VersionRef<'_>) -> Option<usize>
+    pub(crate) fn issuer(&self, recorded: &Entries, version: VersionRef<'_>) -> Option<usize>
         requires { AreIssued self.now (shown recorded.now) }
         ensures { result ≡ issuer (shown recorded.now) (version_value version.entry) }
     {
         for index in self.marks.with(version.mark) {
             let number = self.entries[index];
-            if is_version(version, &recorded[number].entry) {
+            if recorded.has_version(number, version) {
                 return Some(number);
             }
         }

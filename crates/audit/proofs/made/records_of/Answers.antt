@@ -25,7 +25,7 @@ lent_shown None = refl
 
 pub loop-i-preserved : goal.loop-i-preserved
 loop-i-preserved c =
-    let e = entry_value c.entry-entry.result.now in
+    let e = entry_value c.entry-entry.result in
     let lent = c.as_ref.result in
     let same : option_copied lent ≡ c.in_ok-made.made = c.as_ref.ensures.value in
     let made = rw c.loop-i.invariant.maker at c.in_ok-made.ensures.made in

@@ -18,9 +18,9 @@ returns-clause-gave_up c = λ gave.
     let five = c.in_ok-made-4.ensures.asked ∙ (c.in_ok-steps.ensures.asked ∙ three) in
     let no_yes : ¬ IsRecord t e (yes_step e.goal ∷ []) = rw c.in_ok-yes.ensures at (c.in_ok-made.ensures.none (search rules)) in
     let no_no : ¬ IsRecord t e (no_step (e.goal ∷ []) ∷ []) = rw (c.in_ok-no.ensures, one) at (c.in_ok-made-2.ensures.none (search rules)) in
-    let more : ¬ IsOneStep t e = one_step_fails t e c.has_text.ensures.line c.has_text.ensures.fact no_yes no_no in
+    let more : ¬ IsOneStep t e = one_step_fails t e c.requires.line c.requires.goal no_yes no_no in
     let no_record : ¬ IsRecord t e ss = rw five at (c.in_ok-made-5.ensures.none c.in-None.is) in
-    let cone = rw (c.at-snapshot.ensures, c.timeline.ensures, c.trace.ensures, three) at c.in_ok-cone.ensures.cone in
+    let cone = rw (c.at-snapshot.ensures, c.timeline.ensures, c.trace.ensures, three, c.in_ok-goal.ensures) at c.in_ok-cone.ensures.cone in
     let settled = rw (c.deref-2.ensures.value, three) at c.in_ok-steps.ensures.made in
     (more, outgrown_made t e c.in_ok-cone.cone.items ss cone (settled cone.premises c.in_ok-cone.ensures.distinct) 4194304 more no_record)
 
@@ -32,11 +32,11 @@ returns-in_err-cone-clause-gave_up c = λ gave.
     let three = c.in_ok-made-3.ensures.asked ∙ (c.in_ok-made-2.ensures.asked ∙ one) in
     let no_yes : ¬ IsRecord t e (yes_step e.goal ∷ []) = rw c.in_ok-yes.ensures at (c.in_ok-made.ensures.none (search rules)) in
     let no_no : ¬ IsRecord t e (no_step (e.goal ∷ []) ∷ []) = rw (c.in_ok-no.ensures, one) at (c.in_ok-made-2.ensures.none (search rules)) in
-    let more : ¬ IsOneStep t e = one_step_fails t e c.has_text.ensures.line c.has_text.ensures.fact no_yes no_no in
+    let more : ¬ IsOneStep t e = one_step_fails t e c.requires.line c.requires.goal no_yes no_no in
     let cause : c.in_err-cone.field-0.0 ≡ Outgrown =
     cause_of c.from_residual-in_err-cone.result c.in_err-cone.field-0.0 c.from_residual-in_err-cone.ensures.1 gave in
     let le : 100000 ≤ 131072 = omega arith in (
       more,
       inl (outgrown_lower 131072 100000 4194304 (rule_at t.declarations e.snapshot) (store_at t.commits e.snapshot) e.goal le
-          ((rw (c.at-snapshot.ensures, c.timeline.ensures, c.trace.ensures, three) at c.in_err-cone.ensures.outgrown) (rw cause refl))),
+          ((rw (c.at-snapshot.ensures, c.timeline.ensures, c.trace.ensures, three, c.in_ok-goal.ensures) at c.in_err-cone.ensures.outgrown) (rw cause refl))),
     )

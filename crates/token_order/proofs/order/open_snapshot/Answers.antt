@@ -7,7 +7,7 @@ use Rattle.token_order.proofs.Compared.{StandsAmong, stands_among, told_of, last
 use Rattle.token_order.proofs.order.open_snapshot.Goals.{After-commits-times}
 use Rattle.token_order.proofs.order.open_snapshot.Goals as goal
 
-among : (c : After-commits-times) → StandsAmong c.args.trace.now (entry_value c.entry-entry.result.now) c.commits-times.result.now
+among : (c : After-commits-times) → StandsAmong c.args.trace.now (entry_value c.entry-entry.result) c.commits-times.result.now
 among c =
     let f = c.entry-entry.ensures in
     stands_among f.counted f.before f.earlier f.later c.commits-times.ensures.times c.chains.ensures c.commits-times.ensures.rising

@@ -6,7 +6,7 @@ use Rattle.trace_lines.proofs.builder.TraceBuilder.finish.Goals as goal
 pub invariant_of-result : goal.invariant_of-result
 invariant_of-result c = (
   c.self.invariant.1,
-  issued_once c.self.inside.versions (shown c.self.inside.recorded.items) c.self.invariant.4,
+  issued_once c.self.inside.versions (shown c.self.inside.recorded) c.self.invariant.4,
   valid_strata c.self.inside.rules c.self.inside.chains.commits c.self.inside.sample c.self.invariant.2,
   c.usersets_of-usersets.ensures,
 )

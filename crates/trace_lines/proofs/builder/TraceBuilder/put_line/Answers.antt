@@ -1,6 +1,4 @@
 use Rattle.trace_lines.specs.LineValues.{commits, declares, records}
-use Rattle.trace_lines.specs.LineViews.{owned_value}
-use Rattle.trace_lines.specs.Values.{entry_value}
 use Rattle.trace_lines.proofs.RisingLines.{put_further}
 use Rattle.trace_lines.proofs.builder.TraceBuilder.put_line.Goals as goal
 
@@ -11,9 +9,9 @@ returns-in-Declares-clause-further c =
 pub returns-in-Commits-clause-further : goal.returns-in-Commits-clause-further
 returns-in-Commits-clause-further c =
     put_further c.args.number c.args.self.now c.put_commit.new.self
-    (commits (owned_value c.in-Commits.commit)) c.put_commit.result c.requires c.put_commit.ensures
+    (commits c.in-Commits.commit) c.put_commit.result c.requires c.put_commit.ensures
 
 pub returns-in-Records-clause-further : goal.returns-in-Records-clause-further
 returns-in-Records-clause-further c =
     put_further c.args.number c.args.self.now c.put_entry.new.self
-    (records (entry_value c.in-Records.entry)) c.put_entry.result c.requires c.put_entry.ensures
+    (records c.in-Records.entry) c.put_entry.result c.requires c.put_entry.ensures

@@ -15,25 +15,20 @@ index-number-requires c =
     let within = issuer_within c.args.recorded.now c.args.self.now c.requires (version_value c.args.version) c.loop-index.index-iterator c.in-Some.index _ c.in-Some.ensures.steps c.loop-index.invariant in
     search rules
 
-pub bounds-recorded-number : goal.bounds-recorded-number
-bounds-recorded-number c =
+pub has_version-requires : goal.has_version-requires
+has_version-requires c =
     issuer_entry c.args.recorded.now c.args.self.now c.requires (version_value c.args.version) c.loop-index.index-iterator c.in-Some.index _ c.in-Some.ensures.steps c.loop-index.invariant
     c.index-number.result.now c.index-number.ensures
-
-pub offset_bounds-recorded-number : goal.offset_bounds-recorded-number
-offset_bounds-recorded-number c =
-    let there = bounds-recorded-number c in
-    search rules
 
 pub loop-index-preserved : goal.loop-index-preserved
 loop-index-preserved c =
     issuer_behind c.args.recorded.now c.args.self.now c.requires (version_value c.args.version) c.loop-index.index-iterator c.in-Some.index _ c.in-Some.ensures.steps c.loop-index.invariant
-    c.index-number.result.now c.index-number.ensures c.index-recorded-number.result (sym c.is_version.ensures ∙ c.if-is_version.false)
+    c.index-number.result.now c.index-number.ensures c.has_version.result c.has_version.ensures c.if-has_version.false
 
-pub returns-then-is_version : goal.returns-then-is_version
-returns-then-is_version c =
+pub returns-then-has_version : goal.returns-then-has_version
+returns-then-has_version c =
     sym (issuer_found c.args.recorded.now c.args.self.now c.requires (version_value c.args.version) c.loop-index.index-iterator c.in-Some.index _ c.in-Some.ensures.steps c.loop-index.invariant
-    c.index-number.result.now c.index-number.ensures c.index-recorded-number.result (sym c.is_version.ensures ∙ c.if-is_version.true))
+    c.index-number.result.now c.index-number.ensures c.has_version.result c.has_version.ensures c.if-has_version.true)
 
 pub returns : goal.returns
 returns c = sym (issuer_nowhere c.args.recorded.now c.args.self.now c.requires (version_value c.args.version) c.loop-index.index-iterator c.in-None.ensures.steps.0 c.loop-index.invariant)
