@@ -1,6 +1,6 @@
 //! The commands, as `clap` has them.
 
-ghost use Rattle.std.specs.Prelude.{List, IfOk, codes};
+ghost use Rattle.std.specs.Prelude.{List, [], ◌∷◌, IfOk, codes};
 ghost use Rattle.std.specs.List.{AllZip};
 ghost use Rattle.clap.specs.Words.{Rule, new_rule};
 ghost use Rattle.command_line.specs.Commands as spec;
@@ -83,7 +83,7 @@ fn audit<'a>(alloc: Global, evidence: Arg<'a>, make: Arg<'a>) -> Result<Command<
         → IfOk result (spec.IsCommand spec.audit) }
 {
     let args = vec![in alloc;
-        file(alloc, "TRACE", "The trace, JSON lines"),
+        trace(alloc),
         evidence,
         make,
         number(
@@ -113,43 +113,58 @@ fn audit<'a>(alloc: Global, evidence: Arg<'a>, make: Arg<'a>) -> Result<Command<
     )
 }
 
+fn trace<'a>(alloc: Global) -> Arg<'a>
+    ensures { spec.IsArg (spec.file (codes "TRACE")) result }
+{
+    file(alloc, "TRACE", "The trace, JSON lines")
+}
+
+/// A command with a trace and one more argument.
+fn of_trace<'a>(
+    alloc: Global,
+    name: &'a str,
+    about: &'a str,
+    more: &'a str,
+    second: Arg<'a>,
+) -> Result<Command<'a>, AllocError>
+    ensures { (rule : Rule) → spec.IsArg rule second.entry
+        → IfOk result (spec.IsCommand (spec.with_rules name.entry.now (spec.file (codes "TRACE") ∷ rule ∷ []))) }
+{
+    let args = vec![in alloc; trace(alloc), second]?;
+    command(alloc, name, about, more, args)
+}
+
 fn make<'a>(alloc: Global) -> Result<Command<'a>, AllocError>
     ensures { IfOk result (spec.IsCommand spec.make) }
 {
-    let args = vec![in alloc;
-        file(alloc, "TRACE", "The trace, JSON lines"),
-        flag(
-            alloc,
-            "list",
-            "Name the line of each entry that has no record on standard error",
-        ),
-    ]?;
-    command(
+    let list = flag(
+        alloc,
+        "list",
+        "Name the line of each entry that has no record on standard error",
+    );
+    of_trace(
         alloc,
         "make",
         "Writes evidence for a trace: a record for each entry that can be settled",
         "Example: new_enemy make trace.jsonl > evidence.jsonl\n\nHow many entries have no record is told on standard error. A file that comes by a pipe is named /dev/stdin.\nExit status: 0 written, 2 the trace is refused, 3 the words are, 4 out of memory,\n5 a file can't be opened or a device failed.",
-        args,
+        list,
     )
 }
 
 fn history<'a>(alloc: Global) -> Result<Command<'a>, AllocError>
     ensures { IfOk result (spec.IsCommand spec.history) }
 {
-    let args = vec![in alloc;
-        file(alloc, "TRACE", "The trace, JSON lines"),
-        file(
-            alloc,
-            "TUPLE",
-            "The relation tuple, namespace:object_id#relation@user",
-        ),
-    ]?;
-    command(
+    let tuple = file(
+        alloc,
+        "TUPLE",
+        "The relation tuple, namespace:object_id#relation@user",
+    );
+    of_trace(
         alloc,
         "history",
         "Writes when a relation tuple was added and removed, newest first",
         "Example: new_enemy history trace.jsonl doc:readme#viewer@10\n\nOf a tuple that no commit touches nothing is written, also where its relation is not declared.\nA file that comes by a pipe is named /dev/stdin.\nExit status: 0 written, 2 the trace or the tuple is refused, 3 the words are, 4 out of memory,\n5 a file can't be opened or a device failed.",
-        args,
+        tuple,
     )
 }
 

@@ -40,10 +40,13 @@ impl<'t> TellLine for Records<'t> {
 
     type Scratch = Desk<'t>;
 
-    // Few, since what was asked of rules is kept for one; putting a verdict in takes next to nothing.
-    const BLOCK: usize = 1 << 20;
+    // Small, so that the threads end at about one time; what was asked of rules is kept for all blocks that one takes.
+    const BLOCK: usize = 1 << 16;
 
     const PUTTERS: usize = 0;
+
+    // All that one call of the reader gives, since putting a verdict in takes next to nothing.
+    const WAVE: usize = 16;
 
     ghost told = { λ r line. verdict_told r.trace.now r.lines line };
 

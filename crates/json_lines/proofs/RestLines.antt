@@ -54,9 +54,6 @@ one_less b c mid new whole items n limit line unended le =
     let less = left_after line.bytes new.ended new.room mid.room line.size in
     omega (arith, less, rw unended at le)
 
-pub used_all_most : (a b : List ℕ) (old new : RestValue) (few : ℕ) → Used a b old new → new.at_hand ≡ [] → ComeAtMost (old.room + few) a b old.at_hand
-used_all_most a b old new few u none before is = (u.bytes, rw none at (u.takes before is) ∙ ap (λ (l : List ℕ). before ++ l) (append-nil u.bytes), omega (arith, u.size))
-
 -- ---- the marker
 
 -- lines in front of what may be joined input
@@ -123,11 +120,9 @@ not_marker false bytes items long other =
     ]
 
 -- the test of a line, where the marker is sought
-pub sought_is : (marked whole : Bool) (line items : List ℕ) (result b : Bool) → marked ≡ true → line ≡ items → result ≡ (whole && is_marker line) → result ≡ b → (marked && (whole && is_marker items)) ≡ b
-sought_is marked whole line items result b seeks same tells is = rw (seeks, ← same) (sym tells ∙ is)
-
-pub not_sought : (marked other : Bool) → marked ≡ false → (marked && other) ≡ false
-not_sought marked other e = rw e refl
+pub sought_is : (marked whole : Bool) (line items : List ℕ) (result b : Bool) → line ≡ items
+    → result ≡ (marked && (whole && is_marker line)) → result ≡ b → (marked && (whole && is_marker items)) ≡ b
+sought_is marked whole line items result b same tells is = rw (← same) (sym tells ∙ is)
 
 is_whole_marker : (whole : Bool) (bytes items : List ℕ) → IsHeld whole bytes items → (whole && is_marker items) ≡ true → is_marker bytes ≡ true
 is_whole_marker true bytes items held is = ap is_marker (sym held.0) ∙ is

@@ -43,11 +43,11 @@ impl Model for Rest {
     ghost invariant = { λ s. (s.ended ≡ true → s.lines ≡ []) × (s.room ≤ 2 ^ 30) };
 }
 
-/// Whether a line that was read is the marker.
-fn is_marker(whole: bool, line: &[u8]) -> bool
-    ensures { result ≡ (whole && is_marker line.now) }
+/// Whether a line that was read is the marker, where that is sought.
+fn is_marker(sought: bool, whole: bool, line: &[u8]) -> bool
+    ensures { result ≡ (sought && (whole && is_marker line.now)) }
 {
-    whole && line == b"---".as_slice()
+    sought && whole && line == b"---".as_slice()
 }
 
 /// Takes a line of which all is there, and refuses another.
@@ -205,7 +205,7 @@ impl Rest {
         let mut number = 1;
         while !self.ended {
             let whole = self.next(reader, &mut line)?;
-            if marked && is_marker(whole, &line) {
+            if is_marker(marked, whole, &line) {
                 return Ok((read, true));
             }
             if read.is_ok() {

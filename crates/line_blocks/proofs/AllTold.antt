@@ -1,5 +1,5 @@
 -- What several threads told, block after block.
-use Rattle.std.proofs.Common.{◌≡◌, ℕ, suc, ◌+◌, ◌-◌, ◌<◌, ◌≤◌, inl, inr, List, [], ◌∷◌, ◌++◌, length, drop, Result, Ok, Err, IfOk, Vec, vec_len, map, slice_index_or, arith, refl, sym, ap, subst, ◌∙◌}
+use Rattle.std.proofs.Common.{◌≡◌, ℕ, ◌+◌, ◌-◌, ◌≤◌, inl, inr, List, [], ◌∷◌, ◌++◌, length, drop, Result, Ok, Err, map, arith, refl, sym, ap, subst, ◌∙◌}
 use Rattle.std.specs.Prelude.{slice_range}
 use Rattle.std.proofs.lemmas.List.{drop-drop, take-append-drop}
 use Rattle.std.specs.declared.alloc.AllocError.{AllocError}
@@ -11,25 +11,6 @@ use Rattle.line_blocks.specs.Values.{AreTold, PutsAs, PutsTold, block_told, byte
 use Rattle.line_blocks.specs.declared.blocks.Block.{Block}
 use Rattle.line_blocks.specs.declared.telling.Told.{Told}
 use Rattle.line_blocks.proofs.Parts.{bind_err, bind_ok, put_ok, told_counts}
-
-pub are_told : {V C : Type 0} (told : List ℕ → Result V C) (rs : List (Result (Told V C) AllocError))
-    (bs : List Block) → length rs ≡ length bs
-    → ((i : ℕ) (d : Result (Told V C) AllocError) (b : Block) → i < length bs
-    → IfOk (slice_index_or rs i d) (λ t. told_value t ≡ block_told told (slice_index_or bs i b)))
-    → AreTold told rs bs
-are_told told [] [] e h = tt
-are_told told [] (b ∷ bs) e h = absurd (omega (arith, e))
-are_told told (r ∷ rs) [] e h = absurd (omega (arith, e))
-are_told told (r ∷ rs) (b ∷ bs) e h =
-    (h 0 r b (omega arith), are_told told rs bs (omega (arith, e)) (λ i d c lt. h (suc i) d c (omega (arith, lt))))
-
-pub told_all : {V C Z : Type 0} (told : List ℕ → Result V C)
-    (r : Result (Vec (Result (Told V C) AllocError) Z) AllocError) (bs : List Block) → IfOk r (λ v. vec_len v ≡ length bs)
-    → IfOk r (λ v. (i : ℕ) (d : Result (Told V C) AllocError) (b : Block) → i < length bs
-    → IfOk (slice_index_or v.items i d) (λ t. told_value t ≡ block_told told (slice_index_or bs i b)))
-    → IfOk r (λ v. AreTold told v.items bs)
-told_all told (Ok v) bs len each = are_told told v.items bs (omega (arith, v.ok.0, len)) each
-told_all told (Err e) bs len each = tt
 
 -- what is known before a block is put in
 pub record Left {S V C : Type 0} (told : List ℕ → Result V C) (put : ℕ → S → V → Result S C)

@@ -3,57 +3,37 @@ use Rattle.std.proofs.Common.{◌≡◌, ◌≢◌, ℕ, ◌+◌, ◌^◌, ◌<�
 use Rattle.devices.specs.Given.{OfBytes, AreNext}
 use Rattle.json_lines.specs.InputRead.{LinesRead}
 use Rattle.json_lines.specs.Lines.{ComeAtMost, Takes, lacks}
-use Rattle.json_lines.specs.Reading.{parts, passes_limit, read_all, read_from, Fails, HasLine, IsReadFault, Refuses}
+use Rattle.json_lines.specs.Reading.{parts, passes_limit, read_all, read_from, Fails, HasLine, Refuses}
 use Rattle.json_lines.specs.declared.lines.InputFault.{InputFault}
 use Rattle.json_lines.specs.declared.lines.InputFault.TheVariants.{OutOfMemory, Read, TooLong}
 use Rattle.json_lines.specs.declared.reading.LineFault.{LineFault}
 use Rattle.json_lines.specs.declared.reading.Stop.{Stop}
 use Rattle.json_lines.specs.declared.reading.Stop.TheVariants.{Input, Line}
-use Rattle.json_lines.proofs.Folds.{GoesFrom, came_in_all, cut_ends, from_one, goes_first, last_ends, line_came, read_fails, step_cut, within_from}
-use Rattle.devices.proofs.Given.{next-refl, next-trans}
-use Rattle.json_lines.proofs.InputReads.{unread}
+use Rattle.json_lines.proofs.Folds.{GoesFrom, came_in_all, cut_ends, from_one, last_ends, line_came, read_fails, step_cut, within_from}
+use Rattle.devices.proofs.Given.{next-trans}
 use Rattle.line_blocks.specs.Reads.{LeadsTo, StopsAt}
-use Rattle.line_blocks.specs.Values.{long_line, no_memory}
+use Rattle.line_blocks.specs.Values.{long_line}
 use Rattle.line_blocks.specs.declared.reading.Place.{Place}
 use Rattle.line_blocks.proofs.Places.{few_on, goes_lines}
 
 module _ {R S C : Type 0} (given : R → List ℕ) (ends failures : R → ℕ) (remaining : R → Option (List ℕ))
     (taken : ℕ → S → List ℕ → Result S C) (old : R) (start : S) where
   -- all whole lines that came are read, and what came behind them is no more than a line may be
-  pub record Ahead (reader : R) (value : S) (place : Place) (bytes chunk : List ℕ) (turn : ℕ) : Type 0 where
+  pub record Ahead (reader : R) (value : S) (place : Place) (bytes : List ℕ) (turn : ℕ) : Type 0 where
     pub used : List ℕ
     pub came : given reader ≡ (given old ++ used) ++ bytes
     pub size : length used + place.room ≡ 2 ^ 30
     pub goes : GoesFrom taken start place.number place.room value used
     pub lacking : lacks bytes ≡ true
     pub short : length bytes ≤ min place.room (2 ^ 20)
-    pub room_for_more : 65536 ≤ length chunk
     pub few : place.number + place.room ≤ 2 ^ 30 + 1
     pub turns : turn + place.room ≤ 2 ^ 30 + length bytes
     pub known : AreNext given ends remaining old reader
     pub going : ends reader ≡ ends old
     pub kept : failures reader ≡ failures old
 
-  pub at_start : (chunk bytes : List ℕ) → 65536 ≤ length chunk → bytes ≡ []
-      → Ahead old start (record { number = 1; room = 2 ^ 30 }) bytes chunk 0
-  at_start chunk bytes le none =
-      record {
-        used = [];
-        came = rw none (sym (append-nil (given old ++ []) ∙ append-nil (given old)));
-        size = omega arith;
-        goes = goes_first taken start;
-        lacking = rw none refl;
-        short = rw none (omega arith);
-        room_for_more = le;
-        few = omega arith;
-        turns = omega arith;
-        known = next-refl given ends remaining old;
-        going = refl;
-        kept = refl;
-      }
-
-  module _ (reader : R) (value : S) (place : Place) (bytes chunk : List ℕ) (turn : ℕ)
-      (a : Ahead reader value place bytes chunk turn) (new : R)
+  module _ (reader : R) (value : S) (place : Place) (bytes : List ℕ) (turn : ℕ)
+      (a : Ahead reader value place bytes turn) (new : R)
       (most : ComeAtMost (place.room + 65536) (given reader) (given new) bytes)
       (next : AreNext given ends remaining reader new) where
     came_few : OfBytes given old new (λ came. length came ≤ 2 ^ 30 + 65536)
@@ -150,10 +130,9 @@ module _ {R S C : Type 0} (given : R → List ℕ) (ends failures : R → ℕ) (
         goes_now = goes_lines taken start place value a.used lines to t a.goes h
 
         -- all whole lines are read
-        pub goes_on : (after : List ℕ) → 65536 ≤ length after → lacks left ≡ true
-            → length left ≤ min to.room (2 ^ 20) → length bytes < length all → ends new ≡ ends reader
-            → Ahead new t to left after (turn + 1)
-        goes_on after chunk lacking short more going =
+        pub goes_on : lacks left ≡ true → length left ≤ min to.room (2 ^ 20) → length bytes < length all
+            → ends new ≡ ends reader → Ahead new t to left (turn + 1)
+        goes_on lacking short more going =
             record {
               used = a.used ++ lines;
               came = there;
@@ -161,7 +140,6 @@ module _ {R S C : Type 0} (given : R → List ℕ) (ends failures : R → ℕ) (
               goes = goes_now;
               lacking = lacking;
               short = short;
-              room_for_more = chunk;
               few = omega (arith, few_on taken place value lines to t h, a.few);
               turns = omega (arith, a.turns, h.room, ap length split, length-append lines left, more);
               known = came_next;
@@ -252,9 +230,3 @@ module _ {R S C : Type 0} (given : R → List ℕ) (ends failures : R → ℕ) (
         last_read now (Err e) none h =
             subst (λ (n : ℕ). LinesRead {T = Unit {0}} given ends failures remaining taken old new start now
             (Err (record { line = n; stop = e.stop }))) (sym h.0) (last_refused now e.stop h.1)
-
-  -- there was no memory to begin with
-  pub no_chunk : {T : Type 0} (now : S)
-      → LinesRead {T = T} given ends failures remaining taken old old start now (Err (no_memory 1))
-  no_chunk now =
-      unread IsReadFault (λ e. e.line) _ _ given ends failures remaining old (no_memory 1) refl (λ e. cc) (λ input. tt)

@@ -1,9 +1,11 @@
 pub mod Alike
 pub mod AllTold
+pub mod Behind
 pub mod BlockLines
 pub mod Cutting
 pub mod Endings
 pub mod Exits
 pub mod Parts
 pub mod Places
+pub mod Slots
 pub mod WholeLines

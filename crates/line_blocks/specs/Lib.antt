@@ -1,4 +1,5 @@
 pub mod Blocks
 pub mod Parts
 pub mod Reads
+pub mod Shares
 pub mod Values

@@ -2,7 +2,7 @@
 //!
 //! A [`TellLine`] says what a line says whatever stands before it, and threads share it. A [`PutTold`] is the value
 //! that this is put into, line by line, by one thread. [`read_blocks`] reads a source so: what one call of the reader
-//! gives is cut into blocks of whole lines, one for each worker.
+//! gives is cut into blocks of whole lines, and each thread tells the next block that no other took.
 //!
 //! Callers may rely on this: what is read, and what is refused, is as `read_lines` of `json_lines` reads it where a
 //! line makes of the value what it says, put into the value (`taken_by`). The reader is asked for more only once all
@@ -17,6 +17,7 @@
 mod blocks;
 mod putting;
 mod reading;
+mod sharing;
 mod telling;
 
 pub use putting::PutTold;

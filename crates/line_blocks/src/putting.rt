@@ -8,7 +8,8 @@ ghost use Rattle.line_blocks.specs.Values.{AreBlocks, AreNumbered, AreTold, Puts
 ghost use Rattle.line_blocks.specs.declared.blocks.Block.{Block};
 
 use crate::blocks::Block;
-use crate::telling::{TellLine, Told, tell_blocks};
+use crate::sharing::tell_blocks;
+use crate::telling::{TellLine, Told};
 use json_lines::{InputFault, LineFault, Stop};
 use std::alloc::{AllocError, Global};
 use std::mem;
@@ -120,6 +121,7 @@ fn put_and_tell<J: TellLine + Sync, P: PutTold<J>, T: Threads + Sync>(
     alloc: Global,
     teller: &J,
     ahead: &[Block<'_>],
+    tellers: usize,
     pending: &mut Pending<J::Value, J::Cause>,
     value: &mut P,
 ) -> (
@@ -134,7 +136,7 @@ fn put_and_tell<J: TellLine + Sync, P: PutTold<J>, T: Threads + Sync>(
 {
     join_mut(
         rt,
-        &mut || tell_blocks(rt, alloc, teller, ahead),
+        &mut || tell_blocks(rt, alloc, teller, ahead, tellers),
         &mut || -> Result<u64, LineFault<J::Cause>>
             requires { AreNumbered pending.now.number pending.now.parts.items × (P.next value.now ≤ pending.now.number) }
             ensures { PutsParts P.put pending.entry.now.number value.entry.now pending.entry.now.parts.items result value.exit.now
@@ -144,7 +146,7 @@ fn put_and_tell<J: TellLine + Sync, P: PutTold<J>, T: Threads + Sync>(
 }
 
 /// Puts what the lines of blocks say into a value, one block after the other, and answers the number of the next
-/// line. The workers tell what the lines of some blocks say, while those before are put in.
+/// line. The workers tell what the lines of a wave of blocks say, while those before are put in.
 pub(crate) fn put_blocks<J: TellLine + Sync, P: PutTold<J>, T: Threads + Sync>(
     rt: &T,
     alloc: Global,
@@ -168,12 +170,13 @@ pub(crate) fn put_blocks<J: TellLine + Sync, P: PutTold<J>, T: Threads + Sync>(
         parts: Vec::new(alloc),
     };
     let tellers = workers.saturating_sub(J::PUTTERS).max(1);
+    let wave = tellers.saturating_mul(J::WAVE).max(1);
     let mut told = 0;
     // bounded by the blocks: each turn tells some
     while told < blocks.len() {
-        let end = told + tellers.min(blocks.len() - told);
+        let end = told + wave.min(blocks.len() - told);
         let ahead = &blocks[told..end];
-        let (next, put) = put_and_tell(rt, alloc, teller, ahead, &mut pending, value);
+        let (next, put) = put_and_tell(rt, alloc, teller, ahead, tellers, &mut pending, value);
         let number = match put {
             Ok(number) => number,
             Err(fault) => return Err(fault),

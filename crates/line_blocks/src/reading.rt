@@ -32,18 +32,17 @@ pub(crate) struct Place {
     pub(crate) room: usize,
 }
 
-/// Reads more behind the bytes at hand, by one call of the reader, and says whether anything came. The chunk is what
-/// it is read into, and shrinks where less may come.
+/// Reads more behind the bytes at hand, by one call of the reader, and says whether anything came. It is asked for so
+/// many bytes, or for less where less may come.
 fn refill<R: Source>(
     reader: &mut R,
-    chunk: &mut Vec<u8>,
+    share: usize,
     room: usize,
     bytes: &mut Vec<u8>,
 ) -> Result<bool, InputFault>
-    requires chunk { CHUNK ≤ vec_len chunk.old }
+    requires share { 0 < share }
     requires short { vec_len bytes.old ≤ room }
     requires few { room ≤ MAX_INPUT }
-    ensures chunk { CHUNK ≤ vec_len chunk.new }
     ensures came { OnOk result (Takes (R.given reader.old) (R.given reader.new) bytes.old.items bytes.new.items []) }
     ensures behind { OnOk result (take (vec_len bytes.old) bytes.new.items ≡ bytes.old.items) }
     ensures some { result ≡ Ok true → vec_len bytes.old < vec_len bytes.new }
@@ -58,12 +57,16 @@ fn refill<R: Source>(
     ensures failed { result ≡ Err Read → R.failures reader.new ≡ R.failures reader.old + 1 }
     ensures kept { result ≢ Err Read → R.failures reader.new ≡ R.failures reader.old }
 {
-    chunk.truncate(room + CHUNK - bytes.len());
-    match reader.give(chunk) {
-        Ok(count) => match bytes.extend_from_slice(&chunk[..count]) {
-            Ok(()) => Ok(count != 0),
-            Err(_) => Err(InputFault::OutOfMemory),
-        },
+    let had = bytes.len();
+    let more = share.min(room + CHUNK - had);
+    if bytes.resize(had + more, 0).is_err() {
+        return Err(InputFault::OutOfMemory);
+    }
+    match reader.give(&mut bytes[had..]) {
+        Ok(count) => {
+            bytes.truncate(had + count);
+            Ok(count != 0)
+        }
         Err(_) => Err(InputFault::Read),
     }
 }
@@ -194,10 +197,11 @@ pub fn read_blocks<R: Source, J: TellLine + Sync, P: PutTold<J>, T: Threads + Sy
     ensures { LinesRead R.given R.ends R.failures R.remaining (taken_by (J.told teller.now) P.put)
         reader.old reader.new value.old value.new result }
 {
-    let Ok(mut chunk) = vec![in alloc; 0u8; workers * SHARE] else {
+    let share = workers * SHARE;
+    // for what is read at a time, and mostly for what a line that is cut leaves in front of it
+    let Ok(mut bytes) = Vec::with_capacity(alloc, share + CHUNK) else {
         return Err(out_of_memory(1));
     };
-    let mut bytes = Vec::new(alloc);
     let mut place = Place {
         number: 1,
         room: MAX_INPUT,
@@ -205,7 +209,7 @@ pub fn read_blocks<R: Source, J: TellLine + Sync, P: PutTold<J>, T: Threads + Sy
     // bounded by the bytes that may come: each turn but the last brings some
     for _turn in 0..u64::MAX {
         let seen = bytes.len();
-        match refill(reader, &mut chunk, place.room, &mut bytes) {
+        match refill(reader, share, place.room, &mut bytes) {
             Ok(true) => match take_lines(
                 rt, alloc, teller, value, place, &mut bytes, seen, workers,
             ) {

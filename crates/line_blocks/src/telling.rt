@@ -1,17 +1,14 @@
 //! What the lines of blocks say by themselves.
 
-ghost use Rattle.std.specs.Prelude.{◌≡◌, ℕ, ◌==◌, ◌||◌, List, Result, IfOk, IfSome, IfNone, length, vec_len, slice_index_or, min, ◌<◌, ◌≤◌, nat_lt, true};
+ghost use Rattle.std.specs.Prelude.{◌≡◌, ℕ, ◌==◌, ◌||◌, List, Result, IfOk, IfSome, IfNone, length, min, ◌<◌, ◌≤◌, nat_lt, true};
 ghost use Rattle.json_lines.specs.Lines.{line_len, first_line, after_line};
 ghost use Rattle.json_lines.specs.declared.reading.TheConstants.{MAX_LINE};
 ghost use Rattle.line_blocks.specs.Blocks.{lines_of};
 ghost use Rattle.line_blocks.specs.Parts.{lines_told};
-ghost use Rattle.line_blocks.specs.Values.{block_told, told_value};
+ghost use Rattle.line_blocks.specs.Values.{told_value};
 
-use crate::blocks::Block;
 use json_lines::{InputFault, MAX_LINE, Stop, line_end};
 use std::alloc::{AllocError, Global};
-use std::thread;
-use std::thread::Threads;
 
 /// What says of a line, without its newline, what it says by itself.
 pub trait TellLine {
@@ -19,7 +16,7 @@ pub trait TellLine {
 
     type Cause: Send + Drop;
 
-    /// What a thread keeps from one line of a block to the next.
+    /// What a thread keeps from one line that it tells to the next.
     type Scratch: Send + Drop;
 
     /// About how many bytes of a long input a block has.
@@ -27,6 +24,9 @@ pub trait TellLine {
 
     /// How many of the workers tell nothing, since putting in what the others tell takes one of them all its time: 1 or 0.
     const PUTTERS: usize;
+
+    /// How many blocks each thread that tells has in a wave. What they say is put in while the next wave is told.
+    const WAVE: usize;
 
     ghost told: { Self → List ℕ → Result Self.Value Self.Cause };
 
@@ -78,15 +78,17 @@ fn next_line(bytes: &[u8]) -> Option<(&[u8], &[u8])>
 }
 
 /// What the lines of a block say.
-fn tell_block<J: TellLine>(
+pub(crate) fn tell_block<J: TellLine>(
     teller: &J,
     alloc: Global,
+    scratch: &mut J::Scratch,
     block: &[u8],
     room: usize,
 ) -> Result<Told<J::Value, J::Cause>, AllocError>
-    ensures { IfOk result (λ t. told_value t ≡ lines_told (J.told teller.now) room (lines_of block.now)) }
+    requires { J.suits teller.now scratch.old }
+    ensures told { IfOk result (λ t. told_value t ≡ lines_told (J.told teller.now) room (lines_of block.now)) }
+    ensures suits { J.suits teller.now scratch.new }
 {
-    let mut scratch = teller.scratch(alloc);
     let mut values = Vec::new(alloc);
     let mut rest = block;
     let mut left = room;
@@ -98,7 +100,7 @@ fn tell_block<J: TellLine>(
                 fault: Some(Stop::Input(InputFault::TooLong)),
             });
         }
-        match teller.tell(alloc, &mut scratch, line)? {
+        match teller.tell(alloc, scratch, line)? {
             Ok(value) => values.push(value)?,
             Err(cause) => return Ok(Told {
                 values,
@@ -112,26 +114,4 @@ fn tell_block<J: TellLine>(
         values,
         fault: None,
     })
-}
-
-/// What the lines of each block say, each block told in a thread of its own where one can be made.
-pub(crate) fn tell_blocks<J: TellLine + Sync, T: Threads + Sync>(
-    rt: &T,
-    alloc: Global,
-    teller: &J,
-    blocks: &[Block<'_>],
-) -> Result<Vec<Result<Told<J::Value, J::Cause>, AllocError>>, AllocError>
-    ensures count { IfOk result (λ v. vec_len v ≡ length blocks.now) }
-    ensures told { IfOk result (λ v. (i : ℕ) (d : _) (b : _) → i < length blocks.now
-        → IfOk (slice_index_or v.items i d)
-        (λ t. told_value t ≡ block_told (J.told teller.now) (slice_index_or blocks.now i b))) }
-{
-    thread::map_indices(
-        rt,
-        alloc,
-        blocks.len(),
-        &|i: usize| -> Result<Told<J::Value, J::Cause>, AllocError>
-            requires { i < length blocks.now }
-        { tell_block(teller, alloc, blocks[i].bytes, blocks[i].room) },
-    )
 }

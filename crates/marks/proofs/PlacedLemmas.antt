@@ -105,13 +105,6 @@ last_place-front p xs ys (suc n) h =
     let here = slice_get-front xs ys n (omega (arith, h)) in
     rw (here, further) refl
 
-pub newest_first-front : {X : Type 0} (p : X → Bool) (xs ys : List X) (n : ℕ) → n ≤ length xs → newest_first p (xs ++ ys) n ≡ newest_first p xs n
-newest_first-front p xs ys zero h = refl
-newest_first-front p xs ys (suc n) h =
-    let further = newest_first-front p xs ys n (omega (arith, h)) in
-    let here = slice_get-front xs ys n (omega (arith, h)) in
-    rw (here, further) refl
-
 -- ---- the last place
 
 pub last_place-within : {X : Type 0} (p : X → Bool) (xs : List X) (n : ℕ) → last_place p xs n ≤ n
@@ -145,23 +138,6 @@ at_last_place {X} p xs (suc n) m e = pick (slice_get xs n) refl e (at_last_place
     pick : (o : Option X) → slice_get xs n ≡ o → cond (passes p o) (suc n) (last_place p xs n) ≡ suc m → Before → Found
     pick None is h before = later before h
     pick (Some x) is h before = by_test x is (p x) refl h before
-
--- a test that passes at less items has its last place no later
-pub last_place-through : {X : Type 0} (p q : X → Bool) → ((x : X) → p x ≡ true → q x ≡ true) → (xs : List X) (n : ℕ) → last_place p xs n ≡ last_place p xs (last_place q xs n)
-last_place-through p q sub xs zero = refl
-last_place-through {X} p q sub xs (suc n) = pick (slice_get xs n) refl (last_place-through p q sub xs n)
-  where
-    Before : Type 0
-    Before = last_place p xs n ≡ last_place p xs (last_place q xs n)
-
-    by_tests : (x : X) → slice_get xs n ≡ Some x → (b c : Bool) → p x ≡ b → q x ≡ c → Before → cond b (suc n) (last_place p xs n) ≡ last_place p xs (cond c (suc n) (last_place q xs n))
-    by_tests x is b true t u before = ap (λ (v : Bool). cond v (suc n) (last_place p xs n)) (sym t) ∙ ap (λ (o : Option X). cond (passes p o) (suc n) (last_place p xs n)) (sym is)
-    by_tests x is true false t u before = absurd (let h = sub x t in cc)
-    by_tests x is false false t u before = before
-
-    pick : (o : Option X) → slice_get xs n ≡ o → Before → cond (passes p o) (suc n) (last_place p xs n) ≡ last_place p xs (cond (passes q o) (suc n) (last_place q xs n))
-    pick None is before = before
-    pick (Some x) is before = by_tests x is (p x) (q x) refl refl before
 
 pub last_place-here : {X : Type 0} (p : X → Bool) (xs : List X) (m : ℕ) (x : X) → slice_get xs m ≡ Some x → p x ≡ true → last_place p xs (suc m) ≡ suc m
 last_place-here p xs m x is t = rw (is, t) refl

@@ -108,9 +108,10 @@ impl Places {
         Ok(())
     }
 
-    /// Takes the newest place away.
+    /// Takes the newest place away, where there is one.
     pub fn pop(&mut self)
-        ensures { (marks : List ℕ) (mark : ℕ) → self.old ≡ marks ++ mark ∷ [] → self.new ≡ marks }
+        ensures newest { (marks : List ℕ) (mark : ℕ) → self.old ≡ marks ++ mark ∷ [] → self.new ≡ marks }
+        ensures none { self.old ≡ [] → self.new ≡ [] }
     {
         if let Some(&mark) = self.marks.last() {
             let older = self.older.pop().unwrap_or(0);

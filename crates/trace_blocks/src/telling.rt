@@ -24,9 +24,11 @@ impl TellLine for TraceLines {
 
     // What lines say is put in meanwhile, which takes one worker about as long as telling it takes the others together: so
     // there are many blocks.
-    const BLOCK: usize = 1 << 17;
+    const BLOCK: usize = 1 << 16;
 
     const PUTTERS: usize = 1;
+
+    const WAVE: usize = 2;
 
     ghost told = { λ _ line. line_told line };
 

@@ -83,3 +83,8 @@ module _ (text : List ℕ) (ks less : List KeptEntry) (is : less ≡ take (lengt
       let count : length ks ≡ length rs + 1 = sym (length-map ks (recorded_in text)) ∙ ap length whole ∙ length-append rs (r ∷ []) in
       let size : length ks - 1 ≡ length rs = omega (arith, count) in
       ap (map (recorded_in text)) is ∙ sym (take-map (recorded_in text) (length ks - 1) ks) ∙ rw (whole, size) (take-append_seam rs (r ∷ []))
+
+  pub recorded-none : map (recorded_in text) ks ≡ [] → map (recorded_in text) less ≡ []
+  recorded-none none =
+      let size : length ks - 1 ≡ 0 = omega (arith, sym (length-map ks (recorded_in text)) ∙ ap length none) in
+      ap (map (recorded_in text)) (is ∙ ap (λ (n : ℕ). take n ks) size)

@@ -341,9 +341,10 @@ impl Entries {
         Ok(())
     }
 
-    /// Takes the last entry away.
+    /// Takes the last entry away, where there is one.
     pub(crate) fn pop(&mut self)
-        ensures { (rs : List Recorded) (r : Recorded) → self.old ≡ rs ++ r ∷ [] → self.new ≡ rs }
+        ensures last { (rs : List Recorded) (r : Recorded) → self.old ≡ rs ++ r ∷ [] → self.new ≡ rs }
+        ensures none { self.old ≡ [] → self.new ≡ [] }
     {
         self.kept.pop();
     }

@@ -118,17 +118,26 @@ head_again s user fits =
       part_again is_name 64 (faults.Relation (len - length r2)) s.relation user (name_lacks_at s.relation fits.relation) fits.relation,
     ) refl
 
+-- A userset, `@` and a user, where what reads the user takes what is spelled so.
+module _ {U V : Type 0} (of : SetValue → U → V) (Fits : U → Type 0) (spelled : U → List ℕ)
+    (user_in : ℕ → List ℕ → Result U TupleFault)
+    (takes : (at : ℕ) (text : List ℕ) (u : U) → user_in at text ≡ Ok u → Fits u × (text ≡ spelled u)) where
+  headed_takes : (text : List ℕ) (v : V)
+      → (head_at text >>= λ h. user_in (length text - length h.1) h.1 >>= λ u. done (of h.0 u)) ≡ Ok v
+      → (s : SetValue) × (u : U) × IsHead s × Fits u × (of s u ≡ v) × (text ≡ headed s (spelled u))
+  headed_takes text v e =
+      let a = bind_ok (head_at text) (λ h. user_in (length text - length h.1) h.1 >>= λ u. done (of h.0 u)) v e in
+      let b = bind_ok (user_in (length text - length a.0.1) a.0.1) (λ u. done (of a.0.0 u)) v a.2 in
+      let head = head_takes text a.0 a.1 in
+      let user = takes (length text - length a.0.1) a.0.1 b.0 b.1 in
+      (a.0.0, b.0, head.0, user.0, ok_is (of a.0.0 b.0) v b.2, head.1 ∙ ap (headed a.0.0) user.1)
+
 pub tuple_takes : (text : List ℕ) (t : TupleValue) → tuple_at text ≡ Ok t → IsTuple t × (text ≡ tuple_text t)
 unfolding tuple_at
 tuple_takes text t e =
-    let a = bind_ok (head_at text) (λ h. user_at (length text - length h.1) h.1 >>= λ u. Ok (tuple_of h.0 u)) t e in
-    let b = bind_ok (user_at (length text - length a.0.1) a.0.1) (λ u. Ok (tuple_of a.0.0 u)) t a.2 in
-    let head = head_takes text a.0 a.1 in
-    let user = user_takes (length text - length a.0.1) a.0.1 b.0 b.1 in
-    let made : TupleValue = tuple_of a.0.0 b.0 in
-    let whole : text ≡ tuple_text made = head.1 ∙ ap (headed a.0.0) user.1 in
-    let fits : IsTuple made = record { head = head.0; user = user.0 } in
-    subst (λ (x : TupleValue). IsTuple x × (text ≡ tuple_text x)) (ok_is made t b.2) (fits, whole)
+    let w = headed_takes tuple_of IsUser user_text user_at user_takes text t e in
+    let fits : IsTuple (tuple_of w.0 w.1) = record { head = w.2; user = w.3 } in
+    subst (λ (x : TupleValue). IsTuple x × (text ≡ tuple_text x)) w.4 (fits, w.5)
 
 pub tuple_again : (t : TupleValue) → IsTuple t → tuple_at (tuple_text t) ≡ Ok t
 unfolding tuple_at
@@ -138,22 +147,21 @@ tuple_again t fits =
       user_again (length (tuple_text t) - length (user_text t.user)) t.user fits.user,
     ) refl
 
-id_only_takes : (o : Option ℕ) (at : ℕ) (text : List ℕ) (n : ℕ) → plain_number text ≡ o → id_only at o ≡ Ok n → (text ≡ decimal n) × (n < 2 ^ 64)
-id_only_takes (Some m) at text n same e =
-    subst (λ (x : ℕ). (text ≡ decimal x) × (x < 2 ^ 64)) (ok_is m n e) (plain_takes text m same)
-id_only_takes None at text n same e = absurd cc
+id_only_takes : (at : ℕ) (text : List ℕ) (n : ℕ) → id_only at (plain_number text) ≡ Ok n
+    → (n < 2 ^ 64) × (text ≡ decimal n)
+id_only_takes at text n e = pick (plain_number text) refl e
+  where
+    pick : (o : Option ℕ) → plain_number text ≡ o → id_only at o ≡ Ok n → (n < 2 ^ 64) × (text ≡ decimal n)
+    pick (Some m) same h = let taken = plain_takes text m same in rw (← ok_is m n h) (taken.1, taken.0)
+    pick None same h = absurd cc
 
 pub fact_takes : (text : List ℕ) (f : FactValue) → fact_at text ≡ Ok f → IsFact f × (text ≡ fact_text f)
 unfolding fact_at
 fact_takes text f e =
-    let a = bind_ok (head_at text) (λ h. id_only (length text - length h.1) (plain_number h.1) >>= λ n. Ok (fact_of h.0 n)) f e in
-    let b = bind_ok (id_only (length text - length a.0.1) (plain_number a.0.1)) (λ n. Ok (fact_of a.0.0 n)) f a.2 in
-    let head = head_takes text a.0 a.1 in
-    let user = id_only_takes (plain_number a.0.1) (length text - length a.0.1) a.0.1 b.0 refl b.1 in
-    let made : FactValue = fact_of a.0.0 b.0 in
-    let whole : text ≡ fact_text made = head.1 ∙ ap (headed a.0.0) user.0 in
-    let fits : IsFact made = record { head = head.0; user = user.1 } in
-    subst (λ (x : FactValue). IsFact x × (text ≡ fact_text x)) (ok_is made f b.2) (fits, whole)
+    let read = λ (at : ℕ) (user : List ℕ). id_only at (plain_number user) in
+    let w = headed_takes fact_of (λ n. n < 2 ^ 64) decimal read id_only_takes text f e in
+    let fits : IsFact (fact_of w.0 w.1) = record { head = w.2; user = w.3 } in
+    subst (λ (x : FactValue). IsFact x × (text ≡ fact_text x)) w.4 (fits, w.5)
 
 pub fact_again : (f : FactValue) → IsFact f → fact_at (fact_text f) ≡ Ok f
 unfolding fact_at

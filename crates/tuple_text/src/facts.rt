@@ -11,8 +11,8 @@ ghost use Rattle.tuple_text.specs.Tuples.{fact_of};
 
 use crate::fact_refs::FactRef;
 use crate::fault::TupleFault;
-use crate::forms::{is_name, is_object_id};
-use crate::sets::{SetRef, Userset};
+use crate::forms::is_name;
+use crate::sets::{SetRef, Userset, check_parts};
 use std::alloc::{AllocError, Global};
 use std::cmp::Ordering;
 use std::marker::Model;
@@ -106,19 +106,7 @@ impl Fact {
     pub fn of(alloc: Global, set: SetRef<'_>, user: u64) -> Result<Fact, TupleFault>
         ensures exact { Gives (λ f. f) result (checked_fact (set_value set.entry) user) }
     {
-        if !is_name(set.namespace) {
-            return Err(TupleFault::Namespace { at: 0 });
-        }
-        if !is_object_id(set.id) {
-            return Err(TupleFault::ObjectId {
-                at: set.namespace.len() + 1,
-            });
-        }
-        if !is_name(set.relation) {
-            return Err(TupleFault::Relation {
-                at: set.namespace.len() + 1 + set.id.len() + 1,
-            });
-        }
+        check_parts(set, is_name(set.relation))?;
         Ok(Fact::from_parts(alloc, set, user)?)
     }
 

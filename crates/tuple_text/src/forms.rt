@@ -33,16 +33,32 @@ static CLASS: [u8; 256] = *b"\
     66666666666666666666666666666666\
     66666666666666666666666666666666";
 
-fn is_name_byte(b: u8) -> bool
-    ensures { result ≡ is_name_byte b }
-{
-    CLASS[b as usize] & NAME != 0
+/// What a part is.
+#[derive(Clone, Copy)]
+enum Part {
+    Name,
+    Id,
+    // an object id of bytes that stand for themselves in JSON
+    PlainId,
 }
 
-fn are_name_bytes(bytes: &[u8]) -> bool
-    ensures { result ≡ list_all is_name_byte bytes.now }
+#[inline(always)]
+fn may_stand(part: Part, b: u8) -> bool
+    ensures { result ≡ may_stand part b }
 {
-    bytes.iter().all(|b| is_name_byte(*b))
+    let flag = match part {
+        Part::Name => NAME,
+        Part::Id => ID,
+        Part::PlainId => PLAIN,
+    };
+    CLASS[b as usize] & flag != 0
+}
+
+#[inline(always)]
+fn all_may_stand(part: Part, bytes: &[u8]) -> bool
+    ensures { result ≡ list_all (may_stand part) bytes.now }
+{
+    bytes.iter().all(|b| may_stand(part, *b))
 }
 
 /// Whether a text is the name of a namespace or of a relation: 1 to 64 bytes, the first `a-z`, the others `a-z`, `0-9` or `_`.
@@ -51,33 +67,16 @@ pub fn is_name(text: &str) -> bool
 {
     match text.as_bytes() {
         [] => false,
-        [first, rest @ ..] => first.is_ascii_lowercase() && rest.len() < 64 && are_name_bytes(rest),
+        [first, rest @ ..] => first.is_ascii_lowercase()
+            && rest.len() < 64
+            && all_may_stand(Part::Name, rest),
     }
-}
-
-fn is_id_byte(b: u8) -> bool
-    ensures { result ≡ is_id_byte b }
-{
-    CLASS[b as usize] & ID != 0
-}
-
-fn are_id_bytes(bytes: &[u8]) -> bool
-    ensures { result ≡ list_all is_id_byte bytes.now }
-{
-    bytes.iter().all(|b| is_id_byte(*b))
-}
-
-/// Whether the byte may stand in an object id, and stands for itself in JSON.
-fn is_plain_id_byte(b: u8) -> bool
-    ensures { result ≡ is_plain_id_byte b }
-{
-    CLASS[b as usize] & PLAIN != 0
 }
 
 pub fn is_object_id(text: &str) -> bool
     ensures { result ≡ is_object_id text.now }
 {
-    !text.is_empty() && text.len() <= 128 && are_id_bytes(text.as_bytes())
+    !text.is_empty() && text.len() <= 128 && all_may_stand(Part::Id, text.as_bytes())
 }
 
 /// A relation as it may stand in a user.
@@ -145,25 +144,6 @@ pub fn plain_number(text: &str) -> Option<u64>
         return short_number(bytes);
     }
     parse_u64(bytes).ok()
-}
-
-/// What a part is.
-#[derive(Clone, Copy)]
-enum Part {
-    Name,
-    Id,
-    PlainId,
-}
-
-#[inline(always)]
-fn may_stand(part: Part, b: u8) -> bool
-    ensures { result ≡ may_stand part b }
-{
-    match part {
-        Part::Name => is_name_byte(b),
-        Part::Id => is_id_byte(b),
-        Part::PlainId => is_plain_id_byte(b),
-    }
 }
 
 /// How many of four bytes, from the front, may stand in the part.

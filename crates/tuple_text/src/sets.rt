@@ -4,7 +4,7 @@ ghost use Rattle.std.specs.Prelude.{◌≡◌, ◌↔◌, ◌≢◌, IfOk, OnOk,
 ghost use Rattle.std.specs.Ordering.{as_partial_cmp};
 ghost use Rattle.tuple_text.specs.Faults.{Gives};
 ghost use Rattle.tuple_text.specs.Forms.{IsUserset};
-ghost use Rattle.tuple_text.specs.Parts.{checked_userset};
+ghost use Rattle.tuple_text.specs.Parts.{checked_parts, checked_userset};
 ghost use Rattle.tuple_text.specs.Refs.{set_value};
 
 use crate::fault::TupleFault;
@@ -19,6 +19,26 @@ pub struct SetRef<'a> {
     pub namespace: &'a str,
     pub id: &'a str,
     pub relation: &'a str,
+}
+
+/// Refuses the leftmost part that is not in form, at the offset that it would have in the written text.
+pub(crate) fn check_parts(set: SetRef<'_>, is_relation: bool) -> Result<(), TupleFault>
+    ensures { result ≡ checked_parts (set_value set.entry) is_relation }
+{
+    if !is_name(set.namespace) {
+        return Err(TupleFault::Namespace { at: 0 });
+    }
+    if !is_object_id(set.id) {
+        return Err(TupleFault::ObjectId {
+            at: set.namespace.len() + 1,
+        });
+    }
+    if !is_relation {
+        return Err(TupleFault::Relation {
+            at: set.namespace.len() + 1 + set.id.len() + 1,
+        });
+    }
+    Ok(())
 }
 
 /// The users that have a relation to an object: `namespace:object_id#relation`. It is one that may stand as
@@ -117,19 +137,7 @@ impl Userset {
     pub fn of(alloc: Global, set: SetRef<'_>) -> Result<Userset, TupleFault>
         ensures exact { Gives (λ s. s) result (checked_userset (set_value set.entry)) }
     {
-        if !is_name(set.namespace) {
-            return Err(TupleFault::Namespace { at: 0 });
-        }
-        if !is_object_id(set.id) {
-            return Err(TupleFault::ObjectId {
-                at: set.namespace.len() + 1,
-            });
-        }
-        if !is_user_relation(set.relation) {
-            return Err(TupleFault::Relation {
-                at: set.namespace.len() + 1 + set.id.len() + 1,
-            });
-        }
+        check_parts(set, is_user_relation(set.relation))?;
         Ok(Userset::from_parts(alloc, set)?)
     }
 

@@ -1,6 +1,6 @@
 //! Sets of namespaces, by their numbers.
 
-ghost use Rattle.std.specs.Prelude.{◌≡◌, ◌↔◌, ◌⊎◌, IsTrue, ℕ, false};
+ghost use Rattle.std.specs.Prelude.{◌≡◌, ◌%◌, ◌↔◌, ◌⊎◌, IsTrue, ℕ, false};
 ghost use Rattle.userset_index.specs.Numbers.{Has, half_of};
 
 /// Namespaces by their numbers, of which there are 256. Contracts see which it has.
@@ -11,7 +11,9 @@ pub struct Numbers {
 }
 
 impl Numbers {
-    pub fn none() -> Numbers {
+    pub fn none() -> Numbers
+        ensures { (n : ℕ) → Has result n → ⊥ }
+    {
         Numbers { low: 0, high: 0 }
     }
 
@@ -36,6 +38,7 @@ impl Numbers {
     pub fn with(self, number: u16) -> Numbers
         ensures has { Has result number }
         ensures kept { (n : ℕ) → Has self n → Has result n }
+        ensures only { (n : ℕ) → Has result n → Has self n ⊎ (n % 256 ≡ number % 256) }
     {
         let bit = 1u128 << (number % 128);
         if number % 256 < 128 {
@@ -53,7 +56,7 @@ impl Numbers {
 
     /// Those of both.
     pub fn joined(self, other: Numbers) -> Numbers
-        ensures { (n : ℕ) → Has self n ⊎ Has other n → Has result n }
+        ensures { (n : ℕ) → Has result n ↔ (Has self n ⊎ Has other n) }
     {
         Numbers {
             low: self.low | other.low,

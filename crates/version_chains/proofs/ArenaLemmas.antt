@@ -11,7 +11,8 @@ use Rattle.tuple_text.proofs.ValueLemmas.{tuple_eq-same, tuple_eq-itself}
 use Rattle.version_chains.specs.Commits.{Touch}
 use Rattle.marks.specs.Placed.{indices_of, last_place, passes}
 use Rattle.marks.specs.Marks.{held_mark, tuple_mark}
-use Rattle.version_chains.specs.Arena.{IsLinked, touch_of, nobody, AreApartAt, AreUpTo}
+use Rattle.version_chains.specs.Arena.{Held, IsLinked, touch_of, nobody, AreApartAt, AreUpTo}
+use Rattle.version_chains.specs.Given.{AreTouchesKnown, FindsNumber, IsUnnumbered}
 use Rattle.version_chains.specs.Jumps.{AreJumps, IsBack}
 use Rattle.version_chains.specs.declared.node.Node.{Node}
 use Rattle.marks.proofs.LeftLemmas.{AreLeft, left_none, tuples_left}
@@ -23,6 +24,13 @@ item_within xs i h = elim (slice_get_cases xs i).1 [
   | inl w ↦ (w.0, w.2)
   | inr past ↦ absurd (let p = past.0 in omega (arith, h, p))
 ]
+
+-- a tuple that has no number has no touch
+pub finds_none : (h : Held) (t : TupleValue) → AreTouchesKnown h → IsUnnumbered h t → FindsNumber h t None
+finds_none h t known none = record {
+  found = none;
+  untouched = λ _ i x at. let w = known i x at in none w.0 x.tuple w.1;
+}
 
 -- what an item is to a function
 pub item_of : {X Y : Type 0} (f : X → Y) (xs : List X) (i : ℕ) (x : X) → slice_get xs i ≡ Some x → slice_get (map f xs) i ≡ Some (f x)

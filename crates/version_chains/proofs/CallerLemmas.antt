@@ -1,72 +1,53 @@
--- What a caller learns from going through the users of a userset, or the usersets among them.
-use Rattle.std.proofs.Common.{◌≡◌, Bool, true, false, List, [], ◌∷◌, refl, sym, ◌∙◌, ap, ◌||◌, ◌&&◌, IsTrue, ◌↔◌}
+-- What a caller learns from going through the usersets among the users of a userset.
+use Rattle.std.proofs.Common.{◌≡◌, ℕ, Bool, true, List, sym, ◌∙◌, IsTrue, ◌↔◌}
 use Rattle.std.specs.List.{list_any, list_all}
-use Rattle.tuple_text.specs.Order.{user_eq}
+use Rattle.std.specs.Prelude.{Contains}
+use Rattle.std.proofs.lemmas.List.Elements.{All-contains}
+use Rattle.std.proofs.lemmas.List.Folds.{Any-from_list_any, list_any-from_Any}
+use Rattle.std.proofs.lemmas.List.Sums.{AllPass-from_list_all, list_all-from_AllPass}
+use Rattle.std.proofs.lemmas.Map.Views.{All-from_any, Contains-from_any, list_any-from_Contains}
+use Rattle.tuple_text.specs.OrderLaws.{set_equiv}
 use Rattle.tuple_text.specs.Sets.{SetValue, set_eq}
-use Rattle.tuple_text.specs.declared.users.User.{User}
-use Rattle.tuple_text.proofs.ValueLemmas.{user_eq-same, user_eq-itself, set_eq-same, set_eq-itself}
-use Rattle.marks.proofs.PlacedLemmas.{or-second}
+use Rattle.tuple_text.specs.Tuples.{tuple_of}
+use Rattle.tuple_text.specs.declared.users.User.TheVariants.{Set}
+use Rattle.tuple_text.proofs.ValueLemmas.{set_eq-same}
+use Rattle.version_chains.specs.Among.{EveryStoredSetIsAmong, SomeStoredSetIsAmong, is_among}
+use Rattle.version_chains.specs.Commits.{Commit, is_stored, store_at}
+use Rattle.version_chains.proofs.StoreLemmas.{store_at-iff}
 
-or-first : (a b : Bool) → a ≡ true → (a || b) ≡ true
-or-first a b h = cc
+module _ (these gone_through : List SetValue) (commits : List Commit) (at : ℕ) (o : SetValue)
+    (has : (g : SetValue) → list_any (set_eq g) gone_through ≡ is_stored commits at (tuple_of o (Set g)))
+    (r : Bool) where
+  among : (g : SetValue) → (is_among these g ≡ true) ↔ Contains these g
+  among g = (Contains-from_any set_eq-same g these, list_any-from_Contains set_equiv g these)
 
-and-both : (a b : Bool) → a ≡ true → b ≡ true → (a && b) ≡ true
-and-both a b p q = cc
+  stored : (g : SetValue)
+      → (list_any (set_eq g) gone_through ≡ true) ↔ Contains (store_at commits at) (tuple_of o (Set g))
+  stored g =
+      let kept = store_at-iff commits at (tuple_of o (Set g)) in (
+        λ h. kept.1 (sym (has g) ∙ h),
+        λ h. has g ∙ kept.0 h,
+      )
 
-module _ {X : Type 0} (eq : X → X → Bool) (same : (x y : X) → eq x y ≡ true → x ≡ y) (itself : (x : X) → eq x x ≡ true) where
-  all-at : (p : X → Bool) (xs : List X) (u : X) → list_all p xs ≡ true → list_any (eq u) xs ≡ true → p u ≡ true
-  all-at p [] u h k = cc
-  all-at p (x ∷ xs) u h k = pick (eq u x) refl k (p x) refl h (all-at p xs u)
-    where
-      pick : (b : Bool) → eq u x ≡ b → (b || list_any (eq u) xs) ≡ true → (q : Bool) → p x ≡ q → (q && list_all p xs) ≡ true → (list_all p xs ≡ true → list_any (eq u) xs ≡ true → p u ≡ true) → p u ≡ true
-      pick true e k true f h further = ap p (same u x e) ∙ f
-      pick false e k true f h further = further h k
-      pick b e k false f h further = cc
+  -- a pass that asks of each whether it is among these
+  pub every_among : r ≡ list_all (is_among these) gone_through → IsTrue r ↔ EveryStoredSetIsAmong these commits at o
+  every_among e = (
+    λ h g k. (among g).0 (All-contains (λ x. is_among these x ≡ true) gone_through g
+        (AllPass-from_list_all (is_among these) gone_through (sym e ∙ h))
+        (Contains-from_any set_eq-same g gone_through ((stored g).1 k))),
+    λ h. e ∙ list_all-from_AllPass (is_among these) gone_through
+        (All-from_any set_equiv (λ g. is_among these g ≡ true) gone_through
+        (λ g k. (among g).1 (h g ((stored g).0 k)))),
+  )
 
-  any-at : (p : X → Bool) (xs : List X) → list_any p xs ≡ true → (u : X) × (list_any (eq u) xs ≡ true) × (p u ≡ true)
-  any-at p [] h = cc
-  any-at p (x ∷ xs) h = pick (p x) refl h (any-at p xs)
-    where
-      pick : (q : Bool) → p x ≡ q → (q || list_any p xs) ≡ true → (list_any p xs ≡ true → (u : X) × (list_any (eq u) xs ≡ true) × (p u ≡ true)) → (u : X) × ((eq u x || list_any (eq u) xs) ≡ true) × (p u ≡ true)
-      pick true e h further = (x, or-first (eq x x) _ (itself x), e)
-      pick false e h further = let w = further h in (w.0, or-second (eq w.0 x) _ w.1, w.2)
-
-  all-from : (p : X → Bool) (xs : List X) → ((u : X) → list_any (eq u) xs ≡ true → p u ≡ true) → list_all p xs ≡ true
-  all-from p [] h = refl
-  all-from p (x ∷ xs) h = and-both (p x) (list_all p xs) (h x (or-first (eq x x) _ (itself x))) (all-from p xs (λ u k. h u (or-second (eq u x) _ k)))
-
-  any-from : (p : X → Bool) (xs : List X) (u : X) → list_any (eq u) xs ≡ true → p u ≡ true → list_any p xs ≡ true
-  any-from p [] u h k = cc
-  any-from p (x ∷ xs) u h k = pick (eq u x) refl h (any-from p xs u)
-    where
-      pick : (b : Bool) → eq u x ≡ b → (b || list_any (eq u) xs) ≡ true → (list_any (eq u) xs ≡ true → p u ≡ true → list_any p xs ≡ true) → (p x || list_any p xs) ≡ true
-      pick true e h further = or-first (p x) _ (ap p (sym (same u x e)) ∙ k)
-      pick false e h further = or-second (p x) _ (further h k)
-
-  module _ (xs : List X) (stored : X → Bool) (has : (u : X) → list_any (eq u) xs ≡ stored u) (p : X → Bool) (r : Bool) where
-    all-passed : r ≡ list_all p xs → IsTrue r ↔ ((u : X) → IsTrue (stored u) → IsTrue (p u))
-    all-passed e = (
-      λ h u k. all-at p xs u (sym e ∙ h) (has u ∙ k),
-      λ h. e ∙ all-from p xs (λ u k. h u (sym (has u) ∙ k)),
-    )
-
-    some-passed : r ≡ list_any p xs → IsTrue r ↔ ((u : X) × IsTrue (stored u) × IsTrue (p u))
-    some-passed e = (
-      λ h. let w = any-at p xs (sym e ∙ h) in (w.0, sym (has w.0) ∙ w.1, w.2),
-      λ h. e ∙ any-from p xs h.0 (has h.0 ∙ h.1) h.2,
-    )
-
--- p holds of each user that `stored` has exactly where a pass over the users says so
-pub all_stored : (us : List User) (stored : User → Bool) → ((u : User) → list_any (user_eq u) us ≡ stored u) → (p : User → Bool) (r : Bool) → r ≡ list_all p us → IsTrue r ↔ ((u : User) → IsTrue (stored u) → IsTrue (p u))
-all_stored = all-passed user_eq user_eq-same user_eq-itself
-
--- p holds of some user that `stored` has exactly where a pass over the users says so
-pub some_stored : (us : List User) (stored : User → Bool) → ((u : User) → list_any (user_eq u) us ≡ stored u) → (p : User → Bool) (r : Bool) → r ≡ list_any p us → IsTrue r ↔ ((u : User) × IsTrue (stored u) × IsTrue (p u))
-some_stored = some-passed user_eq user_eq-same user_eq-itself
-
--- the same of usersets
-pub all_stored_sets : (gs : List SetValue) (stored : SetValue → Bool) → ((g : SetValue) → list_any (set_eq g) gs ≡ stored g) → (p : SetValue → Bool) (r : Bool) → r ≡ list_all p gs → IsTrue r ↔ ((g : SetValue) → IsTrue (stored g) → IsTrue (p g))
-all_stored_sets = all-passed set_eq set_eq-same set_eq-itself
-
-pub some_stored_set : (gs : List SetValue) (stored : SetValue → Bool) → ((g : SetValue) → list_any (set_eq g) gs ≡ stored g) → (p : SetValue → Bool) (r : Bool) → r ≡ list_any p gs → IsTrue r ↔ ((g : SetValue) × IsTrue (stored g) × IsTrue (p g))
-some_stored_set = some-passed set_eq set_eq-same set_eq-itself
+  -- and one that asks whether some is
+  pub some_among : r ≡ list_any (is_among these) gone_through → IsTrue r ↔ SomeStoredSetIsAmong these commits at o
+  some_among e = (
+    λ h. let w = Any-from_list_any (is_among these) gone_through (sym e ∙ h) in (
+      w.1,
+      (stored w.1).0 (list_any-from_Contains set_equiv w.1 gone_through (w.0, w.2, w.3)),
+      (among w.1).0 w.4,
+    ),
+    λ h. let k = Contains-from_any set_eq-same h.0 gone_through ((stored h.0).1 h.1) in
+        e ∙ list_any-from_Any (is_among these) gone_through (k.0, h.0, k.1, k.2, (among h.0).1 h.2),
+  )

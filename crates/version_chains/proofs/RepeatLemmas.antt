@@ -24,41 +24,50 @@ repeat_more eq xs i d h =
     ap (repeat_from eq (take i xs) i) (drop_more xs i d h)
     ∙ ap (λ ys. cond (list_any (λ s. eq s (get_or xs i d)) (take i xs)) (Some i) (repeat_from eq ys (i + 1) (drop (i + 1) xs))) (sym (take_more xs i d h))
 
+-- what holds of no numbers, and of one more, holds of all numbers beside their tuples
+by_numbers : (tuples : List TupleValue) (P : List ℕ → List TupleValue → Type 0) → P [] []
+    → ((n : ℕ) (t : TupleValue) (ns : List ℕ) (ts : List TupleValue)
+    → slice_get tuples n ≡ Some t → P ns ts → P (n ∷ ns) (t ∷ ts))
+    → (ns : List ℕ) (ts : List TupleValue) → AreNumbersOf tuples ns ts → P ns ts
+by_numbers tuples P none more [] [] e = none
+by_numbers tuples P none more [] (t ∷ ts) e = absurd cc
+by_numbers tuples P none more (n ∷ ns) [] e = absurd cc
+by_numbers tuples P none more (n ∷ ns) (t ∷ ts) e =
+    let here : slice_get tuples n ≡ Some t = cc in
+    let rest : AreNumbersOf tuples ns ts = cc in
+    more n t ns ts here (by_numbers tuples P none more ns ts rest)
+
 -- numbers stand again where their tuples do
 module _ (tuples : List TupleValue) (apart : AreApartAt tuples) where
   same_member : (k : ℕ) (t : TupleValue) → slice_get tuples k ≡ Some t → (ns : List ℕ) (ts : List TupleValue) → AreNumbersOf tuples ns ts → list_any (λ s. nat_eq s k) ns ≡ list_any (λ s. tuple_eq s t) ts
-  same_member k t at [] [] e = refl
-  same_member k t at [] (u ∷ ts) e = absurd cc
-  same_member k t at (n ∷ ns) [] e = absurd cc
-  same_member k t at (n ∷ ns) (u ∷ ts) e =
-      let here : slice_get tuples n ≡ Some u = cc in
-      let rest : AreNumbersOf tuples ns ts = cc in
-      rw (tuples_by_number tuples apart n k u t here at, same_member k t at ns ts rest) refl
+  same_member k t at =
+      by_numbers tuples (λ ns ts. list_any (λ s. nat_eq s k) ns ≡ list_any (λ s. tuple_eq s t) ts) refl
+      (λ n u ns ts here further. rw (tuples_by_number tuples apart n k u t here at, further) refl)
 
   more_numbers : (ns : List ℕ) (ts : List TupleValue) (k : ℕ) (t : TupleValue) → AreNumbersOf tuples ns ts → slice_get tuples k ≡ Some t → AreNumbersOf tuples (ns ++ k ∷ []) (ts ++ t ∷ [])
   more_numbers ns ts k t are at = map-append (slice_get tuples) ns (k ∷ []) ∙ rw (are, at) (sym (map-append Some ts (t ∷ [])))
 
-  same_repeat : (before : List ℕ) (seen : List TupleValue) → AreNumbersOf tuples before seen → (n : ℕ) (ns : List ℕ) (ts : List TupleValue) → AreNumbersOf tuples ns ts → repeat_from nat_eq before n ns ≡ repeat_from tuple_eq seen n ts
-  same_repeat before seen were n [] [] e = refl
-  same_repeat before seen were n [] (t ∷ ts) e = absurd cc
-  same_repeat before seen were n (k ∷ ns) [] e = absurd cc
-  same_repeat before seen were n (k ∷ ns) (t ∷ ts) e =
-      let here : slice_get tuples k ≡ Some t = cc in
-      let rest : AreNumbersOf tuples ns ts = cc in
-      rw (same_member k t here before seen were, same_repeat (before ++ k ∷ []) (seen ++ t ∷ []) (more_numbers before seen k t were here) (n + 1) ns ts rest) refl
+  abbrev RepeatsAlike : List ℕ → List TupleValue → Type 0
+  RepeatsAlike ns ts =
+      (before : List ℕ) (seen : List TupleValue) → AreNumbersOf tuples before seen → (n : ℕ)
+      → repeat_from nat_eq before n ns ≡ repeat_from tuple_eq seen n ts
+
+  same_repeat : (ns : List ℕ) (ts : List TupleValue) → AreNumbersOf tuples ns ts → RepeatsAlike ns ts
+  same_repeat =
+      by_numbers tuples RepeatsAlike (λ before seen were n. refl)
+      (λ k t ns ts here further before seen were n.
+      rw (
+        same_member k t here before seen were,
+        further (before ++ k ∷ []) (seen ++ t ∷ []) (more_numbers before seen k t were here) (n + 1),
+      ) refl)
 
   pub first_repeat_by_number : (ns : List ℕ) (ts : List TupleValue) → AreNumbersOf tuples ns ts → repeat_from nat_eq [] 0 ns ≡ first_repeat ts
-  first_repeat_by_number ns ts are = same_repeat [] [] refl 0 ns ts are
+  first_repeat_by_number ns ts are = same_repeat ns ts are [] [] refl 0
 
 -- the same numbers in a longer list
 pub numbers_extended : (old new : List TupleValue) → Extends old new → (ns : List ℕ) (ts : List TupleValue) → AreNumbersOf old ns ts → AreNumbersOf new ns ts
-numbers_extended old new ext [] [] e = refl
-numbers_extended old new ext [] (t ∷ ts) e = absurd cc
-numbers_extended old new ext (n ∷ ns) [] e = absurd cc
-numbers_extended old new ext (n ∷ ns) (t ∷ ts) e =
-    let here : slice_get old n ≡ Some t = cc in
-    let rest : AreNumbersOf old ns ts = cc in
-    rw (ext n t here, numbers_extended old new ext ns ts rest) refl
+numbers_extended old new ext =
+    by_numbers old (AreNumbersOf new) refl (λ n t ns ts here further. rw (ext n t here, further) refl)
 
 -- a step of a loop that finds numbers
 pub numbers_step : (mid new : List TupleValue) (ns : List ℕ) (ts us : List TupleValue) (i k : ℕ) (t : TupleValue) → i < length us → t ≡ get_or us i t

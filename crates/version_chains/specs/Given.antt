@@ -10,7 +10,7 @@ use Rattle.tuple_text.specs.Refs.{user_value}
 use Rattle.tuple_text.specs.declared.users.User.{User}
 use Rattle.tuple_text.specs.declared.users.User.TheVariants.{Id, Set}
 use Rattle.version_chains.specs.Appends.{first_repeat}
-use Rattle.version_chains.specs.Arena.{Held}
+use Rattle.version_chains.specs.Arena.{Held, IsNumber}
 use Rattle.version_chains.specs.Commits.{Commit, Touch, changelog, touches_to, until, last_live}
 use Rattle.marks.specs.Placed.{last_place, newest_first, IsLinkedPlace, IsWalk}
 use Rattle.marks.specs.Marks.{set_mark, kind_mark, held_mark, is_userset}
@@ -31,6 +31,11 @@ IsUnnumbered h t = (i : ℕ) (u : TupleValue) → slice_get h.tuples i ≡ Some 
 
 abbrev pub IsUntouched : Held → TupleValue → Type 0
 IsUntouched h t = (i : ℕ) (x : Touch) → slice_get h.touches i ≡ Some x → tuple_eq x.tuple t ≡ false
+
+-- what a look for the number of a tuple gives
+pub record FindsNumber (h : Held) (t : TupleValue) (result : Option ℕ) : Type 0 where
+  pub found : MatchOption result (IsUnnumbered h t) (IsNumber h.tuples t)
+  pub untouched : result ≡ None → IsUntouched h t
 
 -- each touch is one of a tuple that is there
 abbrev pub AreTouchesKnown : Held → Type 0

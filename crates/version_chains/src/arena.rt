@@ -8,7 +8,7 @@ ghost use Rattle.tuple_text.specs.TupleRefs.{tuple_value};
 ghost use Rattle.tuple_text.specs.Tuples.{tuple_of, TupleValue};
 ghost use Rattle.version_chains.specs.Arena.{AreApartAt, AreUpTo, Extends, IsNumber, IsOfSet};
 ghost use Rattle.version_chains.specs.Commits.{Touch, touches_to, until, last_live};
-ghost use Rattle.version_chains.specs.Given.{AreLaterFrom, AreTouchesKnown, Gives, IsTouchAt, IsUnnumbered, IsUntouched, IsWalkUntil, LeadsBack, has_mark_of, is_given, is_stored_by, newest_of};
+ghost use Rattle.version_chains.specs.Given.{AreLaterFrom, AreTouchesKnown, FindsNumber, Gives, IsTouchAt, IsUnnumbered, IsUntouched, IsWalkUntil, LeadsBack, has_mark_of, is_given, is_stored_by, newest_of};
 ghost use Rattle.marks.specs.Marks as marks;
 ghost use Rattle.marks.specs.Marks.{is_userset};
 ghost use Rattle.marks.specs.Placed.{last_place, most};
@@ -161,9 +161,7 @@ impl Arena {
     #[inline(always)]
     fn find_marked(&self, mark: u64, set: MarkedSet<'_>, user: MarkedUser<'_>) -> Option<usize>
         requires { mark ≡ marks.tuple_mark (tuple_of (set_value set.set) (user_value user.user)) }
-        ensures found { MatchOption result (IsUnnumbered self.now (tuple_of (set_value set.entry.set) (user_value user.entry.user)))
-            (IsNumber self.now.tuples (tuple_of (set_value set.entry.set) (user_value user.entry.user))) }
-        ensures untouched { result ≡ None → IsUntouched self.now (tuple_of (set_value set.entry.set) (user_value user.entry.user)) }
+        ensures { FindsNumber self.now (tuple_of (set_value set.entry.set) (user_value user.entry.user)) result }
     {
         if self.named.newest(mark) == 0 {
             return None;
@@ -175,9 +173,7 @@ impl Arena {
     #[inline(never)]
     fn find_named(&self, mark: u64, set: MarkedSet<'_>, user: MarkedUser<'_>) -> Option<usize>
         requires { mark ≡ marks.tuple_mark (tuple_of (set_value set.set) (user_value user.user)) }
-        ensures found { MatchOption result (IsUnnumbered self.now (tuple_of (set_value set.entry.set) (user_value user.entry.user)))
-            (IsNumber self.now.tuples (tuple_of (set_value set.entry.set) (user_value user.entry.user))) }
-        ensures untouched { result ≡ None → IsUntouched self.now (tuple_of (set_value set.entry.set) (user_value user.entry.user)) }
+        ensures { FindsNumber self.now (tuple_of (set_value set.entry.set) (user_value user.entry.user)) result }
     {
         for number in self.named.with(mark) {
             if self.is_named(number, set.set, user.user) {

@@ -6,4 +6,4 @@ use Rattle.command_line.proofs.commands.audit.Goals as goal
 pub returns : goal.returns
 returns c named made =
     c.command.ensures audit_rules (subst (AllZip IsArg audit_rules) (sym c.in_ok-args.ensures.items)
-    (c.file.ensures, (named, (made, (c.number.ensures, (c.number-2.ensures, (c.flag.ensures, tt)))))))
+    (c.trace.ensures, (named, (made, (c.number.ensures, (c.number-2.ensures, (c.flag.ensures, tt)))))))

@@ -9,7 +9,7 @@ returns-in-Ok-2 g c =
     rw c.too_long.ensures
     (too_long g.R.Source.given g.R.Source.ends g.R.Source.failures g.R.Read.remaining
     (taken_by (g.J.TellLine.told c.args.teller.now) g.P.PutTold.put) c.args.reader.now c.args.value.now
-    c.loop-turn.reader c.loop-turn.value c.loop-turn.place c.loop-turn.bytes.items c.loop-turn.chunk.items
+    c.loop-turn.reader c.loop-turn.value c.loop-turn.place c.loop-turn.bytes.items
     c.loop-turn._turn c.loop-turn.invariant.0 c.refill.new.reader c.in-Ok-true.ensures.most c.in-Ok-true.ensures.known
     c.refill.new.bytes.items c.in-Ok-true.ensures.came (c.in-Ok-true.ensures.kept (λ e. cc)) lines.0
     c.take_lines.new.bytes.items c.in-Ok-take_lines.behind c.take_lines.new.value lines.1 lines.3
@@ -20,7 +20,7 @@ pub returns-in-Err-take_lines : goal.returns-in-Err-take_lines
 returns-in-Err-take_lines g c =
     stopped_at g.R.Source.given g.R.Source.ends g.R.Source.failures g.R.Read.remaining
     (taken_by (g.J.TellLine.told c.args.teller.now) g.P.PutTold.put) c.args.reader.now c.args.value.now
-    c.loop-turn.reader c.loop-turn.value c.loop-turn.place c.loop-turn.bytes.items c.loop-turn.chunk.items
+    c.loop-turn.reader c.loop-turn.value c.loop-turn.place c.loop-turn.bytes.items
     c.loop-turn._turn c.loop-turn.invariant.0 c.refill.new.reader c.in-Ok-true.ensures.most c.in-Ok-true.ensures.known
     c.refill.new.bytes.items c.in-Ok-true.ensures.came (c.in-Ok-true.ensures.kept (λ e. cc)) c.take_lines.new.value
     c.in-Err-take_lines.fault c.in-Err-take_lines.ensures.takes
@@ -29,7 +29,7 @@ pub returns-in-Ok-false : goal.returns-in-Ok-false
 returns-in-Ok-false g c =
     last_read g.R.Source.given g.R.Source.ends g.R.Source.failures g.R.Read.remaining
     (taken_by (g.J.TellLine.told c.args.teller.now) g.P.PutTold.put) c.args.reader.now c.args.value.now
-    c.loop-turn.reader c.loop-turn.value c.loop-turn.place c.loop-turn.bytes.items c.loop-turn.chunk.items
+    c.loop-turn.reader c.loop-turn.value c.loop-turn.place c.loop-turn.bytes.items
     c.loop-turn._turn c.loop-turn.invariant.0 c.refill.new.reader c.in-Ok-false.ensures.most c.in-Ok-false.ensures.known
     c.refill.new.bytes.items c.in-Ok-false.ensures.came (c.in-Ok-false.ensures.kept (λ e. cc))
     (c.in-Ok-false.ensures.none (ap Ok c.in-Ok-false.field-0-test))
@@ -44,7 +44,7 @@ pub returns-in-Err : goal.returns-in-Err
 returns-in-Err g c =
     none_came g.R.Source.given g.R.Source.ends g.R.Source.failures g.R.Read.remaining
     (taken_by (g.J.TellLine.told c.args.teller.now) g.P.PutTold.put) c.args.reader.now c.args.value.now
-    c.loop-turn.reader c.loop-turn.value c.loop-turn.place c.loop-turn.bytes.items c.loop-turn.chunk.items
+    c.loop-turn.reader c.loop-turn.value c.loop-turn.place c.loop-turn.bytes.items
     c.loop-turn._turn c.loop-turn.invariant.0 c.refill.new.reader c.in-Err.ensures.most c.in-Err.ensures.known
     c.loop-turn.value c.in-Err.fault (λ e. c.in-Err.ensures.causes (ap Err e)) (λ e. c.in-Err.ensures.cut (ap Err e))
     (λ e. c.in-Err.ensures.failed (ap Err e)) (λ e. c.in-Err.ensures.kept (λ same. e (cc (same))))
@@ -54,12 +54,11 @@ loop-turn-preserved g c =
     let lines = c.in-Ok-take_lines.ensures.takes in (
       goes_on g.R.Source.given g.R.Source.ends g.R.Source.failures g.R.Read.remaining
           (taken_by (g.J.TellLine.told c.args.teller.now) g.P.PutTold.put) c.args.reader.now c.args.value.now
-          c.loop-turn.reader c.loop-turn.value c.loop-turn.place c.loop-turn.bytes.items c.loop-turn.chunk.items
+          c.loop-turn.reader c.loop-turn.value c.loop-turn.place c.loop-turn.bytes.items
           c.loop-turn._turn c.loop-turn.invariant.0 c.refill.new.reader c.in-Ok-true.ensures.most c.in-Ok-true.ensures.known
           c.refill.new.bytes.items c.in-Ok-true.ensures.came (c.in-Ok-true.ensures.kept (λ e. cc)) lines.0
           c.take_lines.new.bytes.items c.in-Ok-take_lines.behind c.take_lines.new.value lines.1 lines.3
-          c.refill.new.chunk.items
-          (omega (arith, c.in-Ok-true.ensures.chunk, c.refill.new.chunk.ok.0)) lines.2
+          lines.2
           (omega (arith, c.if-len-min.true, c.len.ensures, c.min.ensures, c.take_lines.new.bytes.ok.0))
           (omega (
             arith,

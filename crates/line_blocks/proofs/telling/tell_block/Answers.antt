@@ -6,16 +6,16 @@ use Rattle.line_blocks.specs.Parts.{lines_told}
 use Rattle.line_blocks.proofs.BlockLines.{onto, goes_on, is_over, is_refused, is_done}
 use Rattle.line_blocks.proofs.telling.tell_block.Goals as goal
 
-pub returns-then-is_over : goal.returns-then-is_over
-returns-then-is_over g c =
+pub returns-then-is_over-clause-told : goal.returns-then-is_over-clause-told
+returns-then-is_over-clause-told g c =
     let over : passes_limit c.loop-line.left c.in-Some.line.now true ≡ true =
     sym c.is_over.ensures ∙ c.if-is_over.true in
     sym (c.loop-line.invariant.0 ∙ is_over (g.J.TellLine.told c.args.teller.now) c.loop-line.left
     c.loop-line.rest.now c.in-Some.line.now c.in-Some.after.now c.loop-line.values.items c.in-Some.ensures.line
     c.in-Some.ensures.rest c.in-Some.ensures.within over)
 
-pub returns-in-Err : goal.returns-in-Err
-returns-in-Err g c =
+pub returns-in-Err-clause-told : goal.returns-in-Err-clause-told
+returns-in-Err-clause-told g c =
     let within : passes_limit c.loop-line.left c.in-Some.line.now true ≡ false =
     sym c.is_over.ensures ∙ c.if-is_over.false in
     sym (c.loop-line.invariant.0 ∙ is_refused (g.J.TellLine.told c.args.teller.now) c.loop-line.left
@@ -37,8 +37,8 @@ loop-line-preserved g c =
       search rules,
     )
 
-pub returns : goal.returns
-returns g c =
+pub returns-clause-told : goal.returns-clause-told
+returns-clause-told g c =
     let le : length c.loop-line.rest.now ≤ line_len c.loop-line.rest.now = search rules in
     sym (c.loop-line.invariant.0 ∙ is_done (g.J.TellLine.told c.args.teller.now) c.loop-line.left
     c.loop-line.rest.now c.loop-line.values.items le)

@@ -1,7 +1,6 @@
 use Rattle.std.proofs.Common.{rules, ◌≡◌, ◌++◌, [], map, drop, ap}
 use Rattle.std.proofs.lemmas.List.{append-nil, drop_all}
 use Rattle.std.proofs.lemmas.Result.{IfOk-weaker}
-use Rattle.rewrites.specs.Expression.{minus}
 use Rattle.rewrites.specs.Joints.{joined, JoinAlike}
 use Rattle.rewrites.specs.Parts.{parts_shown, nodes_shown, throughs_shown}
 use Rattle.rewrites.specs.View.{expression_of}
@@ -50,27 +49,22 @@ union_of-returns t c =
 
 pub node_of-returns-in_ok-union_of-in-Union : goal.node_of-returns-in_ok-union_of-in-Union
 node_of-returns-in_ok-union_of-in-Union t c =
-    let is : expression_of c.args.rewrite.now ≡ joined Joint.Union
-    (map expression_of c.in-Union.children.items) = rw c.in-Union.is (search (rules, the_lemmas)) in
-    says_joined Joint.Union _ _ _ (Node.Union c.in_ok-union_of-in-Union.field-0) _ _
-    (λ parts. union_shown parts c.in_ok-union_of-in-Union.field-0) is c.in_ok-union_of-in-Union.ensures
+    says_joined Joint.Union _ _ _ (Node.Union c.in_ok-union_of-in-Union.field-0) _
+    (map expression_of c.in-Union.children.items) (λ parts. union_shown parts c.in_ok-union_of-in-Union.field-0)
+    (rw c.in-Union.is (search (rules, the_lemmas))) c.in_ok-union_of-in-Union.ensures
 
 pub node_of-returns-in_ok-inter_of-in-Inter : goal.node_of-returns-in_ok-inter_of-in-Inter
 node_of-returns-in_ok-inter_of-in-Inter t c =
-    let is : expression_of c.args.rewrite.now ≡ joined Joint.Inter
-    (map expression_of c.in-Inter.children.items) = rw c.in-Inter.is (search (rules, the_lemmas)) in
-    says_joined Joint.Inter _ _ _ (Node.Inter c.in_ok-inter_of-in-Inter.field-0) _ _
-    (λ parts. inter_shown parts c.in_ok-inter_of-in-Inter.field-0) is c.in_ok-inter_of-in-Inter.ensures
+    says_joined Joint.Inter _ _ _ (Node.Inter c.in_ok-inter_of-in-Inter.field-0) _
+    (map expression_of c.in-Inter.children.items) (λ parts. inter_shown parts c.in_ok-inter_of-in-Inter.field-0)
+    (rw c.in-Inter.is (search (rules, the_lemmas))) c.in_ok-inter_of-in-Inter.ensures
 
 pub node_of-returns-in_ok-subtract-in-Minus : goal.node_of-returns-in_ok-subtract-in-Minus
 node_of-returns-in_ok-subtract-in-Minus t c =
-    let base = expression_of c.deref.result.now in
-    let subtract = expression_of c.deref-in-Minus.result.now in
-    let is : expression_of c.args.rewrite.now ≡ minus base subtract = rw c.in-Minus.is (search (rules, the_lemmas)) in
     IfOk-weaker c.minus_node.result _ _
-    (λ n same. says_minus (parts_shown c.args.numbering.now.parts.items) (parts_shown c.node_of.new.numbering.parts.items)
-    (parts_shown c.node_of-in-Minus.new.numbering.parts.items) n c.in_ok-base-in-Minus.base c.in_ok-subtract-in-Minus.subtract
-    (expression_of c.args.rewrite.now) base subtract same is c.in_ok-base-in-Minus.ensures c.in_ok-subtract-in-Minus.ensures)
+    (λ n same. says_minus _ _ _ n c.in_ok-base-in-Minus.base c.in_ok-subtract-in-Minus.subtract _
+    (expression_of c.deref.result.now) (expression_of c.deref-in-Minus.result.now) same
+    (rw c.in-Minus.is (search (rules, the_lemmas))) c.in_ok-base-in-Minus.ensures c.in_ok-subtract-in-Minus.ensures)
     c.minus_node.ensures
 
 pub union_of-loop-child-preserved-then-branch : goal.union_of-loop-child-preserved-then-branch

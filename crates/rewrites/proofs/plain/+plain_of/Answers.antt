@@ -2,7 +2,6 @@ use Rattle.std.proofs.Common.{rules, ◌≡◌, [], ◌∷◌, ◌+◌, map, dro
 use Rattle.std.proofs.Math.Seq.{drop-cons}
 use Rattle.std.proofs.lemmas.List.{append-nil, drop_all}
 use Rattle.std.proofs.lemmas.Result.{IfOk-weaker}
-use Rattle.rewrites.specs.Expression.{minus}
 use Rattle.rewrites.specs.Joints.{joined, JoinPlain}
 use Rattle.rewrites.specs.View.{expression_of}
 use Rattle.rewrites.specs.declared.rewrite.Rewrite.{the_lemmas}
@@ -28,10 +27,7 @@ plain_joined-returns t c =
 
 pub plain_of-returns-in_ok-subtract-in-Minus : goal.plain_of-returns-in_ok-subtract-in-Minus
 plain_of-returns-in_ok-subtract-in-Minus t c =
-    let base = expression_of c.deref.result.now in
-    let subtract = expression_of c.deref-in-Minus.result.now in
-    let parts : expression_of c.args.rewrite.now ≡ minus base subtract = rw c.in-Minus.is (search (rules, the_lemmas)) in
     IfOk-weaker c.minus.result _ _
-    (λ r same. plain_minus (expression_of r) (expression_of c.args.rewrite.now) (expression_of c.in_ok-base-in-Minus.base) base
-    (expression_of c.in_ok-subtract-in-Minus.subtract) subtract same parts c.in_ok-base-in-Minus.ensures c.in_ok-subtract-in-Minus.ensures)
+    (λ r same. plain_minus _ _ _ (expression_of c.deref.result.now) _ (expression_of c.deref-in-Minus.result.now) same
+    (rw c.in-Minus.is (search (rules, the_lemmas))) c.in_ok-base-in-Minus.ensures c.in_ok-subtract-in-Minus.ensures)
     c.minus.ensures

@@ -1,13 +1,11 @@
-use Rattle.std.proofs.Common.{Bool, ◌≡◌, ◌∙◌, ◌+◌, ◌^◌, ◌&&◌, true, false, ap, arith, refl, sym}
+use Rattle.std.proofs.Common.{Bool, ◌≡◌, ◌∙◌, ◌+◌, ◌^◌, true, false, ap, arith, refl, sym}
 use Rattle.std.proofs.lemmas.Result.{err_from_is_err_and}
-use Rattle.json_lines.specs.Joined.{is_marker, ends_left, RestValue}
+use Rattle.json_lines.specs.Joined.{ends_left, RestValue}
 use Rattle.json_lines.specs.Json.{taken_line}
-use Rattle.json_lines.proofs.Exits.{no_error, ended_on}
-use Rattle.devices.proofs.Given.{next-refl, next-trans}
-use Rattle.json_lines.proofs.RestLines.{one_less, of_line_alone, sought_is, not_sought, going_first, going_on, going_past, part_ended, part_found}
-use Rattle.json_lines.proofs.RestReads.{asked_behind, handed_on, no_memory_behind, went_well}
+use Rattle.devices.proofs.Given.{next-refl}
+use Rattle.json_lines.proofs.RestLines.{one_less, of_line_alone, sought_is, going_first, going_on, going_past, part_ended, part_found}
+use Rattle.json_lines.proofs.RestReads.{asked_behind, handed_on, no_memory_behind, read_further, went_well}
 use Rattle.json_lines.proofs.joined.Rest.part.Goals as goal
-use Rattle.json_lines.proofs.joined.Rest.part.Goals.{else-marked-via-then-marked+else-is_marker, else-marked-via-else-marked}
 
 pub loop-self-init : goal.loop-self-init
 loop-self-init g c = record {
@@ -16,14 +14,18 @@ loop-self-init g c = record {
   next = c.requires.first;
   number = rw c.requires.unended (omega (arith, c.requires.room));
   refused = tt;
-  ended = ap (λ (e : Bool). g.R.Source.ends c.args.reader.now + ends_left e) c.requires.unended;
-  known = next-refl g.R.Source.given g.R.Source.ends g.R.Read.remaining c.args.reader.now;
-  kept = refl;
+  so_far = record {
+    ended = ap (λ (e : Bool). g.R.Source.ends c.args.reader.now + ends_left e) c.requires.unended;
+    known = next-refl g.R.Source.given g.R.Source.ends g.R.Read.remaining c.args.reader.now;
+    kept = refl;
+  };
 }
 
 pub returns-then-is_marker-clause-part : goal.returns-then-is_marker-clause-part
 returns-then-is_marker-clause-part g c =
-    let seen = sought_is c.args.marked c.in_ok-whole.whole c.deref.result.now c.next.new.line.items c.is_marker.result true c.if-marked.true c.deref.ensures.value c.is_marker.ensures c.if-is_marker.true in
+    let seen =
+    sought_is c.args.marked c.in_ok-whole.whole c.deref.result.now c.next.new.line.items c.is_marker.result true
+    c.deref.ensures.value c.is_marker.ensures c.if-is_marker.true in
     part_found (taken_line g.T.Cause.LineCause.not_json g.T.TakeJson.taken) c.args.value.now (λ n s. refl) (g.R.Source.given c.args.reader.now) (g.R.Source.given c.loop-self.reader) (g.R.Source.given c.next.new.reader) c.args.self.now c.loop-self.self c.next.new.self
     c.args.marked c.loop-self.number c.loop-self.value c.loop-self.read c.in_ok-whole.whole c.next.new.line.items c.loop-self.invariant.going c.in_ok-whole.ensures.line (sym (ap (λ (r : RestValue). r.ended) c.self.view_is) ∙ c.loop-self-test.true) seen
 
@@ -31,33 +33,28 @@ pub returns-in_err-whole-clause-asked : goal.returns-in_err-whole-clause-asked
 returns-in_err-whole-clause-asked g c =
     let p = err_from_is_err_and c.from_residual.result c.from_residual.ensures.1 in
     let asked =
-    asked_behind _ _ _ _ _ _ _ _ _ _ c.loop-self.invariant.going.used c.loop-self.invariant.known
-    c.loop-self.invariant.kept c.next.ensures.asked in
+    asked_behind _ _ _ _ _ _ _ _ _ _ _ c.loop-self.invariant.going.used c.loop-self.invariant.so_far
+    c.next.ensures.asked in
     handed_on _ _ _ _ _ _ _ _ _ asked p.0 c.in_err-whole.field-0.0 p.1 p.2 c.in_err-whole.was
 
 pub returns-then-is_marker-clause-asked : goal.returns-then-is_marker-clause-asked
 returns-then-is_marker-clause-asked g c =
     let asked =
-    asked_behind _ _ _ _ _ _ _ _ _ _ c.loop-self.invariant.going.used c.loop-self.invariant.known
-    c.loop-self.invariant.kept c.next.ensures.asked in
+    asked_behind _ _ _ _ _ _ _ _ _ _ _ c.loop-self.invariant.going.used c.loop-self.invariant.so_far
+    c.next.ensures.asked in
     went_well _ _ _ _ _ _ _ _ _ asked _ _ c.in_ok-whole.was refl
 
 pub returns-in_err-read-clause-asked : goal.returns-in_err-read-clause-asked
 returns-in_err-read-clause-asked g c =
     let p = err_from_is_err_and c.from_residual-in_err-read.result c.from_residual-in_err-read.ensures.1 in
     let asked =
-    asked_behind _ _ _ _ _ _ _ _ _ _ c.loop-self.invariant.going.used c.loop-self.invariant.known
-    c.loop-self.invariant.kept c.next.ensures.asked in
+    asked_behind _ _ _ _ _ _ _ _ _ _ _ c.loop-self.invariant.going.used c.loop-self.invariant.so_far
+    c.next.ensures.asked in
     no_memory_behind _ _ _ _ _ _ _ _ _ asked _ p.0 c.in_err-read.field-0.0 c.in_ok-whole.was p.1 p.2 c.in_err-read.ensures.memory
 
 pub loop-self-preserved-then-is_ok : goal.loop-self-preserved-then-is_ok
 loop-self-preserved-then-is_ok g c =
-    let other : (c.args.marked && (c.in_ok-whole.whole && is_marker c.next.new.line.items)) ≡ false =
-    elim c.else-marked.branch [
-      | else-marked-via-then-marked+else-is_marker w ↦ sought_is c.args.marked c.in_ok-whole.whole w.deref.result.now c.next.new.line.items w.is_marker.result false w.if-marked.true w.deref.ensures.value w.is_marker.ensures w.if-is_marker.false
-      | else-marked-via-else-marked w ↦ not_sought c.args.marked _ w.if-marked.false
-    ]
-    in
+    let other = sought_is _ _ _ _ _ false c.deref.ensures.value c.is_marker.ensures c.if-is_marker.false in
     let unended : c.loop-self.self.ended ≡ false = sym (ap (λ (r : RestValue). r.ended) c.self.view_is) ∙ c.loop-self-test.true in
     record {
       going = going_on (taken_line g.T.Cause.LineCause.not_json g.T.TakeJson.taken) c.args.value.now (λ n s. refl) (g.R.Source.given c.args.reader.now) (g.R.Source.given c.loop-self.reader) (g.R.Source.given c.next.new.reader) c.args.self.now c.loop-self.self c.next.new.self
@@ -67,19 +64,13 @@ loop-self-preserved-then-is_ok g c =
       next = c.in_ok-read.ensures.further;
       number = one_less _ _ c.loop-self.self c.next.new.self c.in_ok-whole.whole c.next.new.line.items c.loop-self.number (2 ^ 30 + 2) c.in_ok-whole.ensures.line unended c.loop-self.invariant.number;
       refused = c.in_ok-read.ensures.refused;
-      ended = ended_on _ _ _ _ c.loop-self.self.ended c.loop-self.invariant.ended unended c.in_ok-whole.ensures.ended;
-      known = next-trans g.R.Source.given g.R.Source.ends g.R.Read.remaining c.args.reader.now c.loop-self.reader c.next.new.reader c.loop-self.invariant.known c.next.ensures.asked.known;
-      kept = c.next.ensures.asked.kept (λ e. no_error _ _ _ c.in_ok-whole.was e) ∙ c.loop-self.invariant.kept;
+      so_far = read_further c.loop-self.invariant.so_far unended c.in_ok-whole.was
+          c.in_ok-whole.ensures.ended c.next.ensures.asked;
     }
 
 pub loop-self-preserved : goal.loop-self-preserved
 loop-self-preserved g c =
-    let other : (c.args.marked && (c.in_ok-whole.whole && is_marker c.next.new.line.items)) ≡ false =
-    elim c.else-marked.branch [
-      | else-marked-via-then-marked+else-is_marker w ↦ sought_is c.args.marked c.in_ok-whole.whole w.deref.result.now c.next.new.line.items w.is_marker.result false w.if-marked.true w.deref.ensures.value w.is_marker.ensures w.if-is_marker.false
-      | else-marked-via-else-marked w ↦ not_sought c.args.marked _ w.if-marked.false
-    ]
-    in
+    let other = sought_is _ _ _ _ _ false c.deref.ensures.value c.is_marker.ensures c.if-is_marker.false in
     let unended : c.loop-self.self.ended ≡ false = sym (ap (λ (r : RestValue). r.ended) c.self.view_is) ∙ c.loop-self-test.true in
     record {
       going = going_past (taken_line g.T.Cause.LineCause.not_json g.T.TakeJson.taken) c.args.value.now (λ n s. refl) (g.R.Source.given c.args.reader.now) (g.R.Source.given c.loop-self.reader) (g.R.Source.given c.next.new.reader) c.args.self.now c.loop-self.self c.next.new.self
@@ -88,9 +79,8 @@ loop-self-preserved g c =
       next = c.loop-self.invariant.next;
       number = omega (arith, one_less _ _ c.loop-self.self c.next.new.self c.in_ok-whole.whole c.next.new.line.items c.loop-self.number (2 ^ 30 + 2) c.in_ok-whole.ensures.line unended c.loop-self.invariant.number);
       refused = c.loop-self.invariant.refused;
-      ended = ended_on _ _ _ _ c.loop-self.self.ended c.loop-self.invariant.ended unended c.in_ok-whole.ensures.ended;
-      known = next-trans g.R.Source.given g.R.Source.ends g.R.Read.remaining c.args.reader.now c.loop-self.reader c.next.new.reader c.loop-self.invariant.known c.next.ensures.asked.known;
-      kept = c.next.ensures.asked.kept (λ e. no_error _ _ _ c.in_ok-whole.was e) ∙ c.loop-self.invariant.kept;
+      so_far = read_further c.loop-self.invariant.so_far unended c.in_ok-whole.was
+          c.in_ok-whole.ensures.ended c.next.ensures.asked;
     }
 
 pub returns-clause-part : goal.returns-clause-part

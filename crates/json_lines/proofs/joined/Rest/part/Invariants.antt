@@ -1,10 +1,10 @@
-use Rattle.std.proofs.Common.{◌≡◌, ◌+◌, ◌^◌, ◌≤◌, refl}
+use Rattle.std.proofs.Common.{◌+◌, ◌^◌, ◌≤◌, refl}
 use Rattle.std.specs.Prelude.{IfErr, OnOk}
-use Rattle.devices.specs.Given.{AreNext}
 use Rattle.json_lines.specs.Joined.{ends_left}
 use Rattle.json_lines.specs.Json.{taken_line}
 use Rattle.json_lines.specs.Reading.{IsOfLine, IsOfSomeLine}
 use Rattle.json_lines.proofs.RestLines.{Going}
+use Rattle.json_lines.proofs.RestReads.{ReadSoFar}
 use Rattle.json_lines.proofs.joined.Rest.part.Given as goal
 
 abbrev pub invariant-loop-self : goal.invariant-loop-self
@@ -16,9 +16,8 @@ invariant-loop-self g l =
       next : OnOk l.read (g.T.TakeJson.next l.value ≤ l.number);
       number : l.number + (l.self.room + ends_left l.self.ended) ≤ 2 ^ 30 + 2;
       refused : IfErr l.read (λ e. IsOfLine e.stop × IsOfSomeLine taken e);
-      ended : g.R.Source.ends l.reader + ends_left l.self.ended ≡ g.R.Source.ends l.fn.reader + 1;
-      known : AreNext g.R.Source.given g.R.Source.ends g.R.Read.remaining l.fn.reader l.reader;
-      kept : g.R.Source.failures l.reader ≡ g.R.Source.failures l.fn.reader;
+      so_far : ReadSoFar g.R.Source.given g.R.Source.ends g.R.Source.failures g.R.Read.remaining
+          (g.R.Source.ends l.fn.reader + 1) l.fn.reader l.reader l.self;
     }
 
 abbrev pub decreases-loop-self : goal.decreases-loop-self

@@ -13,7 +13,7 @@ pub invariant_of-self-in-Err : goal.invariant_of-self-in-Err
 invariant_of-self-in-Err c =
     let rs = c.self.inside.recorded in
     let last : Recorded = record { entry = entry_value c.args.entry.now; content = None } in
-    rw (c.pop.ensures rs last c.in_ok-push.ensures.ok) (
+    rw (c.pop.ensures.last rs last c.in_ok-push.ensures.ok) (
       c.self.invariant.0,
       c.self.invariant.1,
       c.self.invariant.2,

@@ -1,5 +1,4 @@
-use Rattle.std.proofs.Common.{◌≡◌, ◌∙◌, ℕ, length, Some, ap, sym, subst}
-use Rattle.std.specs.Prelude.{slice_get}
+use Rattle.std.proofs.Common.{◌∙◌, ℕ, length, Some, ap, sym, subst}
 use Rattle.tuple_text.specs.Order.{tuple_eq}
 use Rattle.tuple_text.specs.Refs.{set_value, user_value}
 use Rattle.tuple_text.specs.Tuples.{tuple_of}
@@ -8,7 +7,8 @@ use Rattle.marks.specs.Marks.{tuple_mark}
 use Rattle.marks.specs.Placed.{indices_of}
 use Rattle.marks.proofs.LeftLemmas.{AreLeft, left_behind, left_none, tuples_left}
 use Rattle.version_chains.specs.Arena.{Held, latest_of, tuples_of}
-use Rattle.version_chains.proofs.ArenaLemmas.{item_within, touches_known}
+use Rattle.version_chains.specs.Given.{AreTouchesKnown}
+use Rattle.version_chains.proofs.ArenaLemmas.{finds_none, item_within, touches_known}
 use Rattle.version_chains.proofs.arena.Arena.find_named.Goals as goal
 
 pub loop-number-init : goal.loop-number-init
@@ -27,20 +27,23 @@ loop-number-preserved c =
     let there = item_within c.args.self.now.tuples c.in-Some.number left.within.0 in
     left_behind (λ u. tuple_eq u tuple) c.args.self.now.tuples c.in-Some.number _ there.0 there.1 (sym (c.is_named.ensures there.0 there.1) ∙ c.if-is_named.false) left
 
-pub returns-then-is_named-clause-found : goal.returns-then-is_named-clause-found
-returns-then-is_named-clause-found c =
+pub returns-then-is_named : goal.returns-then-is_named
+returns-then-is_named c =
     let tuple = tuple_of (set_value c.args.set.set) (user_value c.args.user.user) in
     let left = subst (AreLeft (λ u. tuple_eq u tuple) c.args.self.now.tuples) c.in-Some.ensures.steps c.loop-number.invariant in
     let there = item_within c.args.self.now.tuples c.in-Some.number left.within.0 in
-    there.1 ∙ ap Some (tuple_eq-same there.0 tuple (sym (c.is_named.ensures there.0 there.1) ∙ c.if-is_named.true))
+    record {
+      found = there.1
+          ∙ ap Some (tuple_eq-same there.0 tuple (sym (c.is_named.ensures there.0 there.1) ∙ c.if-is_named.true));
+      untouched = λ none. absurd cc;
+    }
 
-pub returns-clause-found : goal.returns-clause-found
-returns-clause-found c =
+pub returns : goal.returns
+returns c =
     let tuple = tuple_of (set_value c.args.set.set) (user_value c.args.user.user) in
-    left_none (λ u. tuple_eq u tuple) c.args.self.now.tuples (subst (AreLeft (λ u. tuple_eq u tuple) c.args.self.now.tuples) c.in-None.ensures.steps.0 c.loop-number.invariant)
-
-pub returns-clause-untouched : goal.returns-clause-untouched
-returns-clause-untouched c _ i x h =
-    let known = touches_known (tuples_of c.self.inside.rows) (latest_of c.self.inside.rows) c.self.inside.named c.self.inside.held c.self.inside.nodes.items c.self.invariant.0 in
-    let w = known i x (subst (λ (y : Held). slice_get y.touches i ≡ Some x) (sym c.self.view_is) h) in
-    returns-clause-found c w.0 x.tuple (subst (λ (y : Held). slice_get y.tuples w.0 ≡ Some x.tuple) c.self.view_is w.1)
+    finds_none c.args.self.now tuple
+    (subst AreTouchesKnown c.self.view_is
+    (touches_known (tuples_of c.self.inside.rows) (latest_of c.self.inside.rows) c.self.inside.named
+    c.self.inside.held c.self.inside.nodes.items c.self.invariant.0))
+    (left_none (λ u. tuple_eq u tuple) c.args.self.now.tuples
+    (subst (AreLeft (λ u. tuple_eq u tuple) c.args.self.now.tuples) c.in-None.ensures.steps.0 c.loop-number.invariant))
