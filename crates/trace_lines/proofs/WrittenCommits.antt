@@ -21,7 +21,7 @@ use Rattle.trace_lines.specs.LineValues.{commits, line_said}
 use Rattle.trace_lines.specs.Texts.{tuples_of}
 use Rattle.trace_lines.specs.Traces.{commit_line, commit_of, value_line, with_commit}
 use Rattle.trace_lines.specs.Values.{TraceValue}
-use Rattle.trace_lines.specs.Written.{AreTuples, IsCommit, IsMore, commit_members, commit_spelled, list_text, more_members, optional_list, put_more, tuples_data, with_tuples}
+use Rattle.trace_lines.specs.Written.{AreTuples, IsCommit, IsMore, commit_members, commit_spelled, list_text, listed, more_members, optional_list, put_more, tuples_data, with_tuples}
 use Rattle.trace_lines.specs.declared.cause.Cause.TheVariants as causes
 use Rattle.trace_lines.proofs.MoreMembers.{asked, more_are_flat, more_make, more_numbers}
 
@@ -59,88 +59,84 @@ list_closed ts t rest =
 
 -- ---- the text is that of the value
 
-add_text : (ts : List TupleValue) (rest : List ℕ) (ms : Members) → rest ≡ members_text true ms
-    → optional_list (codes ",\"add\":[") ts rest ≡ members_text true (with_tuples (codes "add") ts ms)
+add_text : (o : Option (List TupleValue)) (rest : List ℕ) (ms : Members) → rest ≡ members_text true ms
+    → optional_list (codes ",\"add\":[") o rest ≡ members_text true (with_tuples (codes "add") o ms)
 unfolding escape_byte
-add_text [] rest ms same = same
-add_text (t ∷ ts) rest ms same = ap (λ r. codes ",\"add\":[" ++ list_text (t ∷ ts) r) same
+add_text None rest ms same = same
+add_text (Some ts) rest ms same = ap (λ r. codes ",\"add\":[" ++ list_text ts r) same
 
-remove_text : (ts : List TupleValue) (rest : List ℕ) (ms : Members) → rest ≡ members_text true ms
-    → optional_list (codes ",\"remove\":[") ts rest ≡ members_text true (with_tuples (codes "remove") ts ms)
+remove_text : (o : Option (List TupleValue)) (rest : List ℕ) (ms : Members) → rest ≡ members_text true ms
+    → optional_list (codes ",\"remove\":[") o rest ≡ members_text true (with_tuples (codes "remove") o ms)
 unfolding escape_byte
-remove_text [] rest ms same = same
-remove_text (t ∷ ts) rest ms same = ap (λ r. codes ",\"remove\":[" ++ list_text (t ∷ ts) r) same
-
-commit_text : (c : Commit) (rest : List ℕ) (more : List (List ℕ × List ℕ)) → rest ≡ members_text true (more_members more)
-    → codes "{\"kind\":\"commit\",\"at\":" ++ (decimal c.at ++ optional_list (codes ",\"add\":[") c.adds (optional_list (codes ",\"remove\":[") c.removes rest))
-    ≡ compact_text (commit_spelled c more)
-unfolding escape_byte
-commit_text c rest more same =
-    ap (λ l. codes "{\"kind\":\"commit\",\"at\":" ++ (decimal c.at ++ l))
-    (add_text c.adds _ (with_tuples (codes "remove") c.removes (more_members more)) (remove_text c.removes rest (more_members more) same))
-
--- ---- which is read as its value
+remove_text None rest ms same = same
+remove_text (Some ts) rest ms same = ap (λ r. codes ",\"remove\":[" ++ list_text ts r) same
 
 module _ (at : ℕ) (more : List (List ℕ × List ℕ)) where
-  abbrev commit_by : List TupleValue → List TupleValue → Commit
-  commit_by adds removes = record { at = at; adds = adds; removes = removes }
+  commit_text : (adds removes : Option (List TupleValue)) (rest : List ℕ) → rest ≡ members_text true (more_members more)
+      → codes "{\"kind\":\"commit\",\"at\":" ++ (decimal at ++ optional_list (codes ",\"add\":[") adds
+      (optional_list (codes ",\"remove\":[") removes rest)) ≡ compact_text (commit_spelled at adds removes more)
+  unfolding escape_byte
+  commit_text adds removes rest same =
+      ap (λ l. codes "{\"kind\":\"commit\",\"at\":" ++ (decimal at ++ l))
+      (add_text adds _ (with_tuples (codes "remove") removes (more_members more)) (remove_text removes rest (more_members more) same))
 
-  numbers : (adds removes : List TupleValue) → at < 2 ^ 64 → HasNumbers (outline (commit_spelled (commit_by adds removes) more))
-  numbers [] [] fits = (tt, (IsNumber-decimal at fits, more_numbers more))
-  numbers [] (r ∷ rs) fits = (tt, (IsNumber-decimal at fits, (texts_have_numbers tuple_text (r ∷ rs), more_numbers more)))
-  numbers (t ∷ ts) [] fits = (tt, (IsNumber-decimal at fits, (texts_have_numbers tuple_text (t ∷ ts), more_numbers more)))
-  numbers (t ∷ ts) (r ∷ rs) fits =
-      (tt, (IsNumber-decimal at fits, (texts_have_numbers tuple_text (t ∷ ts), (texts_have_numbers tuple_text (r ∷ rs), more_numbers more))))
+  -- ---- which is read as its value
 
-  shallow : (adds removes : List TupleValue) → depth (outline (commit_spelled (commit_by adds removes) more)) ≤ max_depth
-  shallow [] [] = omega (arith, more_are_flat more)
-  shallow [] (r ∷ rs) = omega (arith, texts_are_flat tuple_text (r ∷ rs), more_are_flat more)
-  shallow (t ∷ ts) [] = omega (arith, texts_are_flat tuple_text (t ∷ ts), more_are_flat more)
-  shallow (t ∷ ts) (r ∷ rs) = omega (arith, texts_are_flat tuple_text (t ∷ ts), texts_are_flat tuple_text (r ∷ rs), more_are_flat more)
+  numbers : (adds removes : Option (List TupleValue)) → at < 2 ^ 64 → HasNumbers (outline (commit_spelled at adds removes more))
+  numbers None None fits = (tt, (IsNumber-decimal at fits, more_numbers more))
+  numbers None (Some rs) fits = (tt, (IsNumber-decimal at fits, (texts_have_numbers tuple_text rs, more_numbers more)))
+  numbers (Some ts) None fits = (tt, (IsNumber-decimal at fits, (texts_have_numbers tuple_text ts, more_numbers more)))
+  numbers (Some ts) (Some rs) fits =
+      (tt, (IsNumber-decimal at fits, (texts_have_numbers tuple_text ts, (texts_have_numbers tuple_text rs, more_numbers more))))
 
-  makes : (adds removes : List TupleValue) → at < 2 ^ 64 → of_json (outline (commit_spelled (commit_by adds removes) more))
-      ≡ Some (object (put_more more (commit_members (commit_by adds removes))))
-  makes [] [] fits = rw (number_of-decimal at fits) (ap (option_map object) (more_make more (commit_members (commit_by [] []))))
-  makes [] (r ∷ rs) fits =
-      rw (number_of-decimal at fits, texts_make tuple_text rs) (ap (option_map object) (more_make more (commit_members (commit_by [] (r ∷ rs)))))
-  makes (t ∷ ts) [] fits =
-      rw (number_of-decimal at fits, texts_make tuple_text ts) (ap (option_map object) (more_make more (commit_members (commit_by (t ∷ ts) []))))
-  makes (t ∷ ts) (r ∷ rs) fits =
+  shallow : (adds removes : Option (List TupleValue)) → depth (outline (commit_spelled at adds removes more)) ≤ max_depth
+  shallow None None = omega (arith, more_are_flat more)
+  shallow None (Some rs) = omega (arith, texts_are_flat tuple_text rs, more_are_flat more)
+  shallow (Some ts) None = omega (arith, texts_are_flat tuple_text ts, more_are_flat more)
+  shallow (Some ts) (Some rs) = omega (arith, texts_are_flat tuple_text ts, texts_are_flat tuple_text rs, more_are_flat more)
+
+  makes : (adds removes : Option (List TupleValue)) → at < 2 ^ 64
+      → of_json (outline (commit_spelled at adds removes more)) ≡ Some (object (put_more more (commit_members at adds removes)))
+  makes None None fits = rw (number_of-decimal at fits) (ap (option_map object) (more_make more (commit_members at None None)))
+  makes None (Some rs) fits =
+      rw (number_of-decimal at fits, texts_make tuple_text rs) (ap (option_map object) (more_make more (commit_members at None (Some rs))))
+  makes (Some ts) None fits =
+      rw (number_of-decimal at fits, texts_make tuple_text ts) (ap (option_map object) (more_make more (commit_members at (Some ts) None)))
+  makes (Some ts) (Some rs) fits =
       rw (number_of-decimal at fits, texts_make tuple_text ts, texts_make tuple_text rs)
-      (ap (option_map object) (more_make more (commit_members (commit_by (t ∷ ts) (r ∷ rs)))))
+      (ap (option_map object) (more_make more (commit_members at (Some ts) (Some rs))))
 
-commit_read : (c : Commit) (more : List (List ℕ × List ℕ)) → c.at < 2 ^ 64
-    → read (compact_text (commit_spelled c more)) ≡ Some (object (put_more more (commit_members c)))
-commit_read c more fits =
-    read_compact (commit_spelled c more) (object (put_more more (commit_members c))) (numbers c.at more c.adds c.removes fits)
-    (shallow c.at more c.adds c.removes) (makes c.at more c.adds c.removes fits)
+  commit_read : (adds removes : Option (List TupleValue)) → at < 2 ^ 64
+      → read (compact_text (commit_spelled at adds removes more)) ≡ Some (object (put_more more (commit_members at adds removes)))
+  commit_read adds removes fits =
+      read_compact (commit_spelled at adds removes more) (object (put_more more (commit_members at adds removes)))
+      (numbers adds removes fits) (shallow adds removes) (makes adds removes fits)
 
 -- ---- and says the commit
 
 -- the field of such a list
-abbrev field_of : List TupleValue → Option Data
-field_of [] = None
-field_of (t ∷ ts) = Some (tuples_data (t ∷ ts))
+abbrev field_of : Option (List TupleValue) → Option Data
+field_of o = option_map tuples_data o
 
 module _ (at : ℕ) where
-  at_there : (adds removes : List TupleValue) → get_member (codes "at") (commit_members (commit_by at [] adds removes)) ≡ Some (number (unsigned at))
-  at_there [] removes = refl
-  at_there (t ∷ ts) removes = refl
+  at_there : (adds removes : Option (List TupleValue)) → get_member (codes "at") (commit_members at adds removes) ≡ Some (number (unsigned at))
+  at_there None removes = refl
+  at_there (Some ts) removes = refl
 
-  kind_there : (adds removes : List TupleValue) → get_member (codes "kind") (commit_members (commit_by at [] adds removes)) ≡ Some (string (codes "commit"))
-  kind_there [] removes = refl
-  kind_there (t ∷ ts) removes = refl
+  kind_there : (adds removes : Option (List TupleValue)) → get_member (codes "kind") (commit_members at adds removes) ≡ Some (string (codes "commit"))
+  kind_there None removes = refl
+  kind_there (Some ts) removes = refl
 
-  add_there : (adds removes : List TupleValue) → get_member (codes "add") (commit_members (commit_by at [] adds removes)) ≡ field_of adds
-  add_there [] [] = refl
-  add_there [] (r ∷ rs) = refl
-  add_there (t ∷ ts) removes = refl
+  add_there : (adds removes : Option (List TupleValue)) → get_member (codes "add") (commit_members at adds removes) ≡ field_of adds
+  add_there None None = refl
+  add_there None (Some rs) = refl
+  add_there (Some ts) removes = refl
 
-  remove_there : (adds removes : List TupleValue) → get_member (codes "remove") (commit_members (commit_by at [] adds removes)) ≡ field_of removes
-  remove_there [] [] = refl
-  remove_there [] (r ∷ rs) = refl
-  remove_there (t ∷ ts) [] = refl
-  remove_there (t ∷ ts) (r ∷ rs) = refl
+  remove_there : (adds removes : Option (List TupleValue)) → get_member (codes "remove") (commit_members at adds removes) ≡ field_of removes
+  remove_there None None = refl
+  remove_there None (Some rs) = refl
+  remove_there (Some ts) None = refl
+  remove_there (Some ts) (Some rs) = refl
 
 are_texts : (ts : List TupleValue) → are_strings (items_of (map (λ t. string (tuple_text t)) ts)) ≡ true
 are_texts [] = refl
@@ -150,32 +146,35 @@ tuples_read : (ts : List TupleValue) → AreTuples ts → tuples_of (items_of (m
 tuples_read [] h = refl
 tuples_read (t ∷ ts) h = rw (tuple_again t h.0, tuples_read ts h.1) refl
 
-field_read : (ts : List TupleValue) → strings_of (field_of ts) ≡ Some (items_of (map (λ t. string (tuple_text t)) ts))
+field_read : (o : Option (List TupleValue)) → strings_of (field_of o) ≡ Some (items_of (map (λ t. string (tuple_text t)) (listed o)))
 unfolding strings_of
-field_read [] = refl
-field_read (t ∷ ts) = rw (are_texts ts) refl
+field_read None = refl
+field_read (Some ts) = rw (are_texts ts) refl
 
-of_fields : (d : Data) (at : ℕ) (adds removes : List TupleValue) → get (codes "at") d ≡ Some (number (unsigned at)) → get (codes "add") d ≡ field_of adds
-    → get (codes "remove") d ≡ field_of removes → AreTuples adds → AreTuples removes → commit_of d ≡ Ok (record { at = at; adds = adds; removes = removes })
+of_fields : (d : Data) (at : ℕ) (adds removes : Option (List TupleValue)) → get (codes "at") d ≡ Some (number (unsigned at))
+    → get (codes "add") d ≡ field_of adds → get (codes "remove") d ≡ field_of removes → AreTuples (listed adds) → AreTuples (listed removes)
+    → commit_of d ≡ Ok (record { at = at; adds = listed adds; removes = listed removes })
 unfolding commit_of
 of_fields d at adds removes at_is add remove fine fine_too =
-    rw (at_is, add, remove, field_read adds, field_read removes, tuples_read adds fine, tuples_read removes fine_too) refl
+    rw (at_is, add, remove, field_read adds, field_read removes, tuples_read (listed adds) fine, tuples_read (listed removes) fine_too) refl
 
 -- ---- the line
 
 -- what is left behind the lists is members more
-pub is_commit : (text rest : List ℕ) (c : Commit)
-    → text ≡ codes "{\"kind\":\"commit\",\"at\":" ++ (decimal c.at ++ optional_list (codes ",\"add\":[") c.adds (optional_list (codes ",\"remove\":[") c.removes rest))
-    → c.at < 2 ^ 64 → AreTuples c.adds → AreTuples c.removes → IsMore rest → IsCommit text c
-is_commit text rest c same fits adds removes more =
-    let ms = commit_members c in
+pub is_commit : (text rest : List ℕ) (at : ℕ) (adds removes : Option (List TupleValue))
+    → text ≡ codes "{\"kind\":\"commit\",\"at\":" ++ (decimal at ++ optional_list (codes ",\"add\":[") adds
+    (optional_list (codes ",\"remove\":[") removes rest))
+    → at < 2 ^ 64 → AreTuples (listed adds) → AreTuples (listed removes) → IsMore rest
+    → IsCommit text (record { at = at; adds = listed adds; removes = listed removes })
+is_commit text rest at adds removes same fits fine fine_too more =
+    let ms = commit_members at adds removes in
     let d = object (put_more more.0 ms) in (
       d,
-      ap read (same ∙ commit_text c rest more.0 more.1) ∙ commit_read c more.0 fits,
-      asked 0 (omega arith) more.0 ms more.2 ∙ kind_there c.at c.adds c.removes,
-      of_fields d c.at c.adds c.removes (asked 6 (omega arith) more.0 ms more.2 ∙ at_there c.at c.adds c.removes)
-          (asked 7 (omega arith) more.0 ms more.2 ∙ add_there c.at c.adds c.removes)
-          (asked 8 (omega arith) more.0 ms more.2 ∙ remove_there c.at c.adds c.removes) adds removes,
+      ap read (same ∙ commit_text at more.0 adds removes rest more.1) ∙ commit_read at more.0 adds removes fits,
+      asked 0 (omega arith) more.0 ms more.2 ∙ kind_there at adds removes,
+      of_fields d at adds removes (asked 6 (omega arith) more.0 ms more.2 ∙ at_there at adds removes)
+          (asked 7 (omega arith) more.0 ms more.2 ∙ add_there at adds removes)
+          (asked 8 (omega arith) more.0 ms more.2 ∙ remove_there at adds removes) fine fine_too,
     )
 
 of_its_kind : (d : Data) (n : ℕ) (t : TraceValue) → get (codes "kind") d ≡ Some (string (codes "commit")) → value_line n t d ≡ commit_line n t d

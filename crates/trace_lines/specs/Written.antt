@@ -67,26 +67,31 @@ IsCheck text kind s =
 abbrev pub tuples_data : List TupleValue → Data
 tuples_data ts = array (items_of (map (λ t. string (tuple_text t)) ts))
 
--- a list that is left out where it is empty
-abbrev pub with_tuples : List ℕ → List TupleValue → Members → Members
-with_tuples key [] ms = ms
-with_tuples key (t ∷ ts) ms = member key (tuples_data (t ∷ ts)) ms
+-- the tuples of a list that need not be there
+abbrev pub listed : Option (List TupleValue) → List TupleValue
+listed None = []
+listed (Some ts) = ts
+
+-- a list that need not be there
+abbrev pub with_tuples : List ℕ → Option (List TupleValue) → Members → Members
+with_tuples key None ms = ms
+with_tuples key (Some ts) ms = member key (tuples_data ts) ms
 
 -- what the line writes
-abbrev pub commit_spelled : Commit → List (List ℕ × List ℕ) → Data
-commit_spelled c more =
+abbrev pub commit_spelled : ℕ → Option (List TupleValue) → Option (List TupleValue) → List (List ℕ × List ℕ) → Data
+commit_spelled at adds removes more =
     object (member (codes "kind") (string (codes "commit"))
-    (member (codes "at") (number (unsigned c.at))
-    (with_tuples (codes "add") c.adds
-    (with_tuples (codes "remove") c.removes (more_members more)))))
+    (member (codes "at") (number (unsigned at))
+    (with_tuples (codes "add") adds
+    (with_tuples (codes "remove") removes (more_members more)))))
 
 -- the members of its value, without those more
-abbrev pub commit_members : Commit → Members
-commit_members c =
-    with_tuples (codes "add") c.adds
-    (member (codes "at") (number (unsigned c.at))
+abbrev pub commit_members : ℕ → Option (List TupleValue) → Option (List TupleValue) → Members
+commit_members at adds removes =
+    with_tuples (codes "add") adds
+    (member (codes "at") (number (unsigned at))
     (member (codes "kind") (string (codes "commit"))
-    (with_tuples (codes "remove") c.removes no_members)))
+    (with_tuples (codes "remove") removes no_members)))
 
 -- The text is JSON of this kind, and its value is this commit.
 abbrev pub IsCommit : List ℕ → Commit → Type 0
@@ -149,6 +154,6 @@ abbrev pub list_text : List TupleValue → List ℕ → List ℕ
 list_text ts rest = items_text false (items_of (map (λ t. string (tuple_text t)) ts)) ++ rest
 
 -- the same behind its front, where it is there
-abbrev pub optional_list : List ℕ → List TupleValue → List ℕ → List ℕ
-optional_list front [] rest = rest
-optional_list front (t ∷ ts) rest = front ++ list_text (t ∷ ts) rest
+abbrev pub optional_list : List ℕ → Option (List TupleValue) → List ℕ → List ℕ
+optional_list front None rest = rest
+optional_list front (Some ts) rest = front ++ list_text ts rest

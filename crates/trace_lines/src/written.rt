@@ -1,6 +1,7 @@
-//! Lines that are written plainly, each field once, in one order, with no space and no escape: they are read without a reader of JSON.
+//! Lines that are written plainly, each field once, in one order, with no space and no escape: they are read without
+//! a reader of JSON.
 
-ghost use Rattle.std.specs.Prelude.{◌≡◌, ◌<◌, [], ◌∷◌, ◌++◌, ℕ, IfOk, IfSome, IsTrue, Some, bytes_eq, codes, length, not, option_map};
+ghost use Rattle.std.specs.Prelude.{◌≡◌, [], ◌∷◌, ◌++◌, ℕ, IfOk, IfSome, IsTrue, Some, bytes_eq, codes, not, option_map};
 ghost use Rattle.std.specs.Fmt.{decimal};
 ghost use Rattle.json.specs.Print.{quoted};
 ghost use Rattle.std.specs.List.{list_all};
@@ -10,7 +11,7 @@ ghost use Rattle.tuple_text.specs.Grammar.{IsTuple, tuple_text};
 ghost use Rattle.tuple_text.specs.TupleRefs.{tuple_value, tuple_values};
 ghost use Rattle.trace_lines.specs.LineViews.{commit_value};
 ghost use Rattle.trace_lines.specs.Texts.{version_in};
-ghost use Rattle.trace_lines.specs.Written.{ArePlain, AreTuples, HasMore, IsCheck, IsCommit, IsMore, IsPlain, is_free, kind_name, list_text, optional_list, optional_text, said_text};
+ghost use Rattle.trace_lines.specs.Written.{ArePlain, AreTuples, HasMore, IsCheck, IsCommit, IsMore, IsPlain, is_free, kind_name, list_text, listed, optional_list, optional_text, said_text};
 
 use crate::checks::Said;
 use crate::commits::CommitRef;
@@ -42,7 +43,8 @@ fn flag_before(text: &str) -> Option<(bool, &str)>
     Some((false, rest))
 }
 
-/// The text behind this front, where the front stands there, and what stands behind the text; None where it is not plain.
+/// The text behind this front, where the front stands there, and what stands behind the text; None where it is not
+/// plain.
 fn text_behind<'a>(text: &'a str, front: &str) -> Option<(Option<&'a str>, &'a str)>
     ensures text { IfSome result (λ p. text.now ≡ optional_text front.now (option_map (λ t. t.now) p.0) p.1.now) }
     ensures plain { IfSome result (λ p. IsPlain (option_map (λ t. t.now) p.0)) }
@@ -112,7 +114,8 @@ fn behind_member(text: &str) -> Option<&str>
     Some(rest)
 }
 
-/// Whether all that is left are members of which a line says nothing to a trace, each with a text, and the closing brace.
+/// Whether all that is left are members of which a line says nothing to a trace, each with a text, and the closing
+/// brace.
 fn is_more(text: &str) -> bool
     ensures { IsTrue result → IsMore text.now }
 {
@@ -135,9 +138,9 @@ fn has_version(kind: EntryKind, said: &Said<'_>) -> bool
     }
 }
 
-/// What a check says that is written with each field once, in this order, with no space and no escape: its kind, its goal, its snapshot,
-/// its reply, its zookie and its version where it has them, and then whatever texts more. None where the line is not written so, or a
-/// field may not be so.
+/// What a check says that is written with each field once, in this order, with no space and no escape: its kind, its
+/// goal, its snapshot, its reply, its zookie and its version where it has them, and then whatever texts more. None
+/// where the line is not written so, or a field may not be so.
 pub(crate) fn check_written(text: &str) -> Option<(EntryKind, Said<'_>)>
     ensures { IfSome result (λ c. IsCheck text.now c.0 c.1) }
 {
@@ -158,16 +161,18 @@ fn tuple_before(text: &str) -> Option<(TupleRef<'_>, &str)>
     Some((tuple, rest))
 }
 
-/// The tuples of a list behind its opening bracket, and what stands behind the closing one; None of an empty list.
+/// The tuples of a list behind its opening bracket, and what stands behind the closing one.
 fn tuples_before<'a>(
     alloc: Global,
     text: &'a str,
 ) -> Result<Option<(Vec<TupleRef<'a>>, &'a str)>, AllocError>
     ensures text { IfOk result (λ o. IfSome o (λ p. text.now ≡ list_text (tuple_values p.0.items) p.1.now)) }
     ensures tuples { IfOk result (λ o. IfSome o (λ p. AreTuples (tuple_values p.0.items))) }
-    ensures some { IfOk result (λ o. IfSome o (λ p. 0 < length p.0.items)) }
 {
     let mut tuples = Vec::new(alloc);
+    if let Some(end) = behind(text, "]") {
+        return Ok(Some((tuples, end)));
+    }
     let mut rest = text;
     // Each turn takes a text off what is left.
     loop {
@@ -185,19 +190,33 @@ fn tuples_before<'a>(
     }
 }
 
-/// The tuples of a list behind this front, none where the front does not stand there, and what stands behind the list.
+/// The tuples of a list behind this front, where the front stands there, and what stands behind the list.
 fn tuples_behind<'a>(
     alloc: Global,
     text: &'a str,
     front: &str,
-) -> Result<Option<(Vec<TupleRef<'a>>, &'a str)>, AllocError>
+) -> Result<Option<(Option<Vec<TupleRef<'a>>>, &'a str)>, AllocError>
     ensures text { IfOk result (λ o. IfSome o (λ p.
-        text.now ≡ optional_list front.now (tuple_values p.0.items) p.1.now)) }
-    ensures tuples { IfOk result (λ o. IfSome o (λ p. AreTuples (tuple_values p.0.items))) }
+        text.now ≡ optional_list front.now (option_map (λ v. tuple_values v.items) p.0) p.1.now)) }
+    ensures tuples { IfOk result (λ o. IfSome o (λ p.
+        AreTuples (listed (option_map (λ v. tuple_values v.items) p.0)))) }
 {
-    match behind(text, front) {
-        None => Ok(Some((Vec::new(alloc), text))),
-        Some(rest) => tuples_before(alloc, rest),
+    let Some(rest) = behind(text, front) else {
+        return Ok(Some((None, text)));
+    };
+    match tuples_before(alloc, rest)? {
+        Some((tuples, rest)) => Ok(Some((Some(tuples), rest))),
+        None => Ok(None),
+    }
+}
+
+/// The tuples of a list that need not be there.
+fn listed<'a>(alloc: Global, list: Option<Vec<TupleRef<'a>>>) -> Vec<TupleRef<'a>>
+    ensures { tuple_values result.items ≡ listed (option_map (λ v. tuple_values v.items) list.entry) }
+{
+    match list {
+        Some(tuples) => tuples,
+        None => Vec::new(alloc),
     }
 }
 
@@ -208,8 +227,9 @@ fn commit_before(text: &str) -> Option<(u64, &str)>
     number_before(behind(text, "{\"kind\":\"commit\",\"at\":")?)
 }
 
-/// What a line commits that is written with each field once, in this order, with no space and no escape: its kind, its timestamp, and what it
-/// adds and removes, where it adds or removes, and then whatever texts more. None where the line is not written so, or a text is no tuple.
+/// What a line commits that is written with each field once, in this order, with no space and no escape: its kind,
+/// its timestamp, the lists of what it adds and removes, where they are there, and then whatever texts more. None where
+/// the line is not written so, or a text is no tuple.
 pub(crate) fn commit_written<'a>(
     alloc: Global,
     text: &'a str,
@@ -228,5 +248,9 @@ pub(crate) fn commit_written<'a>(
     if !is_more(rest) {
         return Ok(None);
     }
-    Ok(Some(CommitRef { at, adds, removes }))
+    Ok(Some(CommitRef {
+        at,
+        adds: listed(alloc, adds),
+        removes: listed(alloc, removes),
+    }))
 }
