@@ -1,7 +1,7 @@
 //! Evidence by the way that was found for another entry.
 
 ghost use Rattle.std.specs.Prelude.{◌≡◌, IfOk, IfSome};
-ghost use Rattle.trace_lines.specs.Values.{entry_value};
+ghost use Rattle.trace_lines.specs.EntryViews.{entry_value};
 ghost use Rattle.evidence_maker.specs.Made.{IsMadeFor};
 
 use crate::maker::{Made, made_of};

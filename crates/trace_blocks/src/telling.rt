@@ -22,8 +22,8 @@ impl TellLine for TraceLines {
 
     type Scratch = Scratch;
 
-    // What lines say is put in meanwhile, which takes one worker about as long as telling it takes the others together: so
-    // there are many blocks.
+    // What lines say is put in meanwhile, which takes one worker about as long as telling it takes the others
+    // together: so there are many blocks.
     const BLOCK: usize = 1 << 16;
 
     const PUTTERS: usize = 1;

@@ -27,7 +27,8 @@ issued_from n (e ∷ es) = issue_in_front n (version_issued e.kind (entry_versio
 abbrev pub issued_by : List EntryValue → List Issue
 issued_by es = issued_from 0 es
 
--- kept are the numbers of the entries that issue a version, and the marks of these versions; each version is issued once
+-- kept are the numbers of the entries that issue a version, and the marks of these versions; each version is issued
+-- once
 pub record AreIssued (versions : Versions) (es : List EntryValue) : Type 0 where
   pub numbers : versions.entries.items ≡ map (λ x. x.number) (issued_by es)
   pub marks : versions.marks ≡ map (λ x. version_mark x.version) (issued_by es)

@@ -11,7 +11,8 @@ pub record IsPlaced (lines : List ℕ) (e : EntryValue) : Type 0 where
   pub earlier : All (λ l. l < e.line) (take e.before lines)
   pub later : All (λ l. e.line < l) (drop e.before lines)
 
--- lines rise, each entry stands behind the commits before it, and the contents say which one issued the version that it names
+-- lines rise, each entry stands behind the commits before it, and the contents say which one issued the version that
+-- it names
 pub record IsKept (commits : List Commit) (lines : List ℕ) (es : List EntryValue) (contents : List (Option ℕ)) : Type 0 where
   pub counted : length lines ≡ length commits
   pub commits_rise : IsStrictlyIncreasing lines

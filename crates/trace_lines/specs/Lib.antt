@@ -1,6 +1,7 @@
 pub mod Causes
 pub mod Declaring
 pub mod EdgeCauses
+pub mod EntryViews
 pub mod Issued
 pub mod Kept
 pub mod KeptEntries

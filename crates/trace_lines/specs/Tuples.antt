@@ -9,7 +9,8 @@ use Rattle.version_chains.specs.Appends.{late_fault, last_at}
 use Rattle.strata.specs.Edges.{HasNoBrokenEdge}
 use Rattle.edge_checks.specs.Sampled.{Represents}
 
--- no edge is broken, of the rules nor of the tuples ever added, and a commit that is later than all others is later than each change
+-- no edge is broken, of the rules nor of the tuples ever added, and a commit that is later than all others is later
+-- than each change
 pub record IsOrderly (ds : List Declaration) (commits : List Commit) (sample : List TupleValue) : Type 0 where
   pub well_formed : IsWellFormed ds
   pub unbroken : HasNoBrokenEdge ds (added commits)

@@ -1,12 +1,10 @@
 -- What a trace says.
-use Rattle.std.specs.Prelude.{ℕ, ◌+◌, ◌-◌, max, Bool, List, [], length, slice_get, Option, None, Some, option_map, map}
-use Rattle.tuple_text.specs.FactRefs.{fact_value}
+use Rattle.std.specs.Prelude.{ℕ, ◌+◌, ◌-◌, max, Bool, List, [], length, slice_get, Option, None, Some, map}
 use Rattle.tuple_text.specs.Tuples.{FactValue}
 use Rattle.zookie.specs.Tokens.{Token}
 use Rattle.namespaces.specs.Declaration.{Declaration}
 use Rattle.version_chains.specs.Commits.{Commit}
 use Rattle.trace_lines.specs.declared.entry.EntryKind.{EntryKind}
-use Rattle.trace_lines.specs.declared.entry.Entry.{Entry}
 
 -- a recorded decision: which check it is, the line that it stands on, and what was asked and answered
 pub record EntryValue : Type 0 where
@@ -18,19 +16,6 @@ pub record EntryValue : Type 0 where
   pub zookie : Option Token
   pub version : Option (List ℕ)
   pub before : ℕ
-
--- an entry without where it lies in memory
-abbrev pub entry_value : Entry → EntryValue
-entry_value e = record {
-  kind = e.kind;
-  line = e.line;
-  goal = fact_value e.goal;
-  snapshot = e.snapshot;
-  reply = e.reply;
-  zookie = e.zookie;
-  version = option_map (λ s. s.now) e.version;
-  before = e.before;
-}
 
 -- the declarations, the commits with the lines that they stand on, and the entries, each in line order
 pub record TraceValue : Type 0 where

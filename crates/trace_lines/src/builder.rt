@@ -13,7 +13,8 @@ ghost use Rattle.edge_checks.specs.Indexed.{IsIndex};
 ghost use Rattle.trace_lines.specs.LineValues.{commits, declares, put_line, records};
 ghost use Rattle.trace_lines.specs.LineViews.{commit_value};
 ghost use Rattle.trace_lines.specs.Said.{said_line};
-ghost use Rattle.trace_lines.specs.Values.{empty_trace, entry_value, next_line};
+ghost use Rattle.trace_lines.specs.EntryViews.{entry_value};
+ghost use Rattle.trace_lines.specs.Values.{empty_trace, next_line};
 ghost use Rattle.trace_lines.specs.Traces.{is_declared, are_declared, is_begun, namespace_line, change_line, declaration_line, commit_checked, commit_of, with_commit, commit_line, entry_of, recorded, with_entry, entry_line, value_line};
 ghost use Rattle.trace_lines.specs.Versions.{entry_version, version_issued, issuer, content_among};
 ghost use Rattle.trace_lines.specs.declared.cause.Cause.TheVariants.{NotJson};
@@ -125,7 +126,8 @@ fn usersets_of(alloc: Global, chains: &Chains, rules: &Rules) -> UsersetIndex
     }
 }
 
-/// Commits changes to the chains, and takes what they add into the sample and the index. The tuples that were there stay in front.
+/// Commits changes to the chains, and takes what they add into the sample and the index. The tuples that were there
+/// stay in front.
 fn commit(
     rules: &Rules,
     sample: &mut Sample,
@@ -137,8 +139,10 @@ fn commit(
 ) -> Result<(), Cause>
     requires unbroken { first_broken rules.now (edges_of_tuples rules.now sample.old) ≡ Ok (tt {0}) }
     requires index { IsIndex rules.now index.old sample.old }
-    ensures answer { Gives (λ u. u) result (commit_checked rules.now chains.old at (tuple_values adds.now) (tuple_values removes.now)) }
-    ensures appended { OnOk result (chains.new ≡ appended chains.old at (tuple_values adds.now) (tuple_values removes.now)) }
+    ensures answer { Gives (λ u. u) result
+        (commit_checked rules.now chains.old at (tuple_values adds.now) (tuple_values removes.now)) }
+    ensures appended { OnOk result (chains.new
+        ≡ appended chains.old at (tuple_values adds.now) (tuple_values removes.now)) }
     ensures unchanged { OnErr result (chains.new ≡ chains.old) }
     ensures taken { OnOk result (Represents sample.new (sample.old ++ tuple_values adds.now)) }
     ensures kept { take (length sample.old) sample.new ≡ sample.old }
@@ -330,7 +334,8 @@ impl TraceBuilder {
         removes: &[TupleRef<'_>],
     ) -> Result<(), Cause>
         requires { next_line self.old ≤ line }
-        ensures { Gives (λ _. self.new) result (with_commit line self.old (record { at = at; adds = tuple_values adds.now; removes = tuple_values removes.now })) }
+        ensures { Gives (λ _. self.new) result
+            (with_commit line self.old (record { at = at; adds = tuple_values adds.now; removes = tuple_values removes.now })) }
     {
         if !self.are_declared(adds) || !self.are_declared(removes) {
             return Err(Cause::Unknown);
@@ -388,7 +393,8 @@ impl TraceBuilder {
     fn take_written(&mut self, line: u64, text: &str) -> Option<Result<(), Cause>>
         requires { next_line self.old ≤ line }
         ensures none { result ≡ None → self.new ≡ self.old }
-        ensures answer { IfSome result (λ r. Gives (λ _. self.new) r (of_json NotJson (value_line line self.old) (read text.now))) }
+        ensures answer { IfSome result
+            (λ r. Gives (λ _. self.new) r (of_json NotJson (value_line line self.old) (read text.now))) }
     {
         if let Some((kind, said)) = check_written(text) {
             return Some(self.take_said(kind, line, said));

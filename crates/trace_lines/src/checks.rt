@@ -5,7 +5,7 @@ ghost use Rattle.serde_json.specs.Data.{Data};
 ghost use Rattle.json_lines.specs.Data.{value_data};
 ghost use Rattle.trace_lines.specs.Causes.{Gives};
 ghost use Rattle.trace_lines.specs.Said.{entry_said};
-ghost use Rattle.trace_lines.specs.Values.{entry_value};
+ghost use Rattle.trace_lines.specs.EntryViews.{entry_value};
 ghost use Rattle.trace_lines.specs.Traces.{entry_of};
 ghost use Rattle.trace_lines.specs.LineFields.{check_fields};
 
@@ -72,7 +72,8 @@ fn entry_in<'a>(
     before: usize,
     fields: &[Option<JsonRef<'_, 'a>>],
 ) -> Result<Entry<'a>, Cause>
-    ensures { (d : Data) → map (option_map value_data) fields.now ≡ check_fields d → Gives entry_value result (entry_of kind line before d) }
+    ensures { (d : Data) → map (option_map value_data) fields.now ≡ check_fields d
+        → Gives entry_value result (entry_of kind line before d) }
 {
     let said = said_in(kind, fields).ok_or(Cause::Shape)?;
     entry_from(kind, line, before, said)

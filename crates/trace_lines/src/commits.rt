@@ -51,7 +51,8 @@ pub(crate) fn commit_of<'a>(alloc: Global, value: &JsonRef<'_, 'a>) -> Result<Co
 /// What fields commit.
 #[tactic(auto, unfolding(crate::specs::Traces::commit_of))]
 fn commit_in<'a>(alloc: Global, fields: &[Option<JsonRef<'_, 'a>>]) -> Result<CommitRef<'a>, Cause>
-    ensures { (d : Data) → map (option_map value_data) fields.now ≡ commit_fields d → Gives commit_value result (commit_of d) }
+    ensures { (d : Data) → map (option_map value_data) fields.now ≡ commit_fields d
+        → Gives commit_value result (commit_of d) }
 {
     let [at, add, remove] = fields else {
         return Err(Cause::Shape);
@@ -71,7 +72,8 @@ fn commit_said<'a>(
     add: Option<JsonItems<'_, 'a>>,
     remove: Option<JsonItems<'_, 'a>>,
 ) -> Result<CommitRef<'a>, Cause>
-    ensures { Gives commit_value result (commit_said at (option_map items_data add.entry) (option_map items_data remove.entry)) }
+    ensures { Gives commit_value result
+        (commit_said at (option_map items_data add.entry) (option_map items_data remove.entry)) }
 {
     let (Some(at), Some(add), Some(remove)) = (at, add, remove) else {
         return Err(Cause::Shape);

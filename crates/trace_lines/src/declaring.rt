@@ -1,4 +1,5 @@
-//! The rules of a trace, as its lines declare them. Where a line is refused no rule is left, for the trace is refused with it.
+//! The rules of a trace, as its lines declare them. Where a line is refused no rule is left, for the trace is refused
+//! with it.
 
 ghost use Rattle.std.specs.Prelude.{◌≡◌, option_map, ℕ, ◌<◌, [], OnOk, OnErr};
 ghost use Rattle.serde_json.specs.View.{view};

@@ -6,7 +6,7 @@ ghost use Rattle.tuple_text.specs.Refs.{set_value};
 ghost use Rattle.trace_lines.specs.Issued.{version_value};
 ghost use Rattle.trace_lines.specs.KeptEntries.{IsEntryIn, label_in, number_at, piece, recorded_in, zookie_in};
 ghost use Rattle.trace_lines.specs.Recorded.{Recorded};
-ghost use Rattle.trace_lines.specs.Values.{entry_value};
+ghost use Rattle.trace_lines.specs.EntryViews.{entry_value};
 ghost use Rattle.trace_lines.specs.Versions.{entry_version, is_version, version_of};
 ghost use Rattle.version_chains.specs.Texts.{GoesOn, IsSpan};
 
@@ -48,8 +48,8 @@ pub(crate) struct KeptEntry {
     reply: bool,
 }
 
-/// Entries, and for each that names a version the entry that issued that. Their texts stand one behind the other in one,
-/// so that an entry wants no memory of its own.
+/// Entries, and for each that names a version the entry that issued that. Their texts stand one behind the other in
+/// one, so that an entry wants no memory of its own.
 #[derive(Drop)]
 pub(crate) struct Entries {
     text: String,

@@ -39,16 +39,21 @@ fn made_of(builder: TraceBuilder, read: Result<(), LineFault<Cause>>) -> Result<
     }
 }
 
-/// Reads the trace in front of the first line that is exactly `---`, as [`read_trace`](crate::read_trace) reads a whole input.
+/// Reads the trace in front of the first line that is exactly `---`, as [`read_trace`](crate::read_trace) reads a
+/// whole input.
 ///
 /// An error is of the whole input: the reader failed, there are more than 2^30 bytes, or memory ran out.
 pub fn read_trace_front<R: Source>(alloc: Global, reader: &mut R) -> Result<TraceFront, InputFault>
     // Where there is a marker: what stands before it is such a trace, or is refused so.
-    ensures front { IfOk result (λ f. IfSome f.rest (λ rest. IsFront (R.given reader.old) (R.given reader.new) rest (λ a. GivesTrace f.trace (trace_of true a)))) }
-    ensures none { IfOk result (λ f. f.rest ≡ None → OfWhole R.given R.ends reader.old reader.new (λ came. joined_of came ≡ None)) }
+    ensures front { IfOk result (λ f. IfSome f.rest
+        (λ rest. IsFront (R.given reader.old) (R.given reader.new) rest (λ a. GivesTrace f.trace (trace_of true a)))) }
+    ensures none { IfOk result (λ f. f.rest ≡ None
+        → OfWhole R.given R.ends reader.old reader.new (λ came. joined_of came ≡ None)) }
     ensures refused { IfOk result (λ f. IfErr f.trace (λ e. e.cause ≢ Read)) }
-    ensures ended { IfOk result (λ f. IfSome f.rest (λ rest. R.ends reader.new + ends_left rest.ended ≡ R.ends reader.old + 1)) }
-    ensures long { result ≡ Err input.TooLong → OfBytes R.given reader.old reader.new (λ came. MAX_INPUT < length came) }
+    ensures ended { IfOk result (λ f. IfSome f.rest
+        (λ rest. R.ends reader.new + ends_left rest.ended ≡ R.ends reader.old + 1)) }
+    ensures long { result ≡ Err input.TooLong
+        → OfBytes R.given reader.old reader.new (λ came. MAX_INPUT < length came) }
     // Also of a reader that never ends.
     ensures most { OfBytes R.given reader.old reader.new (λ came. length came ≤ MAX_INPUT + CHUNK) }
     ensures known { AreNext R.given R.ends R.remaining reader.old reader.new }

@@ -1,4 +1,5 @@
-//! What the type of a trace keeps, and what holds of the trace that bytes say. Each function computes nothing: what it ensures is the law.
+//! What the type of a trace keeps, and what holds of the trace that bytes say. Each function computes nothing: what
+//! it ensures is the law.
 
 ghost use Rattle.std.specs.Prelude.{◌≡◌, ℕ, List, true, Ok};
 ghost use Rattle.std.specs.List.Sorted.{IsStrictlyIncreasing};
@@ -41,10 +42,12 @@ pub fn valid_strata_of_bytes()
 
 /// In the trace that some bytes say, the entries stand on lines that rise.
 pub fn entries_of_bytes_rise()
-    ensures { (bytes : List ℕ) (t : TraceValue) → trace_of true bytes ≡ Ok t → IsStrictlyIncreasing (entry_lines t.entries) }
+    ensures { (bytes : List ℕ) (t : TraceValue) → trace_of true bytes ≡ Ok t
+        → IsStrictlyIncreasing (entry_lines t.entries) }
 {}
 
-/// In the trace that some bytes say, each commit has its line, lines and timestamps rise, and no commit touches a tuple twice.
+/// In the trace that some bytes say, each commit has its line, lines and timestamps rise, and no commit touches a
+/// tuple twice.
 pub fn commits_of_bytes()
     ensures { (bytes : List ℕ) (t : TraceValue) → trace_of true bytes ≡ Ok t → HasPlacedCommits t }
 {}

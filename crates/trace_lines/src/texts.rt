@@ -74,7 +74,8 @@ pub(crate) fn is_label(text: &str) -> bool
 /// The label that a field is, where there is one; None where it is of another shape.
 #[tactic(auto, unfolding(crate::specs::Texts::label_in))]
 fn label_in<'a>(field: Option<&JsonRef<'_, 'a>>) -> Option<Option<&'a str>>
-    ensures { option_map (option_map (λ s. s.now)) result ≡ label_in (option_map value_data (option_copied field.entry)) }
+    ensures { option_map (option_map (λ s. s.now)) result
+        ≡ label_in (option_map value_data (option_copied field.entry)) }
 {
     match optional_text_of(field) {
         None => None,
@@ -96,14 +97,16 @@ pub(crate) fn fits_reply(kind: EntryKind, reply: bool, label: Option<&str>) -> b
     }
 }
 
-/// The label that the field for it is in a line of this kind with this reply, where there is one; None where it is of another shape.
+/// The label that the field for it is in a line of this kind with this reply, where there is one; None where it is of
+/// another shape.
 #[tactic(auto, unfolding(crate::specs::Texts::version_in))]
 pub(crate) fn version_in<'a>(
     kind: EntryKind,
     reply: bool,
     field: Option<&JsonRef<'_, 'a>>,
 ) -> Option<Option<&'a str>>
-    ensures { option_map (option_map (λ s. s.now)) result ≡ version_in kind reply (option_map value_data (option_copied field.entry)) }
+    ensures { option_map (option_map (λ s. s.now)) result
+        ≡ version_in kind reply (option_map value_data (option_copied field.entry)) }
 {
     let label = label_in(field)?;
     if fits_reply(kind, reply, label) {

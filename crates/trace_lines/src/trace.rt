@@ -6,7 +6,8 @@ ghost use Rattle.namespaces.specs.Lookup.{rule_at};
 ghost use Rattle.version_chains.specs.Commits.{store_at};
 ghost use Rattle.strata.specs.Strata.{HasValidStrata};
 ghost use Rattle.trace_lines.specs.Timelines.{timeline_of};
-ghost use Rattle.trace_lines.specs.Values.{entry_lines, entry_value};
+ghost use Rattle.trace_lines.specs.EntryViews.{entry_value};
+ghost use Rattle.trace_lines.specs.Values.{entry_lines};
 ghost use Rattle.trace_lines.specs.Versions.{content_of, AreIssuedOnce};
 
 use crate::entries::Entries;

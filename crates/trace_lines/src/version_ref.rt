@@ -12,7 +12,8 @@ pub(crate) struct VersionRef<'a> {
     pub(crate) object: SetRef<'a>,
     pub(crate) label: &'a str,
     pub(crate) mark: u64,
-    ghost is_its_mark: { mark ≡ version_mark (record { namespace = object.namespace.now; id = object.id.now; label = label.now }) },
+    ghost is_its_mark: { mark
+        ≡ version_mark (record { namespace = object.namespace.now; id = object.id.now; label = label.now }) },
 }
 
 impl<'a> VersionRef<'a> {

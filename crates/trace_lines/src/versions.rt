@@ -3,7 +3,7 @@
 ghost use Rattle.std.specs.Prelude.{◌≡◌, ◌∷◌, ◌++◌, [], option_map, OnOk, OnErr};
 ghost use Rattle.trace_lines.specs.Issued.{AreIssued, version_value};
 ghost use Rattle.trace_lines.specs.Recorded.{shown};
-ghost use Rattle.trace_lines.specs.Values.{entry_value};
+ghost use Rattle.trace_lines.specs.EntryViews.{entry_value};
 ghost use Rattle.trace_lines.specs.VersionMarks.{version_mark};
 ghost use Rattle.trace_lines.specs.Versions.{entry_version, issuer};
 
@@ -25,8 +25,8 @@ pub(crate) fn version_of<'a>(entry: &Entry<'a>) -> Option<VersionRef<'a>>
 
 /// The versions that the entries of a trace issued, each by the number of its entry, where its texts stand.
 ///
-/// They are found as the store finds tuples: no choice of texts makes that slower than the logarithm of their number, as long as
-/// few of them have one mark.
+/// They are found as the store finds tuples: no choice of texts makes that slower than the logarithm of their number,
+/// as long as few of them have one mark.
 #[derive(Drop)]
 pub(crate) struct Versions {
     entries: Vec<usize>,
@@ -60,7 +60,8 @@ impl Versions {
     /// Adds the version that the entry of this number issues. Where memory runs out, nothing changes.
     pub(crate) fn push(&mut self, version: VersionRef<'_>, number: usize) -> Result<(), AllocError>
         ensures entries { OnOk result (self.new.entries.items ≡ self.old.entries.items ++ number ∷ []) }
-        ensures marks { OnOk result (self.new.marks ≡ self.old.marks ++ version_mark (version_value version.entry) ∷ []) }
+        ensures marks { OnOk result (self.new.marks
+            ≡ self.old.marks ++ version_mark (version_value version.entry) ∷ []) }
         ensures same_entries { OnErr result (self.new.entries.items ≡ self.old.entries.items) }
         ensures same_marks { OnErr result (self.new.marks ≡ self.old.marks) }
     {

@@ -1,7 +1,7 @@
 use Rattle.std.proofs.Common.{◌≡◌, ◌∙◌, List, length, Option, Some, None, Bor, refl, arith}
 use Rattle.std.specs.Prelude.{IfSome, option_map, string_bytes}
 use Rattle.std.specs.Option.{option_copied}
-use Rattle.trace_lines.specs.Values.{entry_value}
+use Rattle.trace_lines.specs.EntryViews.{entry_value}
 use Rattle.evidence_check.specs.Steps.{StepValue, step_values}
 use Rattle.evidence_maker.specs.declared.maker.Made.{Made}
 use Rattle.record_text.specs.ReadBack.{IsTaken}

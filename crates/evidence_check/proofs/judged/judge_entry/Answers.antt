@@ -1,5 +1,5 @@
 use Rattle.std.specs.Prelude.{true, false, option_map}
-use Rattle.trace_lines.specs.Values.{entry_value}
+use Rattle.trace_lines.specs.EntryViews.{entry_value}
 use Rattle.evidence_check.specs.Steps.{step_values}
 use Rattle.evidence_check.proofs.JudgedLemmas.{if_judged}
 use Rattle.evidence_check.proofs.judged.judge_entry.Goals as goal

@@ -1,5 +1,5 @@
 use Rattle.std.proofs.Common.{rules}
-use Rattle.trace_lines.specs.Values.{entry_value}
+use Rattle.trace_lines.specs.EntryViews.{entry_value}
 use Rattle.evidence_check.proofs.Shown.{one_more_line}
 use Rattle.evidence_check.proofs.placed.lines_of.Goals as goal
 

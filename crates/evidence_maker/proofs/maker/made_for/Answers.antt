@@ -1,7 +1,7 @@
 use Rattle.std.proofs.Common.{◌≡◌, ◌≤◌, [], ◌∷◌, ◌∙◌, inl, refl, rules, arith}
 use Rattle.namespaces.specs.Lookup.{rule_at}
 use Rattle.version_chains.specs.Commits.{store_at}
-use Rattle.trace_lines.specs.Values.{entry_value}
+use Rattle.trace_lines.specs.EntryViews.{entry_value}
 use Rattle.evidence_check.specs.Steps.{yes_step, no_step, step_values}
 use Rattle.goal_cone.specs.declared.fault.ConeFault.TheVariants.{Outgrown}
 use Rattle.evidence_maker.specs.Made.{IsRecord, IsOneStep}

@@ -1,5 +1,5 @@
 use Rattle.std.proofs.Common.{◌≡◌, ◌↔◌, false, IsTrue, Some, inl, inr, sym, ◌∙◌}
-use Rattle.trace_lines.specs.Values.{entry_value}
+use Rattle.trace_lines.specs.EntryViews.{entry_value}
 use Rattle.evidence_check.specs.Judged.{judged}
 use Rattle.evidence_check.specs.Steps.{step_values}
 use Rattle.evidence_maker.specs.Made.{Fits}

@@ -1,4 +1,4 @@
-use Rattle.trace_lines.specs.Values.{entry_value}
+use Rattle.trace_lines.specs.EntryViews.{entry_value}
 use Rattle.evidence_check.specs.Evidences.{evidence_value}
 use Rattle.findings.specs.Findings.{findings_of}
 use Rattle.findings.proofs.OneMore.{one_more}

@@ -1,5 +1,5 @@
 use Rattle.std.proofs.Common.{◌-◌, arith, sym, ◌∙◌}
-use Rattle.trace_lines.specs.Values.{entry_value}
+use Rattle.trace_lines.specs.EntryViews.{entry_value}
 use Rattle.token_order.specs.Found.{not_latest}
 use Rattle.token_order.proofs.Compared.{StandsAmong, stands_among, told_of, first_of_all, latest, late}
 use Rattle.token_order.proofs.order.not_latest.Goals.{After-commits-times}

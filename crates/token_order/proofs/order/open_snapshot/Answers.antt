@@ -1,7 +1,7 @@
 use Rattle.std.proofs.Common.{length, arith, ap}
 use Rattle.std.proofs.lemmas.List.{length-map}
 use Rattle.version_chains.specs.Commits.{Commit}
-use Rattle.trace_lines.specs.Values.{entry_value}
+use Rattle.trace_lines.specs.EntryViews.{entry_value}
 use Rattle.token_order.specs.Found.{open_snapshot}
 use Rattle.token_order.proofs.Compared.{StandsAmong, stands_among, told_of, last_of_all, closed, still_open}
 use Rattle.token_order.proofs.order.open_snapshot.Goals.{After-commits-times}

@@ -1,5 +1,5 @@
 use Rattle.std.proofs.Common.{◌≡◌, ◌∙◌, Some, sym, subst}
-use Rattle.trace_lines.specs.Values.{entry_value}
+use Rattle.trace_lines.specs.EntryViews.{entry_value}
 use Rattle.evidence_maker.specs.Made.{IsOutOfReach}
 use Rattle.evidence_maker.proofs.maker.Maker.make_after.Goals as goal
 

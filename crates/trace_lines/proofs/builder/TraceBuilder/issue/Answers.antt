@@ -1,6 +1,7 @@
 use Rattle.std.proofs.Common.{◌≡◌, ◌≤◌, None, length, sym, subst, ◌∙◌}
 use Rattle.trace_lines.specs.Issued.{version_value}
-use Rattle.trace_lines.specs.Values.{TraceValue, entry_value, next_line}
+use Rattle.trace_lines.specs.EntryViews.{entry_value}
+use Rattle.trace_lines.specs.Values.{TraceValue, next_line}
 use Rattle.trace_lines.specs.Recorded.{Recorded, shown}
 use Rattle.trace_lines.proofs.IssuedVersions.{unchanged_issued}
 use Rattle.trace_lines.proofs.Recording.{content_names_nothing, issued_content, kept_push, not_there}

@@ -1,6 +1,7 @@
 use Rattle.std.proofs.Common.{◌≡◌, ◌≤◌, length, sym, subst}
 use Rattle.trace_lines.specs.Recorded.{Recorded}
-use Rattle.trace_lines.specs.Values.{TraceValue, entry_value, next_line}
+use Rattle.trace_lines.specs.EntryViews.{entry_value}
+use Rattle.trace_lines.specs.Values.{TraceValue, next_line}
 use Rattle.trace_lines.specs.Versions.{content_among}
 use Rattle.trace_lines.proofs.Recording.{issued_plain, kept_push}
 use Rattle.trace_lines.proofs.builder.TraceBuilder.push.Goals as goal

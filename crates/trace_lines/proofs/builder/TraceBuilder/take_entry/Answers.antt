@@ -1,6 +1,7 @@
 use Rattle.std.proofs.Common.{◌≡◌, ◌∙◌, length, subst}
 use Rattle.json_lines.specs.Data.{value_data}
-use Rattle.trace_lines.specs.Values.{TraceValue, entry_value}
+use Rattle.trace_lines.specs.EntryViews.{entry_value}
+use Rattle.trace_lines.specs.Values.{TraceValue}
 use Rattle.trace_lines.proofs.RisingLines.{entry_stands}
 use Rattle.trace_lines.proofs.builder.TraceBuilder.take_entry.Goals as goal
 

@@ -1,6 +1,7 @@
 use Rattle.std.proofs.Common.{◌≡◌, ◌<◌, ◌≤◌, All, Some, take, drop, length, sym, subst}
 use Rattle.std.specs.Prelude.{slice_get}
-use Rattle.trace_lines.specs.Values.{TraceValue, entry_value}
+use Rattle.trace_lines.specs.EntryViews.{entry_value}
+use Rattle.trace_lines.specs.Values.{TraceValue}
 use Rattle.trace_lines.proofs.Recording.{entry_recorded, placed_recorded}
 use Rattle.trace_lines.proofs.trace.Trace.entry.Goals as goal
 
