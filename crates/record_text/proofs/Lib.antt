@@ -1,6 +1,6 @@
 pub mod Counted
 pub mod Lengths
-pub mod NoFloats
 pub mod OneLine
+pub mod Pieces
 pub mod Short
 pub mod Taken

@@ -8,6 +8,7 @@ ghost use Rattle.evidence_check.specs.RecordData.{fact_data, facts_data, step_da
 ghost use Rattle.evidence_check.specs.Steps.{step_value, step_values};
 ghost use Rattle.record_text.specs.Record.{record_length};
 
+use crate::record::{are_plain, is_fact};
 use evidence_check::Step;
 use itoa::Buffer;
 use tuple_text::Fact;
@@ -40,9 +41,13 @@ fn escaped_byte(byte: u8) -> u64
 }
 
 /// How many bytes stand in a text of JSON for a text, without the two quotes.
+#[tactic(auto, using(crate::proofs::Pieces::plain_length))]
 fn escaped_bytes(text: &str) -> u64
     ensures { result ≡ min (length (escape text.now)) (2 ^ 64 - 1) }
 {
+    if are_plain(text) {
+        return text.len() as u64;
+    }
     let mut count: u64 = 0;
     for byte in text.as_bytes() {
         count = count.saturating_add(escaped_byte(*byte));
@@ -50,17 +55,18 @@ fn escaped_bytes(text: &str) -> u64
     count
 }
 
-#[tactic(auto, using(crate::proofs::Lengths::fact_length))]
+#[tactic(auto, using(crate::proofs::Pieces::plain_fact_length))]
 fn fact_bytes(fact: &Fact) -> u64
     ensures { result ≡ min (length (compact_text (fact_data fact.now))) (2 ^ 64 - 1) }
 {
+    is_fact(fact);
     let set = fact.set();
     let mut digits = Buffer::new();
-    // the two quotes, and the three marks between the parts
-    5u64.saturating_add(escaped_bytes(set.namespace))
+    // the two quotes, and the three marks between the parts, of which the object id alone may have escapes
+    5u64.saturating_add(set.namespace.len() as u64)
         .saturating_add(escaped_bytes(set.id))
-        .saturating_add(escaped_bytes(set.relation))
-        .saturating_add(escaped_bytes(digits.format(fact.user())))
+        .saturating_add(set.relation.len() as u64)
+        .saturating_add(digits.format(fact.user()).len() as u64)
 }
 
 fn facts_bytes(facts: &[Fact]) -> u64

@@ -1,91 +1,176 @@
 //! Writing a record.
 
-ghost use Rattle.std.specs.Prelude.{◌≡◌, List, ◌++◌, ◌∷◌, [], string_bytes, is_ok, map, IfOk, OnOk, if◌then◌else◌};
-ghost use Rattle.std.specs.List.{AllByRecursion};
-ghost use Rattle.serde_json.specs.View.{view};
+ghost use Rattle.std.specs.Prelude.{◌≡◌, List, ◌++◌, ◌∷◌, [], string_bytes, is_ok, true, IfOk, OnOk, if◌then◌else◌};
+ghost use Rattle.std.specs.List.{AllByRecursion, list_all};
+ghost use Rattle.serde_json.specs.Written.{comma_if, compact_text};
 ghost use Rattle.trace_lines.specs.Values.{EntryValue};
-ghost use Rattle.tuple_text.specs.Grammar.{IsFact};
-ghost use Rattle.evidence_check.specs.RecordData.{fact_data, facts_data, step_data, steps_data, record_data, HasFacts, HaveFacts};
-ghost use Rattle.evidence_check.specs.Steps.{step_value, step_values};
+ghost use Rattle.tuple_text.specs.Grammar.{IsFact, userset_text};
+ghost use Rattle.tuple_text.specs.Quoted.{is_plain_byte};
+ghost use Rattle.tuple_text.specs.Refs.{set_value};
+ghost use Rattle.evidence_check.specs.RecordData.{fact_data, facts_data, step_data, steps_data, HasFacts, HaveFacts};
+ghost use Rattle.evidence_check.specs.Steps.{yes_step, no_step, step_value, step_values};
 ghost use Rattle.record_text.specs.Record.{record_text};
 ghost use Rattle.record_text.specs.ReadBack.{IsTaken, IsReadBack};
 
 use crate::laws::{read_back, taken};
 use evidence_check::Step;
-use serde_json::{Value, json};
+use itoa::Buffer;
+use serde_json::Value;
 use std::alloc::{AllocError, Global};
-use tuple_text::{Fact, write_fact};
+use tuple_text::{Fact, SetRef, write_fact};
+
+/// How much room a record begins with, in bytes. Most records need no more.
+const ROOM: usize = 512;
 
 /// A fact has a text, by its type.
-fn is_fact(fact: &Fact)
+pub(crate) fn is_fact(fact: &Fact)
     ensures { IsFact fact.now }
 {
     let _ = fact.set();
     let _ = fact.user();
 }
 
-fn fact_in_json(alloc: Global, fact: &Fact) -> Result<Value, AllocError>
-    ensures value { IfOk result (λ v. view v ≡ fact_data fact.now) }
+/// Whether a byte stands for itself in a text of JSON.
+fn is_plain(byte: u8) -> bool
+    ensures { result ≡ is_plain_byte byte }
+{
+    byte >= 32 && byte != b'"' && byte != b'\\'
+}
+
+/// Whether each byte of a text does.
+pub(crate) fn are_plain(text: &str) -> bool
+    ensures { result ≡ list_all is_plain_byte text.now }
+{
+    for byte in text.as_bytes() {
+        if !is_plain(*byte) {
+            return false;
+        }
+    }
+    true
+}
+
+/// Appends a fact of an object id that does not stand for itself.
+fn push_escaped(fact: &Fact, out: &mut String) -> Result<(), AllocError>
+    ensures { OnOk result (string_bytes out.new ≡ string_bytes out.old ++ compact_text (fact_data fact.now)) }
+{
+    let alloc = *out.allocator();
+    let mut text = String::new(alloc);
+    write_fact(fact, &mut text)?;
+    let text = Value::String(text).to_string(alloc)?;
+    out.push_str(text.as_str())
+}
+
+fn push_set(set: SetRef<'_>, out: &mut String) -> Result<(), AllocError>
+    ensures { OnOk result (string_bytes out.new ≡ string_bytes out.old ++ userset_text (set_value set.entry)) }
+{
+    out.push_str(set.namespace)?;
+    out.push(':')?;
+    out.push_str(set.id)?;
+    out.push('#')?;
+    out.push_str(set.relation)
+}
+
+/// Appends a fact of an object id that stands for itself, as its other parts do by their forms.
+fn push_plain(fact: &Fact, out: &mut String) -> Result<(), AllocError>
+    requires { list_all is_plain_byte fact.now.set.id ≡ true }
+    ensures { OnOk result (string_bytes out.new ≡ string_bytes out.old ++ compact_text (fact_data fact.now)) }
+{
+    is_fact(fact);
+    let mut digits = Buffer::new();
+    out.push('"')?;
+    push_set(fact.set(), out)?;
+    out.push('@')?;
+    out.push_str(digits.format(fact.user()))?;
+    out.push('"')
+}
+
+fn push_fact(fact: &Fact, out: &mut String) -> Result<(), AllocError>
+    ensures text { OnOk result (string_bytes out.new ≡ string_bytes out.old ++ compact_text (fact_data fact.now)) }
     ensures form { IsFact fact.now }
 {
     is_fact(fact);
-    let mut text = String::new(alloc);
-    write_fact(fact, &mut text)?;
-    Ok(Value::String(text))
+    if are_plain(fact.set().id) {
+        push_plain(fact, out)
+    } else {
+        push_escaped(fact, out)
+    }
 }
 
-fn facts_in_json(alloc: Global, facts: &[Fact]) -> Result<Value, AllocError>
-    ensures value { IfOk result (λ v. view v ≡ facts_data facts.now) }
+/// Appends a comma, where something stands before.
+fn push_comma(later: bool, out: &mut String) -> Result<(), AllocError>
+    ensures { OnOk result (string_bytes out.new ≡ string_bytes out.old ++ comma_if later) }
+{
+    if later { out.push(',') } else { Ok(()) }
+}
+
+fn push_facts(facts: &[Fact], out: &mut String) -> Result<(), AllocError>
+    ensures text { OnOk result (string_bytes out.new ≡ string_bytes out.old ++ compact_text (facts_data facts.now)) }
     ensures form { OnOk result (AllByRecursion IsFact facts.now) }
 {
-    let mut values = Vec::with_capacity(alloc, facts.len())?;
+    out.push('[')?;
+    let mut later = false;
     for fact in facts {
-        values.push(fact_in_json(alloc, fact)?)?;
+        push_comma(later, out)?;
+        push_fact(fact, out)?;
+        later = true;
     }
-    Ok(Value::Array(values))
+    out.push(']')
 }
 
-fn step_in_json(alloc: Global, step: &Step) -> Result<Value, AllocError>
-    ensures value { IfOk result (λ v. view v ≡ step_data (step_value step.now)) }
+fn push_yes(fact: &Fact, out: &mut String) -> Result<(), AllocError>
+    ensures text { OnOk result (string_bytes out.new ≡ string_bytes out.old ++ compact_text (step_data (yes_step fact.now))) }
+    ensures form { OnOk result (IsFact fact.now) }
+{
+    out.push_str("{\"yes\":")?;
+    push_fact(fact, out)?;
+    out.push('}')
+}
+
+fn push_no(facts: &[Fact], out: &mut String) -> Result<(), AllocError>
+    ensures text { OnOk result (string_bytes out.new ≡ string_bytes out.old ++ compact_text (step_data (no_step facts.now))) }
+    ensures form { OnOk result (AllByRecursion IsFact facts.now) }
+{
+    out.push_str("{\"no\":")?;
+    push_facts(facts, out)?;
+    out.push('}')
+}
+
+fn push_step(step: &Step, out: &mut String) -> Result<(), AllocError>
+    ensures text { OnOk result (string_bytes out.new ≡ string_bytes out.old ++ compact_text (step_data (step_value step.now))) }
     ensures form { OnOk result (HasFacts (step_value step.now)) }
 {
     match step {
-        Step::Yes(fact) => {
-            let fact = fact_in_json(alloc, fact)?;
-            json!(in alloc; {"yes": fact})
-        }
-        Step::No(facts) => {
-            let facts = facts_in_json(alloc, facts)?;
-            json!(in alloc; {"no": facts})
-        }
+        Step::Yes(fact) => push_yes(fact, out),
+        Step::No(facts) => push_no(facts, out),
     }
 }
 
-fn steps_in_json(alloc: Global, steps: &[Step]) -> Result<Value, AllocError>
-    ensures value { IfOk result (λ v. view v ≡ steps_data (step_values steps.now)) }
+fn push_steps(steps: &[Step], out: &mut String) -> Result<(), AllocError>
+    ensures text { OnOk result (string_bytes out.new ≡ string_bytes out.old ++ compact_text (steps_data (step_values steps.now))) }
     ensures form { OnOk result (HaveFacts (step_values steps.now)) }
 {
-    let mut values = Vec::with_capacity(alloc, steps.len())?;
+    out.push('[')?;
+    let mut later = false;
     for step in steps {
-        values.push(step_in_json(alloc, step)?)?;
+        push_comma(later, out)?;
+        push_step(step, out)?;
+        later = true;
     }
-    Ok(Value::Array(values))
-}
-
-fn record_in_json(alloc: Global, line: u64, steps: &[Step]) -> Result<Value, AllocError>
-    ensures value { IfOk result (λ v. view v ≡ record_data line (step_values steps.now)) }
-    ensures form { OnOk result (HaveFacts (step_values steps.now)) }
-{
-    let steps = steps_in_json(alloc, steps)?;
-    json!(in alloc; {"line": line, "steps": steps})
+    out.push(']')
 }
 
 fn text_of(alloc: Global, line: u64, steps: &[Step]) -> Result<String, AllocError>
     ensures text { IfOk result (λ s. string_bytes s ≡ record_text line (step_values steps.now)) }
     ensures form { OnOk result (HaveFacts (step_values steps.now)) }
 {
-    let record = record_in_json(alloc, line, steps)?;
-    record.to_string(alloc)
+    let mut text = String::with_capacity(alloc, ROOM)?;
+    let mut digits = Buffer::new();
+    text.push_str("{\"line\":")?;
+    text.push_str(digits.format(line))?;
+    text.push_str(",\"steps\":")?;
+    push_steps(steps, &mut text)?;
+    text.push('}')?;
+    Ok(text)
 }
 
 /// Appends the record of the steps for the entry on a line, and a newline. Where memory runs out, the string stays as it was.

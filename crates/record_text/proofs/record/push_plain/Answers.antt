@@ -1,0 +1,7 @@
+use Rattle.std.proofs.Common.{arith}
+use Rattle.std.proofs.lemmas.Grind.{common_steps}
+use Rattle.record_text.proofs.Pieces.{fact_stands}
+use Rattle.record_text.proofs.record.push_plain.Goals as goal
+
+pub returns : goal.returns
+returns c = rw (fact_stands c.args.fact.now c.is_fact.ensures c.requires) (grind (arith, common_steps))
