@@ -41,6 +41,7 @@ fn is_plain(byte: u8) -> bool
 pub(crate) fn are_plain(text: &str) -> bool
     ensures { result ≡ list_all is_plain_byte text.now }
 {
+    // an object id has 128 bytes at most
     for byte in text.as_bytes() {
         if !is_plain(*byte) {
             return false;
@@ -109,6 +110,7 @@ fn push_facts(facts: &[Fact], out: &mut String) -> Result<(), AllocError>
 {
     out.push('[')?;
     let mut later = false;
+    // a record has 100,000 facts at most
     for fact in facts {
         push_comma(later, out)?;
         push_fact(fact, out)?;
@@ -118,7 +120,8 @@ fn push_facts(facts: &[Fact], out: &mut String) -> Result<(), AllocError>
 }
 
 fn push_yes(fact: &Fact, out: &mut String) -> Result<(), AllocError>
-    ensures text { OnOk result (string_bytes out.new ≡ string_bytes out.old ++ compact_text (step_data (yes_step fact.now))) }
+    ensures text { OnOk result (string_bytes out.new
+        ≡ string_bytes out.old ++ compact_text (step_data (yes_step fact.now))) }
     ensures form { OnOk result (IsFact fact.now) }
 {
     out.push_str("{\"yes\":")?;
@@ -127,7 +130,8 @@ fn push_yes(fact: &Fact, out: &mut String) -> Result<(), AllocError>
 }
 
 fn push_no(facts: &[Fact], out: &mut String) -> Result<(), AllocError>
-    ensures text { OnOk result (string_bytes out.new ≡ string_bytes out.old ++ compact_text (step_data (no_step facts.now))) }
+    ensures text { OnOk result (string_bytes out.new
+        ≡ string_bytes out.old ++ compact_text (step_data (no_step facts.now))) }
     ensures form { OnOk result (AllByRecursion IsFact facts.now) }
 {
     out.push_str("{\"no\":")?;
@@ -136,7 +140,8 @@ fn push_no(facts: &[Fact], out: &mut String) -> Result<(), AllocError>
 }
 
 fn push_step(step: &Step, out: &mut String) -> Result<(), AllocError>
-    ensures text { OnOk result (string_bytes out.new ≡ string_bytes out.old ++ compact_text (step_data (step_value step.now))) }
+    ensures text { OnOk result (string_bytes out.new
+        ≡ string_bytes out.old ++ compact_text (step_data (step_value step.now))) }
     ensures form { OnOk result (HasFacts (step_value step.now)) }
 {
     match step {
@@ -146,11 +151,13 @@ fn push_step(step: &Step, out: &mut String) -> Result<(), AllocError>
 }
 
 fn push_steps(steps: &[Step], out: &mut String) -> Result<(), AllocError>
-    ensures text { OnOk result (string_bytes out.new ≡ string_bytes out.old ++ compact_text (steps_data (step_values steps.now))) }
+    ensures text { OnOk result (string_bytes out.new
+        ≡ string_bytes out.old ++ compact_text (steps_data (step_values steps.now))) }
     ensures form { OnOk result (HaveFacts (step_values steps.now)) }
 {
     out.push('[')?;
     let mut later = false;
+    // each step that is made has a fact
     for step in steps {
         push_comma(later, out)?;
         push_step(step, out)?;
