@@ -1,9 +1,8 @@
 -- The stratum of a rule in force is that of its relation, at any time.
-use Rattle.std.proofs.Common.{◌≡◌, ℕ, zero, suc, ◌≤◌, List, [], ◌∷◌, ◌++◌, ◌⊎◌, inl, inr, Option, None, Some, option_map, slice_get, refl, sym, ◌∙◌, ap, subst, arith, ◌↔◌, IsTrue, nat_eq}
+use Rattle.std.proofs.Common.{◌≡◌, ℕ, zero, suc, ◌≤◌, ◌<◌, List, [], ◌∷◌, Option, None, Some, option_map, slice_get, get_or, map, length, refl, sym, ◌∙◌, ap, subst, arith, ◌↔◌}
 use Rattle.std.specs.Prelude.{Contains}
 use Rattle.std.specs.List.{AllByRecursion}
-use Rattle.std.proofs.lemmas.Bool.{eqb-true, eq-eqb}
-use Rattle.std.proofs.lemmas.List.Elements.{Contains-push_cases}
+use Rattle.std.proofs.lemmas.List.{length-map}
 use Rattle.tuple_text.specs.Tuples.{FactValue}
 use Rattle.namespaces.specs.Declaration.{Relation, Declaration}
 use Rattle.rewrites.specs.Expression.{Expression}
@@ -11,7 +10,7 @@ use Rattle.namespaces.specs.Lookup.{Rule, Lookup, rule_of, relation_of, relation
 use Rattle.namespaces.specs.WellFormed.{IsWellFormed}
 use Rattle.strata.specs.Strata.{IsAtMost}
 use Rattle.namespaces.proofs.Declared.{one_stratum, in_force_placed, stays_declared}
-use Rattle.evidence_maker.specs.Making.{HasStratum}
+use Rattle.evidence_maker.specs.Making.{HasStratum, stratum_of}
 
 at_place : {X : Type 0} (P : X → Type 0) (xs : List X) (i : ℕ) (x : X) → AllByRecursion P xs → slice_get xs i ≡ Some x → P x
 at_place {X} P [] i x all h = absurd (cc)
@@ -44,32 +43,30 @@ stratum_in_force ds formed at q r x s there same = by_rule (rule_at ds at q r) r
     by_rule None e h = absurd (cc)
     by_rule (Some rule) e h = same ∙ stratum_kept ds formed at q r rule e
 
--- ---- the highest stratum
+-- ---- strata of a list
 
-pub at_most_in : (rules : Lookup) (x : FactValue) (o : Option ℕ) (top : ℕ) → o ≡ option_map (λ (r : Rule). r.stratum) (rule_of rules x.set)
-    → ((s : ℕ) → o ≡ Some s → s ≤ top) → IsAtMost rules top x
-at_most_in rules x o top same within = λ r e. within r.stratum (same ∙ ap (λ (p : Option Rule). option_map (λ (q : Rule). q.stratum) p) e)
+-- what stands at a place of a list's image
+image_at : (g : FactValue → Option ℕ) (fs : List FactValue) (i : ℕ) (x : FactValue) → i < length fs → x ≡ get_or fs i x → slice_get (map g fs) i ≡ Some (g x)
+image_at g [] i x within at = absurd (omega arith)
+image_at g (f ∷ fs) zero x within at = let e : x ≡ f = at in rw e refl
+image_at g (f ∷ fs) (suc i) x within at = image_at g fs i x (omega arith) at
 
-pub highest_next : (rules : Lookup) (fs : List FactValue) (x : FactValue) (old new : ℕ) → ((f : FactValue) → Contains fs f → IsAtMost rules old f)
-    → old ≤ new → IsAtMost rules new x → (f : FactValue) → Contains (fs ++ x ∷ []) f → IsAtMost rules new f
-highest_next rules fs x old new h le here f c = by_cases (Contains-push_cases fs x f c)
-  where
-    by_cases : Contains fs f ⊎ (x ≡ f) → IsAtMost rules new f
-    by_cases (inl d) = λ r e. let low : r.stratum ≤ old = h f d r e in omega arith
-    by_cases (inr e) = subst (IsAtMost rules new) e here
+module _ (rules : Lookup) (fs : List FactValue) (strata : List (Option ℕ)) (all : strata ≡ map (stratum_of rules) fs) where
+  -- the fact at a place is of the stratum that stands there
+  pub stands_there : (i : ℕ) (x : FactValue) → i < length fs → x ≡ get_or fs i x → (k : ℕ) → (slice_get strata i ≡ Some (Some k)) ↔ HasStratum rules k x
+  stands_there i x within at k = (λ e. there (rule_of rules x.set) refl (sym here ∙ e), λ h. back h)
+    where
+      here : slice_get strata i ≡ Some (stratum_of rules x)
+      here = rw all (image_at (stratum_of rules) fs i x within at)
 
--- the fact is of a stratum exactly where the stratum that is found is that
-pub is_stratum : (rules : Lookup) (f : FactValue) (k found : ℕ) → Some found ≡ option_map (λ (r : Rule). r.stratum) (rule_of rules f.set)
-    → IsTrue (nat_eq found k) ↔ HasStratum rules k f
-is_stratum rules f k found same = (λ t. there (rule_of rules f.set) refl same (eqb-true found k t), λ h. back h)
-  where
-    there : (o : Option Rule) → rule_of rules f.set ≡ o → Some found ≡ option_map (λ (r : Rule). r.stratum) o → found ≡ k → HasStratum rules k f
-    there None e h is = absurd (cc)
-    there (Some r) e h is = (r, e, let s : found ≡ r.stratum = cc in sym s ∙ is)
+      there : (o : Option Rule) → rule_of rules x.set ≡ o → Some (option_map (λ (r : Rule). r.stratum) o) ≡ Some (Some k) → HasStratum rules k x
+      there None e h = absurd (cc)
+      there (Some r) e h = (r, e, let s : r.stratum ≡ k = cc in s)
 
-    back : HasStratum rules k f → IsTrue (nat_eq found k)
-    back h =
-        let e : Some found ≡ Some h.0.stratum = same ∙ ap (λ (o : Option Rule). option_map (λ (r : Rule). r.stratum) o) h.1 in
-        let s : found ≡ h.0.stratum = cc in
-        let at : h.0.stratum ≡ k = h.2 in
-        eq-eqb found k (s ∙ at)
+      back : HasStratum rules k x → slice_get strata i ≡ Some (Some k)
+      back h = here ∙ ap (λ (o : Option Rule). Some (option_map (λ (r : Rule). r.stratum) o)) h.1 ∙ ap (λ (n : ℕ). Some (Some n)) h.2
+
+  pub all_at_most : (top : ℕ) → ((k s : ℕ) → k < length strata → slice_get strata k ≡ Some (Some s) → s ≤ top) → (f : FactValue) → Contains fs f → IsAtMost rules top f
+  all_at_most top within f c r e =
+      within c.0 r.stratum (rw (all, length-map fs (stratum_of rules)) c.1)
+      (rw all (image_at (stratum_of rules) fs c.0 f c.1 (sym c.2)) ∙ ap (λ (o : Option Rule). Some (option_map (λ (q : Rule). q.stratum) o)) e)

@@ -1,5 +1,5 @@
 -- The state of a maker.
-use Rattle.std.specs.Prelude.{◌≡◌, ℕ, ◌≤◌, List, length, Some, ◌⊎◌, ◌↔◌, Contains}
+use Rattle.std.specs.Prelude.{◌≡◌, ℕ, ◌≤◌, List, length, Option, Some, option_map, ◌⊎◌, ◌↔◌, Contains}
 use Rattle.tuple_text.specs.Tuples.{TupleValue, FactValue}
 use Rattle.namespaces.specs.Lookup.{Rule, Lookup, rule_of}
 use Rattle.judgement.specs.Judgement.{KnownValue}
@@ -27,6 +27,10 @@ pub record AreThose (Q : FactValue → Type 0) (fs R : List FactValue) : Type 0 
 -- the fact is declared, and of the stratum k
 abbrev pub HasStratum : Lookup → ℕ → FactValue → Type 0
 HasStratum rules k f = (r : Rule) × (rule_of rules f.set ≡ Some r) × (r.stratum ≡ k)
+
+-- the stratum of the fact, where it is declared
+abbrev pub stratum_of : Lookup → FactValue → Option ℕ
+stratum_of rules f = option_map (λ (r : Rule). r.stratum) (rule_of rules f.set)
 
 -- R has facts of the list, and the others have become known; where all are in R, nothing has, and R's are unknown and unproved
 pub record IsSifted (rules : Lookup) (store : List TupleValue) (old new : KnownValue) (fs R : List FactValue) : Type 0 where

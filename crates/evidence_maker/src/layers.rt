@@ -1,13 +1,11 @@
 //! Facts by strata.
 
-ghost use Rattle.std.specs.Prelude.{◌≡◌, ◌↔◌, IsTrue, IfOk, option_map, Contains};
+ghost use Rattle.std.specs.Prelude.{◌≡◌, ◌↔◌, ◌≤◌, ◌<◌, ℕ, IsTrue, IfOk, Some, length, map, option_map, slice_get};
 ghost use Rattle.tuple_text.specs.Refs.{set_value};
-ghost use Rattle.tuple_text.specs.Tuples.{FactValue};
-ghost use Rattle.namespaces.specs.Lookup.{rule_of};
+ghost use Rattle.namespaces.specs.Lookup.{Lookup, rule_of};
 ghost use Rattle.namespaces.specs.WellFormed.{IsWellFormed};
-ghost use Rattle.strata.specs.Strata.{IsAtMost};
 ghost use Rattle.snapshots.specs.Snapshots.{rules_in};
-ghost use Rattle.evidence_maker.specs.Making.{AreThose, HasStratum};
+ghost use Rattle.evidence_maker.specs.Making.{AreThose, HasStratum, stratum_of};
 
 use namespaces::Rules;
 use snapshots::Snapshot;
@@ -33,58 +31,70 @@ fn stratum_at(snapshot: &Snapshot<'_>, set: SetRef<'_>) -> Option<u8>
     }
 }
 
-/// Whether the fact is declared, and of a stratum.
-fn is_of(snapshot: &Snapshot<'_>, fact: &Fact, stratum: u16) -> bool
-    ensures { IsTrue result ↔ HasStratum (rules_in snapshot.now) stratum fact.now }
-{
-    match stratum_at(snapshot, fact.set()) {
-        Some(found) => found as u16 == stratum,
-        None => false,
-    }
-}
-
-/// The facts of a stratum.
-pub(crate) fn layer_of(
+/// The stratum of each fact, or None where its relation is undeclared.
+pub(crate) fn strata_of(
     alloc: Global,
     snapshot: &Snapshot<'_>,
     facts: &[Fact],
+) -> Result<Vec<Option<u8>>, AllocError>
+    ensures { IfOk result (λ v. v.items ≡ map (stratum_of (rules_in snapshot.now)) facts.now) }
+{
+    let mut strata = Vec::with_capacity(alloc, facts.len())?;
+    // a cone has 131,072 facts at most, here and below
+    for fact in facts {
+        strata.push(stratum_at(snapshot, fact.set()))?;
+    }
+    Ok(strata)
+}
+
+/// Whether the stratum at a place is this one.
+fn is_at(strata: &[Option<u8>], place: usize, stratum: u16) -> bool
+    ensures { IsTrue result ↔ slice_get strata.now place ≡ Some (Some stratum) }
+{
+    match strata.get(place).copied() {
+        Some(Some(found)) => found as u16 == stratum,
+        _ => false,
+    }
+}
+
+/// The facts of a stratum, where these are the strata of all.
+pub(crate) fn layer_of(
+    alloc: Global,
+    facts: &[Fact],
+    strata: &[Option<u8>],
     stratum: u16,
 ) -> Result<Vec<Fact>, AllocError>
-    ensures { IfOk result (λ v. AreThose (HasStratum (rules_in snapshot.now) stratum) facts.now v.items) }
+    ensures { IfOk result (λ v. (rules : Lookup) → strata.now ≡ map (stratum_of rules) facts.now
+        → AreThose (HasStratum rules stratum) facts.now v.items) }
 {
     let mut layer = Vec::new(alloc);
-    for fact in facts {
-        if is_of(snapshot, fact, stratum) {
+    for place in 0..facts.len() {
+        let fact = &facts[place];
+        if is_at(strata, place, stratum) {
             layer.push(fact.clone()?)?;
         }
     }
     Ok(layer)
 }
 
-/// The highest stratum of the facts.
-pub(crate) fn top_of(snapshot: &Snapshot<'_>, facts: &[Fact]) -> u8
-    ensures { (f : FactValue) → Contains facts.now f → IsAtMost (rules_in snapshot.now) result f }
+/// The higher of a stratum and of that at a place.
+fn higher_at(strata: &[Option<u8>], place: usize, top: u8) -> u8
+    ensures top { top ≤ result }
+    ensures there { (s : ℕ) → slice_get strata.now place ≡ Some (Some s) → s ≤ result }
 {
-    let mut top = 0;
-    for fact in facts {
-        if let Some(stratum) = stratum_at(snapshot, fact.set()) {
-            if top < stratum {
-                top = stratum;
-            }
-        }
+    match strata.get(place).copied() {
+        Some(Some(found)) if top < found => found,
+        _ => top,
     }
-    top
 }
 
-/// The stratum of each fact, or None where its relation is undeclared.
-pub(crate) fn strata_of(
-    alloc: Global,
-    snapshot: &Snapshot<'_>,
-    facts: &[Fact],
-) -> Result<Vec<Option<u8>>, AllocError> {
-    let mut strata = Vec::new(alloc);
-    for fact in facts {
-        strata.push(stratum_at(snapshot, fact.set()))?;
+/// The highest of some strata.
+pub(crate) fn top_of(strata: &[Option<u8>]) -> u8
+    ensures { (k s : ℕ) → k < length strata.now → slice_get strata.now k ≡ Some (Some s) → s ≤ result }
+{
+    let mut top = 0;
+    for place in 0..strata.len() {
+        top = higher_at(strata, place, top);
     }
-    Ok(strata)
+    top
 }

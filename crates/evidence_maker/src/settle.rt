@@ -1,6 +1,6 @@
 //! Settling the facts of a cone, stratum by stratum.
 
-ghost use Rattle.std.specs.Prelude.{◌≡◌, ◌+◌, ◌∷◌, ◌++◌, [], ◌↔◌, ◌⊎◌, ℕ, List, IsTrue, true, false, IfOk, OnOk, Contains, length};
+ghost use Rattle.std.specs.Prelude.{◌≡◌, ◌+◌, ◌∷◌, ◌++◌, [], ◌↔◌, ◌⊎◌, ℕ, List, IsTrue, true, false, IfOk, OnOk, Contains, length, map};
 ghost use Rattle.tuple_text.specs.Tuples.{FactValue};
 ghost use Rattle.namespaces.specs.Lookup.{rule_at};
 ghost use Rattle.version_chains.specs.Commits.{store_at};
@@ -8,7 +8,7 @@ ghost use Rattle.evidence_check.specs.Growing.{Grows};
 ghost use Rattle.evidence_check.specs.Accepted.{IsProved, with_no};
 ghost use Rattle.evidence_check.specs.Steps.{step_values};
 ghost use Rattle.goal_cone.specs.Cone.{HasItsPremises, AreDistinct};
-ghost use Rattle.evidence_maker.specs.Making.{IsMaking, IsKnown, IsSifted, AreLeft, IsMade};
+ghost use Rattle.evidence_maker.specs.Making.{IsMaking, IsKnown, IsSifted, AreLeft, IsMade, stratum_of};
 ghost use Rattle.evidence_maker.specs.Saturation.{AreUnsettled};
 
 use crate::layers::{layer_of, strata_of, top_of, well_formed};
@@ -161,16 +161,18 @@ fn leave(
     Ok(())
 }
 
-/// Settles the facts of a stratum, where those of the lower ones are settled.
+/// Settles the facts of a stratum, where those of the lower ones are settled. These are the strata of all.
 fn settle_stratum(
     asked: &mut AskedRules<'_>,
     at: u64,
     cone: &[Fact],
+    strata: &[Option<u8>],
     stratum: u16,
     places: &[usize],
     known: &mut Known<Fact>,
     steps: &mut Steps,
 ) -> Result<(), AllocError>
+    requires { strata.now ≡ map (stratum_of (rule_at asked.old.declarations at)) cone.now }
     ensures asked { asked.new ≡ asked.old }
     ensures making { OnOk result (
         HasItsPremises (rule_at asked.old.declarations at) (store_at asked.old.commits at) cone.now → AreDistinct cone.now →
@@ -178,8 +180,7 @@ fn settle_stratum(
         IsMaking (rule_at asked.old.declarations at) (store_at asked.old.commits at) cone.now (stratum + 1) known.new (step_values steps.new.items)) }
 {
     look_at_each(asked, at, cone, places, known, steps)?;
-    let snapshot = asked.trace().timeline().at(at);
-    let layer = layer_of(*steps.allocator(), &snapshot, cone, stratum)?;
+    let layer = layer_of(*steps.allocator(), cone, strata, stratum)?;
     let left = settle_layer(asked, at, layer, known, steps)?;
     leave(asked.trace(), at, left, known, steps)
 }
@@ -198,13 +199,16 @@ pub(crate) fn settle(
         IsMade (rule_at asked.old.declarations at) (store_at asked.old.commits at) cone.now (step_values v.items)) }
 {
     let snapshot = asked.trace().timeline().at(at);
-    let strata = strata_of(alloc, &snapshot, cone)?;
+    let found = strata_of(alloc, &snapshot, cone)?;
+    let strata = found.as_slice();
     let mut known = Known::new(alloc);
     let mut steps = Vec::new(alloc);
-    let end = top_of(&snapshot, cone) as u16 + 1;
+    let end = top_of(strata) as u16 + 1;
     for stratum in 0..end {
-        let places = gates.tell(&strata, stratum)?;
-        settle_stratum(asked, at, cone, stratum, &places, &mut known, &mut steps)?;
+        let places = gates.tell(strata, stratum)?;
+        settle_stratum(
+            asked, at, cone, strata, stratum, &places, &mut known, &mut steps,
+        )?;
     }
     Ok(steps)
 }

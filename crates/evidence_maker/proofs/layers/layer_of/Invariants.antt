@@ -1,7 +1,7 @@
-use Rattle.std.proofs.Common.{take}
-use Rattle.snapshots.specs.Snapshots.{rules_in}
-use Rattle.evidence_maker.specs.Making.{AreThose, HasStratum}
+use Rattle.std.proofs.Common.{◌≡◌, take, map}
+use Rattle.namespaces.specs.Lookup.{Lookup}
+use Rattle.evidence_maker.specs.Making.{AreThose, HasStratum, stratum_of}
 use Rattle.evidence_maker.proofs.layers.layer_of.Given as goal
 
-abbrev pub invariant-loop-fact : goal.invariant-loop-fact
-invariant-loop-fact l = AreThose (HasStratum (rules_in l.snapshot) l.stratum) (take l.fact-index l.facts) l.layer.items
+abbrev pub invariant-loop-place : goal.invariant-loop-place
+invariant-loop-place l = (rules : Lookup) → l.strata ≡ map (stratum_of rules) l.facts → AreThose (HasStratum rules l.stratum) (take l.place l.facts) l.layer.items

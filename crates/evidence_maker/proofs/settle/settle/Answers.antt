@@ -4,6 +4,7 @@ use Rattle.version_chains.specs.Commits.{store_at}
 use Rattle.evidence_check.specs.Steps.{step_values}
 use Rattle.evidence_maker.specs.Making.{IsMaking}
 use Rattle.evidence_maker.proofs.MakingLemmas.{made_of}
+use Rattle.evidence_maker.proofs.StrataLemmas.{all_at_most}
 use Rattle.evidence_maker.proofs.settle.settle.Goals as goal
 
 pub returns-clause-made : goal.returns-clause-made
@@ -14,7 +15,12 @@ returns-clause-made c = λ premises distinct.
     made_of lookup store c.args.cone.now c.top_of.result c.loop-stratum.known (step_values c.loop-stratum.steps.items)
     (subst (λ (n : ℕ). IsMaking lookup store c.args.cone.now n c.loop-stratum.known (step_values c.loop-stratum.steps.items)) end
     (c.loop-stratum.invariant.1 premises distinct))
-    (rw (c.at-snapshot.ensures, c.timeline.ensures, c.trace.ensures) at c.top_of.ensures)
+    (all_at_most lookup c.args.cone.now c.as_slice-strata.result.now
+    (c.as_slice-strata.ensures.value ∙ (rw (c.at-snapshot.ensures, c.timeline.ensures, c.trace.ensures) at c.in_ok-found.ensures)) c.top_of.result c.top_of.ensures)
+
+pub settle_stratum-requires : goal.settle_stratum-requires
+settle_stratum-requires c =
+    rw c.loop-stratum.invariant.0 (c.as_slice-strata.ensures.value ∙ (rw (c.at-snapshot.ensures, c.timeline.ensures, c.trace.ensures) at c.in_ok-found.ensures))
 
 pub loop-stratum-preserved : goal.loop-stratum-preserved
 loop-stratum-preserved c = (

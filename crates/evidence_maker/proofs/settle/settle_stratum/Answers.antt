@@ -15,7 +15,7 @@ returns-clause-making c =
     let store = store_at c.args.asked.now.commits c.args.at in
     let looked : c.look_at_each.new.asked ≡ c.args.asked.now = c.in_ok-look_at_each.ensures.asked in
     let layered : c.settle_layer.new.asked ≡ c.args.asked.now = c.in_ok-left.ensures.asked ∙ looked in
-    let layer = rw (c.at-snapshot.ensures, c.timeline.ensures, c.trace.ensures, looked) at c.in_ok-layer.ensures in
+    let layer = c.in_ok-layer.ensures lookup c.requires in
     let kept = rw looked at c.in_ok-left.ensures.kept in
     let left = rw looked at c.in_ok-left.ensures.left in
     ok_then c.leave.result _ _
@@ -26,4 +26,4 @@ returns-clause-making c =
     (unsettled_left lookup store c.args.cone.now c.args.stratum
     c.settle_layer.new.known (step_values c.settle_layer.new.steps.items) making c.in_ok-layer.layer.items layer c.in_ok-left.left.items left)
     left.unproved (left.those.distinct (layer.distinct distinct)) making)
-    (rw (c.trace-2.ensures, layered) at c.leave.ensures)
+    (rw (c.trace.ensures, layered) at c.leave.ensures)
