@@ -77,12 +77,6 @@ module _ (rules : Lookup) (store : List TupleValue) (old new : KnownValue) (grow
   disproved_grows f (inr d) = inr (d.0, d.1, refuted_grows f d.0.expression d.2)
 
 module _ (rules : Lookup) (store : List TupleValue) where
-  pub nothing_borne_out : IsBorneOut rules store nothing_known
-  nothing_borne_out = record {
-    yes = λ f c. absurd (not_in_nil f c);
-    no = λ f c. absurd (not_in_nil f c);
-  }
-
   -- accepted steps leave what is known borne out
   pub borne_out_after : (known : KnownValue) (step : StepValue) → IsBorneOut rules store known → IsAccepted rules store known step
       → IsBorneOut rules store (after_step known step)
@@ -122,12 +116,6 @@ module _ (rules : Lookup) (store : List TupleValue) where
       still f c = disproved_grows rules store known (with_no known fs) (with_no-grows known fs) f (borne.no f c)
 
 -- ---- which facts are fresh
-
-pub none_fresh : (before : List FactValue) → AreFresh before before []
-none_fresh before = record {
-  each = λ f c. inl c;
-  only = λ f c. absurd (not_in_nil f c);
-}
 
 pub denied_again : (before denied fresh : List FactValue) (x : FactValue) → AreFresh before denied fresh → Contains denied x
     → AreFresh before (denied ++ x ∷ []) fresh

@@ -1,7 +1,6 @@
 -- What a judgement shows.
 use Rattle.std.proofs.Common.{◌≡◌, ℕ, ◌+◌, Bool, true, false, not, ◌&&◌, cond, nat_eq, IsTrue, ◌↔◌, List, [], ◌∷◌, ◌++◌, Option, None, Some, refl, sym, ◌∙◌, ap, subst, inl, inr, arith}
-use Rattle.std.proofs.lemmas.List.Elements.{Contains-append_cases}
-use Rattle.strata.proofs.Lists.{Contains-cons_cases}
+use Rattle.judgement.proofs.PassLemmas.{each_more}
 use Rattle.namespaces.specs.declared.number.RulePlace.{RulePlace}
 use Rattle.evidence_check.specs.declared.asked_rules.PlacedRule.{PlacedRule}
 use Rattle.std.proofs.lemmas.Bool.{eqb-true}
@@ -82,22 +81,9 @@ same_place p q h =
 
 pub one_placed_more : (trace : TraceValue) (rules : List PlacedRule) (p : PlacedRule) → ArePlaced trace rules → IsPlaced trace p
     → ArePlaced trace (rules ++ p ∷ [])
-one_placed_more trace rules p are is q there =
-    elim (Contains-append_cases rules (p ∷ []) q there) [
-      | inl before ↦ are q before
-      | inr last ↦ subst (IsPlaced trace) (only q last) is
-    ]
-  where
-    only : (q : PlacedRule) → Contains (p ∷ []) q → p ≡ q
-    only q last = elim (Contains-cons_cases p [] q last) [ inl is ↦ is | inr none ↦ absurd (omega (arith, none.1)) ]
+one_placed_more trace rules p = each_more (IsPlaced trace) rules p
 
 -- ---- by the plain rule of a relation, where it is found
-
-pub plain_alike : (a b : Option Expression) → ArePlain a b → AreAlike a b
-plain_alike None None h = h
-plain_alike None (Some b) h = absurd h
-plain_alike (Some a) None h = absurd h
-plain_alike (Some a) (Some b) h = h.alike
 
 pub by_rule : (o : Option Rule) (x : Expression) (P : Expression → Type 0) → ((a b : Expression) → IsAlike a b → P a → P b)
     → AreAlike (Some x) (option_map (λ (r : Rule). r.expression) o) → (P x ↔ ((r : Rule) × (o ≡ Some r) × P r.expression))
@@ -107,10 +93,6 @@ by_rule (Some s) x P carry alike = (
   λ t. let rule : s ≡ t.0 = (let h : Some s ≡ Some t.0 = t.1 in cc) in
       carry s.expression x (alike_back x s.expression alike) (subst P (sym (ap (λ (r : Rule). r.expression) rule)) t.2),
 )
-
-no_rule : (o : Option Rule) → AreAlike None (option_map (λ (r : Rule). r.expression) o) → o ≡ None
-no_rule None e = refl
-no_rule (Some r) e = absurd e
 
 module _ (trace : TraceValue) (at : ℕ) (known : KnownValue) (f : FactValue) where
   abbrev lookup : Lookup
@@ -144,13 +126,6 @@ module _ (trace : TraceValue) (at : ℕ) (known : KnownValue) (f : FactValue) wh
     λ d. alike_refuted lookup store known f z y (alike_back y z other) (alike_refuted lookup store known f x z alike d),
     λ d. alike_refuted lookup store known f z x (alike_back x z alike) (alike_refuted lookup store known f y z other d),
   )
-
-  -- without a rule it is disproved
-  pub settled_by_none : (g : Bool) → IsRuleOf trace.declarations at f.set None → (IsTrue (not g) ↔ IsSettled lookup store known g f)
-  settled_by_none true none =
-      let undeclared = no_rule (rule_of lookup f.set) none in
-      (λ t. cc, λ p. absurd (let h : None ≡ Some p.0 = sym undeclared ∙ p.1 in cc))
-  settled_by_none false none = (λ t. inl (no_rule (rule_of lookup f.set) none), λ d. refl)
 
 -- ---- what is known of the goal
 

@@ -13,8 +13,8 @@ use Rattle.tuple_text.specs.Grammar.{IsFact, fact_text}
 use Rattle.tuple_text.specs.Tuples.{FactValue}
 use Rattle.tuple_text.specs.Quoted.{IsSplit}
 use Rattle.compact_json.proofs.Compact.{split_quoted}
-use Rattle.evidence_check.specs.RecordData.{fact_data, step_data, record_data, HasFacts}
-use Rattle.evidence_check.specs.RecordPieces.{with_commas, BeginsWithFact, BeginsWithFacts, BeginsWithStep, BeginsWithSteps, IsRecord}
+use Rattle.evidence_check.specs.RecordData.{fact_data, step_data, record_data}
+use Rattle.evidence_check.specs.RecordPieces.{with_commas, BeginsWith, BeginsWithSome, BeginsWithFact, BeginsWithFacts, BeginsWithStep, BeginsWithSteps, IsRecord}
 use Rattle.evidence_check.specs.Steps.{StepValue, yes_step, no_step}
 use Rattle.evidence_check.proofs.JsonBack.{read-record}
 
@@ -65,28 +65,30 @@ items_closed ds rest =
 -- ---- facts
 
 pub fact_there : (text rest : List ℕ) (f : FactValue) → IsSplit 34 text (fact_text f) rest → IsFact f → BeginsWithFact (34 ∷ text) f rest
-fact_there text rest f split fact = record { spells = split_quoted text (fact_text f) rest split; fact = fact }
+fact_there text rest f split fact = record { spells = split_quoted text (fact_text f) rest split; facts = fact }
 
-pub first_fact : (text rest : List ℕ) (f : FactValue) → BeginsWithFact text f rest
-    → BeginsWithFacts text (f ∷ []) rest
-first_fact text rest f h =
-    record { spells = single text rest (fact_data f) h.spells; some = omega arith; facts = (h.fact, tt) }
+-- ---- several items
+
+pub first_item : {X : Type 0} (data_of : X → Data) (Has : X → Type 0) (text rest : List ℕ) (x : X)
+    → BeginsWith data_of Has text x rest → BeginsWithSome data_of Has text (x ∷ []) rest
+first_item data_of Has text rest x h =
+    record { spells = single text rest (data_of x) h.spells; some = omega arith; facts = (h.facts, tt) }
 
 all_more : {X : Type 0} (P : X → Type 0) (xs : List X) (x : X)
     → AllByRecursion P xs → P x → AllByRecursion P (xs ++ x ∷ [])
 all_more P [] x h p = (p, tt)
 all_more P (y ∷ ys) x h p = (h.0, all_more P ys x h.1 p)
 
-pub next_fact : (text rest next after : List ℕ) (fs : List FactValue) (f : FactValue)
-    → BeginsWithFacts text fs rest → rest ≡ 44 ∷ next → BeginsWithFact next f after
-    → BeginsWithFacts text (fs ++ f ∷ []) after
-next_fact text rest next after fs f h comma here =
-    let ds = map fact_data fs in
+pub next_item : {X : Type 0} (data_of : X → Data) (Has : X → Type 0) (text rest next after : List ℕ) (xs : List X)
+    (x : X) → BeginsWithSome data_of Has text xs rest → rest ≡ 44 ∷ next → BeginsWith data_of Has next x after
+    → BeginsWithSome data_of Has text (xs ++ x ∷ []) after
+next_item data_of Has text rest next after xs x h comma here =
+    let ds = map data_of xs in
     record {
-      spells = grown text rest next after ds (fact_data f) (simp length-map h.some) h.spells comma here.spells
-          ∙ ap (λ ds. with_commas ds ++ after) (sym (map-append fact_data fs (f ∷ [])));
+      spells = grown text rest next after ds (data_of x) (simp length-map h.some) h.spells comma here.spells
+          ∙ ap (λ ds. with_commas ds ++ after) (sym (map-append data_of xs (x ∷ [])));
       some = simp length-append (omega arith);
-      facts = all_more IsFact fs f h.facts here.fact;
+      facts = all_more Has xs x h.facts here.facts;
     }
 
 -- ---- steps
@@ -99,7 +101,7 @@ yes_there text inner behind rest f is h closed =
     record {
       spells = is ∙ ap (λ t. codes "{\"yes\":" ++ t)
           (h.spells ∙ ap (λ t. fact ++ t) closed ∙ sym (append_assoc fact (125 ∷ []) rest));
-      facts = h.fact;
+      facts = h.facts;
     }
 
 pub no_there : (text inner behind rest : List ℕ) (fs : List FactValue) → text ≡ codes "{\"no\":[" ++ inner
@@ -111,23 +113,6 @@ no_there text inner behind rest fs is h closed =
       spells = is ∙ ap (λ t. codes "{\"no\":[" ++ t)
           (h.spells ∙ ap (λ t. with_commas ds ++ t) closed ∙ sym (items_closed ds rest));
       facts = h.facts;
-    }
-
-pub first_step : (text rest : List ℕ) (s : StepValue) → BeginsWithStep text s rest
-    → BeginsWithSteps text (s ∷ []) rest
-first_step text rest s h =
-    record { spells = single text rest (step_data s) h.spells; some = omega arith; facts = (h.facts, tt) }
-
-pub next_step : (text rest next after : List ℕ) (ss : List StepValue) (s : StepValue)
-    → BeginsWithSteps text ss rest → rest ≡ 44 ∷ next → BeginsWithStep next s after
-    → BeginsWithSteps text (ss ++ s ∷ []) after
-next_step text rest next after ss s h comma here =
-    let ds = map step_data ss in
-    record {
-      spells = grown text rest next after ds (step_data s) (simp length-map h.some) h.spells comma here.spells
-          ∙ ap (λ ds. with_commas ds ++ after) (sym (map-append step_data ss (s ∷ [])));
-      some = simp length-append (omega arith);
-      facts = all_more HasFacts ss s h.facts here.facts;
     }
 
 -- ---- the record

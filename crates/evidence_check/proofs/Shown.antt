@@ -20,12 +20,6 @@ one_more_none xs new n h e = rw (e, map-append shown_steps xs (None ∷ []), h) 
 pub set_shown : (xs : List Kept) (i : ℕ) (x : Kept) → all_shown (slice_set xs i x) ≡ slice_set (all_shown xs) i (shown_steps x)
 set_shown xs i x = map-set shown_steps xs i x
 
-pub past_shown : (xs : List Kept) (i : ℕ) (x : Kept) → length xs ≤ i → slice_set (all_shown xs) i (shown_steps x) ≡ all_shown xs
-past_shown xs i x le = set_past (all_shown xs) i (shown_steps x) (let l = length-map xs shown_steps in omega (arith, l, le))
-
-pub get_shown : (xs : List Kept) (i : ℕ) (o : Option Kept) → slice_get xs i ≡ o → slice_get (all_shown xs) i ≡ option_map shown_steps o
-get_shown xs i o e = slice_get-map shown_steps xs i ∙ ap (option_map shown_steps) e
-
 -- the line of one more entry
 pub one_more_line : (es : List EntryValue) (i : ℕ) (e : EntryValue) (lines new : List ℕ) → i < length es → slice_get es i ≡ Some e
     → lines ≡ take i (entry_lines es) → new ≡ lines ++ e.line ∷ [] → new ≡ take (i + 1) (entry_lines es)

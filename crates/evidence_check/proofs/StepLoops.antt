@@ -27,10 +27,6 @@ fault_first true false read more e stops is = refl
 fault_first false true read more e stops is = ap Err (ap cause_of is)
 fault_first false false read more e stops is = refl
 
-no_front : {A : Type 0} (read : Result (List A) EvidenceCause) → with_front [] read ≡ read
-no_front (Ok xs) = refl
-no_front (Err e) = refl
-
 right_shape : {A : Type 0} (shaped : Bool) (read : Result A EvidenceCause) (x : A) → cond shaped read (Err causes.Shape) ≡ Ok x → (shaped ≡ true) × (read ≡ Ok x)
 right_shape true read x is = (refl, is)
 right_shape false read x is = cc
@@ -52,12 +48,8 @@ abbrev pub facts_after : List FactValue → Items → Result (List FactValue) Ev
 facts_after front ds = cond (are_strings ds) (with_front front (facts_in ds)) (Err causes.Shape)
 
 fact_shaped : (d : Data) → cond (is_string d) (fact_in d) (Err causes.Shape) ≡ fact_in d
-fact_shaped null = refl
-fact_shaped (boolean b) = refl
-fact_shaped (number n) = refl
 fact_shaped (string s) = refl
-fact_shaped (array ds) = refl
-fact_shaped (object ms) = refl
+fact_shaped _ = refl
 
 -- one more fact
 pub next_fact : (front gs : List FactValue) (f : FactValue) (d : Data) (ds : Items) → fact_in d ≡ Ok f → gs ≡ front ++ f ∷ [] → facts_after gs ds ≡ facts_after front (item d ds)

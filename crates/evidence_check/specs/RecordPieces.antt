@@ -14,24 +14,30 @@ unfoldable pub with_commas : List Data → List ℕ
 with_commas [] = []
 with_commas (d ∷ ds) = compact_text d ++ flat_map (λ e. 44 ∷ compact_text e) ds
 
--- the text begins with a fact in quotes, and then has the rest
-pub record BeginsWithFact (text : List ℕ) (f : FactValue) (rest : List ℕ) : Type 0 where
-  pub spells : text ≡ compact_text (fact_data f) ++ rest
-  pub fact : IsFact f
+-- the text begins with a fact or a step, whose facts are such, and then has the rest
+pub record BeginsWith {X : Type 0} (data_of : X → Data) (Has : X → Type 0) (text : List ℕ) (x : X) (rest : List ℕ)
+    : Type 0 where
+  pub spells : text ≡ compact_text (data_of x) ++ rest
+  pub facts : Has x
 
-pub record BeginsWithFacts (text : List ℕ) (fs : List FactValue) (rest : List ℕ) : Type 0 where
-  pub spells : text ≡ with_commas (map fact_data fs) ++ rest
-  pub some : 0 < length fs
-  pub facts : AllByRecursion IsFact fs
+-- or with several
+pub record BeginsWithSome {X : Type 0} (data_of : X → Data) (Has : X → Type 0) (text : List ℕ) (xs : List X)
+    (rest : List ℕ) : Type 0 where
+  pub spells : text ≡ with_commas (map data_of xs) ++ rest
+  pub some : 0 < length xs
+  pub facts : AllByRecursion Has xs
 
-pub record BeginsWithStep (text : List ℕ) (s : StepValue) (rest : List ℕ) : Type 0 where
-  pub spells : text ≡ compact_text (step_data s) ++ rest
-  pub facts : HasFacts s
+abbrev pub BeginsWithFact : List ℕ → FactValue → List ℕ → Type 0
+BeginsWithFact = BeginsWith fact_data IsFact
 
-pub record BeginsWithSteps (text : List ℕ) (ss : List StepValue) (rest : List ℕ) : Type 0 where
-  pub spells : text ≡ with_commas (map step_data ss) ++ rest
-  pub some : 0 < length ss
-  pub facts : HaveFacts ss
+abbrev pub BeginsWithFacts : List ℕ → List FactValue → List ℕ → Type 0
+BeginsWithFacts = BeginsWithSome fact_data IsFact
+
+abbrev pub BeginsWithStep : List ℕ → StepValue → List ℕ → Type 0
+BeginsWithStep = BeginsWith step_data HasFacts
+
+abbrev pub BeginsWithSteps : List ℕ → List StepValue → List ℕ → Type 0
+BeginsWithSteps = BeginsWithSome step_data HasFacts
 
 -- the text is read as this record
 pub record IsRecord (text : List ℕ) (line : ℕ) (steps : List StepValue) : Type 0 where

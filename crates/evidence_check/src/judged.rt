@@ -24,7 +24,7 @@ use crate::asked_rules::AskedRules;
 use crate::evidence::Evidence;
 use crate::step::{StepRef, Steps};
 use crate::steps::borrowed_steps;
-use judgement::{Known, KnownFact, MarkedFact, established, refuted};
+use judgement::{AskedFact, Known, KnownFact, MarkedFact, established, refuted};
 use namespaces::{RulePlace, Rules};
 use rewrites::{PartedRule, Rewrite};
 use std::alloc::{AllocError, Global};
@@ -119,10 +119,16 @@ fn settles_narrow<F: KnownFact>(
         return !is_given;
     };
     let snapshot = trace.timeline().at(at);
+    let asked = AskedFact {
+        snapshot: &snapshot,
+        known,
+        set: fact.set,
+        user: fact.user,
+    };
     if is_given {
-        established(rule, fact.set, fact.user, &snapshot, known)
+        established(rule, &asked)
     } else {
-        refuted(rule, fact.set, fact.user, &snapshot, known)
+        refuted(rule, &asked)
     }
 }
 

@@ -31,16 +31,7 @@ pub struct Judging<'t> {
 
 impl<'t> Drop for Judging<'t> {
     fn drop(self) {
-        let Judging {
-            alloc: _,
-            trace: _,
-            lines,
-            judgements,
-            asked,
-        } = self;
-        drop(lines);
-        drop(judgements);
-        drop(asked);
+        drop(self.into_judgements());
     }
 }
 

@@ -1,8 +1,10 @@
 //! Reading the evidence for a trace, to keep it or to judge by it.
 
+ghost use Rattle.std.specs.Prelude.{◌≡◌};
 ghost use Rattle.evidence_check.specs.Evidences.{evidence_value};
 ghost use Rattle.evidence_check.specs.Judging.{GivesJudged};
 ghost use Rattle.evidence_check.specs.Reading.{EvidenceRead, GivesEvidence};
+ghost use Rattle.evidence_check.specs.declared.cause.EvidenceCause.TheVariants.{OutOfMemory};
 
 use crate::cause::{EvidenceCause, EvidenceFault};
 use crate::evidence::Evidence;
@@ -13,6 +15,16 @@ use devices::Source;
 use json_lines::read_lines;
 use std::alloc::Global;
 use trace_lines::Trace;
+
+/// There was no memory to begin with, so that no line was read.
+fn unbegun() -> EvidenceFault
+    ensures { result ≡ record { line = 1; cause = OutOfMemory } }
+{
+    EvidenceFault {
+        line: 1,
+        cause: EvidenceCause::OutOfMemory,
+    }
+}
 
 /// Reads the evidence for a trace: a record for an entry on each line that is not blank, in any order. Lines and
 /// limits are those of a trace.
@@ -26,10 +38,7 @@ pub fn read_evidence<R: Source>(
 {
     let mut recorder = match Recorder::new(alloc, trace) {
         Ok(recorder) => recorder,
-        Err(_) => return Err(EvidenceFault {
-            line: 1,
-            cause: EvidenceCause::OutOfMemory,
-        }),
+        Err(_) => return Err(unbegun()),
     };
     match read_lines(alloc, reader, &mut recorder) {
         Ok(()) => Ok(Evidence {
@@ -55,10 +64,7 @@ pub fn judge_evidence<R: Source>(
 {
     let mut judging = match Judging::new(alloc, trace) {
         Ok(judging) => judging,
-        Err(_) => return Err(EvidenceFault {
-            line: 1,
-            cause: EvidenceCause::OutOfMemory,
-        }),
+        Err(_) => return Err(unbegun()),
     };
     match read_lines(alloc, reader, &mut judging) {
         Ok(()) => Ok(judging.into_judgements()),

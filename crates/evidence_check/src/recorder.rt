@@ -26,13 +26,7 @@ pub(crate) struct Recorder {
 
 impl Drop for Recorder {
     fn drop(self) {
-        let Recorder {
-            alloc: _,
-            lines,
-            steps,
-        } = self;
-        drop(lines);
-        drop(steps);
+        drop(self.into_steps());
     }
 }
 

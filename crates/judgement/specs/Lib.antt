@@ -1,3 +1,4 @@
+pub mod AskedFact
 pub mod Decided
 pub mod Facts
 pub mod Judgement

@@ -1,5 +1,5 @@
 -- What a pass over the stored usersets of a userset finds. No public clause cites this module.
-use Rattle.std.specs.Prelude.{◌≡◌, ℕ, List, ◌∷◌, [], length, slice_get, Option, None, Some, ◌⊎◌, Contains, All}
+use Rattle.std.specs.Prelude.{◌≡◌, ℕ, List, ◌∷◌, [], length, slice_get, Option, None, Some, ◌⊎◌, true, Contains, All}
 use Rattle.tuple_text.specs.Sets.{SetValue}
 use Rattle.tuple_text.specs.Tuples.{TupleValue, fact_of, tuple_of}
 use Rattle.tuple_text.specs.declared.users.User.TheVariants.{Set}
@@ -7,12 +7,18 @@ use Rattle.namespaces.specs.Lookup.{Lookup, namespace_numbered}
 use Rattle.strata.specs.Meaning.{IsStored}
 use Rattle.version_chains.specs.Commits.{Touch, changelog}
 use Rattle.marks.specs.Marks.{pair_mark, set_mark}
+use Rattle.userset_index.specs.Index.{IndexValue, IsWhole, is_crowded}
 use Rattle.userset_index.specs.Lives.{touches_alive}
 use Rattle.userset_index.specs.declared.life.Life.{Life}
 pub use Rattle.snapshots.specs.Leading.{target}
 use Rattle.snapshots.specs.Snapshots.{rules_in, tuples_in}
 use Rattle.snapshots.specs.declared.snapshot.Snapshot.{Snapshot}
 use Rattle.judgement.specs.Judgement.{KnownValue, IsOut}
+
+-- this is a whole index of the usersets that are stored, by which `set` is crowded
+pub record IsCrowd (s : Snapshot) (set : SetValue) (index : IndexValue) : Type 0 where
+  pub whole : IsWhole s.timeline.declarations s.timeline.commits index
+  pub crowded : is_crowded index.crowds (set_mark set) ≡ true
 
 -- a userset whose target is known to hold the user id
 abbrev pub GivesId : KnownValue → Option (List ℕ) → ℕ → SetValue → Type 0

@@ -1,15 +1,14 @@
 //! Whether a fact holds through a userset that is stored in a crowded one.
 
-ghost use Rattle.std.specs.Prelude.{◌≡◌, ◌↔◌, ◌&&◌, ◌⊎◌, IsTrue, true, false, All, None, IfSome, option_map};
+ghost use Rattle.std.specs.Prelude.{◌≡◌, ◌↔◌, ◌⊎◌, IsTrue, true, false, All, None, IfSome, option_map};
 ghost use Rattle.tuple_text.specs.Refs.{set_value};
 ghost use Rattle.snapshots.specs.Snapshots.{tuples_in};
-ghost use Rattle.marks.specs.Marks.{set_mark};
-ghost use Rattle.userset_index.specs.Index.{IsUsersetIndex, is_crowded};
-ghost use Rattle.judgement.specs.Passes.{GivesId, IsLed, IsObjectStored, IsTargetStored, IsTouchApart, SomeSet};
+ghost use Rattle.judgement.specs.AskedFact.{GivesFor, IsLedFor, asked_set, tuples_over};
+ghost use Rattle.judgement.specs.Passes.{IsCrowd, IsObjectStored, IsTargetStored, IsTouchApart, SomeSet};
 
+use crate::asked::AskedFact;
 use crate::fact::KnownFact;
 use crate::facts::SetsOfUser;
-use crate::known::Known;
 use crate::stored::is_in;
 use marks::MarkedSet;
 use snapshots::Snapshot;
@@ -74,8 +73,7 @@ fn is_target_stored(
     relation: Option<&str>,
     target: MarkedSet<'_>,
 ) -> bool
-    requires index { IsUsersetIndex snapshot.now.timeline.declarations snapshot.now.timeline.commits index.now }
-    requires crowded { (index.now.is_whole && is_crowded index.now.crowds (set_mark (set_value set.set))) ≡ true }
+    requires { IsCrowd snapshot.now (set_value set.set) index.now }
     ensures { IsTrue result ↔ IsTargetStored (tuples_in snapshot.now) (set_value set.entry.set)
         (option_map (λ s. s.now) relation.entry) (set_value target.entry.set) }
 {
@@ -106,8 +104,7 @@ fn is_first_stored<F: KnownFact>(
     relation: Option<&str>,
     targets: &mut SetsOfUser<'_, F>,
 ) -> Option<bool>
-    requires index { IsUsersetIndex snapshot.now.timeline.declarations snapshot.now.timeline.commits index.now }
-    requires crowded { (index.now.is_whole && is_crowded index.now.crowds (set_mark (set_value set.set))) ≡ true }
+    requires { IsCrowd snapshot.now (set_value set.set) index.now }
     ensures some { IfSome result (λ b. IsTrue b ↔ SomeSet (IsTargetStored (tuples_in snapshot.now) (set_value set.entry.set)
         (option_map (λ s. s.now) relation.entry)) targets.old) }
     ensures none { result ≡ None → (SomeSet (IsTargetStored (tuples_in snapshot.now) (set_value set.entry.set)
@@ -131,32 +128,28 @@ fn is_first_stored<F: KnownFact>(
 /// Whether one of some usersets has a target that is known to hold a user, or one of some others is the target of what is stored in a
 /// crowded set. It goes over both lists side by side, so it takes no more steps than the shorter has items.
 fn leads_either<F: KnownFact>(
-    snapshot: &Snapshot<'_>,
+    fact: &AskedFact<'_, F>,
     index: &UsersetIndex,
-    known: &Known<F>,
-    set: MarkedSet<'_>,
     relation: Option<&str>,
-    user: u64,
     stored: Usersets<'_>,
     targets: SetsOfUser<'_, F>,
 ) -> bool
-    requires index { IsUsersetIndex snapshot.now.timeline.declarations snapshot.now.timeline.commits index.now }
-    requires crowded { (index.now.is_whole && is_crowded index.now.crowds (set_mark (set_value set.set))) ≡ true }
-    ensures leads { result ≡ true → SomeSet (GivesId known.now (option_map (λ s. s.now) relation.entry) user) stored.entry
-        ⊎ SomeSet (IsTargetStored (tuples_in snapshot.now) (set_value set.entry.set)
+    requires { IsCrowd fact.now.snapshot.now (asked_set fact.now) index.now }
+    ensures leads { result ≡ true → SomeSet (GivesFor fact.now (option_map (λ s. s.now) relation.entry)) stored.entry
+        ⊎ SomeSet (IsTargetStored (tuples_over fact.now) (asked_set fact.now)
         (option_map (λ s. s.now) relation.entry)) targets.entry }
-    ensures none { result ≡ false → (¬ SomeSet (GivesId known.now (option_map (λ s. s.now) relation.entry) user) stored.entry)
-        ⊎ (¬ SomeSet (IsTargetStored (tuples_in snapshot.now) (set_value set.entry.set)
+    ensures none { result ≡ false → (¬ SomeSet (GivesFor fact.now (option_map (λ s. s.now) relation.entry)) stored.entry)
+        ⊎ (¬ SomeSet (IsTargetStored (tuples_over fact.now) (asked_set fact.now)
         (option_map (λ s. s.now) relation.entry)) targets.entry) }
 {
     let mut targets = targets;
     for one in stored {
-        if is_in(known, one, relation, user) {
+        if is_in(fact, one, relation) {
             return true;
         }
         match targets.next() {
             Some(target) => {
-                if is_target_stored(snapshot, index, set, relation, target) {
+                if is_target_stored(fact.snapshot, index, fact.set, relation, target) {
                     return true;
                 }
             }
@@ -168,22 +161,17 @@ fn leads_either<F: KnownFact>(
 
 /// Whether some userset that is stored in a crowded set has a target that is known to hold a user.
 pub(crate) fn is_led_by_index<F: KnownFact>(
-    snapshot: &Snapshot<'_>,
+    fact: &AskedFact<'_, F>,
     index: &UsersetIndex,
-    known: &Known<F>,
-    set: MarkedSet<'_>,
     relation: Option<&str>,
-    user: u64,
 ) -> bool
-    requires index { IsUsersetIndex snapshot.now.timeline.declarations snapshot.now.timeline.commits index.now }
-    requires crowded { (index.now.is_whole && is_crowded index.now.crowds (set_mark (set_value set.set))) ≡ true }
-    ensures { IsTrue result
-        ↔ IsLed (tuples_in snapshot.now) known.now (set_value set.entry.set) (option_map (λ s. s.now) relation.entry) user }
+    requires { IsCrowd fact.now.snapshot.now (asked_set fact.now) index.now }
+    ensures { IsTrue result ↔ IsLedFor fact.now (option_map (λ s. s.now) relation.entry) }
 {
-    let mut targets = known.sets_of(user);
-    if let Some(is_led) = is_first_stored(snapshot, index, set, relation, &mut targets) {
+    let mut targets = fact.known.sets_of(fact.user);
+    if let Some(is_led) = is_first_stored(fact.snapshot, index, fact.set, relation, &mut targets) {
         return is_led;
     }
-    let stored = snapshot.usersets(set);
-    leads_either(snapshot, index, known, set, relation, user, stored, targets)
+    let stored = fact.snapshot.usersets(fact.set);
+    leads_either(fact, index, relation, stored, targets)
 }

@@ -2,7 +2,8 @@
 //!
 //! [`Known`] holds the facts that are known to hold and those that are known not to. [`established`] says whether a rule gives a fact by
 //! them, [`refuted`] whether it cannot give it. Contracts see what is known as `KnownValue`, the two lists of facts, and the table as the
-//! relations `Established` and `Refuted` over the rules in force, the tuples stored at a timestamp, and an `Expression`.
+//! relations `Established` and `Refuted` over the rules in force, the tuples stored at a timestamp, and an `Expression`. An [`AskedFact`]
+//! is the fact that is asked for, with all of these but the rule.
 //!
 //! Callers may rely on this: both answers are those relations, exactly, for all six forms of a rule; neither searches, nor looks into
 //! another relation's rule; neither takes memory. A userset that is undeclared at the timestamp counts as refuted where it is stored, in a
@@ -14,11 +15,18 @@
 //!
 //! ```text
 //! known.add_yes(fact)?;
-//! let is_given = established(rewrite, MarkedSet::of(set), user, &snapshot, &known);
+//! let fact = AskedFact {
+//!     snapshot: &snapshot,
+//!     known: &known,
+//!     set: MarkedSet::of(set),
+//!     user,
+//! };
+//! let is_given = established(rewrite, &fact);
 //! ```
 #![tactic(auto)]
 
 mod absent;
+mod asked;
 mod fact;
 mod facts;
 mod indexed;
@@ -28,9 +36,10 @@ mod stored;
 mod table;
 
 pub use absent::{is_absent, stored_in};
+pub use asked::AskedFact;
 pub use fact::{KnownFact, MarkedFact};
 pub use facts::SetsOfUser;
-pub use indexed::are_out;
+pub use indexed::{are_out, is_number_out};
 pub use known::Known;
-pub use stored::{is_barred, is_led, is_out, under};
+pub use stored::{crowd_of, is_barred, is_led, is_out, under};
 pub use table::{established, refuted};

@@ -1,18 +1,18 @@
 //! What is stored in a userset: a user, and passes over the usersets.
 
-ghost use Rattle.std.specs.Prelude.{◌≡◌, ◌↔◌, IsTrue, option_map};
+ghost use Rattle.std.specs.Prelude.{◌≡◌, ◌↔◌, IfSome, IsTrue, option_map};
 ghost use Rattle.tuple_text.specs.Refs.{set_value};
 ghost use Rattle.strata.specs.Meaning.{with_relation};
-ghost use Rattle.snapshots.specs.Snapshots.{rules_in, tuples_in};
-ghost use Rattle.judgement.specs.Passes.{GivesId, BarsId, SomeSet, EachSet, IsLed, IsBarred};
+ghost use Rattle.judgement.specs.AskedFact.{BarsFor, GivesFor, IsBarredFor, IsLedFor, asked_set};
+ghost use Rattle.judgement.specs.Passes.{EachSet, IsCrowd};
 
+use crate::asked::AskedFact;
 use crate::fact::KnownFact;
-use crate::indexed::is_barred_by_index;
-use crate::known::Known;
+use crate::indexed::{are_out, are_out_through};
 use crate::leading::is_led_by_index;
 use marks::MarkedSet;
-use snapshots::Snapshot;
 use tuple_text::SetRef;
+use userset_index::UsersetIndex;
 use version_chains::Usersets;
 
 /// The same object under another relation.
@@ -24,107 +24,87 @@ pub fn under<'a>(set: SetRef<'a>, relation: &'a str) -> SetRef<'a>
 
 /// Whether the target of a userset is known to hold a user: the userset itself, or its object under a relation.
 pub(crate) fn is_in<F: KnownFact>(
-    known: &Known<F>,
+    fact: &AskedFact<'_, F>,
     set: MarkedSet<'_>,
     relation: Option<&str>,
-    id: u64,
 ) -> bool
-    ensures { IsTrue result ↔ GivesId known.now (option_map (λ s. s.now) relation.entry) id (set_value set.entry.set) }
+    ensures { IsTrue result ↔ GivesFor fact.now (option_map (λ s. s.now) relation.entry) (set_value set.entry.set) }
 {
     match relation {
-        None => known.yes_marked(set, id),
-        Some(relation) => known.yes(under(set.set, relation), id),
+        None => fact.known.yes_marked(set, fact.user),
+        Some(relation) => fact.known.yes(under(set.set, relation), fact.user),
     }
 }
 
 /// Whether the target of a userset is known not to hold a user, or is undeclared and so has no members.
 pub fn is_out<F: KnownFact>(
-    snapshot: &Snapshot<'_>,
-    known: &Known<F>,
+    fact: &AskedFact<'_, F>,
     set: MarkedSet<'_>,
     relation: Option<&str>,
-    id: u64,
 ) -> bool
-    ensures { IsTrue result ↔ BarsId (rules_in snapshot.now) known.now (option_map (λ s. s.now) relation.entry) id (set_value set.entry.set) }
+    ensures { IsTrue result ↔ BarsFor fact.now (option_map (λ s. s.now) relation.entry) (set_value set.entry.set) }
 {
     match relation {
-        None => known.no_marked(set, id) || snapshot.rule(set.set).is_none(),
+        None => fact.known.no_marked(set, fact.user) || fact.snapshot.rule(set.set).is_none(),
         Some(relation) => {
             let target = under(set.set, relation);
-            known.no(target, id) || snapshot.rule(target).is_none()
+            fact.known.no(target, fact.user) || fact.snapshot.rule(target).is_none()
         }
     }
-}
-
-fn gives_some<F: KnownFact>(
-    known: &Known<F>,
-    relation: Option<&str>,
-    id: u64,
-    sets: Usersets<'_>,
-) -> bool
-    ensures { IsTrue result ↔ SomeSet (GivesId known.now (option_map (λ s. s.now) relation.entry) id) sets.entry }
-{
-    for set in sets {
-        if is_in(known, set, relation, id) {
-            return true;
-        }
-    }
-    false
 }
 
 fn bars_each<F: KnownFact>(
-    snapshot: &Snapshot<'_>,
-    known: &Known<F>,
+    fact: &AskedFact<'_, F>,
     relation: Option<&str>,
-    id: u64,
     sets: Usersets<'_>,
 ) -> bool
-    ensures { IsTrue result
-        ↔ EachSet (BarsId (rules_in snapshot.now) known.now (option_map (λ s. s.now) relation.entry) id) sets.entry }
+    ensures { IsTrue result ↔ EachSet (BarsFor fact.now (option_map (λ s. s.now) relation.entry)) sets.entry }
 {
     for set in sets {
-        if !is_out(snapshot, known, set, relation, id) {
+        if !is_out(fact, set, relation) {
             return false;
         }
     }
     true
 }
 
-/// Whether some userset that is stored in a set has a target that is known to hold a user.
-pub fn is_led<F: KnownFact>(
-    snapshot: &Snapshot<'_>,
-    known: &Known<F>,
-    set: MarkedSet<'_>,
-    relation: Option<&str>,
-    user: u64,
-) -> bool
-    ensures { IsTrue result
-        ↔ IsLed (tuples_in snapshot.now) known.now (set_value set.entry.set) (option_map (λ s. s.now) relation.entry) user }
+/// The index of the usersets that are stored in a fact's userset, where that is crowded.
+pub fn crowd_of<'a, F: KnownFact>(fact: &AskedFact<'a, F>) -> Option<&'a UsersetIndex>
+    ensures { IfSome result (λ index. IsCrowd fact.now.snapshot.now (asked_set fact.now) index.now) }
 {
-    let index = snapshot.timeline.usersets();
-    if index.is_crowded(set) {
-        return is_led_by_index(snapshot, index, known, set, relation, user);
+    let index = fact.snapshot.timeline.usersets();
+    if index.is_crowded(fact.set) {
+        Some(index)
+    } else {
+        None
     }
-    let sets = snapshot.usersets(set);
-    gives_some(known, relation, user, sets)
 }
 
-/// Whether no userset that is stored in a set has a target that may hold a user.
-pub fn is_barred<F: KnownFact>(
-    snapshot: &Snapshot<'_>,
-    known: &Known<F>,
-    set: MarkedSet<'_>,
-    relation: Option<&str>,
-    user: u64,
-) -> bool
-    ensures { IsTrue result
-        ↔ IsBarred (rules_in snapshot.now) (tuples_in snapshot.now) known.now (set_value set.entry.set)
-        (option_map (λ s. s.now) relation.entry) user }
+/// Whether some userset that is stored in a fact's userset has a target that is known to hold the user.
+pub fn is_led<F: KnownFact>(fact: &AskedFact<'_, F>, relation: Option<&str>) -> bool
+    ensures { IsTrue result ↔ IsLedFor fact.now (option_map (λ s. s.now) relation.entry) }
 {
-    let index = snapshot.timeline.usersets();
-    if index.is_crowded(set) {
-        return is_barred_by_index(snapshot, index, known, set, relation, user);
+    if let Some(index) = crowd_of(fact) {
+        return is_led_by_index(fact, index, relation);
     }
-    let sets = snapshot.usersets(set);
-    bars_each(snapshot, known, relation, user, sets)
+    for set in fact.snapshot.usersets(fact.set) {
+        if is_in(fact, set, relation) {
+            return true;
+        }
+    }
+    false
+}
+
+/// Whether none has a target that may hold it.
+pub fn is_barred<F: KnownFact>(fact: &AskedFact<'_, F>, relation: Option<&str>) -> bool
+    ensures { IsTrue result ↔ IsBarredFor fact.now (option_map (λ s. s.now) relation.entry) }
+{
+    let Some(index) = crowd_of(fact) else {
+        return bars_each(fact, relation, fact.snapshot.usersets(fact.set));
+    };
+    fact.snapshot.fits();
+    match relation {
+        None => are_out(fact, None, index.own(fact.set, fact.snapshot.at)),
+        Some(relation) => are_out_through(fact, index, relation),
+    }
 }

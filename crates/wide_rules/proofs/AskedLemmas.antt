@@ -8,9 +8,10 @@ use Rattle.rewrites.specs.Expression.{Expression, union, minus}
 use Rattle.rewrites.specs.View.{children}
 use Rattle.strata.proofs.Lists.{Contains-cons_cases}
 use Rattle.wide_rules.specs.Asked.{Questions, asked_at, does, Agrees, Follows, AreRightPaths, AsksMore, IsCoveredBy, joined_of}
-use Rattle.wide_rules.specs.AskedFact.{AreRight, DoesFor, Tells, asked_fact, rules_over, tuples_over}
+use Rattle.judgement.specs.AskedFact.{asked_fact, rules_over, tuples_over}
+use Rattle.wide_rules.specs.AskedFact.{AreRight, DoesFor, Tells}
 use Rattle.wide_rules.specs.declared.answers.Asked.{Asked}
-use Rattle.wide_rules.specs.declared.fact.AskedFact.{AskedFact}
+use Rattle.judgement.specs.declared.asked.AskedFact.{AskedFact}
 use Rattle.wide_rules.specs.declared.paths.Path.{Path}
 use Rattle.wide_rules.proofs.AlikeLemmas.{by_known, given_is, barred_is}
 

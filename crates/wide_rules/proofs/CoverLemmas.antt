@@ -71,9 +71,6 @@ through_covered t part same within =
 
 -- ---- numbers of covers
 
-pub no_cover : (covers : List Expression) (e : Expression) → AreCovers covers e []
-no_cover covers e k there = absurd (omega (arith, there.1))
-
 pub one_cover_more : (covers : List Expression) (e : Expression) (numbers : List ℕ) (n : ℕ) → AreCovers covers e numbers
     → IsCoveredBy e (part_at covers n) → AreCovers covers e (numbers ++ n ∷ [])
 one_cover_more covers e numbers n are is k there =

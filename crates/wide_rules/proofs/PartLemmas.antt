@@ -12,7 +12,7 @@ use Rattle.marks.proofs.PlacedLemmas.{length-set, slice_get-set}
 use Rattle.snapshots.specs.Timelines.{TimelineValue}
 use Rattle.wide_rules.specs.AskedFact.{DoesFor}
 use Rattle.wide_rules.specs.Kept.{AreKeptByPart, MayBeKept}
-use Rattle.wide_rules.specs.declared.fact.AskedFact.{AskedFact}
+use Rattle.judgement.specs.declared.asked.AskedFact.{AskedFact}
 use Rattle.wide_rules.specs.declared.kept.Kept.{Kept}
 
 pub part_there : (ps : List Part) (n : ℕ) (p : Part) → slice_get ps n ≡ Some p → part_at (parts_shown ps) n ≡ part_expression p

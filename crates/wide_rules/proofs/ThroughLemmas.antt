@@ -14,8 +14,9 @@ use Rattle.strata.specs.Meaning.{with_relation}
 use Rattle.judgement.specs.Decided.{dec_undeclared}
 use Rattle.judgement.specs.Judgement.{KnownValue, SomeEstablished, EachRefuted}
 use Rattle.judgement.specs.Passes.{AreBarred, BarsId, BarsNames, IsLedByName, IsLed, target}
-use Rattle.wide_rules.specs.AskedFact.{DoesFor, asked_fact, asked_set, rules_over, tuples_over}
-use Rattle.wide_rules.specs.declared.fact.AskedFact.{AskedFact}
+use Rattle.judgement.specs.AskedFact.{asked_fact, asked_set, rules_over, tuples_over}
+use Rattle.wide_rules.specs.AskedFact.{DoesFor}
+use Rattle.judgement.specs.declared.asked.AskedFact.{AskedFact}
 
 -- ---- the relations of a userset's namespace are enough to look at
 

@@ -10,9 +10,8 @@ ghost use Rattle.wide_rules.specs.AskedFact.{AreRight, DoesFor};
 
 use crate::answers::Answers;
 use crate::asking::{Parts, node_does};
-use crate::fact::AskedFact;
 use crate::paths::{Paths, Reached};
-use judgement::{Known, KnownFact};
+use judgement::{AskedFact, Known, KnownFact};
 use marks::MarkedSet;
 use rewrites::{Node, PartedRule};
 use snapshots::Timeline;

@@ -11,10 +11,9 @@ ghost use Rattle.wide_rules.specs.Kept.{AreKeptByPart};
 
 use crate::answers::{Answers, Asked};
 use crate::covers::{Covers, MOST_COVERS, covers_of};
-use crate::fact::AskedFact;
 use crate::kept::{Kept, through_bars};
 use crate::through::through_gives;
-use judgement::{KnownFact, established, refuted};
+use judgement::{AskedFact, KnownFact, established, refuted};
 use rewrites::{Node, Part, Rewrite};
 use snapshots::{Snapshot, Timeline};
 use std::alloc::{AllocError, Global};
@@ -58,9 +57,9 @@ fn leaf_does<F: KnownFact>(leaf: &Rewrite, fact: &AskedFact<'_, F>, is_given: bo
     ensures { IsTrue result ↔ DoesFor fact.now is_given (expression_of leaf.now) }
 {
     if is_given {
-        established(leaf, fact.set, fact.user, fact.snapshot, fact.known)
+        established(leaf, fact)
     } else {
-        refuted(leaf, fact.set, fact.user, fact.snapshot, fact.known)
+        refuted(leaf, fact)
     }
 }
 

@@ -1,54 +1,32 @@
 //! What is read through a crowded tupleset, under many relations.
 
-ghost use Rattle.std.specs.Prelude.{◌≡◌, ◌↔◌, ◌&&◌, IsTrue, true, Contains, List, None, Some, slice_get, ℕ};
-ghost use Rattle.namespaces.specs.InForce.{names_in_force};
+ghost use Rattle.std.specs.Prelude.{◌≡◌, ◌↔◌, IsTrue, Contains, List, None, Some, option_map, ℕ};
 ghost use Rattle.rewrites.specs.Parts.{computed_names};
-ghost use Rattle.marks.specs.Marks.{set_mark};
-ghost use Rattle.userset_index.specs.Index.{IsUsersetIndex, is_crowded};
-ghost use Rattle.judgement.specs.Passes.{AreThroughOut};
-ghost use Rattle.wide_rules.specs.AskedFact.{IsBarredBy, IsNumberOut, asked_set, rules_over};
+ghost use Rattle.judgement.specs.Passes.{AreThroughOut, IsCrowd};
+ghost use Rattle.judgement.specs.AskedFact.{IsNumberOut, asked_set, rules_over};
+ghost use Rattle.wide_rules.specs.AskedFact.{IsBarredBy};
 ghost use Rattle.wide_rules.specs.Kept.{AreLive};
 
-use crate::fact::AskedFact;
-use judgement::{KnownFact, are_out};
+use judgement::{AskedFact, KnownFact, is_number_out};
 use rewrites::Through;
 use userset_index::UsersetIndex;
 
-/// Whether relation number `k` of a namespace is not read, or no stored userset of the namespace may have the user under it.
+/// Whether a relation is not read, or no stored userset of the namespace of a number may have the user under it.
 fn is_name_out<F: KnownFact>(
     fact: &AskedFact<'_, F>,
     through: &Through,
     index: &UsersetIndex,
-    namespace: &str,
     number: u16,
-    k: usize,
+    name: Option<&str>,
 ) -> bool
-    ensures out { IsTrue result → (c : List ℕ)
-        → slice_get (names_in_force fact.now.snapshot.now.at namespace.now
-        fact.now.snapshot.now.timeline.declarations) k ≡ Some c
+    ensures out { IsTrue result → (c : List ℕ) → option_map (λ s. s.now) name.entry ≡ Some c
         → Contains (computed_names through.now) c → IsNumberOut fact.now index.now.through number c }
     ensures barred { IsBarredBy fact.now (computed_names through.now) → IsTrue result }
 {
-    let snapshot = fact.snapshot;
-    let Some(name) = snapshot
-        .timeline
-        .rules()
-        .name_in_force(namespace, snapshot.at, k)
-    else {
-        return true;
-    };
-    if !through.reads(name) {
-        return true;
+    match name {
+        Some(name) => !through.reads(name) || is_number_out(fact, index, name, number),
+        None => true,
     }
-    let touches = index.through(fact.set, number, snapshot.at);
-    are_out(
-        snapshot,
-        fact.known,
-        fact.set,
-        Some(name),
-        fact.user,
-        touches,
-    )
 }
 
 /// Whether that holds of each relation of a namespace. It has 256 at most.
@@ -63,13 +41,11 @@ fn are_names_out<F: KnownFact>(
         → ¬ (rules_over fact.now namespace.now c ≡ None) → IsNumberOut fact.now index.now.through number c }
     ensures barred { IsBarredBy fact.now (computed_names through.now) → IsTrue result }
 {
-    let snapshot = fact.snapshot;
-    for k in 0..snapshot
-        .timeline
-        .rules()
-        .count_in_force(namespace, snapshot.at)
-    {
-        if !is_name_out(fact, through, index, namespace, number, k) {
+    let at = fact.snapshot.at;
+    let rules = fact.snapshot.timeline.rules();
+    for k in 0..rules.count_in_force(namespace, at) {
+        let name = rules.name_in_force(namespace, at, k);
+        if !is_name_out(fact, through, index, number, name) {
             return false;
         }
     }
@@ -107,9 +83,7 @@ pub(crate) fn are_barred_by_index<F: KnownFact>(
     index: &UsersetIndex,
     numbers: &[u16],
 ) -> bool
-    requires index { IsUsersetIndex fact.now.snapshot.now.timeline.declarations fact.now.snapshot.now.timeline.commits
-        index.now }
-    requires crowded { (index.now.is_whole && is_crowded index.now.crowds (set_mark (asked_set fact.now))) ≡ true }
+    requires crowd { IsCrowd fact.now.snapshot.now (asked_set fact.now) index.now }
     requires numbers { AreLive fact.now.snapshot.now (asked_set fact.now) (computed_names through.now) numbers.now }
     ensures { IsTrue result ↔ IsBarredBy fact.now (computed_names through.now) }
 {

@@ -4,15 +4,15 @@ ghost use Rattle.std.specs.Prelude.{◌≡◌, ◌↔◌, [], IsTrue, true, fals
 ghost use Rattle.tuple_text.specs.Refs.{set_value};
 ghost use Rattle.rewrites.specs.Parts.{computed_names, through_expression};
 ghost use Rattle.strata.specs.Meaning.{with_relation};
-ghost use Rattle.wide_rules.specs.AskedFact.{DoesFor, IsBarredBy, asked_set};
+ghost use Rattle.judgement.specs.AskedFact.{asked_set};
+ghost use Rattle.wide_rules.specs.AskedFact.{DoesFor, IsBarredBy};
 ghost use Rattle.wide_rules.specs.Declaring.{AreDeclaring};
 ghost use Rattle.wide_rules.specs.Kept.{AreLive, IsKept, MayBeKept, kept_set};
 
 use crate::declaring::{declaring, numbers_of};
-use crate::fact::AskedFact;
 use crate::live::live_in;
 use crate::through::{are_barred, tupleset_of};
-use judgement::{KnownFact, stored_in};
+use judgement::{AskedFact, KnownFact, stored_in};
 use marks::MarkedSet;
 use rewrites::Through;
 use snapshots::Snapshot;

@@ -24,7 +24,6 @@ mod asking;
 mod covers;
 mod crowded;
 mod declaring;
-mod fact;
 mod kept;
 mod live;
 mod paths;

@@ -5,20 +5,18 @@ ghost use Rattle.tuple_text.specs.Refs.{set_value};
 ghost use Rattle.namespaces.specs.InForce.{names_in_force};
 ghost use Rattle.rewrites.specs.Parts.{computed_names, through_expression};
 ghost use Rattle.strata.specs.Meaning.{with_relation};
-ghost use Rattle.judgement.specs.Passes.{BarsId, EachSet, IsLed, SomeSet};
+ghost use Rattle.judgement.specs.Passes.{SomeSet};
 ghost use Rattle.wide_rules.specs.AskedFact.{BarsUnder, DoesFor, IsBarredBy, IsLedBy, LeadsUnder};
-ghost use Rattle.wide_rules.specs.AskedFact.{asked_set, rules_over, tuples_over};
+ghost use Rattle.judgement.specs.AskedFact.{BarsFor, IsLedFor, asked_set};
 ghost use Rattle.wide_rules.specs.Declaring.{AreDeclaring};
 ghost use Rattle.wide_rules.specs.Kept.{AreLive};
 
 use crate::crowded::are_barred_by_index;
 use crate::declaring::{is_among, name_at};
-use crate::fact::AskedFact;
-use judgement::{KnownFact, SetsOfUser, is_barred, is_led, is_out, under};
+use judgement::{AskedFact, KnownFact, SetsOfUser, crowd_of, is_barred, is_led, is_out, under};
 use marks::MarkedSet;
 use rewrites::Through;
 use tuple_text::SetRef;
-use version_chains::Usersets;
 
 /// Up to how many relations are asked for one by one.
 const FEW_RELATIONS: usize = 4;
@@ -40,7 +38,7 @@ fn bars_name_at<F: KnownFact>(
     ensures bars { IsTrue result → (c : List ℕ)
         → slice_get (names_in_force fact.now.snapshot.now.at (set_value set.entry.set).namespace
         fact.now.snapshot.now.timeline.declarations) k ≡ Some c → Contains (computed_names through.now) c
-        → BarsId (rules_over fact.now) fact.now.known.now (Some c) fact.now.user (set_value set.entry.set) }
+        → BarsFor fact.now (Some c) (set_value set.entry.set) }
     ensures none { BarsUnder fact.now (computed_names through.now) (set_value set.entry.set) → IsTrue result }
 {
     let snapshot = fact.snapshot;
@@ -49,9 +47,7 @@ fn bars_name_at<F: KnownFact>(
         .rules()
         .name_in_force(set.set.namespace, snapshot.at, k)
     {
-        Some(relation) => {
-            !through.reads(relation) || is_out(snapshot, fact.known, set, Some(relation), fact.user)
-        }
+        Some(relation) => { !through.reads(relation) || is_out(fact, set, Some(relation)) }
         None => true,
     }
 }
@@ -81,32 +77,14 @@ fn bars_names<F: KnownFact>(
     true
 }
 
-/// Whether that holds of each of some usersets.
-fn each_bars_names<F: KnownFact>(
-    fact: &AskedFact<'_, F>,
-    through: &Through,
-    sets: Usersets<'_>,
-    declaring: &[u16],
-) -> bool
-    requires { AreDeclaring fact.now.snapshot.now.timeline.declarations (computed_names through.now) declaring.now }
-    ensures { IsTrue result ↔ EachSet (BarsUnder fact.now (computed_names through.now)) sets.entry }
-{
-    for set in sets {
-        if !bars_names(fact, through, set, declaring) {
-            return false;
-        }
-    }
-    true
-}
-
 /// Whether some userset that is stored in the set has the user under relation number `k` that is read.
 fn leads_at<F: KnownFact>(fact: &AskedFact<'_, F>, through: &Through, k: usize) -> bool
     ensures leads { IsTrue result → IsLedBy fact.now (computed_names through.now) }
     ensures none { (c : List ℕ) → slice_get (computed_names through.now) k ≡ Some c
-        → IsLed (tuples_over fact.now) fact.now.known.now (asked_set fact.now) (Some c) fact.now.user → IsTrue result }
+        → IsLedFor fact.now (Some c) → IsTrue result }
 {
     match name_at(through, k) {
-        Some(name) => is_led(fact.snapshot, fact.known, fact.set, Some(name), fact.user),
+        Some(name) => is_led(fact, Some(name)),
         None => false,
     }
 }
@@ -120,7 +98,7 @@ fn leads_by_name<F: KnownFact>(
     ensures { IsTrue result ↔ LeadsUnder fact.now (computed_names through.now) (set_value target.entry) }
 {
     let name = target.relation;
-    through.reads(name) && is_led(fact.snapshot, fact.known, fact.set, Some(name), fact.user)
+    through.reads(name) && is_led(fact, Some(name))
 }
 
 /// Whether one has the user under a relation that is read, or under that of one of some targets. It goes over both lists side by side, so it
@@ -163,7 +141,7 @@ fn are_barred_one_by_one<F: KnownFact>(fact: &AskedFact<'_, F>, through: &Throug
 {
     for k in 0..through.computed.len() {
         if let Some(name) = name_at(through, k) {
-            if !is_barred(fact.snapshot, fact.known, fact.set, Some(name), fact.user) {
+            if !is_barred(fact, Some(name)) {
                 return false;
             }
         }
@@ -186,16 +164,18 @@ pub(crate) fn are_barred<F: KnownFact>(
     if live.is_empty() {
         return true;
     }
-    let snapshot = fact.snapshot;
-    let index = snapshot.timeline.usersets();
-    if index.is_crowded(fact.set) {
+    if let Some(index) = crowd_of(fact) {
         return are_barred_by_index(fact, through, index, live);
     }
     if through.computed.len() <= FEW_RELATIONS {
         return are_barred_one_by_one(fact, through);
     }
-    let sets = snapshot.usersets(fact.set);
-    each_bars_names(fact, through, sets, declaring)
+    for set in fact.snapshot.usersets(fact.set) {
+        if !bars_names(fact, through, set, declaring) {
+            return false;
+        }
+    }
+    true
 }
 
 /// Whether what is read through a tupleset gives a fact.

@@ -5,8 +5,9 @@ use Rattle.evidence_check.proofs.read.judge_evidence.Goals as goal
 
 pub returns-in-Err : goal.returns-in-Err
 returns-in-Err g c =
-    unread _ _ _ _ g.R.Source.given g.R.Source.ends g.R.Source.failures g.R.Read.remaining c.args.reader.now _ refl
-    (λ e. cc) (λ input. tt)
+    rw c.unbegun.ensures
+    (unread _ _ _ _ g.R.Source.given g.R.Source.ends g.R.Source.failures g.R.Read.remaining c.args.reader.now _ refl
+    (λ e. cc) (λ input. tt))
 
 pub returns-in-Ok-read_lines : goal.returns-in-Ok-read_lines
 returns-in-Ok-read_lines g c =

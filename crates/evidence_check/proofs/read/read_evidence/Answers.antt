@@ -14,8 +14,9 @@ use Rattle.evidence_check.proofs.read.read_evidence.Goals as goal
 
 pub returns-in-Err : goal.returns-in-Err
 returns-in-Err g c =
-    unread _ _ _ _ g.R.Source.given g.R.Source.ends g.R.Source.failures g.R.Read.remaining c.args.reader.now _ refl
-    (λ e. cc) (λ input. tt)
+    rw c.unbegun.ensures
+    (unread _ _ _ _ g.R.Source.given g.R.Source.ends g.R.Source.failures g.R.Read.remaining c.args.reader.now _ refl
+    (λ e. cc) (λ input. tt))
 
 -- the steps that were recorded are those that the lines give
 as_recorded : (entries : List EntryValue) (start now : Records) (steps : List (Option (List StepValue))) (input : List ℕ)

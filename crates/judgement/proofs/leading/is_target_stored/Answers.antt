@@ -1,9 +1,6 @@
 use Rattle.std.proofs.Common.{◌≡◌, ℕ, List, Option, None, Some, ◌↔◌, IsTrue, ap, sym, subst, rules, ◌<◌, ◌^◌}
 use Rattle.std.specs.Prelude.{All, option_map}
 use Rattle.tuple_text.specs.Refs.{set_value}
-use Rattle.marks.specs.Marks.{set_mark}
-use Rattle.marks.proofs.PlacedLemmas.{and-left, and-right}
-use Rattle.userset_index.specs.Index.{is_crowded}
 use Rattle.snapshots.specs.Snapshots.{tuples_in}
 use Rattle.judgement.specs.Passes.{IsTargetStored, IsTouchApart}
 use Rattle.judgement.proofs.IndexLemmas.{apart_by_objects}
@@ -30,6 +27,6 @@ returns-then-eq c =
     subst (λ (o : Option (List ℕ)). IsTrue c.is_one_of_object.result ↔ IsTargetStored (tuples_in s) set o t) (sym some)
     (target_by_test (tuples_in s) set t c.in-Some.relation.now c.is_one_of_object.result (search rules) c.is_one_of_object.ensures.stored
     (λ gone.
-    apart_by_objects s small v (c.requires.index (and-left v.is_whole (is_crowded v.crowds (set_mark set)) c.requires.crowded)) set
-    (and-right v.is_whole (is_crowded v.crowds (set_mark set)) c.requires.crowded) t
+    apart_by_objects s small v c.requires.whole set
+    c.requires.crowded t
     (subst (All (IsTouchApart s set t)) c.of_object.ensures (c.is_one_of_object.ensures.apart gone))))

@@ -1,12 +1,9 @@
 use Rattle.std.proofs.Common.{ℕ, List, suc, refl, subst, arith}
 use Rattle.std.proofs.lemmas.Option.{get_or_from_slice_get}
 use Rattle.std.specs.Prelude.{Contains}
-use Rattle.marks.specs.Marks.{set_mark}
-use Rattle.marks.proofs.PlacedLemmas.{and-left, and-right}
 use Rattle.rewrites.specs.Parts.{computed_names}
-use Rattle.userset_index.specs.Index.{is_crowded}
 use Rattle.judgement.specs.Passes.{AreThroughOut}
-use Rattle.wide_rules.specs.AskedFact.{asked_set}
+use Rattle.judgement.specs.AskedFact.{asked_set}
 use Rattle.judgement.proofs.IndexLemmas.{barred_by_through}
 use Rattle.judgement.proofs.PassLemmas.{next_element, place_of_element}
 use Rattle.wide_rules.proofs.crowded.are_barred_by_index.Goals as goal
@@ -26,8 +23,8 @@ returns g c =
     let live = c.requires.numbers in
     let v = c.args.index.now in (
       λ t name named.
-          barred_by_through s c.fits.ensures v (c.requires.index (and-left v.is_whole (is_crowded v.crowds (set_mark set)) c.requires.crowded)) set
-          (and-right v.is_whole (is_crowded v.crowds (set_mark set)) c.requires.crowded) c.args.fact.now.known.now c.args.fact.now.user live.few name
+          barred_by_through s c.fits.ensures v c.requires.crowd.whole set
+          c.requires.crowd.crowded c.args.fact.now.known.now c.args.fact.now.user live.few name
           (λ n h less stored place declared.
           let there = live.all (suc n) h name stored place named declared in
           let p = place_of_element c.args.numbers.now (suc n) there in

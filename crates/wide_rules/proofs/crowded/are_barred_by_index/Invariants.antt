@@ -2,7 +2,7 @@ use Rattle.std.proofs.Common.{◌≡◌, ℕ, List, ◌<◌, Some}
 use Rattle.std.specs.Prelude.{Contains, slice_get}
 use Rattle.rewrites.specs.Parts.{computed_names}
 use Rattle.judgement.specs.Passes.{AreThroughOut}
-use Rattle.wide_rules.specs.AskedFact.{asked_set}
+use Rattle.judgement.specs.AskedFact.{asked_set}
 use Rattle.wide_rules.proofs.crowded.are_barred_by_index.Given as goal
 
 -- nothing of the namespaces so far may have the user

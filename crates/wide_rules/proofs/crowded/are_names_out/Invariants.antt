@@ -2,7 +2,7 @@ use Rattle.std.proofs.Common.{◌≡◌, ℕ, List, ◌<◌, Some}
 use Rattle.std.specs.Prelude.{Contains, slice_get}
 use Rattle.namespaces.specs.InForce.{names_in_force}
 use Rattle.rewrites.specs.Parts.{computed_names}
-use Rattle.wide_rules.specs.AskedFact.{IsNumberOut}
+use Rattle.judgement.specs.AskedFact.{IsNumberOut}
 use Rattle.wide_rules.proofs.crowded.are_names_out.Given as goal
 
 -- those so far are not read, or nothing stored may have the user under them

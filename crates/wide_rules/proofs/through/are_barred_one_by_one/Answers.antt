@@ -2,8 +2,7 @@ use Rattle.std.proofs.Common.{◌≡◌, ◌∙◌, refl, sym, arith, Some, leng
 use Rattle.std.proofs.lemmas.List.{length-map}
 use Rattle.std.specs.Prelude.{slice_get}
 use Rattle.rewrites.specs.Parts.{computed_names}
-use Rattle.judgement.specs.Passes.{IsBarred}
-use Rattle.wide_rules.specs.AskedFact.{asked_set, rules_over, tuples_over}
+use Rattle.judgement.specs.AskedFact.{IsBarredFor}
 use Rattle.judgement.proofs.PassLemmas.{each_element, element_at}
 use Rattle.wide_rules.proofs.through.are_barred_one_by_one.Goals as goal
 
@@ -20,7 +19,7 @@ returns g c =
     let entries = c.args.through.now.computed.entries in
     let count : c.len-k-end.result ≡ length entries = c.len-k-end.ensures.len in
     let named : length (computed_names c.args.through.now) ≡ length entries = length-map entries (λ e. string_bytes e.0) in (
-      λ t. each_element (λ n. IsBarred (rules_over a) (tuples_over a) a.known.now (asked_set a) (Some n) a.user) (computed_names c.args.through.now)
+      λ t. each_element (λ n. IsBarredFor a (Some n)) (computed_names c.args.through.now)
           (λ k n within at. c.loop-k.invariant k n (omega (arith, within, c.loop-k-test.false, count, named)) at),
       λ all. refl,
     )

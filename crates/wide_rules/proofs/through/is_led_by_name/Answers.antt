@@ -3,7 +3,8 @@ use Rattle.tuple_text.specs.Sets.{SetValue}
 use Rattle.rewrites.specs.Parts.{computed_names}
 use Rattle.judgement.specs.Passes.{SomeSet}
 use Rattle.judgement.proofs.LedLemmas.{led_by_either, led_by_known_names}
-use Rattle.wide_rules.specs.AskedFact.{IsLedBy, LeadsUnder, asked_set, tuples_over}
+use Rattle.judgement.specs.AskedFact.{asked_set, tuples_over}
+use Rattle.wide_rules.specs.AskedFact.{IsLedBy, LeadsUnder}
 use Rattle.wide_rules.proofs.through.is_led_by_name.Goals as goal
 
 pub returns : goal.returns

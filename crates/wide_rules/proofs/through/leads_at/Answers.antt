@@ -1,7 +1,6 @@
 use Rattle.std.proofs.Common.{◌≡◌, ℕ, List, Some, subst, sym}
 use Rattle.rewrites.specs.Parts.{computed_names}
-use Rattle.judgement.specs.Passes.{IsLed}
-use Rattle.wide_rules.specs.AskedFact.{asked_set, tuples_over}
+use Rattle.judgement.specs.AskedFact.{IsLedFor}
 use Rattle.judgement.proofs.PassLemmas.{element_at}
 use Rattle.wide_rules.proofs.through.leads_at.Goals as goal
 
@@ -15,4 +14,4 @@ returns-in-Some-clause-none g c = λ n at led.
     let a = c.args.fact.now in
     let here = c.in-Some.ensures in
     let same : n ≡ c.in-Some.name.now = cc in
-    c.is_led.ensures.1 (subst (λ (m : List ℕ). IsLed (tuples_over a) a.known.now (asked_set a) (Some m) a.user) same led)
+    c.is_led.ensures.1 (subst (λ (m : List ℕ). IsLedFor a (Some m)) same led)

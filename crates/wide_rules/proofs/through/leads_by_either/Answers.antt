@@ -3,8 +3,9 @@ use Rattle.std.proofs.lemmas.List.{length-map}
 use Rattle.tuple_text.specs.Refs.{set_value}
 use Rattle.tuple_text.specs.Sets.{SetValue}
 use Rattle.rewrites.specs.Parts.{computed_names}
-use Rattle.judgement.specs.Passes.{IsLed, SomeSet}
-use Rattle.wide_rules.specs.AskedFact.{LeadsUnder, asked_set, tuples_over}
+use Rattle.judgement.specs.Passes.{SomeSet}
+use Rattle.judgement.specs.AskedFact.{IsLedFor}
+use Rattle.wide_rules.specs.AskedFact.{LeadsUnder}
 use Rattle.judgement.proofs.LedLemmas.{some_left}
 use Rattle.judgement.proofs.PassLemmas.{next_element, place_of_element}
 use Rattle.wide_rules.proofs.through.leads_by_either.Goals as goal
@@ -13,7 +14,7 @@ pub loop-k-preserved : goal.loop-k-preserved
 loop-k-preserved g c =
     let a = c.args.fact.now in
     let names = computed_names c.args.through.now in
-    let P : List ℕ → Type 0 = λ name. ¬ IsLed (tuples_over a) a.known.now (asked_set a) (Some name) a.user in
+    let P : List ℕ → Type 0 = λ name. ¬ IsLedFor a (Some name) in
     let Q : SetValue → Type 0 = LeadsUnder a names in (
       next_element P names c.loop-k.k c.loop-k.invariant.0 (λ name at led. let t = c.leads_at.ensures.none name at led in cc),
       some_left Q c.loop-k.targets c.next.new.self (set_value c.in-Some.target.set) (SomeSet Q c.args.targets) c.in-Some.ensures.steps

@@ -4,7 +4,7 @@ use Rattle.rewrites.specs.declared.parts.PartedRule.{PartedRule}
 use Rattle.wide_rules.specs.Asked.{AreRightPaths, Follows, Questions}
 use Rattle.wide_rules.specs.AskedFact.{Tells}
 use Rattle.wide_rules.specs.declared.answers.Asked.{Asked}
-use Rattle.wide_rules.specs.declared.fact.AskedFact.{AskedFact}
+use Rattle.judgement.specs.declared.asked.AskedFact.{AskedFact}
 use Rattle.wide_rules.specs.declared.paths.Path.{Path}
 use Rattle.wide_rules.proofs.AskedLemmas.{none_right, right_then}
 use Rattle.wide_rules.proofs.asked_rule.AskedRule.does_for.Goals as goal
