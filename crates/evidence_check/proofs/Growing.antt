@@ -9,7 +9,7 @@ use Rattle.namespaces.specs.Lookup.{Lookup}
 use Rattle.strata.proofs.Lists.{Contains-here, Contains-there, Contains-cons_cases, not_in_nil}
 use Rattle.strata.specs.Meaning.{with_relation, same_user}
 use Rattle.judgement.specs.Judgement.{KnownValue, IsOut, Established, SomeEstablished, EachEstablished, Refuted, SomeRefuted, EachRefuted}
-use Rattle.evidence_check.specs.Accepted.{IsProved, IsDisproved, with_yes, with_no, IsAccepted, after_step, nothing_known}
+use Rattle.evidence_check.specs.Accepted.{IsProved, IsDisproved, with_yes, with_no, IsAccepted, after_step}
 use Rattle.evidence_check.specs.Growing.{Grows, IsBorneOut, AreFresh}
 use Rattle.evidence_check.specs.Steps.{StepValue, yes_step, no_step}
 use Rattle.evidence_check.proofs.Sound.{each_contained}

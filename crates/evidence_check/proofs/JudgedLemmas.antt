@@ -1,6 +1,7 @@
 -- What a judgement shows.
 use Rattle.std.proofs.Common.{◌≡◌, ℕ, ◌+◌, Bool, true, false, not, ◌&&◌, cond, nat_eq, IsTrue, ◌↔◌, List, [], ◌∷◌, ◌++◌, Option, None, Some, refl, sym, ◌∙◌, ap, subst, inl, inr, arith}
-use Rattle.judgement.proofs.PassLemmas.{each_more}
+use Rattle.std.proofs.lemmas.List.Elements.{Contains-append_cases}
+use Rattle.strata.proofs.Lists.{Contains-cons_cases}
 use Rattle.namespaces.specs.declared.number.RulePlace.{RulePlace}
 use Rattle.evidence_check.specs.declared.asked_rules.PlacedRule.{PlacedRule}
 use Rattle.std.proofs.lemmas.Bool.{eqb-true}
@@ -12,7 +13,6 @@ use Rattle.tuple_text.proofs.ValueLemmas.{fact_eq-same}
 use Rattle.rewrites.specs.Alike.{IsAlike, AreAlike}
 use Rattle.rewrites.specs.Expression.{Expression}
 use Rattle.namespaces.specs.Lookup.{Rule, Lookup, rule_at, rule_of}
-use Rattle.rewrites.specs.Plain.{ArePlain}
 use Rattle.version_chains.specs.Commits.{store_at}
 use Rattle.strata.proofs.Rounds.{stable_law, closed_law}
 use Rattle.trace_lines.specs.Timelines.{snapshot_of}
@@ -81,7 +81,14 @@ same_place p q h =
 
 pub one_placed_more : (trace : TraceValue) (rules : List PlacedRule) (p : PlacedRule) → ArePlaced trace rules → IsPlaced trace p
     → ArePlaced trace (rules ++ p ∷ [])
-one_placed_more trace rules p = each_more (IsPlaced trace) rules p
+one_placed_more trace rules p are is q there =
+    elim (Contains-append_cases rules (p ∷ []) q there) [
+      | inl before ↦ are q before
+      | inr last ↦ subst (IsPlaced trace) (only q last) is
+    ]
+  where
+    only : (q : PlacedRule) → Contains (p ∷ []) q → p ≡ q
+    only q last = elim (Contains-cons_cases p [] q last) [ inl is ↦ is | inr none ↦ absurd (omega (arith, none.1)) ]
 
 -- ---- by the plain rule of a relation, where it is found
 

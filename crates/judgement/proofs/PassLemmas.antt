@@ -1,8 +1,6 @@
 -- What a pass over the stored usersets of a userset shows.
-use Rattle.std.proofs.Common.{map, option_map, ◌≡◌, ℕ, ◌+◌, ◌<◌, length, arith, Bool, true, false, List, [], ◌∷◌, ◌++◌, Option, ◌⊎◌, inl, inr, ◌↔◌, refl, sym, ◌∙◌, ap, subst, ◌||◌}
+use Rattle.std.proofs.Common.{map, option_map, ◌≡◌, ℕ, ◌+◌, ◌<◌, length, arith, Bool, true, false, List, [], ◌∷◌, Option, ◌⊎◌, inl, inr, ◌↔◌, refl, sym, ◌∙◌, ap, subst, ◌||◌}
 use Rattle.std.proofs.Math.Nat.{eq-or-lt_of_le}
-use Rattle.std.proofs.lemmas.List.Elements.{Contains-append_cases}
-use Rattle.strata.proofs.Lists.{Contains-cons_cases}
 use Rattle.std.proofs.lemmas.Option.{slice_get_within, slice_get_read, slice_get-map, get_or_from_slice_get}
 use Rattle.std.specs.Prelude.{Contains, slice_get, Some}
 use Rattle.std.specs.List.{list_any}
@@ -66,15 +64,6 @@ element_at names k c h = (k, slice_get_within names k c h, get_or_from_slice_get
 
 pub place_of_element : {X : Type 0} (names : List X) (c : X) → Contains names c → (k : ℕ) × (k < length names) × (slice_get names k ≡ Some c)
 place_of_element names c (k, within, is) = (k, within, slice_get_read names (length names) k c refl within (sym is))
-
--- what holds of each element, and of one more
-pub each_more : {X : Type 0} (P : X → Type 0) (xs : List X) (x : X) → ((y : X) → Contains xs y → P y) → P x
-    → (y : X) → Contains (xs ++ x ∷ []) y → P y
-each_more P xs x are is y there =
-    elim (Contains-append_cases xs (x ∷ []) y there) [
-      | inl before ↦ are y before
-      | inr last ↦ elim (Contains-cons_cases x [] y last) [ inl same ↦ subst P same is | inr none ↦ absurd (omega (arith, none.1)) ]
-    ]
 
 pub mapped_element : {X Y : Type 0} (f : X → Y) (names : List X) (c : X) → Contains names c → Contains (map f names) (f c)
 mapped_element f names c there =
