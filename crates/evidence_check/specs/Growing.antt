@@ -20,7 +20,8 @@ KeepsBoth old new f = KeepsYes old new f × KeepsNo old new f
 abbrev pub Grows : KnownValue → KnownValue → Type 0
 Grows old new = (f : FactValue) → KeepsBoth old new f
 
--- what is known bears itself out: each fact that is known to hold is proved by it, and each that is known not to is disproved
+-- what is known bears itself out: each fact that is known to hold is proved by it, and each that is known not to is
+-- disproved
 pub record IsBorneOut (rules : Lookup) (store : List TupleValue) (known : KnownValue) : Type 0 where
   pub yes : (f : FactValue) → Contains known.yes f → IsProved rules store known f
   pub no : (f : FactValue) → Contains known.no f → IsDisproved rules store known f

@@ -34,7 +34,8 @@ pub(crate) fn judge_at<'t>(
     steps: &[StepRef<'_>],
 ) -> Result<Judged, AllocError>
     ensures asked { asked.new ≡ asked.old }
-    ensures judged { IfOk result (λ j. j ≡ judged_by asked.old (slice_get asked.old.entries place) (borrowed_steps steps.now)) }
+    ensures judged { IfOk result (λ j. j
+        ≡ judged_by asked.old (slice_get asked.old.entries place) (borrowed_steps steps.now)) }
 {
     let trace = asked.trace();
     if place < trace.len() {
@@ -64,8 +65,8 @@ fn placed_in<'a>(
     }
 }
 
-/// What a record says of its entry, whose place is sought first at `next`. Threads share the lines, and each has rules of its own that it
-/// asks.
+/// What a record says of its entry, whose place is sought first at `next`. Threads share the lines, and each has
+/// rules of its own that it asks.
 #[tactic(auto, unfolding(crate::specs::Alone::verdict_in))]
 pub fn judge_alone<'t>(
     alloc: Global,

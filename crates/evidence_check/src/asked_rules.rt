@@ -24,7 +24,8 @@ pub(crate) struct PlacedRule<'t> {
     rule: AskedRule<'t>,
 }
 
-// Written out, as those below: one that is derived is a part of each function that lets the value go, with all its parts.
+// Written out, as those below: one that is derived is a part of each function that lets the value go, with all its
+// parts.
 impl<'t> Drop for PlacedRule<'t> {
     fn drop(self) {
         let PlacedRule { place: _, rule } = self;
@@ -32,7 +33,8 @@ impl<'t> Drop for PlacedRule<'t> {
     }
 }
 
-/// Rules of many places, each with what was asked of it in all records so far. Contracts see the trace over which they are asked.
+/// Rules of many places, each with what was asked of it in all records so far. Contracts see the trace over which
+/// they are asked.
 pub struct AskedRules<'t> {
     alloc: Global,
     trace: &'t Trace,
@@ -107,7 +109,8 @@ impl<'t> AskedRules<'t> {
     ) -> Result<bool, AllocError>
         requires { AreAlike (Some (rule_shown parted.now)) (expression_in place self.old.declarations) }
         ensures rules { self.new ≡ self.old }
-        ensures does { IfOk result (λ r. IsTrue r ↔ Does (snapshot_of self.old at) known.now (marked_fact fact.entry) is_given (rule_shown parted.now)) }
+        ensures does { IfOk result (λ r. IsTrue r
+            ↔ Does (snapshot_of self.old at) known.now (marked_fact fact.entry) is_given (rule_shown parted.now)) }
     {
         let number = self
             .numbers

@@ -84,7 +84,8 @@ fn rule_in_force<'t>(rules: &'t Rules, at: u64, set: SetRef<'_>) -> RuleInForce<
     }
 }
 
-/// The rule of a userset's relation, where that of another userset is at hand: facts of one relation mostly follow one another.
+/// The rule of a userset's relation, where that of another userset is at hand: facts of one relation mostly follow
+/// one another.
 fn rule_after<'t>(
     rules: &'t Rules,
     at: u64,
@@ -161,8 +162,8 @@ fn settles<'t, F: KnownFact>(
     }
 }
 
-/// Whether the fact's relation is declared, and its rule gives the fact from what is known. What is asked of a rule of many places for it is
-/// kept for the facts behind.
+/// Whether the fact's relation is declared, and its rule gives the fact from what is known. What is asked of a rule
+/// of many places for it is kept for the facts behind.
 pub fn is_proved_by<'t, F: KnownFact>(
     asked: &mut AskedRules<'t>,
     at: u64,
@@ -221,7 +222,8 @@ fn are_disproved<'t, 'a>(
     Ok(true)
 }
 
-/// From now on the fact is known not to hold. Where that was not known so before, the fact is put behind those in `fresh`.
+/// From now on the fact is known not to hold. Where that was not known so before, the fact is put behind those in
+/// `fresh`.
 fn deny<'a>(
     known: &mut Known<MarkedFact<'a>>,
     fresh: &mut Vec<MarkedFact<'a>>,
@@ -239,8 +241,8 @@ fn deny<'a>(
     Ok(())
 }
 
-/// From now on none of the facts is known to hold. Those that were not known so before are put, each once, in the place of what
-/// was in `fresh`.
+/// From now on none of the facts is known to hold. Those that were not known so before are put, each once, in the
+/// place of what was in `fresh`.
 fn deny_each<'a>(
     known: &mut Known<MarkedFact<'a>>,
     fresh: &mut Vec<MarkedFact<'a>>,
@@ -256,8 +258,8 @@ fn deny_each<'a>(
     Ok(())
 }
 
-/// Whether a step that says a fact is accepted. From now on the fact is known to hold. A fact that is known already is not judged
-/// again: what is known bears it out.
+/// Whether a step that says a fact is accepted. From now on the fact is known to hold. A fact that is known already
+/// is not judged again: what is known bears it out.
 fn take_yes<'t, 'a>(
     asked: &mut AskedRules<'t>,
     last: &mut Option<LastRule<'t, 'a>>,
@@ -284,8 +286,8 @@ fn take_yes<'t, 'a>(
     Ok(proved)
 }
 
-/// Whether a step that denies facts is accepted. From now on they are known not to hold. Only those that were not known so before
-/// are judged; they are left in `fresh`.
+/// Whether a step that denies facts is accepted. From now on they are known not to hold. Only those that were not
+/// known so before are judged; they are left in `fresh`.
 fn take_no<'t, 'a>(
     asked: &mut AskedRules<'t>,
     last: &mut Option<LastRule<'t, 'a>>,
@@ -437,7 +439,8 @@ pub fn judge_steps_by(
     steps: &Steps,
 ) -> Result<Judged, AllocError>
     ensures asked { asked.new ≡ asked.old }
-    ensures judged { IfOk result (λ j. j ≡ judged asked.old (entry_value entry.now) (Some (step_values steps.now.items))) }
+    ensures judged { IfOk result (λ j. j
+        ≡ judged asked.old (entry_value entry.now) (Some (step_values steps.now.items))) }
 {
     let alloc = *steps.allocator();
     let borrowed = borrowed_steps(alloc, steps)?;
@@ -477,7 +480,8 @@ pub fn judge_entry(trace: &Trace, evidence: &Evidence, i: usize) -> Result<Judge
     ensures judged { IfOk result (λ j. (e : EntryValue) → slice_get trace.now.entries i ≡ Some e →
         j ≡ judged trace.now e (steps_of (evidence_value evidence.now) i)) }
 
-    // Whoever made the evidence: a supported reply is what the rules mean at the snapshot, and a contradicted one is the opposite.
+    // Whoever made the evidence: a supported reply is what the rules mean at the snapshot, and a contradicted one is
+    // the opposite.
     ensures supported { IfOk result (λ j. j ≡ Supported
         → (e : EntryValue) → slice_get trace.now.entries i ≡ Some e → IsRight trace.now e) }
     ensures contradicted { IfOk result (λ j. j ≡ Contradicted

@@ -107,7 +107,8 @@ impl<'t> Judging<'t> {
     /// The judgement of an entry by steps.
     fn judgement(&mut self, place: usize, steps: &[StepRef<'_>]) -> Result<Judged, AllocError>
         ensures same { self.new ≡ self.old }
-        ensures judged { IfOk result (λ j. j ≡ judged_by self.old.trace (slice_get self.old.trace.entries place) (borrowed_steps steps.now)) }
+        ensures judged { IfOk result (λ j. j
+            ≡ judged_by self.old.trace (slice_get self.old.trace.entries place) (borrowed_steps steps.now)) }
     {
         judge_at(self.alloc, &mut self.asked, place, steps)
     }

@@ -1,16 +1,17 @@
 //! The evidence for recorded decisions: reading it, and judging each decision by it.
 //!
-//! A record has steps for an entry of the trace. Each step says that a fact holds, or that some facts do not. A step is accepted where
-//! the rules of its facts bear it out, from the stored tuples and from what the steps before made known; facts that are said not to hold
-//! may lean on one another. Contracts see [`Evidence`] by `evidence_value` as the list of the steps given for each entry.
+//! A record has steps for an entry of the trace. Each step says that a fact holds, or that some facts do not. A step
+//! is accepted where the rules of its facts bear it out, from the stored tuples and from what the steps before made
+//! known; facts that are said not to hold may lean on one another. Contracts see [`Evidence`] by `evidence_value` as
+//! the list of the steps given for each entry.
 //!
-//! Callers may rely on this: [`read_evidence`] answers the evidence that its input says, or its first fault, also of a reader that
-//! fails. [`judge_evidence`] judges by it as it is read, and [`judge_evidence_behind`] by that behind the marker of joined input.
-//! A record that is written plainly, with no space and no escape, is taken without a reader of JSON, to the same end.
-//! [`judge_alone`] says what a record says whatever stands before it, so that threads may share the records, and [`Judging`] is what
-//! that is put into.
-//! [`judge_entry`] is the definition `judged`. Whoever made the evidence, a supported reply is what the rules mean at the entry's snapshot
-//! (Zanzibar, section 2.3), and a contradicted one is not. The laws in [`laws`] say the same of each accepted step.
+//! Callers may rely on this: [`read_evidence`] answers the evidence that its input says, or its first fault, also of
+//! a reader that fails. [`judge_evidence`] judges by it as it is read, and [`judge_evidence_behind`] by that behind
+//! the marker of joined input. A record that is written plainly, with no space and no escape, is taken without a
+//! reader of JSON, to the same end. [`judge_alone`] says what a record says whatever stands before it, so that
+//! threads may share the records, and [`Judging`] is what that is put into. [`judge_entry`] is the definition
+//! `judged`. Whoever made the evidence, a supported reply is what the rules mean at the entry's snapshot (Zanzibar,
+//! section 2.3), and a contradicted one is not. The laws in [`laws`] say the same of each accepted step.
 //!
 //! ```text
 //! let evidence = read_evidence(alloc, &mut reader, &trace)?;

@@ -51,8 +51,8 @@ pub fn read_evidence<R: Source>(
     }
 }
 
-/// Judges the entries of a trace by the evidence for it, each record as it is read, and keeps the judgements alone. What
-/// is read, and what is refused, is as [`read_evidence`] says.
+/// Judges the entries of a trace by the evidence for it, each record as it is read, and keeps the judgements alone.
+/// What is read, and what is refused, is as [`read_evidence`] says.
 pub fn judge_evidence<R: Source>(
     alloc: Global,
     reader: &mut R,

@@ -1,7 +1,7 @@
 //! Records that are written plainly: with no space and no escape, and the line in front.
 //!
-//! What is taken here needs no reader of JSON. Each call answers None of any other text, and where memory runs out: then the line is
-//! read as JSON, which names what is wrong with it.
+//! What is taken here needs no reader of JSON. Each call answers None of any other text, and where memory runs out:
+//! then the line is read as JSON, which names what is wrong with it.
 
 ghost use Rattle.std.specs.Prelude.{◌≡◌, ◌∷◌, ◌++◌, map, IfSome};
 ghost use Rattle.tuple_text.specs.FactRefs.{fact_value};

@@ -36,7 +36,8 @@ IsOneStep t e =
     IsAccepted (rule_at t.declarations e.snapshot) (store_at t.commits e.snapshot) nothing_known (yes_step e.goal)
     ⊎ IsAccepted (rule_at t.declarations e.snapshot) (store_at t.commits e.snapshot) nothing_known (no_step (e.goal ∷ []))
 
--- The record of the goal's cone is longer than 2^20 bytes: of steps that settle the entry, and speak of facts of the cone alone, of none twice.
+-- The record of the goal's cone is longer than 2^20 bytes: of steps that settle the entry, and speak of facts of the
+-- cone alone, of none twice.
 pub record IsTooLong (t : TraceValue) (e : EntryValue) : Type 0 where
   pub steps : List StepValue
   pub settles : Settles t e steps
@@ -44,8 +45,8 @@ pub record IsTooLong (t : TraceValue) (e : EntryValue) : Type 0 where
   pub distinct : AreDistinct (facts_of steps)
   pub long : 2 ^ 20 < record_length e.line steps
 
--- one step is not enough, and the goal outgrows the search, or some record over facts of its cone, none of them twice, is
--- too long for a line; this is of the trace, whatever was tried
+-- one step is not enough, and the goal outgrows the search, or some record over facts of its cone, none of them
+-- twice, is too long for a line; this is of the trace, whatever was tried
 abbrev pub IsOutOfReach : TraceValue → EntryValue → Type 0
 IsOutOfReach t e =
     (¬ IsOneStep t e)

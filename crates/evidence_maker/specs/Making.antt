@@ -32,7 +32,8 @@ HasStratum rules k f = (r : Rule) × (rule_of rules f.set ≡ Some r) × (r.stra
 abbrev pub stratum_of : Lookup → FactValue → Option ℕ
 stratum_of rules f = option_map (λ (r : Rule). r.stratum) (rule_of rules f.set)
 
--- R has facts of the list, and the others have become known; where all are in R, nothing has, and R's are unknown and unproved
+-- R has facts of the list, and the others have become known; where all are in R, nothing has, and R's are unknown and
+-- unproved
 pub record IsSifted (rules : Lookup) (store : List TupleValue) (old new : KnownValue) (fs R : List FactValue) : Type 0 where
   pub inside : (f : FactValue) → Contains R f → Contains fs f
   pub others : (f : FactValue) → Contains fs f → IsKnown new f ⊎ Contains R f

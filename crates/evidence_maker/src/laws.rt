@@ -1,4 +1,5 @@
-//! Laws of the evidence that is made. The functions compute nothing: a law is its function's contract, over the definitions alone.
+//! Laws of the evidence that is made. The functions compute nothing: a law is its function's contract, over the
+//! definitions alone.
 
 ghost use Rattle.std.specs.Prelude.{ℕ, List, ◌⊎◌};
 ghost use Rattle.tuple_text.specs.Tuples.{TupleValue, FactValue};
@@ -31,7 +32,8 @@ pub fn proved_stays()
 
 /// What is left over can be said not to hold, all at once.
 pub fn left_over()
-    ensures { (rules : Lookup) → HasOwnRelations rules → (store : List TupleValue) (known : KnownValue) (R : List FactValue) →
+    ensures { (rules : Lookup) → HasOwnRelations rules
+        → (store : List TupleValue) (known : KnownValue) (R : List FactValue) →
         IsLeftOver rules store known R → IsAccepted rules store known (no_step R) }
 {}
 

@@ -58,10 +58,11 @@ fn changed_steps(alloc: Global, steps: &[Step], change: Change) -> Result<Steps,
     Ok(changed)
 }
 
-/// The steps that were found for another entry of the same userset and reply, for this one's user, where they are a record for it.
+/// The steps that were found for another entry of the same userset and reply, for this one's user, where they are a
+/// record for it.
 ///
-/// Where they are not, so many steps were judged in vain. What was found is then not tried again, so that this costs no more in all than what
-/// was found.
+/// Where they are not, so many steps were judged in vain. What was found is then not tried again, so that this costs
+/// no more in all than what was found.
 pub(crate) fn made_like(
     alloc: Global,
     asked: &mut AskedRules<'_>,

@@ -56,7 +56,8 @@ pub(crate) fn made_of(
 ) -> Result<Option<Made>, AllocError>
     ensures asked { asked.new ≡ asked.old }
     ensures made { IfOk result (λ o. IfSome o (IsMadeFor asked.old (entry_value entry.now))) }
-    ensures none { IfOk result (λ o. o ≡ None → ¬ IsRecord asked.old (entry_value entry.now) (step_values steps.items)) }
+    ensures none { IfOk result (λ o. o ≡ None
+        → ¬ IsRecord asked.old (entry_value entry.now) (step_values steps.items)) }
 {
     if !fits(entry.line, &steps) {
         return Ok(None);
@@ -140,8 +141,8 @@ fn made_for<'t>(
     }
 }
 
-/// It makes evidence for the entries of a trace, and keeps the leaves of rules, what it asked of rules of many places, and which of their parts
-/// open them, for the entries behind.
+/// It makes evidence for the entries of a trace, and keeps the leaves of rules, what it asked of rules of many
+/// places, and which of their parts open them, for the entries behind.
 #[derive(Drop)]
 pub struct Maker<'t> {
     alloc: Global,
@@ -177,15 +178,17 @@ impl<'t> Maker<'t> {
         }
     }
 
-    /// Evidence for entry `i` as [`make`] gives it, and how it judges the entry. Where one step is not enough, what was found for another
-    /// entry of the same userset and reply is tried for this one's user before a search.
+    /// Evidence for entry `i` as [`make`] gives it, and how it judges the entry. Where one step is not enough, what
+    /// was found for another entry of the same userset and reply is tried for this one's user before a search.
     ///
     /// Refusals are those of [`make`].
     pub fn make_after(&mut self, i: usize, found: Option<Found<'_>>) -> Result<Made, MakeFault>
         requires { i < length self.old.entries }
         ensures trace { self.new ≡ self.old }
-        ensures made { IfOk result (λ m. (e : EntryValue) → slice_get self.old.entries i ≡ Some e → IsMadeFor self.old e m) }
-        ensures gave_up { result ≡ Err MakeFault.GaveUp → (e : EntryValue) → slice_get self.old.entries i ≡ Some e → IsOutOfReach self.old e }
+        ensures made { IfOk result (λ m. (e : EntryValue) → slice_get self.old.entries i ≡ Some e
+            → IsMadeFor self.old e m) }
+        ensures gave_up { result ≡ Err MakeFault.GaveUp → (e : EntryValue) → slice_get self.old.entries i ≡ Some e
+            → IsOutOfReach self.old e }
     {
         let entry = self.asked.trace().entry(i);
         has_text(entry.line, entry.goal);
@@ -200,21 +203,25 @@ impl<'t> Maker<'t> {
     }
 }
 
-/// Evidence for entry `i`: steps that are accepted in order, after which it is known whether the goal holds, so that the entry is
-/// supported or contradicted by them. They have at most 100,000 facts, and their record at most 2^20 bytes before its newline.
+/// Evidence for entry `i`: steps that are accepted in order, after which it is known whether the goal holds, so that
+/// the entry is supported or contradicted by them. They have at most 100,000 facts, and their record at most 2^20
+/// bytes before its newline.
 ///
-/// Refusals: 1 GaveUp, only where one step is not enough, and either every list of facts that holds the goal and its own premises has
-/// more than 100,000 facts or reads more than [`goal_cone::MAX_LINKS`] stored usersets, or the record of the goal's whole cone has more
-/// than 2^20 bytes; 2 OutOfMemory.
+/// Refusals: 1 GaveUp, only where one step is not enough, and either every list of facts that holds the goal and its
+/// own premises has more than 100,000 facts or reads more than [`goal_cone::MAX_LINKS`] stored usersets, or the
+/// record of the goal's whole cone has more than 2^20 bytes; 2 OutOfMemory.
 pub fn make(alloc: Global, trace: &Trace, i: usize) -> Result<Steps, MakeFault>
     requires { i < length trace.now.entries }
-    ensures accepted { IfOk result (λ v. (e : EntryValue) → slice_get trace.now.entries i ≡ Some e → Settles trace.now e (step_values v.items)) }
+    ensures accepted { IfOk result (λ v. (e : EntryValue) → slice_get trace.now.entries i ≡ Some e
+        → Settles trace.now e (step_values v.items)) }
     ensures fits { IfOk result (λ v. fact_count (step_values v.items) ≤ MAX_FACTS) }
-    ensures short { IfOk result (λ v. (e : EntryValue) → slice_get trace.now.entries i ≡ Some e → record_length e.line (step_values v.items) ≤ 2 ^ 20) }
+    ensures short { IfOk result (λ v. (e : EntryValue) → slice_get trace.now.entries i ≡ Some e
+        → record_length e.line (step_values v.items) ≤ 2 ^ 20) }
     ensures complete { result ≡ Err MakeFault.GaveUp → (e : EntryValue) → slice_get trace.now.entries i ≡ Some e →
         IsOutgrown MAX_FACTS MAX_LINKS (rule_at trace.now.declarations e.snapshot) (store_at trace.now.commits e.snapshot) e.goal
         ⊎ IsTooLong trace.now e }
-    ensures one_step { result ≡ Err MakeFault.GaveUp → (e : EntryValue) → slice_get trace.now.entries i ≡ Some e → ¬ IsOneStep trace.now e }
+    ensures one_step { result ≡ Err MakeFault.GaveUp → (e : EntryValue) → slice_get trace.now.entries i ≡ Some e
+        → ¬ IsOneStep trace.now e }
 {
     let mut maker = Maker::new(alloc, trace);
     match maker.make_after(i, None) {

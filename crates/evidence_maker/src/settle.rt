@@ -26,7 +26,8 @@ fn is_known(known: &Known<Fact>, fact: &Fact) -> bool
     known.yes(fact.set(), fact.user()) || known.no(fact.set(), fact.user())
 }
 
-/// Says that the fact holds, where nothing is known of it and it is proved. Answers whether it is left as it was, unknown.
+/// Says that the fact holds, where nothing is known of it and it is proved. Answers whether it is left as it was,
+/// unknown.
 fn look_at(
     asked: &mut AskedRules<'_>,
     at: u64,
@@ -88,7 +89,8 @@ fn sift(
     ensures kept { OnOk result ((C : List FactValue) (k : ℕ) → ((f : FactValue) → Contains facts.now f → Contains C f) →
         IsMaking (rule_at asked.old.declarations at) (store_at asked.old.commits at) C k known.old (step_values steps.old.items) →
         IsMaking (rule_at asked.old.declarations at) (store_at asked.old.commits at) C k known.new (step_values steps.new.items)) }
-    ensures sifted { IfOk result (λ v. IsSifted (rule_at asked.old.declarations at) (store_at asked.old.commits at) known.old known.new facts.now v.items) }
+    ensures sifted { IfOk result
+        (λ v. IsSifted (rule_at asked.old.declarations at) (store_at asked.old.commits at) known.old known.new facts.now v.items) }
 {
     let mut left = Vec::new(*steps.allocator());
     for fact in facts {
@@ -108,10 +110,12 @@ fn settle_layer(
     steps: &mut Steps,
 ) -> Result<Vec<Fact>, AllocError>
     ensures asked { asked.new ≡ asked.old }
-    ensures kept { OnOk result ((C : List FactValue) (k : ℕ) → ((f : FactValue) → Contains layer.items f → Contains C f) →
+    ensures kept { OnOk result ((C : List FactValue) (k : ℕ)
+        → ((f : FactValue) → Contains layer.items f → Contains C f) →
         IsMaking (rule_at asked.old.declarations at) (store_at asked.old.commits at) C k known.old (step_values steps.old.items) →
         IsMaking (rule_at asked.old.declarations at) (store_at asked.old.commits at) C k known.new (step_values steps.new.items)) }
-    ensures left { IfOk result (λ v. AreLeft (rule_at asked.old.declarations at) (store_at asked.old.commits at) known.new layer.items v.items) }
+    ensures left { IfOk result
+        (λ v. AreLeft (rule_at asked.old.declarations at) (store_at asked.old.commits at) known.new layer.items v.items) }
 {
     let rounds = layer.len();
     let mut left = layer;

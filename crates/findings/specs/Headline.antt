@@ -5,9 +5,9 @@ use Rattle.trace_lines.specs.Values.{TraceValue}
 use Rattle.evidence_check.specs.Members.{IsRight}
 use Rattle.token_order.specs.Order.{IsInOrder}
 
--- Each reply is what the rules mean over the tuples committed up to its snapshot. Every content check is latest, every entry closed, and
--- every check at least as new as its zookie, as the content check of the version that it names, and as all commits before that. Each
--- token that was issued for content carries the snapshot of its check.
+-- Each reply is what the rules mean over the tuples committed up to its snapshot. Every content check is latest,
+-- every entry closed, and every check at least as new as its zookie, as the content check of the version that it
+-- names, and as all commits before that. Each token that was issued for content carries the snapshot of its check.
 pub record IsRightAndFresh (t : TraceValue) : Type 0 where
   pub right : All (IsRight t) t.entries
   pub fresh : IsInOrder t

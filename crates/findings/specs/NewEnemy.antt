@@ -20,8 +20,9 @@ pub record IsBeforeContent (t : TraceValue) (k : ℕ) (commit : Commit) (c : Ent
   pub placed : slice_get t.commit_lines k ≡ Some line
   pub before : line < c.line
 
--- Where a commit before the content check removed a tuple, and no later commit up to the check's snapshot adds it, the tuple
--- is not among those by which the check was answered. Where such a commit added one that none removes, it is.
+-- Where a commit before the content check removed a tuple, and no later commit up to the check's snapshot adds it,
+-- the tuple is not among those by which the check was answered. Where such a commit added one that none removes, it
+-- is.
 pub record HasNoNewEnemy (t : TraceValue) : Type 0 where
   pub removed : (e c : EntryValue) → IsCheckOf t e c
       → (k : ℕ) (commit : Commit) → IsBeforeContent t k commit c → (x : TupleValue) → Contains commit.removes x

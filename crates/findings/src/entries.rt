@@ -34,8 +34,8 @@ fn if_told(what: What, told: bool) -> Option<What>
     if told { Some(what) } else { None }
 }
 
-/// What is found on entry `i`, from 0, where its evidence judges it so: a place for each finding on tokens, by the findings' numbers, and then
-/// what the judgement says.
+/// What is found on entry `i`, from 0, where its evidence judges it so: a place for each finding on tokens, by the
+/// findings' numbers, and then what the judgement says.
 pub fn found_where(trace: &Trace, i: usize, judged: Judged) -> [Option<What>; 7]
     requires { i < length trace.now.entries }
     ensures { (e : EntryValue) → slice_get trace.now.entries i ≡ Some e → result ≡ found_where trace.now judged i e }
@@ -52,20 +52,23 @@ pub fn found_where(trace: &Trace, i: usize, judged: Judged) -> [Option<What>; 7]
     ]
 }
 
-/// What is found on entry `i`, from 0: on its tokens, and by what its evidence says. It is refused only where memory runs out.
+/// What is found on entry `i`, from 0: on its tokens, and by what its evidence says. It is refused only where memory
+/// runs out.
 pub fn found_on(
     trace: &Trace,
     evidence: &Evidence,
     i: usize,
 ) -> Result<[Option<What>; 7], AllocError>
     requires { i < length trace.now.entries }
-    ensures { IfOk result (λ found. (e : EntryValue) → slice_get trace.now.entries i ≡ Some e → found ≡ found_on trace.now (evidence_value evidence.now) i e) }
+    ensures { IfOk result (λ found. (e : EntryValue) → slice_get trace.now.entries i ≡ Some e
+        → found ≡ found_on trace.now (evidence_value evidence.now) i e) }
 {
     let judged = judge_entry(trace, evidence, i)?;
     Ok(found_where(trace, i, judged))
 }
 
-/// Appends a finding on this line for each thing that was found, in their order. Where memory runs out, the findings stay as they were.
+/// Appends a finding on this line for each thing that was found, in their order. Where memory runs out, the findings
+/// stay as they were.
 pub fn push_found(
     line: u64,
     found: &[Option<What>],
@@ -111,19 +114,21 @@ fn judged_at(judgements: &[Judged], i: usize) -> Judged
 /// What is found on entry `i`, from 0, where the entries are judged so. One beyond the judgements counts as `Missing`.
 pub fn found_judged(trace: &Trace, judgements: &[Judged], i: usize) -> [Option<What>; 7]
     requires { i < length trace.now.entries }
-    ensures { (e : EntryValue) → slice_get trace.now.entries i ≡ Some e → result ≡ found_where trace.now (unwrap_or (slice_get judgements.now i) Missing) i e }
+    ensures { (e : EntryValue) → slice_get trace.now.entries i ≡ Some e
+        → result ≡ found_where trace.now (unwrap_or (slice_get judgements.now i) Missing) i e }
 {
     found_where(trace, i, judged_at(judgements, i))
 }
 
-/// The findings on each entry, in line order and by their numbers, where each entry is judged so. One beyond the judgements counts as
-/// `Missing`. It is refused only where memory runs out.
+/// The findings on each entry, in line order and by their numbers, where each entry is judged so. One beyond the
+/// judgements counts as `Missing`. It is refused only where memory runs out.
 pub fn findings_judged(
     alloc: Global,
     trace: &Trace,
     judgements: &[Judged],
 ) -> Result<Vec<Finding>, AllocError>
-    ensures { (evidence : List (Option (List StepValue))) → AreJudged trace.now evidence judgements.now → IfOk result (λ v. v.items ≡ findings_of trace.now evidence) }
+    ensures { (evidence : List (Option (List StepValue))) → AreJudged trace.now evidence judgements.now
+        → IfOk result (λ v. v.items ≡ findings_of trace.now evidence) }
 {
     let mut findings = Vec::new(alloc);
     for i in 0..trace.len() {

@@ -55,7 +55,8 @@ fn push_what(what: What, text: &mut String) -> Result<(), AllocError>
 
 /// Appends the report's line of a finding. Where memory runs out, the string stays as it was.
 pub fn report_line(finding: &Finding, out: &mut String) -> Result<(), AllocError>
-    ensures { string_bytes out.new ≡ (if is_ok result then string_bytes out.old ++ line_text finding.now else string_bytes out.old) }
+    ensures { string_bytes out.new ≡ (if is_ok result then string_bytes out.old
+        ++ line_text finding.now else string_bytes out.old) }
 {
     let mut text = String::new(*out.allocator());
     let line = finding.line;

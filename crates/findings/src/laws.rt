@@ -17,18 +17,20 @@ use token_order::laws::fresh_without_findings;
 use trace_lines::Trace;
 use trace_lines::laws::{entries_rise, valid_strata, versions_issued_once};
 
-/// Where nothing is found, whoever made the evidence, each reply is what the rules mean over the tuples committed up to its snapshot, and
-/// no check is older than its zookie or than its version's content check.
+/// Where nothing is found, whoever made the evidence, each reply is what the rules mean over the tuples committed up
+/// to its snapshot, and no check is older than its zookie or than its version's content check.
 pub fn right_and_fresh_without_findings(trace: &Trace)
-    ensures { (evidence : List (Option (List StepValue))) → findings_of trace.now evidence ≡ [] → IsRightAndFresh trace.now }
+    ensures { (evidence : List (Option (List StepValue))) → findings_of trace.now evidence ≡ []
+        → IsRightAndFresh trace.now }
 {
     valid_strata(trace);
     fresh_without_findings(trace);
 }
 
-/// No new enemy: a check of a content version has seen all access changes that were committed before that version's content check
-/// (Zanzibar, sections 2.2 and 2.4). Where such a commit removed a tuple and none up to the check's snapshot adds it again, the tuple
-/// is not among those by which the check was answered; where it added one that none removes, it is.
+/// No new enemy: a check of a content version has seen all access changes that were committed before that version's
+/// content check (Zanzibar, sections 2.2 and 2.4). Where such a commit removed a tuple and none up to the check's
+/// snapshot adds it again, the tuple is not among those by which the check was answered; where it added one that none
+/// removes, it is.
 pub fn no_new_enemy(trace: &Trace)
     ensures { IsRightAndFresh trace.now → HasNoNewEnemy trace.now }
 {
@@ -37,36 +39,38 @@ pub fn no_new_enemy(trace: &Trace)
 
 /// Whatever is found: a reply that a finding F10 calls wrong is wrong.
 pub fn wrong_replies_are_wrong(trace: &Trace)
-    ensures { (evidence : List (Option (List StepValue))) → HasOnlyWrongRepliesNamed trace.now (findings_of trace.now evidence) }
+    ensures { (evidence : List (Option (List StepValue)))
+        → HasOnlyWrongRepliesNamed trace.now (findings_of trace.now evidence) }
 {
     valid_strata(trace);
     entries_rise(trace);
 }
 
-/// A trace that is cut by object: what is found on the part with the entries of some objects alone, and all rules and commits, is exactly
-/// what is found in the whole on those entries.
+/// A trace that is cut by object: what is found on the part with the entries of some objects alone, and all rules and
+/// commits, is exactly what is found in the whole on those entries.
 pub fn findings_of_part()
     ensures { (objects : List ℕ → List ℕ → Bool) (t : TraceValue) (evidence : List (Option (List StepValue)))
         → findings_of (part_of objects t) (evidence_of_part objects t evidence) ≡ findings_on_part objects t evidence }
 {}
 
-/// Where nothing is found in any part of a trace, however its objects were dealt to parts, each reply of the whole is what the rules mean,
-/// and no check is older than its zookie or than its version's content check.
+/// Where nothing is found in any part of a trace, however its objects were dealt to parts, each reply of the whole is
+/// what the rules mean, and no check is older than its zookie or than its version's content check.
 pub fn right_and_fresh_in_parts(trace: &Trace)
-    ensures { (part : List ℕ → List ℕ → ℕ) (evidence : List (Option (List StepValue))) → IsCleanInParts part trace.now evidence → IsRightAndFresh trace.now }
+    ensures { (part : List ℕ → List ℕ → ℕ) (evidence : List (Option (List StepValue)))
+        → IsCleanInParts part trace.now evidence → IsRightAndFresh trace.now }
 {
     right_and_fresh_without_findings(trace);
 }
 
-/// A trace that is cut by object, as bytes: where some bytes say a trace, those that have the same lines, but blank ones for the entries of
-/// other objects, say the part with the entries of these objects alone, on the same lines.
+/// A trace that is cut by object, as bytes: where some bytes say a trace, those that have the same lines, but blank
+/// ones for the entries of other objects, say the part with the entries of these objects alone, on the same lines.
 pub fn bytes_of_part()
     ensures { (objects : List ℕ → List ℕ → Bool) (bytes part : List ℕ) (t : TraceValue) → trace_of true bytes ≡ Ok t
         → IsPartOfBytes objects part bytes → trace_of true part ≡ Ok (part_of objects t) }
 {}
 
-/// Its evidence, as bytes: where some bytes say evidence for a trace, those that have the same lines, but blank ones for the records of
-/// other objects' entries, say the evidence for the part.
+/// Its evidence, as bytes: where some bytes say evidence for a trace, those that have the same lines, but blank ones
+/// for the records of other objects' entries, say the evidence for the part.
 pub fn bytes_of_evidence(trace: &Trace)
     ensures { (objects : List ℕ → List ℕ → Bool) (bytes part : List ℕ) (given : List (Option (List StepValue)))
         → evidence_of trace.now.entries true bytes ≡ Ok given → IsPartOfEvidence objects trace.now.entries part bytes
@@ -75,7 +79,8 @@ pub fn bytes_of_evidence(trace: &Trace)
     entries_rise(trace);
 }
 
-/// The findings of a part are the whole's on its lines, in their order. So the report of the whole is the merge of the parts' by line.
+/// The findings of a part are the whole's on its lines, in their order. So the report of the whole is the merge of
+/// the parts' by line.
 pub fn findings_by_line(trace: &Trace)
     ensures { (objects : List ℕ → List ℕ → Bool) (evidence : List (Option (List StepValue)))
         → findings_of (part_of objects trace.now) (evidence_of_part objects trace.now evidence)

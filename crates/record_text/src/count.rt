@@ -104,7 +104,8 @@ fn steps_bytes(steps: &[Step]) -> u64
     count
 }
 
-/// How many bytes the record of the steps for the entry on a line has, without its newline; 2^64 - 1 where there are more.
+/// How many bytes the record of the steps for the entry on a line has, without its newline; 2^64 - 1 where there are
+/// more.
 pub fn record_bytes(line: u64, steps: &[Step]) -> u64
     ensures { result ≡ min (record_length line (step_values steps.now)) (2 ^ 64 - 1) }
 {

@@ -180,9 +180,12 @@ fn text_of(alloc: Global, line: u64, steps: &[Step]) -> Result<String, AllocErro
     Ok(text)
 }
 
-/// Appends the record of the steps for the entry on a line, and a newline. Where memory runs out, the string stays as it was.
+/// Appends the record of the steps for the entry on a line, and a newline. Where memory runs out, the string stays as
+/// it was.
 pub fn write_record(line: u64, steps: &[Step], out: &mut String) -> Result<(), AllocError>
-    ensures text { string_bytes out.new ≡ (if is_ok result then string_bytes out.old ++ (record_text line (step_values steps.now) ++ 10 ∷ []) else string_bytes out.old) }
+    ensures text { string_bytes out.new
+        ≡ (if is_ok result then string_bytes out.old
+        ++ (record_text line (step_values steps.now) ++ 10 ∷ []) else string_bytes out.old) }
     // As a line of evidence it says the same steps.
     ensures taken { OnOk result (IsTaken line (step_values steps.now)) }
     // Within the limits, for the line of an entry, it is read back as one record.

@@ -8,8 +8,8 @@ use Rattle.token_order.specs.Found.{open_snapshot, order_of}
 use Rattle.evidence_check.specs.Judged.{judged}
 use Rattle.evidence_check.specs.Steps.{StepValue}
 
--- The trace t is u and more behind it. Each further commit stands on a later line. Once u has a commit or an entry, each
--- further declaration is a change at the timestamp of a further commit.
+-- The trace t is u and more behind it. Each further commit stands on a later line. Once u has a commit or an entry,
+-- each further declaration is a change at the timestamp of a further commit.
 pub record GoesOn (u t : TraceValue) : Type 0 where
   pub declarations : List Declaration
   pub commits : List Commit
@@ -26,8 +26,8 @@ pub record GoesOn (u t : TraceValue) : Type 0 where
 abbrev pub StaysClosed : (u t : TraceValue) → GoesOn u t → ℕ → Type 0
 StaysClosed u t goes s = All (λ c. s < c.at) goes.commits
 
--- What was found on an entry of u stands in t: the same on its tokens, but for an open snapshot; and where its snapshot stays
--- closed, the same judgement by the same steps.
+-- What was found on an entry of u stands in t: the same on its tokens, but for an open snapshot; and where its
+-- snapshot stays closed, the same judgement by the same steps.
 pub record Stands (u t : TraceValue) (goes : GoesOn u t) : Type 0 where
   pub tokens : (i : ℕ) (e : EntryValue) → slice_get u.entries i ≡ Some e
       → order_of t i e ≡ record (order_of u i e) { open_snapshot = open_snapshot t e }

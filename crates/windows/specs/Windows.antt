@@ -13,9 +13,9 @@ use Rattle.findings.specs.declared.finding.What.TheVariants.{OldToken, NotLatest
 use Rattle.windows.specs.Compaction.{AreRising, above, up_to, StandsFor}
 use Rattle.windows.specs.Nearest.{content_entry}
 
--- The window w of the trace t knows the rules and tuples from timestamp b to timestamp h. Commits in front of its line n
--- stand for those up to b. From line n on, line l of the window is line g l of the whole, and there stand all commits
--- above b up to h.
+-- The window w of the trace t knows the rules and tuples from timestamp b to timestamp h. Commits in front of its
+-- line n stand for those up to b. From line n on, line l of the window is line g l of the whole, and there stand all
+-- commits above b up to h.
 pub record IsWindow (g : ℕ → ℕ) (n b h : ℕ) (t w : TraceValue) : Type 0 where
   pub front : List Commit
   pub front_lines : List ℕ
@@ -32,8 +32,8 @@ pub record IsWindow (g : ℕ → ℕ) (n b h : ℕ) (t w : TraceValue) : Type 0 
   pub own : on_lines (map g own_lines) (above b (up_to h t.commits))
       ≡ filter (λ c. nat_lt b c.at) (filter (λ c. nat_le c.at h) (commit_lines_of t))
 
--- the window has what judges an entry: its snapshot, all commits before it that are above b, and all behind it up to its
--- snapshot
+-- the window has what judges an entry: its snapshot, all commits before it that are above b, and all behind it up to
+-- its snapshot
 pub record IsWithin (b h : ℕ) (t : TraceValue) (e : EntryValue) : Type 0 where
   pub from : b ≤ e.snapshot
   pub to : e.snapshot ≤ h
@@ -53,8 +53,8 @@ pub record NamesTheSame (g : ℕ → ℕ) (t : TraceValue) (i : ℕ) (w : TraceV
 abbrev pub face : (ℕ → ℕ) → EntryValue → EntryValue
 face g x = record x { line = g x.line; before = 0 }
 
--- The entries before entry j of the window are those before entry i of the whole that a test keeps, and it keeps whatever
--- issued the version that e names. So content checks of earlier windows are carried into the window.
+-- The entries before entry j of the window are those before entry i of the whole that a test keeps, and it keeps
+-- whatever issued the version that e names. So content checks of earlier windows are carried into the window.
 pub record Carries (g : ℕ → ℕ) (t : TraceValue) (i : ℕ) (e : EntryValue) (w : TraceValue) (j : ℕ) : Type 0 where
   pub keep : EntryValue → Bool
   pub issuers : (v : Version) → version_named e.kind (entry_version e) ≡ Some v

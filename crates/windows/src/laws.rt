@@ -27,8 +27,8 @@ use findings::laws::{right_and_fresh_without_findings, wrong_replies_are_wrong};
 use trace_lines::Trace;
 use trace_lines::laws::{commits_of_bytes, entries_of_bytes_rise, entries_rise};
 
-/// A changelog whose commits up to a timestamp are replaced by others, which store the same there, stores the same from there
-/// on, up to where it ends.
+/// A changelog whose commits up to a timestamp are replaced by others, which store the same there, stores the same
+/// from there on, up to where it ends.
 pub fn compaction()
     ensures { (commits : List Commit) (b h : ℕ) → AreRising commits → (front : List Commit) → StandsFor front b commits
         → (s : ℕ) → b ≤ s → s ≤ h
@@ -41,7 +41,8 @@ pub fn snapshot_stands()
         → StandsFor (snapshot_commit b ts ∷ []) b commits }
 {}
 
-/// Who is a member at a timestamp rests on the rules in force and the tuples stored there, and on nothing else of a trace.
+/// Who is a member at a timestamp rests on the rules in force and the tuples stored there, and on nothing else of a
+/// trace.
 pub fn same_members()
     ensures { (s : ℕ) (t u : TraceValue) → IsSameAt s t u → (f : FactValue) → (IsMemberAt t s f ↔ IsMemberAt u s f) }
 {}
@@ -52,8 +53,8 @@ pub fn same_judgement()
         → (steps : Option (List StepValue)) → judged t d steps ≡ judged u e steps }
 {}
 
-/// What is found on the tokens of an entry rests on the entry, on the content check that it names, on the last commit before
-/// it and on the first behind it.
+/// What is found on the tokens of an entry rests on the entry, on the content check that it names, on the last commit
+/// before it and on the first behind it.
 pub fn order_by_nearest()
     ensures { (t : TraceValue) (i : ℕ) (e : EntryValue) → AreRising t.commits → slice_get t.entries i ≡ Some e
         → order_of t i e ≡ order_by e (content_entry t i) (commit_before t e) (commit_behind t e) }
@@ -72,10 +73,11 @@ pub fn same_replies()
         → (IsMemberAt t e.snapshot e.goal ↔ IsMemberAt w d.snapshot d.goal) }
 {}
 
-/// What is found on an entry of a window is what is found on it in the whole, on the whole's lines, where the window has what
-/// judges the entry and the content check that it names.
+/// What is found on an entry of a window is what is found on it in the whole, on the whole's lines, where the window
+/// has what judges the entry and the content check that it names.
 pub fn found_in_window()
-    ensures { (g : ℕ → ℕ) (n b h : ℕ) (t w : TraceValue) → IsWindow g n b h t w → AreRising t.commits → AreRising w.commits
+    ensures { (g : ℕ → ℕ) (n b h : ℕ) (t w : TraceValue) → IsWindow g n b h t w → AreRising t.commits
+        → AreRising w.commits
         → (i j : ℕ) (e d : EntryValue) → slice_get t.entries i ≡ Some e → slice_get w.entries j ≡ Some d
         → IsCopy g e d → n ≤ d.line → IsWithin b h t e → NamesTheSame g t i w j
         → (evidence own : List (Option (List StepValue))) → steps_of own j ≡ steps_of evidence i
@@ -90,8 +92,8 @@ pub fn cut_is_window()
         → IsWindow (λ l. l) n b h t (window_of b h front front_lines entries t) }
 {}
 
-/// A whole trace is a window of itself, where timestamps b and h enclose all its commits: what is clean on an entry is seen
-/// clean.
+/// A whole trace is a window of itself, where timestamps b and h enclose all its commits: what is clean on an entry
+/// is seen clean.
 pub fn whole_is_window()
     ensures { (b h : ℕ) (t : TraceValue) → AreRising t.commits
         → All (λ c. b < c.at) t.commits → All (λ c. c.at ≤ h) t.commits
@@ -100,8 +102,8 @@ pub fn whole_is_window()
         → IsSeenClean t i e }
 {}
 
-/// Where some commits stand for a window's up to a timestamp, they stand for the whole's, so that each window gives the next
-/// its front.
+/// Where some commits stand for a window's up to a timestamp, they stand for the whole's, so that each window gives
+/// the next its front.
 pub fn handed_on()
     ensures { (g : ℕ → ℕ) (n b h : ℕ) (t w : TraceValue) → IsWindow g n b h t w → AreRising t.commits
         → (c : ℕ) → b ≤ c → c ≤ h
@@ -122,8 +124,8 @@ pub fn findings_of_window()
         → (w : Window) → IsShown t evidence before seen w → told w ≡ findings_from t evidence (length before) seen }
 {}
 
-/// A window may be cut by object: what is told of its part with the entries of some objects is what is found in the whole on
-/// those of the entries that the window shows.
+/// A window may be cut by object: what is told of its part with the entries of some objects is what is found in the
+/// whole on those of the entries that the window shows.
 pub fn findings_of_part_of_window()
     ensures { (t : TraceValue) → AreRising t.commits → (evidence : List (Option (List StepValue)))
         (before seen after : List EntryValue) → t.entries ≡ before ++ (seen ++ after)
@@ -131,14 +133,15 @@ pub fn findings_of_part_of_window()
         → told_of_part objects w ≡ findings_on_part_from objects t evidence (length before) seen }
 {}
 
-/// Windows that show all entries of a trace, one behind the other, tell together what is found in the whole, no more and no less.
+/// Windows that show all entries of a trace, one behind the other, tell together what is found in the whole, no more
+/// and no less.
 pub fn findings_of_windows()
     ensures { (t : TraceValue) → AreRising t.commits → (evidence : List (Option (List StepValue)))
         (ws : List Window) → ShowAll t evidence ws → all_told ws ≡ findings_of t evidence }
 {}
 
-/// Where windows show a whole trace and nothing is told of any, whoever made the evidence, each reply of the whole is what the
-/// rules mean, and no check is older than its zookie or than its version's content check.
+/// Where windows show a whole trace and nothing is told of any, whoever made the evidence, each reply of the whole is
+/// what the rules mean, and no check is older than its zookie or than its version's content check.
 pub fn right_and_fresh_by_windows(trace: &Trace)
     ensures { (evidence : List (Option (List StepValue))) (ws : List Window) → ShowAll trace.now evidence ws
         → all_told ws ≡ [] → IsRightAndFresh trace.now }
@@ -156,9 +159,9 @@ pub fn wrong_replies_by_windows(trace: &Trace)
     wrong_replies_are_wrong(trace);
 }
 
-/// Where each entry of a trace is seen in some window, however the windows were cut, and nothing is found on it there, whoever
-/// made the evidence, each reply of the whole is what the rules mean, and no check is older than its zookie or than its
-/// version's content check.
+/// Where each entry of a trace is seen in some window, however the windows were cut, and nothing is found on it
+/// there, whoever made the evidence, each reply of the whole is what the rules mean, and no check is older than its
+/// zookie or than its version's content check.
 pub fn right_and_fresh_in_windows(trace: &Trace)
     ensures { ((i : ℕ) (e : EntryValue) → slice_get trace.now.entries i ≡ Some e → IsSeenClean trace.now i e)
         → IsRightAndFresh trace.now }
@@ -167,9 +170,10 @@ pub fn right_and_fresh_in_windows(trace: &Trace)
     right_and_fresh_without_findings(trace);
 }
 
-/// A log that grows: where bytes that end in a newline are followed by others and say a trace together, they say one alone, which is
-/// the beginning of it. What was found on its entries stands: the same on their tokens, but for an open snapshot; and the same
-/// judgement by the same steps, where no commit that came later is at or below the entry's snapshot.
+/// A log that grows: where bytes that end in a newline are followed by others and say a trace together, they say one
+/// alone, which is the beginning of it. What was found on its entries stands: the same on their tokens, but for an
+/// open snapshot; and the same judgement by the same steps, where no commit that came later is at or below the
+/// entry's snapshot.
 pub fn grown_log()
     ensures { (a b : List ℕ) (t : TraceValue) → trace_of true ((a ++ 10 ∷ []) ++ b) ≡ Ok t
         → (u : TraceValue) × (trace_of true (a ++ 10 ∷ []) ≡ Ok u) × (goes : GoesOn u t) × Stands u t goes }
@@ -178,8 +182,8 @@ pub fn grown_log()
     entries_of_bytes_rise();
 }
 
-/// The report of a whole is the merge of its parts' by line: entry by entry, what is found on its line in the part of its object,
-/// however the objects were dealt to parts.
+/// The report of a whole is the merge of its parts' by line: entry by entry, what is found on its line in the part of
+/// its object, however the objects were dealt to parts.
 pub fn merged_by_line(trace: &Trace)
     ensures { (part : List ℕ → List ℕ → ℕ) (evidence : List (Option (List StepValue)))
         → findings_of trace.now evidence ≡ merged part (of_part part trace.now evidence) trace.now.entries }
