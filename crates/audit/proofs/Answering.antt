@@ -142,42 +142,6 @@ module _ (t : TraceValue) (r : Reading) where
         kinds = tt;
       }
 
-  module _ {V X : Type 0} (P : List (Option (List StepValue)) → V → Type 0)
-      (Q : List (Option (List StepValue)) → X → Type 0) where
-    pub read-map : (v : V) (x : X) → ((given : List (Option (List StepValue))) → P given v → Q given x)
-        → EvidenceRead P t r (Ok v) → EvidenceRead Q t r (Ok x)
-    read-map v x f h =
-        evidence_whole Q x h.given.0 (f h.given.0 h.given.1) h.given.2 h.most h.known h.kept
-
-    pub read_fault : (e : AuditFault) → EvidenceRead P t r (Err e) → EvidenceRead Q t r (Err e)
-    read_fault e h =
-        record {
-          given = tt;
-          refused = λ f is. h.refused f (same_fault e (faults.Evidence f) is);
-          cut = λ f is. h.cut f (same_fault e (faults.Evidence f) is);
-          most = h.most;
-          known = h.known;
-          failed = λ f is. h.failed f (same_fault e (faults.Evidence f) is);
-          kept = tt;
-          unfailed = h.unfailed;
-          kinds = h.kinds;
-        }
-
-    -- there was no memory for what was to be made of it
-    pub read_no_memory : (v : V) → EvidenceRead P t r (Ok v) → EvidenceRead Q t r (Err faults.OutOfMemory)
-    read_no_memory v h =
-        record {
-          given = tt;
-          refused = λ f is. absurd (cc (is));
-          cut = λ f is. absurd (cc (is));
-          most = h.most;
-          known = h.known;
-          failed = λ f is. absurd (cc (is));
-          kept = tt;
-          unfailed = λ none. h.kept;
-          kinds = (refl, tt);
-        }
-
 -- what judging evidence as it is read answers
 module _ {R : Type 0} (given : R → List ℕ) (ends failures : R → ℕ) (remaining : R → Option (List ℕ)) (old new : R)
     (t : TraceValue) where
@@ -293,47 +257,6 @@ tells-map Tells Also Breaks trace out v x f h =
     (of_whole-map trace (λ a. Tells a out.before.taken out.after.taken v)
     (λ a. Also a out.before.taken out.after.taken x) (λ a. f a out.before.taken out.after.taken) h.told)
     h.flushed h.most h.known h.held h.kept
-
-pub tells_fault : {V X : Type 0} (Tells : List ℕ → List ℕ → List ℕ → V → Type 0)
-    (Also : List ℕ → List ℕ → List ℕ → X → Type 0) (Breaks : List ℕ → Writing → ℕ → Type 0)
-    (trace : Reading) (out : Writing) (e : AuditFault) → TellsOfTrace Tells Breaks trace out (Err e)
-    → TellsOfTrace Also Breaks trace out (Err e)
-tells_fault {V} {X} Tells Also Breaks trace out e h =
-    record {
-      told = tt;
-      flushed = tt;
-      trace_refused =
-          λ f is. h.trace_refused f (same_fault e (faults.Trace f) is);
-      trace_cut = λ f is. h.trace_cut f (same_fault e (faults.Trace f) is);
-      write = λ n is. h.write n (same_fault e (faults.Write n) is);
-      unwritten = h.unwritten;
-      most = h.most;
-      known = h.known;
-      held = h.held;
-      devices = h.devices;
-      kept = tt;
-      unfailed = h.unfailed;
-    }
-
-pub tells_at_rest : {V : Type 0} (Tells : List ℕ → List ℕ → List ℕ → V → Type 0)
-    (Breaks : List ℕ → Writing → ℕ → Type 0) (a : Reader) (w : Writer)
-    → TellsOfTrace Tells Breaks (record { before = a; after = a }) (record { before = w; after = w })
-    (Err faults.Limits)
-tells_at_rest Tells Breaks a w =
-    record {
-      told = tt;
-      flushed = tt;
-      trace_refused = λ f is. absurd (cc (is));
-      trace_cut = λ f is. absurd (cc (is));
-      write = λ n is. absurd (cc (is));
-      unwritten = λ is. refl;
-      most = few_at_rest a;
-      known = next_at_rest a;
-      held = behind_at_rest w;
-      devices = tt;
-      kept = tt;
-      unfailed = λ none. (refl, (refl, refl));
-    }
 
 -- ---- audits
 
@@ -469,30 +392,6 @@ audited trace evidence out t found (Err e) read by law told =
       devices = devices_of_writing {V = Verdict} (Err e) ⊥ _ _ _ told.kinds told.failed;
       kept = tt;
       unfailed = λ none. (read.kept, by.kept, told.unfailed (unwritten_without_device e none));
-    }
-
--- nothing was asked for that is within the limits, and nothing touched
-pub audited_at_rest : (a b : Reader) (w : Writer)
-    → Audited (record { before = a; after = a }) (record { before = b; after = b }) (record { before = w; after = w })
-    (Err faults.Limits)
-audited_at_rest a b w =
-    record {
-      audits = tt;
-      flushed = tt;
-      headline = λ is. absurd (cc (is));
-      wrong_replies = tt;
-      trace_refused = λ f is. absurd (cc (is));
-      trace_cut = λ f is. absurd (cc (is));
-      evidence_refused = λ f is. absurd (cc (is));
-      evidence_cut = λ f is. absurd (cc (is));
-      write = λ n is. absurd (cc (is));
-      unwritten = λ is. refl;
-      most = (few_at_rest a, few_at_rest b);
-      known = (next_at_rest a, next_at_rest b);
-      held = behind_at_rest w;
-      devices = tt;
-      kept = tt;
-      unfailed = λ none. (refl, refl, (refl, refl));
     }
 
 -- what is told of evidence for a trace is told of the bytes of both

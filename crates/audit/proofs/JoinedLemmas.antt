@@ -289,47 +289,6 @@ module _ (t : TraceValue) (rest : RestValue) (r : Reading)
             (kind_of_input fault);
       })
 
-  pub behind_whole : (v : Vec Judged Global)
-      → IsRead r rest (λ b. GivesJudged t (Ok v) (evidence_of t.entries true b)) → ReaderNeverFailed r
-      → BehindRead t rest r (Ok v)
-  behind_whole v given kept =
-      record {
-        given = given;
-        evidence_refused = λ f is. absurd (cc (is));
-        joined = λ is. absurd (cc (is));
-        most = most;
-        known = known;
-        devices = tt;
-        kept = λ not. kept;
-        kinds = tt;
-      }
-
-  pub behind_refused : (fault : EvidenceFault) (e : AuditFault)
-      → IsRead r rest (λ b. RefusesEvidenceFor t b fault) → ReaderNeverFailed r
-      → fault.cause ≢ evidence_causes.Read → ((f : EvidenceFault) → e ≡ faults.Evidence f → f ≡ fault)
-      → IsOneOf (kind.evidence ∷ kind.memory ∷ []) e → BehindRead t rest r (Err e)
-  behind_refused fault e refused kept unread same kinds =
-      record {
-        given = tt;
-        evidence_refused = λ f is.
-            subst (λ (x : EvidenceFault). IsRead r rest (λ b. RefusesEvidenceFor t b x)) (sym (same f (cc (is))))
-            refused;
-        joined =
-            λ is. never_answered (kind.evidence ∷ kind.memory ∷ []) e faults.Joined refl kinds is;
-        most = most;
-        known = known;
-        devices =
-            devices_of_reading e _ ⊥ ⊥ ⊥
-            (one_of-more (kind.evidence ∷ kind.memory ∷ []) (kind.trace ∷ kind.evidence ∷ kind.memory ∷ []) refl e
-            kinds)
-            (λ f is read. never_kind (kind.evidence ∷ kind.memory ∷ []) e (faults.Trace f) refl kinds is)
-            (λ f is read. unread (subst (λ (x : EvidenceFault). x.cause ≡ evidence_causes.Read) (same f is) read));
-        kept = λ not. kept;
-        kinds =
-            one_of-more (kind.evidence ∷ kind.memory ∷ [])
-            (kind.evidence ∷ kind.memory ∷ kind.joined ∷ kind.input ∷ []) refl e kinds;
-      }
-
 -- ---- both parts
 
 -- what was read, by what the answer is

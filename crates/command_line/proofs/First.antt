@@ -33,18 +33,12 @@ top = (built program).top
 abbrev names : Names
 names = names_of (built program)
 
-empty_enters_nothing : subcommand_of program [] ≡ None
-empty_enters_nothing = refl
-
 -- a first word that names no command is refused, or begins a walk with no command
 abbrev start : Walk
 start = walk_from nothing_held
 
 abbrev rules : List Rule
 rules = top.rules
-
-stray : (k : ErrorKind) (ks : Kinds) → k ∷ ks ≡ [] → ⊥
-stray k ks e = absurd cc
 
 -- a flag that the top has asks for help or for the version, and any other is unknown
 long_refused : (help version : Bool) (v : Option Text)
@@ -60,12 +54,6 @@ short_refused : (help version : Bool) (rest : Text) (onward : Held → Kinds)
 short_refused true version rest onward e = absurd cc
 short_refused false true rest onward e = absurd cc
 short_refused false false rest onward e = absurd cc
-
-find_long : (name : Text) → arg_by_long rules name ≡ (if bytes_eq (codes "help") name || false then Some (slice_index_or rules 0 help_rule) else (if bytes_eq (codes "version") name || false then Some (slice_index_or rules 1 help_rule) else None))
-find_long name = refl
-
-find_short : (x : ℕ) → arg_by_short rules x ≡ (if (104 == x) || false then Some (slice_index_or rules 0 help_rule) else (if (86 == x) || false then Some (slice_index_or rules 1 help_rule) else None))
-find_short x = refl
 
 char_refused : (w flags : Text) (k : ℕ) (ch : Option ℕ)
     → or_else (bundle_step_fault rules false ch flags 0 nothing_held (flags_fault rules false k))

@@ -11,9 +11,6 @@ use Rattle.clap.proofs.OnLiterals.{clap_on_literals}
 use Rattle.command_line.specs.Commands.{program}
 use Rattle.command_line.specs.Asked.{is_plain_word, IsAuditFound, IsMakeFound, IsHistoryFound}
 
-pub simple : is_simple_and_free program ≡ true
-simple = refl
-
 -- a plain word goes to a positional
 met : (c : List Rule) (position : ℕ) (t : Text) (h : Held) → is_plain_word t ≡ true → word_met c [] false idle position t h ≡ (h, value)
 met c position [] h p = refl

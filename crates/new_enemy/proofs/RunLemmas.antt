@@ -126,14 +126,6 @@ module _ {F : Type 0} (r : Reader) where
 
 -- ---- what was asked for
 
--- of an audit, whether its evidence is named or not
-pub asked_of_audit : {F : Type 0} (t : List ℕ) (e : Option (Bor (List ℕ))) (workers slice : ℕ) (early : Bool)
-    (old new : List ℕ) (s : ℕ) (run : Ran F) → IfSome e (λ _. RanAudit workers slice s run)
-    → (e ≡ None → RanAuditAlone workers slice s run)
-    → RanAsked (asked.audits t (option_map (λ x. x.now) e) workers slice early) old new s run
-asked_of_audit t (Some e) workers slice early old new s run named alone = named
-asked_of_audit t None workers slice early old new s run named alone = alone refl
-
 -- only the request for joined input runs so
 joined_is_asked : {F : Type 0} (a : Asked) (old new : List ℕ) (s : ℕ) (run : Ran F) → RanAsked a old new s run
     → run ≡ ran.Joined → command_of a ≡ None

@@ -9,33 +9,9 @@ use Rattle.std.proofs.lemmas.Option.{get_or_from_slice_get, same_Some}
 use Rattle.version_chains.specs.Commits.{Commit}
 use Rattle.trace_lines.specs.Values.{EntryValue, TraceValue}
 use Rattle.token_order.specs.Order.{CommitLine}
+use Rattle.token_order.specs.Standing.{StandsAmong}
 use Rattle.token_order.specs.Found.{is_content, earlier_commits, later_commits, not_latest, open_snapshot}
 use Rattle.token_order.proofs.Neighbours.{earlier_are, later_are, last_above, none_above, first_covered, none_covered, none_behind}
-
--- of a check nothing is said
-pub of_a_check : (t : TraceValue) (e : EntryValue) → is_content e.kind ≡ false → None ≡ not_latest t e
-of_a_check t e kind = rw kind refl
-
--- an entry stands behind so many commits of a trace, whose times are these
-pub record StandsAmong (t : TraceValue) (e : EntryValue) (times : List ℕ) : Type 0 where
-  pub counted : length t.commit_lines ≡ length t.commits
-  pub within : e.before ≤ length t.commits
-  pub earlier : All (λ l. l < e.line) (take e.before t.commit_lines)
-  pub later : All (λ l. e.line < l) (drop e.before t.commit_lines)
-  pub are : times ≡ map (λ (c : Commit). c.at) t.commits
-  pub rising : IsStrictlyIncreasing times
-
-pub stands_among : {t : TraceValue} {e : EntryValue} {times : List ℕ} {commits : List Commit} → length t.commit_lines ≡ length t.commits → e.before ≤ length t.commits
-    → All (λ l. l < e.line) (take e.before t.commit_lines) → All (λ l. e.line < l) (drop e.before t.commit_lines)
-    → times ≡ map (λ (c : Commit). c.at) commits → commits ≡ t.commits → IsStrictlyIncreasing times → StandsAmong t e times
-stands_among counted within earlier later are commits rising = record {
-  counted = counted;
-  within = within;
-  earlier = earlier;
-  later = later;
-  are = are ∙ ap (map (λ (c : Commit). c.at)) commits;
-  rising = rising;
-}
 
 -- what is said of an entry is said of the one that stands there
 pub told_of : (says : EntryValue → Option ℕ) {answer : Option ℕ} {asked : Option EntryValue} {x e : EntryValue} → asked ≡ Some x → asked ≡ Some e → answer ≡ says x → answer ≡ says e

@@ -27,7 +27,8 @@ IsLatest t e = All (λ c. c.line < e.line → c.at ≤ e.snapshot) (commit_lines
 abbrev pub IsClosed : TraceValue → EntryValue → Type 0
 IsClosed t e = All (λ c. e.line < c.line → e.snapshot < c.at) (commit_lines_of t)
 
--- an earlier content check issued the version; the snapshot is at or above that check's, and covers every commit before it
+-- an earlier content check issued the version; the snapshot is at or above that check's, and covers every commit
+-- before it
 pub record CoversVersion (t : TraceValue) (e : EntryValue) (v : Version) : Type 0 where
   pub content : EntryValue
   pub recorded : Contains t.entries content
@@ -45,7 +46,8 @@ pub record IsFresh (t : TraceValue) (e : EntryValue) : Type 0 where
 abbrev pub IssuesItsSnapshot : EntryValue → Type 0
 IssuesItsSnapshot e = IsSomeAnd e.zookie (λ z. z.at ≡ e.snapshot)
 
--- every content check is latest, every entry closed and every check fresh; where content was authorized, the token issued carries the snapshot
+-- every content check is latest, every entry closed and every check fresh; where content was authorized, the token
+-- issued carries the snapshot
 pub record IsInOrder (t : TraceValue) : Type 0 where
   pub latest : All (λ e. e.kind ≡ Content → IsLatest t e) t.entries
   pub closed : All (IsClosed t) t.entries

@@ -5,7 +5,8 @@
 pub struct OrderFindings {
     /// A check below its zookie.
     pub stale: bool,
-    /// A check of a version, whose zookie is absent or below the snapshot of the content check on this line, which issued it.
+    /// A check of a version, whose zookie is absent or below the snapshot of the content check on this line, which
+    /// issued it.
     pub old_token: Option<u64>,
     /// A content check below a commit on an earlier line; this is the last such line of a commit.
     pub not_latest: Option<u64>,

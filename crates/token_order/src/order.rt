@@ -1,12 +1,13 @@
 //! What is found on an entry, by its neighbours.
 
-ghost use Rattle.std.specs.Prelude.{◌≡◌, ◌<◌, ◌≤◌, length, slice_get, take, drop, map, All, Some};
-ghost use Rattle.std.specs.List.Sorted.{IsStrictlyIncreasing};
+ghost use Rattle.std.specs.Prelude.{◌≡◌, ◌<◌, length, slice_get, Some};
+ghost use Rattle.trace_lines.specs.EntryViews.{entry_value};
 ghost use Rattle.trace_lines.specs.Values.{EntryValue};
+ghost use Rattle.token_order.specs.Standing.{StandsAmong};
 ghost use Rattle.token_order.specs.Found.{is_content, is_above, is_short_of, is_stale, line_if_short, old_token, not_latest, open_snapshot, may_stand_for_content, is_token_of, is_wrong_token, is_unknown_version, order_of};
 
 use crate::findings::OrderFindings;
-use trace_lines::{EntryKind, Trace};
+use trace_lines::{Entry, EntryKind, Trace};
 use zookie::{TokenKind, Zookie};
 
 fn is_stale(trace: &Trace, i: usize) -> bool
@@ -52,16 +53,24 @@ fn is_content(kind: EntryKind) -> bool
     }
 }
 
+/// An entry, and the times of the commits among which it stands.
+fn standing(trace: &Trace, i: usize) -> (Entry<'_>, &[u64])
+    requires { i < length trace.now.entries }
+    ensures value { slice_get trace.now.entries i ≡ Some (entry_value result.0) }
+    ensures among { StandsAmong trace.now (entry_value result.0) result.1.now }
+{
+    (trace.entry(i), trace.chains().commits())
+}
+
 /// Of a content check, compared with the last commit before it.
 fn not_latest(trace: &Trace, i: usize) -> Option<u64>
     requires { i < length trace.now.entries }
     ensures { (e : EntryValue) → slice_get trace.now.entries i ≡ Some e → result ≡ not_latest trace.now e }
 {
-    let entry = trace.entry(i);
+    let (entry, times) = standing(trace, i);
     if !is_content(entry.kind) {
         return None;
     }
-    let times = trace.chains().commits();
     if entry.before == 0 {
         return None;
     }
@@ -77,9 +86,8 @@ fn open_snapshot(trace: &Trace, i: usize) -> Option<u64>
     requires { i < length trace.now.entries }
     ensures { (e : EntryValue) → slice_get trace.now.entries i ≡ Some e → result ≡ open_snapshot trace.now e }
 {
-    let entry = trace.entry(i);
+    let (entry, times) = standing(trace, i);
     let next = entry.before;
-    let times = trace.chains().commits();
     if next == times.len() {
         return None;
     }
