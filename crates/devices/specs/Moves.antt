@@ -10,12 +10,14 @@ abbrev pub failure_count : {A E : Type 0} → Result A E → ℕ
 failure_count (Ok x) = 0
 failure_count (Err e) = 1
 
--- how often a call moved no byte of a buffer that has some, after one of that many bytes: at the end of a reader, or an idle write
+-- how often a call moved no byte of a buffer that has some, after one of that many bytes: at the end of a reader, or
+-- an idle write
 abbrev pub stops_after : {E : Type 0} → Result ℕ E → ℕ → ℕ → ℕ
 stops_after (Ok n) count stops = if n == 0 && not (count == 0) then stops + 1 else stops
 stops_after (Err e) count stops = stops
 
--- how many calls came behind the last one that failed or moved no byte of a buffer that has some, after a call with one of that many bytes
+-- how many calls came behind the last one that failed or moved no byte of a buffer that has some, after a call with
+-- one of that many bytes
 abbrev pub since_after : {E : Type 0} → Result ℕ E → ℕ → ℕ → ℕ
 since_after (Ok n) count since = if n == 0 && not (count == 0) then 0 else since + 1
 since_after (Err e) count since = 0
@@ -25,7 +27,8 @@ abbrev pub since_flush : {A E : Type 0} → Result A E → ℕ → ℕ
 since_flush (Ok x) since = since + 1
 since_flush (Err e) since = 0
 
--- Where a text of so many bytes did not go out: before its last byte, and no flush was asked for, or behind that, at the flush.
+-- Where a text of so many bytes did not go out: before its last byte, and no flush was asked for, or behind that, at
+-- the flush.
 abbrev pub IsBrokenOff : (old_flushes new_flushes written size : ℕ) → Type 0
 IsBrokenOff old new written size = ((new ≡ old) × (written < size)) ⊎ ((new ≡ old + 1) × (written ≡ size))
 

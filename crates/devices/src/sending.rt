@@ -18,13 +18,16 @@ pub struct Unsent {
 /// failed flush these are all.
 pub fn send<W: Sink>(out: &mut W, bytes: &[u8]) -> Result<(), Unsent>
     ensures all { OnOk result (W.taken out.new ≡ W.taken out.old ++ bytes.now) }
-    ensures part { IfErr result (λ e. (e.written ≤ length bytes.now) × (W.taken out.new ≡ W.taken out.old ++ take e.written bytes.now)) }
+    ensures part { IfErr result (λ e. (e.written ≤ length bytes.now)
+        × (W.taken out.new ≡ W.taken out.old ++ take e.written bytes.now)) }
     ensures flushed { OnOk result (W.flushes out.new ≡ W.flushes out.old + 1) }
     ensures kept { OnOk result ((W.failures out.new ≡ W.failures out.old) × (W.idle out.new ≡ W.idle out.old)) }
     // A flush is asked for behind the last byte, and only there.
-    ensures broken_off { IfErr result (λ e. IsBrokenOff (W.flushes out.old) (W.flushes out.new) e.written (length bytes.now)) }
+    ensures broken_off { IfErr result
+        (λ e. IsBrokenOff (W.flushes out.old) (W.flushes out.new) e.written (length bytes.now)) }
     // The writer failed once, or once took none of some bytes, and no call came behind that.
-    ensures refused { IfErr result (λ e. ((W.failures out.new ≡ W.failures out.old + 1) × (W.idle out.new ≡ W.idle out.old))
+    ensures refused { IfErr result (λ e. ((W.failures out.new ≡ W.failures out.old + 1)
+        × (W.idle out.new ≡ W.idle out.old))
         ⊎ ((W.idle out.new ≡ W.idle out.old + 1) × (W.failures out.new ≡ W.failures out.old) × (e.written < length bytes.now))) }
     ensures last { OnErr result (W.since out.new ≡ 0) }
     ensures held { StandBehind W.taken W.contents out.old out.new }

@@ -1,4 +1,5 @@
--- An index over declarations and the tuples of a sample, from one declaration to the next. No public clause cites this module.
+-- An index over declarations and the tuples of a sample, from one declaration to the next. No public clause cites
+-- this module.
 use Rattle.std.specs.Prelude.{◌≡◌, ℕ, true, List, [], ◌∷◌, ◌++◌}
 use Rattle.tuple_text.specs.Tuples.{TupleValue}
 use Rattle.namespaces.specs.Declaration.{Declaration}

@@ -11,9 +11,8 @@ use Rattle.tuple_text.specs.Parts.{checked_fact}
 use Rattle.tuple_text.specs.declared.fault.TupleFault.{TupleFault}
 use Rattle.tuple_text.specs.Tuples.{TupleValue, FactValue, fact_of}
 use Rattle.tuple_text.specs.Grammar.{IsFact}
-use Rattle.rewrites.specs.Expression.{Expression, union, no_child}
+use Rattle.rewrites.specs.Expression.{Expression, union, no_child, children}
 use Rattle.namespaces.specs.Lookup.{Rule, Lookup, rule_of}
-use Rattle.rewrites.specs.View.{children}
 use Rattle.judgement.specs.Judgement.{IsUndeclared}
 use Rattle.strata.proofs.Lists.{not_in_nil, Contains-cons_cases}
 use Rattle.goal_cone.specs.Bounds.{links, links_all, links_by, links_of}

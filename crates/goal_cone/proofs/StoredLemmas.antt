@@ -11,9 +11,8 @@ use Rattle.tuple_text.proofs.ValueLemmas.{set_eq-itself}
 use Rattle.strata.proofs.Lists.{Contains-cons_cases, Contains-here, Contains-there, not_in_nil}
 use Rattle.strata.specs.Meaning.{IsStored, same_user, with_relation}
 use Rattle.namespaces.specs.Lookup.{rule_of}
-use Rattle.rewrites.specs.Expression.{Expression, this, tuple_to}
+use Rattle.rewrites.specs.Expression.{Expression, this, tuple_to, children}
 use Rattle.rewrites.specs.Parts.{computed_names, each_shown, through_expression}
-use Rattle.rewrites.specs.View.{children}
 use Rattle.rewrites.specs.declared.parts.Through.{Through}
 use Rattle.snapshots.specs.Leading.{AreLeading, AreStored}
 use Rattle.snapshots.specs.Snapshots.{rules_in, tuples_in}

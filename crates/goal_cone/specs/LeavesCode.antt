@@ -1,7 +1,8 @@
 -- The code of leaves, which their model asks for.
 use Rattle.std.specs.Prelude.{List, refl}
 use Rattle.std.specs.Coded.{Coded, code_by, coded×, coded_list}
-use Rattle.namespaces.specs.Declaration.{Declaration, declaration_code}
+use Rattle.namespaces.specs.DeclarationCode.{declaration_code}
+use Rattle.namespaces.specs.Declaration.{Declaration}
 use Rattle.rewrites.specs.Expression.{Expression}
 use Rattle.rewrites.specs.ExpressionCode.{expression_code}
 use Rattle.goal_cone.specs.Leaves.{LeavesValue}

@@ -4,9 +4,9 @@ ghost use Rattle.std.specs.Prelude.{◌≡◌, Contains, OnOk, Err, false, lengt
 ghost use Rattle.tuple_text.specs.Faults.{is_memory};
 ghost use Rattle.tuple_text.specs.Refs.{set_value};
 ghost use Rattle.tuple_text.specs.Tuples.{fact_of};
-ghost use Rattle.rewrites.specs.Expression.{this};
+ghost use Rattle.rewrites.specs.Expression.{this, children};
 ghost use Rattle.rewrites.specs.Parts.{computed_names, part_expression, through_expression};
-ghost use Rattle.rewrites.specs.View.{children, expression_of, expressions_of};
+ghost use Rattle.rewrites.specs.View.{expression_of, expressions_of};
 ghost use Rattle.snapshots.specs.Snapshots.{rules_in, tuples_in};
 ghost use Rattle.wide_rules.specs.Declaring.{HaveDeclaring};
 ghost use Rattle.goal_cone.specs.Bounds.{links_of};

@@ -1,4 +1,5 @@
--- The fields of an object of JSON, by their types. None is a wrong shape. What a field is, goes by the value that a key has, if it has one.
+-- The fields of an object of JSON, by their types. None is a wrong shape. What a field is, goes by the value that a
+-- key has, if it has one.
 use Rattle.std.specs.Prelude.{ℕ, Bool, true, false, List, ◌&&◌, Option, Some, None, option_map, option_and_then, if◌then◌else◌}
 use Rattle.serde_json.specs.Data.{Data, null, boolean, number, string, array, object, Items, no_items, item}
 use Rattle.serde_json.specs.Find.{get, as_number, as_u64, as_bool, as_str}

@@ -30,7 +30,8 @@ bytes_of p = (with_newlines p.0, join_with_byte 10 p.1)
 abbrev pub joined_of : List ℕ → Option (List ℕ × List ℕ)
 joined_of input = option_map bytes_of (lines_joined (parts input))
 
--- what is left of joined input: the bytes that came and were not taken, how many more may be taken, and whether the reader was at its end
+-- what is left of joined input: the bytes that came and were not taken, how many more may be taken, and whether the
+-- reader was at its end
 pub record RestValue : Type 0 where
   pub at_hand : List ℕ
   pub room : ℕ
@@ -42,8 +43,8 @@ pub record RestValue : Type 0 where
 abbrev pub IsTaken : (given now at_hand : List ℕ) → (List ℕ → Type 0) → Type 0
 IsTaken given now at_hand P = (input : List ℕ) × Takes given now at_hand [] input × P input
 
--- What came begins with a first part, of which P holds, and the marker; whatever comes behind these, with what is at hand, is the second
--- part, which is empty where the reader was at its end.
+-- What came begins with a first part, of which P holds, and the marker; whatever comes behind these, with what is at
+-- hand, is the second part, which is empty where the reader was at its end.
 abbrev pub IsFront : (given now : List ℕ) → RestValue → (List ℕ → Type 0) → Type 0
 IsFront given now rest P =
     (passed : List ℕ) × (front : List ℕ) × (now ≡ given ++ (passed ++ rest.at_hand)) × (length passed + rest.room ≡ 2 ^ 30)

@@ -53,7 +53,8 @@ pub fn text_at<'a>(value: &JsonRef<'_, 'a>, name: &str) -> Option<&'a str>
 /// The text that a field is, which may be absent or null; None where it is of another shape.
 #[tactic(auto, unfolding(crate::specs::Fields::optional_text_of))]
 pub fn optional_text_of<'a>(field: Option<&JsonRef<'_, 'a>>) -> Option<Option<&'a str>>
-    ensures { option_map (option_map (λ s. s.now)) result ≡ optional_text_of (option_map value_data (option_copied field.entry)) }
+    ensures { option_map (option_map (λ s. s.now)) result
+        ≡ optional_text_of (option_map value_data (option_copied field.entry)) }
 {
     match field {
         Some(found) if !found.is_null() => found.as_str().map(Some),

@@ -59,8 +59,10 @@ fn take_whole<T: TakeJson>(
     desk: &mut Desk,
 ) -> Result<Result<(), LineFault<T::Cause>>, InputFault>
     requires { T.next value.old ≤ number }
-    ensures exact { IfOk result (λ read. Reads read value.new (line_taken (taken_line T.Cause.not_json T.taken) whole number value.old line.now)) }
-    ensures refused { IfOk result (λ read. IfErr read (λ e. IsOfLine e.stop × IsOfSomeLine (taken_line T.Cause.not_json T.taken) e)) }
+    ensures exact { IfOk result
+        (λ read. Reads read value.new (line_taken (taken_line T.Cause.not_json T.taken) whole number value.old line.now)) }
+    ensures refused { IfOk result (λ read. IfErr read
+        (λ e. IsOfLine e.stop × IsOfSomeLine (taken_line T.Cause.not_json T.taken) e)) }
     ensures further { IfOk result (λ read. OnOk read (T.next value.new ≤ number + 1)) }
     ensures memory { IfErr result (λ e. e ≡ OutOfMemory) }
 {
@@ -80,8 +82,8 @@ fn take_whole<T: TakeJson>(
     }
 }
 
-/// Hands the lines of a reader up to the first that is exactly `---`, from number 1 on, to `value`, up to the first that is refused. The
-/// others are passed over.
+/// Hands the lines of a reader up to the first that is exactly `---`, from number 1 on, to `value`, up to the first
+/// that is refused. The others are passed over.
 ///
 /// An error is of the whole input: the reader failed, there are more than 2^30 bytes, or memory ran out.
 pub fn read_front<R: Source, T: TakeJson>(
@@ -91,11 +93,15 @@ pub fn read_front<R: Source, T: TakeJson>(
 ) -> Result<Front<T::Cause>, InputFault>
     requires { T.next value.old ≤ 1 }
     // Where there is a marker: what the lines before it made of the value, or which is the first that is refused.
-    ensures front { IfOk result (λ f. IfSome f.rest (λ rest. IsFront (R.given reader.old) (R.given reader.new) rest (λ front.
+    ensures front { IfOk result (λ f. IfSome f.rest
+        (λ rest. IsFront (R.given reader.old) (R.given reader.new) rest (λ front.
         Reads f.read value.new (read_all (taken_line T.Cause.not_json T.taken) true value.old front)))) }
-    ensures none { IfOk result (λ f. f.rest ≡ None → OfWhole R.given R.ends reader.old reader.new (λ came. joined_of came ≡ None)) }
-    ensures refused { IfOk result (λ f. IfErr f.read (λ e. IsOfLine e.stop × IsOfSomeLine (taken_line T.Cause.not_json T.taken) e)) }
-    ensures ended { IfOk result (λ f. IfSome f.rest (λ rest. R.ends reader.new + ends_left rest.ended ≡ R.ends reader.old + 1)) }
+    ensures none { IfOk result (λ f. f.rest ≡ None
+        → OfWhole R.given R.ends reader.old reader.new (λ came. joined_of came ≡ None)) }
+    ensures refused { IfOk result (λ f. IfErr f.read
+        (λ e. IsOfLine e.stop × IsOfSomeLine (taken_line T.Cause.not_json T.taken) e)) }
+    ensures ended { IfOk result (λ f. IfSome f.rest
+        (λ rest. R.ends reader.new + ends_left rest.ended ≡ R.ends reader.old + 1)) }
     ensures long { result ≡ Err TooLong → OfBytes R.given reader.old reader.new (λ came. MAX_INPUT < length came) }
     // Also of a reader that never ends.
     ensures most { OfBytes R.given reader.old reader.new (λ came. length came ≤ MAX_INPUT + CHUNK) }
@@ -117,10 +123,11 @@ pub fn read_front<R: Source, T: TakeJson>(
 }
 
 impl Rest {
-    /// Hands the lines behind the marker, from number 1 on, to `value`, up to the first that is refused, and reads the others to the
-    /// reader's end. The reader is that of the front.
+    /// Hands the lines behind the marker, from number 1 on, to `value`, up to the first that is refused, and reads
+    /// the others to the reader's end. The reader is that of the front.
     ///
-    /// An error is of the whole input: the reader failed, there are more than 2^30 bytes with those of the front, or memory ran out.
+    /// An error is of the whole input: the reader failed, there are more than 2^30 bytes with those of the front, or
+    /// memory ran out.
     pub fn read<R: Source, T: TakeJson>(
         mut self,
         alloc: Global,
@@ -129,9 +136,11 @@ impl Rest {
     ) -> Result<Result<(), LineFault<T::Cause>>, InputFault>
         requires { T.next value.old ≤ 1 }
         // What the lines made of the value, or which is the first that is refused.
-        ensures exact { IfOk result (λ read. IsTaken (R.given reader.old) (R.given reader.new) self.at_hand (λ input. (length input ≤ self.room)
+        ensures exact { IfOk result (λ read. IsTaken (R.given reader.old) (R.given reader.new) self.at_hand
+            (λ input. (length input ≤ self.room)
             × Reads read value.new (read_all (taken_line T.Cause.not_json T.taken) true value.old input))) }
-        ensures refused { IfOk result (λ read. IfErr read (λ e. IsOfLine e.stop × IsOfSomeLine (taken_line T.Cause.not_json T.taken) e)) }
+        ensures refused { IfOk result (λ read. IfErr read
+            (λ e. IsOfLine e.stop × IsOfSomeLine (taken_line T.Cause.not_json T.taken) e)) }
         ensures read { RestRead self R.given R.ends R.failures R.remaining reader.old reader.new result }
     {
         if self.ended {
@@ -143,7 +152,8 @@ impl Rest {
 
     /// Passes over what stands behind the marker, to the reader's end. The errors are those of [`Rest::read`].
     pub fn pass<R: Source>(mut self, alloc: Global, reader: &mut R) -> Result<(), InputFault>
-        ensures taken { OnOk result (IsTaken (R.given reader.old) (R.given reader.new) self.at_hand (λ input. length input ≤ self.room)) }
+        ensures taken { OnOk result (IsTaken (R.given reader.old) (R.given reader.new) self.at_hand
+            (λ input. length input ≤ self.room)) }
         ensures read { RestRead self R.given R.ends R.failures R.remaining reader.old reader.new result }
     {
         let mut line = Vec::new(alloc);
@@ -156,7 +166,8 @@ impl Rest {
     /// Takes the next line, and says whether all of it is in `line`. One with more than 2^20 bytes is passed over.
     fn next<R: Source>(&mut self, reader: &mut R, line: &mut Vec<u8>) -> Result<bool, InputFault>
         requires { self.old.ended ≡ false }
-        ensures line { IfOk result (λ whole. IsNextLine (R.given reader.old) (R.given reader.new) self.old self.new whole line.new.items) }
+        ensures line { IfOk result
+            (λ whole. IsNextLine (R.given reader.old) (R.given reader.new) self.old self.new whole line.new.items) }
         ensures ended { OnOk result (R.ends reader.new + ends_left self.new.ended ≡ R.ends reader.old + 1) }
         ensures asked { AsksFor self.old R.given R.ends R.failures R.remaining reader.old reader.new result }
     {
@@ -182,8 +193,8 @@ impl Rest {
         }
     }
 
-    /// Hands lines to `value`, up to the first that is refused: those before the marker, where it is sought, or those to the reader's end.
-    /// Says what they were, and whether the marker was found.
+    /// Hands lines to `value`, up to the first that is refused: those before the marker, where it is sought, or those
+    /// to the reader's end. Says what they were, and whether the marker was found.
     fn part<R: Source, T: TakeJson>(
         &mut self,
         alloc: Global,
@@ -194,8 +205,10 @@ impl Rest {
         requires first { T.next value.old ≤ 1 }
         requires unended { self.old.ended ≡ false }
         requires room { self.old.room ≤ MAX_INPUT }
-        ensures part { IfOk result (λ p. IsPart (taken_line T.Cause.not_json T.taken) (R.given reader.old) (R.given reader.new) self.old self.new value.old value.new marked p.0 p.1) }
-        ensures refused { IfOk result (λ p. IfErr p.0 (λ e. IsOfLine e.stop × IsOfSomeLine (taken_line T.Cause.not_json T.taken) e)) }
+        ensures part { IfOk result
+            (λ p. IsPart (taken_line T.Cause.not_json T.taken) (R.given reader.old) (R.given reader.new) self.old self.new value.old value.new marked p.0 p.1) }
+        ensures refused { IfOk result (λ p. IfErr p.0
+            (λ e. IsOfLine e.stop × IsOfSomeLine (taken_line T.Cause.not_json T.taken) e)) }
         ensures ended { OnOk result (R.ends reader.new + ends_left self.new.ended ≡ R.ends reader.old + 1) }
         ensures asked { AsksFor self.old R.given R.ends R.failures R.remaining reader.old reader.new result }
     {

@@ -38,7 +38,8 @@ impl<'a> Nodes<'a> {
 pub struct JsonLine<'a> {
     text: &'a str,
     nodes: Nodes<'a>,
-    ghost spells: { tokens_in nodes ≡ tokens text.now } by { Coded-set tokens_code (tokens_in nodes) (tokens text.now) },
+    ghost spells: { tokens_in nodes
+        ≡ tokens text.now } by { Coded-set tokens_code (tokens_in nodes) (tokens text.now) },
     ghost reads: { is_json text.now ≡ true },
 }
 

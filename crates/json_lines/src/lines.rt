@@ -156,8 +156,10 @@ impl Lines {
         ensures reached { OnOk result (line_len self.old ≤ vec_len line.new) }
         ensures long { result ≡ Err TooLong → BeginsTooLong max (R.given reader.old) (R.given reader.new) self.old }
         // The line is then what was taken of it, and more of it is at hand.
-        ensures stuck { result ≡ Err TooLong → Takes (R.given reader.old) (R.given reader.new) self.old self.new line.new.items
-            × (lacks line.new.items ≡ true) × (vec_len line.new ≤ max) × (max < vec_len line.new + line_len self.new) × (max < vec_len line.new + CHUNK) }
+        ensures stuck { result ≡ Err TooLong
+            → Takes (R.given reader.old) (R.given reader.new) self.old self.new line.new.items
+            × (lacks line.new.items ≡ true) × (vec_len line.new ≤ max) × (max < vec_len line.new + line_len self.new)
+            × (max < vec_len line.new + CHUNK) }
         // Where the reader fails, the line is what came of it before.
         ensures cut { result ≡ Err Read → Takes (R.given reader.old) (R.given reader.new) self.old [] line.new.items
             × (lacks line.new.items ≡ true) × (vec_len line.new ≤ max) }

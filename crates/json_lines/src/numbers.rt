@@ -100,7 +100,8 @@ fn is_short(bytes: &[u8]) -> bool
     are_digits(bytes)
 }
 
-/// As [`is_number`], of any text. It stands alone so that the room that it needs is not made ready for the few digits that most numbers have.
+/// As [`is_number`], of any text. It stands alone so that the room that it needs is not made ready for the few digits
+/// that most numbers have.
 #[cold]
 #[inline(never)]
 fn is_any_number(bytes: &[u8]) -> bool

@@ -149,7 +149,8 @@ impl<'t, 'a> JsonItems<'t, 'a> {
 
     /// Takes the next item.
     pub fn next(&mut self) -> Option<JsonRef<'t, 'a>>
-        ensures { MatchOption result (items_data self.old ≡ no_items) (λ value. items_data self.old ≡ item (value_data value) (items_data self.new)) }
+        ensures { MatchOption result (items_data self.old ≡ no_items)
+            (λ value. items_data self.old ≡ item (value_data value) (items_data self.new)) }
     {
         match &mut self.next {
             Some(items) => match items.next() {

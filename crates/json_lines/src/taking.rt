@@ -44,8 +44,8 @@ pub trait TakeJson {
     // What the value of a line, by the line's number, makes of this one.
     ghost taken: { ℕ → Self → Data → Result Self Self.Cause };
 
-    /// Takes a line of this text, where what it says is known without that it is read as JSON; None where it is not, and then nothing
-    /// changed. Whatever the answer, the next call is not made after a refusal.
+    /// Takes a line of this text, where what it says is known without that it is read as JSON; None where it is not,
+    /// and then nothing changed. Whatever the answer, the next call is not made after a refusal.
     fn take_text(&mut self, number: u64, text: &str) -> Option<Result<(), Self::Cause>>
         requires { next self.old ≤ number }
         ensures none { result ≡ None → self.new ≡ self.old }
@@ -56,7 +56,8 @@ pub trait TakeJson {
     /// Takes a line, of which `take_text` knew nothing. Whatever the answer, the next call is not made after a refusal.
     fn take_value(&mut self, number: u64, line: &JsonLine<'_>) -> Result<(), Self::Cause>
         requires { next self.old ≤ number }
-        ensures answer { Gives Self.Cause.is_memory (λ _. self.new) result (taken number self.old (line_data line.now)) }
+        ensures answer { Gives Self.Cause.is_memory (λ _. self.new) result
+            (taken number self.old (line_data line.now)) }
         ensures further { OnOk result (next self.new ≤ number + 1) };
 }
 

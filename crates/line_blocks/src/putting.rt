@@ -67,8 +67,8 @@ fn put_told<J: TellLine, P: PutTold<J>>(
     }
 }
 
-/// Puts what was told of blocks into a value, one block after the other, from line `first` on, and answers the number of the
-/// next line.
+/// Puts what was told of blocks into a value, one block after the other, from line `first` on, and answers the number
+/// of the next line.
 fn put_each<J: TellLine, P: PutTold<J>>(
     value: &mut P,
     first: u64,
@@ -138,7 +138,8 @@ fn put_and_tell<J: TellLine + Sync, P: PutTold<J>, T: Threads + Sync>(
         rt,
         &mut || tell_blocks(rt, alloc, teller, ahead, tellers),
         &mut || -> Result<u64, LineFault<J::Cause>>
-            requires { AreNumbered pending.now.number pending.now.parts.items × (P.next value.now ≤ pending.now.number) }
+            requires { AreNumbered pending.now.number pending.now.parts.items
+                × (P.next value.now ≤ pending.now.number) }
             ensures { PutsParts P.put pending.entry.now.number value.entry.now pending.entry.now.parts.items result value.exit.now
                 × IfOk result (λ n. P.next value.exit.now ≤ n) }
         { put_pending(pending, value) },

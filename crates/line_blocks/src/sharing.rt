@@ -57,7 +57,8 @@ fn tell_apart<J: TellLine + Sync, T: Threads + Sync>(
     blocks: &[Block<'_>],
     threads: usize,
 ) -> Result<Vec<Result<Vec<Piece<J::Value, J::Cause>>, AllocError>>, AllocError>
-    ensures { IfOk result (λ v. All (λ r. IfOk r (λ ps. All (IsPieceOf (J.told teller.now) blocks.now) ps.items)) v.items) }
+    ensures { IfOk result (λ v. All (λ r. IfOk r
+        (λ ps. All (IsPieceOf (J.told teller.now) blocks.now) ps.items)) v.items) }
 {
     let free = AtomicUsize::new(0);
     thread::map_indices(

@@ -22,7 +22,8 @@ pub trait TellLine {
     /// About how many bytes of a long input a block has.
     const BLOCK: usize;
 
-    /// How many of the workers tell nothing, since putting in what the others tell takes one of them all its time: 1 or 0.
+    /// How many of the workers tell nothing, since putting in what the others tell takes one of them all its time: 1
+    /// or 0.
     const PUTTERS: usize;
 
     /// How many blocks each thread that tells has in a wave. What they say is put in while the next wave is told.

@@ -1,4 +1,5 @@
--- Marks of usersets, users and tuples: SipHash of their texts, or of two marks. Equal ones have equal marks, and no more is used.
+-- Marks of usersets, users and tuples: SipHash of their texts, or of two marks. Equal ones have equal marks, and no
+-- more is used.
 use Rattle.std.specs.Prelude.{ℕ, ◌^◌, Bool, true, false, [], ◌∷◌, ◌++◌, length, cond}
 use Rattle.std.specs.Int.{w64, rotate_left}
 use Rattle.std.specs.Int.Bits.{bit_xor}

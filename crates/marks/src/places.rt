@@ -15,9 +15,9 @@ pub const MOST_PLACES: usize = u32::MAX as usize;
 /// is no place.
 ///
 /// Marks stand apart from the places before them with the same mark, so that a line of the cache holds more of what a
-/// look-up compares. The newest places are kept in a table with short probes. Marks come from texts that a stranger chose, so he can choose
-/// them for the same slots; those for which these have no room stand in a tree, which finds each in the logarithm of their
-/// number.
+/// look-up compares. The newest places are kept in a table with short probes. Marks come from texts that a stranger
+/// chose, so he can choose them for the same slots; those for which these have no room stand in a tree, which finds
+/// each in the logarithm of their number.
 #[derive(Drop)]
 pub struct Places {
     marks: Vec<u64>,

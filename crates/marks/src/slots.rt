@@ -13,7 +13,8 @@ pub struct Slot {
     pub place: u32,
 }
 
-/// A list of slots. A line of the cache holds the tags of many, so a probe that meets no tag of its mark reads a line or two.
+/// A list of slots. A line of the cache holds the tags of many, so a probe that meets no tag of its mark reads a line
+/// or two.
 #[derive(Drop)]
 pub struct Slots {
     tags: Vec<u8>,

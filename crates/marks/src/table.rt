@@ -18,14 +18,17 @@ const LONGEST: usize = 16;
 /// For how many marks there is room at first.
 const FEWEST: usize = 8;
 
+/// Up to how many marks a table is small: it grows faster then, so that fewer marks are put anew.
+const SMALL: usize = 1 << 16;
+
 /// How many tags there are.
 const TAGS: u64 = 1 << 8;
 
 /// The newest place of each mark. 0 is no place.
 ///
-/// A probe for a mark begins at the slot that its upper bits name, and ends at its slot or at a free one. A mark for which
-/// it meets neither stands in a tree. A slot that was taken stays so, even where its mark has no place any more: so no probe
-/// ends earlier than it did.
+/// A probe for a mark begins at the slot that its upper bits name, and ends at its slot or at a free one. A mark for
+/// which it meets neither stands in a tree. A slot that was taken stays so, even where its mark has no place any
+/// more: so no probe ends earlier than it did.
 #[derive(Drop)]
 pub struct Table {
     slots: Slots,
@@ -96,8 +99,8 @@ fn place_at(slots: &Slots, at: usize) -> u32
     slots.place(at)
 }
 
-/// Makes a place a mark's newest in the tree, and gives the one that was its newest before. Few marks come here, and what it takes is not to
-/// weigh on those that do not.
+/// Makes a place a mark's newest in the tree, and gives the one that was its newest before. Few marks come here, and
+/// what it takes is not to weigh on those that do not.
 #[inline(never)]
 fn put_in_tree(tree: &mut BTreeMap<u64, u32>, mark: u64, place: u32) -> Result<u32, AllocError>
     ensures older { IfOk result (λ older. older ≡ unwrap_or (get nat_cmp tree.old mark) 0) }
@@ -112,7 +115,8 @@ fn put_in_tree(tree: &mut BTreeMap<u64, u32>, mark: u64, place: u32) -> Result<u
 fn table_of(alloc: Global, marks: &[u64], count: usize) -> Result<Table, AllocError>
     requires { length marks.now ≤ most }
     ensures table { IfOk result (IsTable marks.now) }
-    ensures newest { IfOk result (λ t. (mark : ℕ) → newest_of marks.now t mark ≡ last_place (nat_eq mark) marks.now (length marks.now)) }
+    ensures newest { IfOk result (λ t. (mark : ℕ)
+        → newest_of marks.now t mark ≡ last_place (nat_eq mark) marks.now (length marks.now)) }
 {
     let mut table = Table::with_room(alloc, count)?;
     for (index, mark) in marks.iter().enumerate() {
@@ -158,12 +162,13 @@ impl Table {
         self.rest.get(&mark).copied().unwrap_or(0)
     }
 
-    /// Makes a place the mark's newest, and gives the one that was its newest before. The mark may be yet to come there. Where
-    /// the mark has a place already, no memory is wanted.
+    /// Makes a place the mark's newest, and gives the one that was its newest before. The mark may be yet to come
+    /// there. Where the mark has a place already, no memory is wanted.
     pub fn set(&mut self, marks: &[u64], mark: u64, place: u32) -> Result<u32, AllocError>
         requires { IsTable marks.now self.old }
         ensures older { IfOk result (λ older. older ≡ newest_of marks.now self.old mark) }
-        ensures ok { OnOk result ((more : List ℕ) → IsPlaceOf (marks.now ++ more) mark place → IsSet marks.now (marks.now ++ more) self.old self.new mark place) }
+        ensures ok { OnOk result ((more : List ℕ) → IsPlaceOf (marks.now ++ more) mark place
+            → IsSet marks.now (marks.now ++ more) self.old self.new mark place) }
         ensures err { OnErr result ((m : ℕ) → newest_of marks.now self.new m ≡ newest_of marks.now self.old m) }
         ensures table { OnErr result (IsTable marks.now self.new) }
         ensures unknown { OnErr result (newest_of marks.now self.old mark ≡ 0) }
@@ -186,17 +191,21 @@ impl Table {
         Ok(older)
     }
 
-    /// Makes the table anew where no slot is to spare, with room for about twice as many marks as before, but for no more than
-    /// twice the marks, since those without a place are left behind. What is found stays.
+    /// Makes the table anew where no slot is to spare, with room for about twice as many marks as before, and while it
+    /// is small four times as many, but for no more than so many times the marks, since those without a place are left
+    /// behind. What is found stays.
     pub fn spread(&mut self, alloc: Global, marks: &[u64]) -> Result<(), AllocError>
-        requires newest { (mark : ℕ) → newest_of marks.now self.old mark ≡ last_place (nat_eq mark) marks.now (length marks.now) }
+        requires newest { (mark : ℕ) → newest_of marks.now self.old mark
+            ≡ last_place (nat_eq mark) marks.now (length marks.now) }
         requires table { IsTable marks.now self.old }
         requires few { length marks.now ≤ most }
         ensures table { IsTable marks.now self.new }
         ensures same { (mark : ℕ) → newest_of marks.now self.new mark ≡ newest_of marks.now self.old mark }
     {
         if self.spare == 0 {
-            let count = self.slots.len().min(marks.len() * 2).max(FEWEST);
+            let times = if marks.len() < SMALL { 4 } else { 2 };
+            let more = (self.slots.len() / 2).saturating_mul(times);
+            let count = more.min(marks.len() * times).max(FEWEST);
             *self = table_of(alloc, marks, count)?;
         }
         Ok(())

@@ -8,8 +8,9 @@ ghost use Rattle.marks.specs.Words.{finished, state_of, words};
 /// The bytes of a word.
 const WORD: usize = 8;
 
-/// SipHash-1-3 of whole words. std's hasher takes bytes one by one where they end inside a word, and so costs twice as much
-/// for short texts; and it takes one word more at the end, for how many bytes there were, which the key tells here.
+/// SipHash-1-3 of whole words. std's hasher takes bytes one by one where they end inside a word, and so costs twice
+/// as much for short texts; and it takes one word more at the end, for how many bytes there were, which the key tells
+/// here.
 #[derive(Clone, Copy, Drop)]
 pub(crate) struct WordHasher {
     v0: u64,
@@ -21,8 +22,8 @@ pub(crate) struct WordHasher {
 /// The half of a word.
 const HALF: usize = 4;
 
-/// Up to three bytes, as a number of 32 bits. Each length has a case of its own: a copy of a length that is not known took as long as three of
-/// the rounds below.
+/// Up to three bytes, as a number of 32 bits. Each length has a case of its own: a copy of a length that is not known
+/// took as long as three of the rounds below.
 #[inline(always)]
 fn few_bytes(bytes: &[u8]) -> u32
     requires { length bytes.now < 4 }

@@ -1,5 +1,5 @@
--- What `change` makes of a JSON value: the tests of `add` without that of a repeated namespace, and then whether the relations
--- declared already stay.
+-- What `change` makes of a JSON value: the tests of `add` without that of a repeated namespace, and then whether the
+-- relations declared already stay.
 use Rattle.std.specs.Prelude.{◌≡◌, ℕ, nat_lt, ◌<◌, not, ◌&&◌, ◌||◌, ◌==◌, if◌then◌else◌, Bool, false, true, List, [], ◌∷◌, ◌++◌, All, count_by, Option, None, Some, Result, Ok, Err}
 use Rattle.std.specs.Str.{bytes_eq}
 use Rattle.serde_json.specs.Data.{Data}

@@ -2,6 +2,7 @@ pub mod Adding
 pub mod Changing
 pub mod Consistent
 pub mod Declaration
+pub mod DeclarationCode
 pub mod Drafts
 pub mod Fault
 pub mod InForce

@@ -7,8 +7,7 @@ use Rattle.namespaces.specs.declared.fault.RulesFault.{RulesFault}
 use Rattle.namespaces.specs.declared.fault.RulesFault.TheVariants.{Shape}
 use Rattle.namespaces.specs.Fault.{needed}
 use Rattle.refusals.specs.Refusals.{◌>>=◌}
-use Rattle.rewrites.specs.Expression.{Expression, this, computed, tuple_to, union, inter, minus}
-use Rattle.rewrites.specs.View.{children}
+use Rattle.rewrites.specs.Expression.{Expression, this, computed, tuple_to, union, inter, minus, children}
 
 -- a text
 abbrev pub text : Data → Result (List ℕ) RulesFault

@@ -6,8 +6,8 @@ use Rattle.namespaces.specs.Lookup.{namespace_names, relation_names}
 use Rattle.namespaces.specs.Adding.{has_repeats, reads_declared}
 use Rattle.namespaces.specs.Changing.{keeps_names, keeps_strata, change_count}
 
--- `d` stands behind `e`, another declaration of its namespace: the relations of `e` come first, each with its stratum, and it is
--- in force from the same timestamp or a later one
+-- `d` stands behind `e`, another declaration of its namespace: the relations of `e` come first, each with its
+-- stratum, and it is in force from the same timestamp or a later one
 pub record Continues (e d : Declaration) : Type 0 where
   pub names : keeps_names e.relations d.relations ≡ true
   pub strata : keeps_strata e.relations d.relations ≡ true
@@ -18,8 +18,8 @@ abbrev pub AreContinued : List Declaration → Type 0
 AreContinued [] = Unit {0}
 AreContinued (e ∷ ds) = AllByRecursion (λ d. e.name ≡ d.name → Continues e d) ds × AreContinued ds
 
--- a declaration by itself: its relations have names of their own, are 256 at most, and read those of their namespace that are
--- among them; one that is no change is in force from 0
+-- a declaration by itself: its relations have names of their own, are 256 at most, and read those of their namespace
+-- that are among them; one that is no change is in force from 0
 pub record IsFit (d : Declaration) : Type 0 where
   pub distinct : has_repeats (relation_names d.relations) ≡ false
   pub count : length d.relations ≤ 256

@@ -5,7 +5,8 @@ ghost use Rattle.namespaces.specs.declared.fault.RulesFault.TheVariants.{OutOfMe
 use std::alloc::{AllocError, AllocFailed};
 use thiserror::Error;
 
-/// Why a namespace is refused. Of the faults that apply to a value the first one here is answered, running out of memory apart.
+/// Why a namespace is refused. Of the faults that apply to a value the first one here is answered, running out of
+/// memory apart.
 #[derive(Clone, Copy, Debug, PartialEq, Eq, Error)]
 pub enum RulesFault {
     /// The value has not the shape of a namespace.

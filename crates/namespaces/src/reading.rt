@@ -169,7 +169,8 @@ fn stratum(value: &Value) -> Result<u8, RulesFault>
 }
 
 fn rewrite(alloc: Global, value: &Value) -> Result<Rewrite, RulesFault>
-    ensures { Gives expression_of result (adding.expression_or_this (adding.optional (codes "rewrite") (view value.now))) }
+    ensures { Gives expression_of result
+        (adding.expression_or_this (adding.optional (codes "rewrite") (view value.now))) }
 {
     match optional(value, "rewrite") {
         Some(rewrite) => expression(alloc, rewrite),

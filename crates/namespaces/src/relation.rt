@@ -20,7 +20,8 @@ pub struct PlainRule {
     ghost parted_of: { ArePartsOf parted (expression_of rewrite) },
 }
 
-// Written out, as those below: one that is derived is a part of each function that lets the value go, with all its parts.
+// Written out, as those below: one that is derived is a part of each function that lets the value go, with all its
+// parts.
 impl Drop for PlainRule {
     fn drop(self) {
         let PlainRule { rewrite, parted } = self;
@@ -67,7 +68,8 @@ pub(crate) fn relation_of(
     stratum: u8,
     rewrite: Rewrite,
 ) -> Result<Relation, RulesFault>
-    ensures { Gives {Y = ℕ × Expression} (λ r. (r.stratum, expression_of r.rewrite)) result (Ok (stratum, expression_of rewrite)) }
+    ensures { Gives {Y = ℕ × Expression} (λ r. (r.stratum, expression_of r.rewrite)) result
+        (Ok (stratum, expression_of rewrite)) }
 {
     let plain = plain_rule(alloc, plain_of(alloc, &rewrite)?)?;
     Ok(Relation {

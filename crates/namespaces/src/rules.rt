@@ -62,7 +62,8 @@ impl Drop for Rules {
 impl Model for Rules {
     ghost use Rattle.std.specs.Prelude.{List};
     ghost use Rattle.std.specs.Coded.{coded_list};
-    ghost use Rattle.namespaces.specs.Declaration.{Declaration, declaration_code};
+    ghost use Rattle.namespaces.specs.Declaration.{Declaration};
+    ghost use Rattle.namespaces.specs.DeclarationCode.{declaration_code};
 
     ghost Value = { List Declaration };
 
@@ -97,11 +98,12 @@ impl Rules {
         }
     }
 
-    /// Declares the namespace that a JSON value describes, in force from 0 (Zanzibar, section 2.3.1). Its `kind` is not looked at.
+    /// Declares the namespace that a JSON value describes, in force from 0 (Zanzibar, section 2.3.1). Its `kind` is
+    /// not looked at.
     ///
-    /// Of the refusals that apply the one with the least number is answered: 1 Shape, 2 Name, 3 RepeatedNamespace, 4 RepeatedRelation,
-    /// 5 UndeclaredRelation, 6 TooDeep, 7 TooMany. OutOfMemory comes where memory was refused, whatever else applies. After a refusal
-    /// the rules hold what they held before.
+    /// Of the refusals that apply the one with the least number is answered: 1 Shape, 2 Name, 3 RepeatedNamespace, 4
+    /// RepeatedRelation, 5 UndeclaredRelation, 6 TooDeep, 7 TooMany. OutOfMemory comes where memory was refused,
+    /// whatever else applies. After a refusal the rules hold what they held before.
     pub fn add(&mut self, value: &Value) -> Result<(), RulesFault>
         ensures exact { Gives (λ _. self.new) result (rules_add self.old (view value.now)) }
         ensures unchanged { OnErr result (self.new ≡ self.old) }
@@ -112,13 +114,13 @@ impl Rules {
         self.push(alloc, 0, false, namespace)
     }
 
-    /// Declares a new namespace, or gives a declared one a new list of relations, in force from a timestamp on (Zanzibar, section 3.2.2).
-    /// What was declared before stays in force for earlier timestamps.
+    /// Declares a new namespace, or gives a declared one a new list of relations, in force from a timestamp on
+    /// (Zanzibar, section 3.2.2). What was declared before stays in force for earlier timestamps.
     ///
-    /// Of the refusals that apply the one with the least number is answered: those of `add` without RepeatedNamespace, where the 4,097th
-    /// change is TooMany, then 9 RelationsChanged (the list does not begin with the relations declared already, in their order) and 10
-    /// StratumChanged. OutOfMemory comes where memory was refused, whatever else applies. After a refusal the rules hold what they held
-    /// before.
+    /// Of the refusals that apply the one with the least number is answered: those of `add` without
+    /// RepeatedNamespace, where the 4,097th change is TooMany, then 9 RelationsChanged (the list does not begin with
+    /// the relations declared already, in their order) and 10 StratumChanged. OutOfMemory comes where memory was
+    /// refused, whatever else applies. After a refusal the rules hold what they held before.
     pub fn change(&mut self, at: u64, value: &Value) -> Result<(), RulesFault>
         requires { IsLater at self.old }
         ensures exact { Gives (λ _. self.new) result (rules_change self.old at (view value.now)) }
@@ -130,7 +132,8 @@ impl Rules {
         self.push(alloc, at, true, namespace)
     }
 
-    /// Whether `change` would accept a value, or which refusal it would answer. Memory may be refused here and not there.
+    /// Whether `change` would accept a value, or which refusal it would answer. Memory may be refused here and not
+    /// there.
     pub fn try_change(&self, value: &Value) -> Result<(), RulesFault>
         ensures { Gives (λ u. u) result (change_answer self.now (view value.now)) }
     {
@@ -139,8 +142,8 @@ impl Rules {
         Ok(())
     }
 
-    /// The rules as they would be if `change` took a value after all others, to be looked at before it is taken. They are a copy, so this
-    /// is for once in a while.
+    /// The rules as they would be if `change` took a value after all others, to be looked at before it is taken. They
+    /// are a copy, so this is for once in a while.
     ///
     /// Refusals are those of `change`. Memory may be refused here and not there.
     pub fn with_change(&self, value: &Value) -> Result<Rules, RulesFault>
@@ -153,8 +156,9 @@ impl Rules {
         Ok(rules)
     }
 
-    /// The rule of a relation that is in force at a timestamp: that of the last declaration of its namespace by then (Zanzibar, section
-    /// 3.2.2). `None` where the relation is not declared by then. The object id of the userset is not looked at.
+    /// The rule of a relation that is in force at a timestamp: that of the last declaration of its namespace by then
+    /// (Zanzibar, section 3.2.2). `None` where the relation is not declared by then. The object id of the userset is
+    /// not looked at.
     pub fn body(&self, set: SetRef<'_>, at: u64) -> Option<&Rewrite>
         ensures { option_map (λ r. expression_of r.now) result
             ≡ option_map (λ r. r.expression) (rule_of (rule_at self.now at) (set_value set.entry)) }
@@ -176,8 +180,9 @@ impl Rules {
         })
     }
 
-    /// A plain form of the rule that stands at a place: it gives and rules out what that rule does, whatever its leaves do, and it has the
-    /// leaves of that rule, none at more places. Where it has many places, its parts stand beside it. `None` where no rule stands there.
+    /// A plain form of the rule that stands at a place: it gives and rules out what that rule does, whatever its
+    /// leaves do, and it has the leaves of that rule, none at more places. Where it has many places, its parts stand
+    /// beside it. `None` where no rule stands there.
     pub fn plain_in(&self, place: RulePlace) -> Option<&PlainRule>
         ensures { ArePlain (option_map (λ r. expression_of r.now.rewrite) result) (expression_in place self.now) }
     {
@@ -185,8 +190,8 @@ impl Rules {
         Some(&relation.plain)
     }
 
-    /// The leaves of the rule that stands at a place, each once: what it computes, what it reads through a tupleset, and `this`. None
-    /// where no rule stands there.
+    /// The leaves of the rule that stands at a place, each once: what it computes, what it reads through a tupleset,
+    /// and `this`. None where no rule stands there.
     ///
     /// Refusals: OutOfMemory.
     pub fn leaves_in(&self, alloc: Global, place: RulePlace) -> Result<Vec<Rewrite>, AllocError>
@@ -198,7 +203,8 @@ impl Rules {
         }
     }
 
-    /// How many relations a namespace has at a timestamp, by its last declaration in force; 0 where it is not declared by then.
+    /// How many relations a namespace has at a timestamp, by its last declaration in force; 0 where it is not
+    /// declared by then.
     pub fn count_in_force(&self, namespace: &str, at: u64) -> usize
         ensures count { result ≡ length (names_in_force at namespace.now self.now) }
         ensures whole { (relation : List ℕ) → ¬ (rule_at self.now at namespace.now relation ≡ None)
@@ -210,7 +216,8 @@ impl Rules {
         }
     }
 
-    /// The name of relation number `k` of a namespace at a timestamp, counted from 0 in order of declaration, or `None` where there is none.
+    /// The name of relation number `k` of a namespace at a timestamp, counted from 0 in order of declaration, or
+    /// `None` where there is none.
     pub fn name_in_force(&self, namespace: &str, at: u64, k: usize) -> Option<&str>
         ensures { option_map (λ s. s.now) result ≡ slice_get (names_in_force at namespace.now self.now) k }
     {
@@ -240,7 +247,8 @@ impl Rules {
         self.lines.len()
     }
 
-    /// The stratum of a relation, from 0 to 255, or `None` where it is not declared so far. It is the same in each of its declarations.
+    /// The stratum of a relation, from 0 to 255, or `None` where it is not declared so far. It is the same in each of
+    /// its declarations.
     pub fn stratum(&self, set: SetRef<'_>) -> Option<u8>
         ensures { result
             ≡ option_map (λ r. r.stratum) (relation_of set.entry.namespace.now set.entry.relation.now self.now) }
@@ -273,7 +281,8 @@ impl Rules {
         }
     }
 
-    /// The number of a namespace, counted from 1 in order of first declaration, or `None` where it is not declared so far.
+    /// The number of a namespace, counted from 1 in order of first declaration, or `None` where it is not declared so
+    /// far.
     pub fn namespace_number(&self, namespace: &str) -> Option<u16>
         ensures { result ≡ place_of namespace.now (namespace_names self.now) }
     {
@@ -299,9 +308,11 @@ impl Rules {
         Some(name.as_str())
     }
 
-    /// The rule of the relation that has this number, by the last declaration of its namespace, or `None` where there is none.
+    /// The rule of the relation that has this number, by the last declaration of its namespace, or `None` where there
+    /// is none.
     pub fn last_rule(&self, number: RelNo) -> Option<&Rewrite>
-        ensures value { option_map (λ r. expression_of r.now) result ≡ option_map (λ r. r.expression) (relation_numbered number self.now) }
+        ensures value { option_map (λ r. expression_of r.now) result
+            ≡ option_map (λ r. r.expression) (relation_numbered number self.now) }
         ensures well_formed { IsWellFormed self.now }
     {
         let (_, relation) = self.last_by_number(number)?;
@@ -334,7 +345,8 @@ impl Rules {
 
     /// The relation that has this number, by the last declaration of its namespace.
     fn last_by_number(&self, number: RelNo) -> Option<(&String, &Relation)>
-        ensures relation { option_map (λ p. show_relation (p.0.now, p.1.now)) result ≡ relation_numbered number self.now }
+        ensures relation { option_map (λ p. show_relation (p.0.now, p.1.now)) result
+            ≡ relation_numbered number self.now }
         ensures well_formed { IsWellFormed self.now }
     {
         let (_, revisions) = self.by_number(number.namespace)?;
@@ -365,7 +377,8 @@ impl Rules {
 
     /// The relations of a namespace by its last declaration.
     fn newest(&self, namespace: &str) -> Option<&IndexMap<String, Relation>>
-        ensures relations { option_map (λ m. show_relations m.now.entries) result ≡ relations_of namespace.now self.now }
+        ensures relations { option_map (λ m. show_relations m.now.entries) result
+            ≡ relations_of namespace.now self.now }
         ensures limit { IfSome result (λ m. length m.now.entries ≤ 256) }
         ensures well_formed { IsWellFormed self.now }
     {
@@ -385,7 +398,8 @@ impl Rules {
 
     /// The relations of a namespace by the last declaration in force at a timestamp.
     fn in_force(&self, namespace: &str, at: u64) -> Option<&IndexMap<String, Relation>>
-        ensures relations { option_map (λ m. show_relations m.now.entries) result ≡ relations_at at namespace.now self.now }
+        ensures relations { option_map (λ m. show_relations m.now.entries) result
+            ≡ relations_at at namespace.now self.now }
         ensures well_formed { IsWellFormed self.now }
     {
         let revision = self.revision_in_force(namespace, at)?;

@@ -39,8 +39,8 @@ impl Drop for Namespace {
     }
 }
 
-/// The namespace of a draft, or the first fault that applies, where `repeated` says that the namespace may not be declared again, and
-/// `full` that there is no room for it.
+/// The namespace of a draft, or the first fault that applies, where `repeated` says that the namespace may not be
+/// declared again, and `full` that there is no room for it.
 pub(crate) fn check_declaration(
     alloc: Global,
     draft: Draft,

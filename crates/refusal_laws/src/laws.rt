@@ -11,8 +11,9 @@ ghost use Rattle.tuple_text.specs.declared.fault.TupleFault.{TupleFault};
 ghost use Rattle.refusal_laws.specs.LeastFault.{applies_to_addition, applies_to_change, of_addition, of_change, first_of, unless};
 ghost use Rattle.refusal_laws.specs.Leftmost.{IsLeftmost};
 
-/// Of the faults that apply to a namespace which is declared for the first time, the one with the least number is told; where none
-/// applies, it is declared. A value without the shape of a namespace is refused for that, whatever else is wrong with it.
+/// Of the faults that apply to a namespace which is declared for the first time, the one with the least number is
+/// told; where none applies, it is declared. A value without the shape of a namespace is refused for that, whatever
+/// else is wrong with it.
 pub fn least_fault_of_addition()
     ensures least { (ds : List Declaration) (d : Data) (n : Namespace) → namespace d ≡ Ok n
         → rules_add ds d ≡ unless (first_of (applies_to_addition ds n) of_addition) (ds ++ addition n ∷ []) }
@@ -23,10 +24,12 @@ pub fn least_fault_of_addition()
 pub fn least_fault_of_change()
     ensures least { (ds : List Declaration) (at : ℕ) (d : Data) (n : Namespace) → namespace d ≡ Ok n
         → rules_change ds at d ≡ unless (first_of (applies_to_change ds n) of_change) (ds ++ change at n ∷ []) }
-    ensures shape { (ds : List Declaration) (at : ℕ) (d : Data) (f : RulesFault) → namespace d ≡ Err f → rules_change ds at d ≡ Err f }
+    ensures shape { (ds : List Declaration) (at : ℕ) (d : Data) (f : RulesFault) → namespace d ≡ Err f
+        → rules_change ds at d ≡ Err f }
 {}
 
-/// Where the text of a tuple is refused, the fault names the leftmost part that fails, and the byte at which that part begins.
+/// Where the text of a tuple is refused, the fault names the leftmost part that fails, and the byte at which that
+/// part begins.
 pub fn leftmost_part()
     ensures { (text : List ℕ) (f : TupleFault) → tuple_at text ≡ Err f → IsLeftmost text f }
 {}

@@ -4,9 +4,9 @@ use Rattle.std.proofs.lemmas.List.Folds.{list_any-append, list_all-append, list_
 use Rattle.std.specs.Prelude.{Contains, ◌<◌, ℕ, zero, suc, length, map}
 use Rattle.std.specs.List.{list_any, list_all}
 use Rattle.rewrites.specs.Alike.{Leaves, gives, some_gives, each_gives, bars, each_bars, some_bars, IsAlike}
-use Rattle.rewrites.specs.Expression.{Expression, minus}
+use Rattle.rewrites.specs.Expression.{Expression, minus, children}
 use Rattle.rewrites.specs.Joints.{joined, IsPut, JoinAlike}
-use Rattle.rewrites.specs.View.{children, expression_of}
+use Rattle.rewrites.specs.View.{expression_of}
 use Rattle.rewrites.specs.declared.plain.Joint.{Joint}
 use Rattle.rewrites.specs.declared.rewrite.Rewrite.{Rewrite}
 use Rattle.rewrites.proofs.Names.{by_bool}

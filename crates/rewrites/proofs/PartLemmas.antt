@@ -9,9 +9,9 @@ use Rattle.std.specs.String.{string_eq}
 use Rattle.indexmap.specs.IndexMap.{get_by_text, insert_entry}
 use Rattle.indexmap.proofs.CallerLemmas.{insert_entry-new}
 use Rattle.rewrites.specs.Alike.{IsAlike, gives, bars}
-use Rattle.rewrites.specs.Expression.{Expression, tuple_to, union, inter, minus, no_child}
+use Rattle.rewrites.specs.Expression.{Expression, tuple_to, union, inter, minus, no_child, children}
 use Rattle.rewrites.specs.Joints.{joined, JoinAlike}
-use Rattle.rewrites.specs.View.{children, expression_of}
+use Rattle.rewrites.specs.View.{expression_of}
 use Rattle.rewrites.specs.Parts.{each_shown, through_expression, throughs_shown, part_expression, parts_shown, part_at, node_expression, nodes_shown, IsGrown, Says, HasPart, AllSay}
 use Rattle.rewrites.specs.declared.parts.Part.{Part}
 use Rattle.rewrites.specs.declared.rewrite.Rewrite.{Rewrite}

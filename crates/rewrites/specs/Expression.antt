@@ -14,6 +14,11 @@ mutual
     no_child : Expressions
     child : Expression → Expressions → Expressions
 
+-- expressions in a row, as the children of another
+abbrev pub children : List Expression → Expressions
+children [] = no_child
+children (e ∷ es) = child e (children es)
+
 -- how deep an expression nests; one without children has depth 1
 abbrev mutual
   pub depth : Expression → ℕ

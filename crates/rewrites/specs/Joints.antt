@@ -1,9 +1,8 @@
 -- Children that a union or an intersection joins. No public clause cites this module.
 use Rattle.std.specs.Prelude.{◌≡◌, List, [], ◌∷◌, ◌++◌, ◌⊎◌, Contains}
-use Rattle.rewrites.specs.Expression.{Expression, union, inter}
+use Rattle.rewrites.specs.Expression.{Expression, union, inter, children}
 use Rattle.rewrites.specs.Alike.{IsAlike}
 use Rattle.rewrites.specs.Plain.{IsPlainOf}
-use Rattle.rewrites.specs.View.{children}
 use Rattle.rewrites.specs.declared.plain.Joint.{Joint}
 
 abbrev pub joined : Joint → List Expression → Expression

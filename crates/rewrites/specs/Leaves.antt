@@ -1,8 +1,7 @@
 -- The leaves of a rule, each once.
 use Rattle.std.specs.Prelude.{◌≡◌, List, [], ◌++◌, Option, None, Some}
-use Rattle.rewrites.specs.Expression.{Expression}
+use Rattle.rewrites.specs.Expression.{Expression, children}
 use Rattle.rewrites.specs.Plain.{leaves, leaves_of_all, IsThinned}
-use Rattle.rewrites.specs.View.{children}
 
 abbrev pub leaves_in : List Expression → List Expression
 leaves_in es = leaves_of_all (children es)

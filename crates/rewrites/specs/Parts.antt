@@ -1,10 +1,11 @@
--- A rule by its parts. A part is a rule without children, or the union of what some relations give through one tupleset.
+-- A rule by its parts. A part is a rule without children, or the union of what some relations give through one
+-- tupleset.
 use Rattle.std.specs.Prelude.{◌≡◌, ℕ, List, ◌++◌, map, slice_get, unwrap_or, string_bytes, Option}
 use Rattle.std.specs.Option.{ForSome}
 use Rattle.rewrites.specs.Alike.{IsAlike}
-use Rattle.rewrites.specs.Expression.{Expression, tuple_to, union, inter, minus, no_child}
+use Rattle.rewrites.specs.Expression.{Expression, tuple_to, union, inter, minus, no_child, children}
 use Rattle.rewrites.specs.Joints.{JoinAlike}
-use Rattle.rewrites.specs.View.{children, expression_of}
+use Rattle.rewrites.specs.View.{expression_of}
 use Rattle.rewrites.specs.declared.plain.Joint.{Joint}
 use Rattle.rewrites.specs.declared.parts.Through.{Through}
 use Rattle.rewrites.specs.declared.parts.Part.{Part}

@@ -1,12 +1,8 @@
 -- The expression that a `Rewrite` stands for.
-use Rattle.std.specs.Prelude.{List, [], ◌∷◌, map, string_bytes}
-use Rattle.rewrites.specs.Expression.{Expression, this, computed, tuple_to, union, inter, minus, Expressions, no_child, child}
+use Rattle.std.specs.Prelude.{List, map, string_bytes}
+use Rattle.rewrites.specs.Expression.{Expression, this, computed, tuple_to, union, inter, minus, Expressions, children}
 use Rattle.rewrites.specs.declared.rewrite.Rewrite.{Rewrite, fold-Rewrite}
 use Rattle.rewrites.specs.declared.rewrite.Rewrite.TheOpen.{Rewrite-F}
-
-abbrev pub children : List Expression → Expressions
-children [] = no_child
-children (e ∷ es) = child e (children es)
 
 -- one level, with each rewrite inside already seen as its expression
 abbrev pub expression_step : Rewrite-F Expression → Expression

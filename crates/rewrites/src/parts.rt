@@ -24,7 +24,8 @@ pub struct Through {
 impl Through {
     /// A tupleset through which one relation is read.
     pub fn of(alloc: Global, tupleset: &String, computed: &String) -> Result<Through, AllocError>
-        ensures { IfOk result (λ t. each_shown t ≡ tuple_to (string_bytes tupleset.now) (string_bytes computed.now) ∷ []) }
+        ensures { IfOk result (λ t. each_shown t
+            ≡ tuple_to (string_bytes tupleset.now) (string_bytes computed.now) ∷ []) }
     {
         let mut names = IndexMap::new(alloc);
         let _ = names.insert(computed.clone()?, ())?;
@@ -46,7 +47,8 @@ impl Through {
         ensures put { OnOk result (IsPut (each_shown self.old) (each_shown self.new)
             (tuple_to (string_bytes self.old.tupleset) (string_bytes computed.now))) }
         ensures more { IfOk result (λ r. each_shown self.new
-            ≡ (if r then each_shown self.old ++ tuple_to (string_bytes self.old.tupleset) (string_bytes computed.now) ∷ []
+            ≡ (if r then each_shown self.old
+            ++ tuple_to (string_bytes self.old.tupleset) (string_bytes computed.now) ∷ []
             else each_shown self.old)) }
     {
         if self.computed.contains_key(computed.as_str()) {
@@ -75,7 +77,8 @@ pub enum Node {
     Minus(Box<Node>, Box<Node>),
 }
 
-/// A rule by its parts. A leaf that stands at many places is one part, and so are those of a union that go through one tupleset.
+/// A rule by its parts. A leaf that stands at many places is one part, and so are those of a union that go through
+/// one tupleset.
 #[derive(Drop)]
 pub struct PartedRule {
     pub parts: Vec<Part>,
@@ -92,7 +95,8 @@ struct Numbering {
 
 /// Whether a leaf is the part of a number.
 fn is_part(parts: &[Part], number: usize, leaf: &Rewrite) -> bool
-    ensures { result ≡ true → (p : Part) × (slice_get parts.now number ≡ Some p) × (part_expression p ≡ expression_of leaf.now) }
+    ensures { result ≡ true → (p : Part) × (slice_get parts.now number ≡ Some p)
+        × (part_expression p ≡ expression_of leaf.now) }
 {
     match parts.get(number) {
         Some(Part::Leaf(one)) => is_same(one, leaf),
@@ -104,7 +108,8 @@ fn is_part(parts: &[Part], number: usize, leaf: &Rewrite) -> bool
 impl Numbering {
     /// Adds a part, and gives its number.
     fn push(&mut self, part: Part) -> Result<usize, AllocError>
-        ensures { IfOk result (λ n. HasPart (parts_shown self.old.parts.items) (parts_shown self.new.parts.items) n (part_expression part)) }
+        ensures { IfOk result
+            (λ n. HasPart (parts_shown self.old.parts.items) (parts_shown self.new.parts.items) n (part_expression part)) }
     {
         let number = self.parts.len();
         self.parts.push(part)?;
@@ -113,7 +118,8 @@ impl Numbering {
 
     /// The number of a leaf, which stands once among the parts.
     fn leaf(&mut self, leaf: &Rewrite) -> Result<usize, AllocError>
-        ensures { IfOk result (λ n. HasPart (parts_shown self.old.parts.items) (parts_shown self.new.parts.items) n (expression_of leaf.now)) }
+        ensures { IfOk result
+            (λ n. HasPart (parts_shown self.old.parts.items) (parts_shown self.new.parts.items) n (expression_of leaf.now)) }
     {
         let mark = mark(leaf);
         if let Some(number) = self.places.get(&mark).copied() {
@@ -134,7 +140,8 @@ fn is_of(through: &Through, tupleset: &String) -> bool
     through.tupleset == *tupleset
 }
 
-/// The children of a union that go through tuplesets, one tupleset after the other, and by their marks where these stand.
+/// The children of a union that go through tuplesets, one tupleset after the other, and by their marks where these
+/// stand.
 #[derive(Drop)]
 struct Throughs {
     alloc: Global,
@@ -147,7 +154,8 @@ impl Throughs {
     fn put(&mut self, tupleset: &String, computed: &String) -> Result<bool, AllocError>
         ensures put { IfOk result (λ r. r ≡ true → JoinAlike Union (throughs_shown self.new.each.items)
             (throughs_shown self.old.each.items ++ tuple_to (string_bytes tupleset.now) (string_bytes computed.now) ∷ [])) }
-        ensures same { IfOk result (λ r. r ≡ false → throughs_shown self.new.each.items ≡ throughs_shown self.old.each.items) }
+        ensures same { IfOk result (λ r. r ≡ false
+            → throughs_shown self.new.each.items ≡ throughs_shown self.old.each.items) }
     {
         let mark = text_mark(0, tupleset.as_str());
         let place = self.places.get(&mark).copied().unwrap_or(self.each.len());
@@ -167,7 +175,8 @@ impl Throughs {
 fn put_through(throughs: &mut Throughs, child: &Rewrite) -> Result<bool, AllocError>
     ensures put { IfOk result (λ r. r ≡ true → JoinAlike Union (throughs_shown throughs.new.each.items)
         (throughs_shown throughs.old.each.items ++ expression_of child.now ∷ [])) }
-    ensures same { IfOk result (λ r. r ≡ false → throughs_shown throughs.new.each.items ≡ throughs_shown throughs.old.each.items) }
+    ensures same { IfOk result (λ r. r ≡ false
+        → throughs_shown throughs.new.each.items ≡ throughs_shown throughs.old.each.items) }
 {
     match child {
         Rewrite::TupleTo { tupleset, computed } => throughs.put(tupleset, computed),
@@ -197,7 +206,8 @@ fn put_throughs(
 /// The nodes of the children of a union. Those that go through one tupleset are one part.
 #[cycle(node)]
 fn union_of(numbering: &mut Numbering, children: &Vec<Rewrite>) -> Result<Vec<Node>, AllocError>
-    ensures { IfOk result (λ ns. AllSay Union (parts_shown numbering.old.parts.items) (parts_shown numbering.new.parts.items) ns.items
+    ensures { IfOk result
+        (λ ns. AllSay Union (parts_shown numbering.old.parts.items) (parts_shown numbering.new.parts.items) ns.items
         (map expression_of children.now.items)) }
 {
     let alloc = numbering.alloc;
@@ -220,7 +230,8 @@ fn union_of(numbering: &mut Numbering, children: &Vec<Rewrite>) -> Result<Vec<No
 /// The nodes of the children of an intersection.
 #[cycle(node)]
 fn inter_of(numbering: &mut Numbering, children: &Vec<Rewrite>) -> Result<Vec<Node>, AllocError>
-    ensures { IfOk result (λ ns. AllSay Inter (parts_shown numbering.old.parts.items) (parts_shown numbering.new.parts.items) ns.items
+    ensures { IfOk result
+        (λ ns. AllSay Inter (parts_shown numbering.old.parts.items) (parts_shown numbering.new.parts.items) ns.items
         (map expression_of children.now.items)) }
 {
     let mut nodes = Vec::new(numbering.alloc);
@@ -231,7 +242,8 @@ fn inter_of(numbering: &mut Numbering, children: &Vec<Rewrite>) -> Result<Vec<No
 }
 
 fn minus_node(alloc: Global, base: Node, subtract: Node) -> Result<Node, AllocError>
-    ensures { IfOk result (λ n. (parts : List Expression) → node_expression parts n ≡ minus (node_expression parts base) (node_expression parts subtract)) }
+    ensures { IfOk result (λ n. (parts : List Expression)
+        → node_expression parts n ≡ minus (node_expression parts base) (node_expression parts subtract)) }
 {
     Ok(Node::Minus(Box::new(alloc, base)?, Box::new(alloc, subtract)?))
 }
@@ -239,7 +251,8 @@ fn minus_node(alloc: Global, base: Node, subtract: Node) -> Result<Node, AllocEr
 /// The node of a rule, whose parts are numbered where they were not yet.
 #[cycle(node)]
 fn node_of(numbering: &mut Numbering, rewrite: &Rewrite) -> Result<Node, AllocError>
-    ensures { IfOk result (λ n. Says (parts_shown numbering.old.parts.items) (parts_shown numbering.new.parts.items) n (expression_of rewrite.now)) }
+    ensures { IfOk result
+        (λ n. Says (parts_shown numbering.old.parts.items) (parts_shown numbering.new.parts.items) n (expression_of rewrite.now)) }
 {
     match rewrite {
         Rewrite::Union(children) => Ok(Node::Union(union_of(numbering, children)?)),
@@ -253,7 +266,8 @@ fn node_of(numbering: &mut Numbering, rewrite: &Rewrite) -> Result<Node, AllocEr
     }
 }
 
-/// A rule by its parts, each of which it has once but for those that go through a tupleset. It takes some steps for each place of the rule.
+/// A rule by its parts, each of which it has once but for those that go through a tupleset. It takes some steps for
+/// each place of the rule.
 pub fn parts_of(alloc: Global, rewrite: &Rewrite) -> Result<PartedRule, AllocError>
     ensures { IfOk result (λ r. IsAlike (rule_shown r) (expression_of rewrite.now)) }
 {

@@ -213,8 +213,9 @@ fn plain_joined(alloc: Global, joint: Joint, children: &Vec<Rewrite>) -> Result<
     Ok(join_kept(joint, kept))
 }
 
-/// A rule that says the same: a union in a union is one with it, and an intersection in an intersection; no child stands twice; and one
-/// child stands alone. Each place is looked at once for each level above it, of which a rule that is declared has at most 32.
+/// A rule that says the same: a union in a union is one with it, and an intersection in an intersection; no child
+/// stands twice; and one child stands alone. Each place is looked at once for each level above it, of which a rule
+/// that is declared has at most 32.
 #[cycle(plain_of)]
 pub fn plain_of(alloc: Global, rewrite: &Rewrite) -> Result<Rewrite, AllocError>
     ensures { IfOk result (λ r. IsPlainOf (expression_of r) (expression_of rewrite.now)) }

@@ -18,7 +18,8 @@ pub enum Rewrite {
     This,
     /// The members of another relation of the same object.
     Computed(String),
-    /// For each userset stored in the relation `tupleset` of the object, the members of that userset's object under `computed`.
+    /// For each userset stored in the relation `tupleset` of the object, the members of that userset's object under
+    /// `computed`.
     TupleTo { tupleset: String, computed: String },
     /// The members of at least one child.
     Union(Vec<Rewrite>),
@@ -63,7 +64,8 @@ pub fn has_more_places(rewrite: &Rewrite, places: usize) -> bool {
 
 /// A rule that follows a tupleset, of copies of its names.
 pub(crate) fn tuple_to_of(tupleset: &String, computed: &String) -> Result<Rewrite, AllocError>
-    ensures { IfOk result (λ r. expression_of r ≡ expression.tuple_to (string_bytes tupleset.now) (string_bytes computed.now)) }
+    ensures { IfOk result (λ r. expression_of r
+        ≡ expression.tuple_to (string_bytes tupleset.now) (string_bytes computed.now)) }
 {
     Ok(Rewrite::TupleTo {
         tupleset: tupleset.clone()?,

@@ -9,8 +9,8 @@ use marks::{MarkedSet, Places};
 use std::alloc::{AllocError, Global};
 use tuple_text::{SetRef, Tuple, UserRef};
 
-/// Of a list of tuples the marks by which those of one kind are found: equal names have equal marks. Two tuples of other
-/// names with one mark cost time, and no answer changes.
+/// Of a list of tuples the marks by which those of one kind are found: equal names have equal marks. Two tuples of
+/// other names with one mark cost time, and no answer changes.
 #[derive(Drop)]
 pub struct Kinds {
     // of its relation
@@ -126,8 +126,8 @@ impl Kinds {
         has_mark(&self.pairs, pair_mark(set, users))
     }
 
-    /// Whether among the tuples there is one of this one's relation, whose user is of the same namespace. Only the last is
-    /// looked at that has such a mark.
+    /// Whether among the tuples there is one of this one's relation, whose user is of the same namespace. Only the
+    /// last is looked at that has such a mark.
     pub fn knows_pair(&self, tuples: &[Tuple], tuple: &Tuple) -> bool
         ensures { result ≡ true → IsSomeOfPair tuple.now.set (relation_of_user tuple.now.user).namespace tuples.now }
     {

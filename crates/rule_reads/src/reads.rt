@@ -101,8 +101,8 @@ impl Through {
         }
     }
 
-    /// The same of each namespace that is declared, of which there are 256 at most. Without a tuple of its tupleset there is
-    /// nothing to look at.
+    /// The same of each namespace that is declared, of which there are 256 at most. Without a tuple of its tupleset
+    /// there is nothing to look at.
     fn fits_everywhere(&self, scope: Scope<'_>) -> bool
         requires { IsWellFormed scope.rules.now }
         ensures { result ≡ true → Contains scope.entry.kinds.now.sets (tupleset_mark self.now)

@@ -6,7 +6,8 @@ use Rattle.tuple_text.specs.Sets.{SetValue}
 use Rattle.tuple_text.specs.Tuples.{TupleValue, FactValue}
 use Rattle.tuple_text.specs.declared.users.User.{User}
 use Rattle.tuple_text.specs.declared.users.User.TheVariants.{Id, Set}
-use Rattle.namespaces.specs.Declaration.{Declaration, declaration_code}
+use Rattle.namespaces.specs.DeclarationCode.{declaration_code}
+use Rattle.namespaces.specs.Declaration.{Declaration}
 use Rattle.version_chains.specs.Commits.{Commit}
 use Rattle.snapshots.specs.Timelines.{TimelineValue}
 

@@ -71,7 +71,8 @@ impl<'a> Snapshot<'a> {
         Ok(())
     }
 
-    /// Puts the usersets that are stored in a crowded set, and are of the namespace of a number, behind others: one of an object at least.
+    /// Puts the usersets that are stored in a crowded set, and are of the namespace of a number, behind others: one
+    /// of an object at least.
     fn push_of<'s>(
         &'s self,
         sets: &mut Vec<SetRef<'s>>,
@@ -89,7 +90,8 @@ impl<'a> Snapshot<'a> {
         self.push_touched(sets, set.set, Some(namespace), touches)
     }
 
-    /// The usersets that are stored in a set, by what was ever stored there. Of a set that is not crowded that is little.
+    /// The usersets that are stored in a set, by what was ever stored there. Of a set that is not crowded that is
+    /// little.
     fn all_stored<'s>(
         &'s self,
         alloc: Global,
@@ -150,7 +152,8 @@ impl<'a> Snapshot<'a> {
         Ok(sets)
     }
 
-    /// Usersets that are stored in a set, each once, among them one of the object of each whose namespace has one of some numbers.
+    /// Usersets that are stored in a set, each once, among them one of the object of each whose namespace has one of
+    /// some numbers.
     ///
     /// Where many usersets were stored in the set, what is dead is not gone over, nor what is of other namespaces.
     ///
@@ -179,7 +182,8 @@ impl<'a> Snapshot<'a> {
         Ok(sets)
     }
 
-    /// Whether it is known at one look that no userset of the namespace of a number is stored in a set. Of a set that is not crowded it is not.
+    /// Whether it is known at one look that no userset of the namespace of a number is stored in a set. Of a set that
+    /// is not crowded it is not.
     pub fn stores_none(&self, set: MarkedSet<'_>, number: u16) -> bool
         ensures { result ≡ true → (g : SetValue) → IsStored (tuples_in self.now) (set_value set.entry.set) (Set g)
             → ¬ IsNumbered self.now g number }

@@ -66,7 +66,8 @@ impl<'a> Snapshot<'a> {
 
     /// Whether the tuple of two usersets, the second as its user, is stored.
     pub fn has_set(&self, set: MarkedSet<'_>, user: MarkedSet<'_>) -> bool
-        ensures { IsTrue result ↔ IsStored (tuples_in self.now) (set_value set.entry.set) (Set (set_value user.entry.set)) }
+        ensures { IsTrue result
+            ↔ IsStored (tuples_in self.now) (set_value set.entry.set) (Set (set_value user.entry.set)) }
     {
         self.timeline.chains().has_set(set, user, self.at)
     }

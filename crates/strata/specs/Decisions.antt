@@ -1,4 +1,5 @@
--- How it is decided what definitions ask of lists and of stored tuples. A decision is computed, with the reason for its answer.
+-- How it is decided what definitions ask of lists and of stored tuples. A decision is computed, with the reason for
+-- its answer.
 use Rattle.std.proofs.Common.{◌≡◌, ℕ, zero, suc, List, [], ◌∷◌, ◌⊎◌, inl, inr, refl, subst, sym, ap, ◌∙◌, arith}
 use Rattle.std.proofs.Math.Decide.{ℕ_discrete}
 use Rattle.std.specs.Prelude.{Contains}

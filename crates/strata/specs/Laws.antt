@@ -69,7 +69,8 @@ abbrev pub IsClosedAt : Lookup → List TupleValue → ℕ → (FactValue → Ty
 IsClosedAt rules store k P =
     (f : FactValue) (r : Rule) → rule_of rules f.set ≡ Some r → r.stratum ≡ k → Body store P P f r.expression → P f
 
--- each relation that is membership below stratum k, and is closed under the rules of stratum k, contains the members of stratum k
+-- each relation that is membership below stratum k, and is closed under the rules of stratum k, contains the members
+-- of stratum k
 abbrev pub HasLeastMembersAt : Lookup → List TupleValue → ℕ → Type 0
 HasLeastMembersAt rules store k =
     (test : FactValue → Bool) → AgreesBelow rules store k (Meets test) → IsClosedAt rules store k (Meets test) →

@@ -24,12 +24,14 @@ pub enum ChangeFault {
     OutOfMemory,
 }
 
-/// Looks at the edges of the rules as if the change that a value describes were in force, in the order of [`check_rules`].
+/// Looks at the edges of the rules as if the change that a value describes were in force, in the order of
+/// [`check_rules`].
 ///
 /// `Rules::try_change` accepts the value. The rules stay as they are: the change is made on a copy of them.
 pub fn check_change(rules: &Rules, value: &Value) -> Result<(), ChangeFault>
     requires { change_answer rules.now (view value.now) ≡ Ok (tt {0}) }
-    ensures { (at : ℕ) (ds : List Declaration) → rules_change rules.now at (view value.now) ≡ Ok ds → Answers result (first_broken ds (rule_edges ds)) }
+    ensures { (at : ℕ) (ds : List Declaration) → rules_change rules.now at (view value.now) ≡ Ok ds
+        → Answers result (first_broken ds (rule_edges ds)) }
 {
     let Ok(changed) = rules.with_change(value) else {
         return Err(ChangeFault::OutOfMemory);

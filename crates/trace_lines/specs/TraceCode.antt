@@ -5,7 +5,8 @@ use Rattle.tuple_text.specs.Tuples.{FactValue}
 use Rattle.zookie.specs.Tokens.{Token}
 use Rattle.zookie.specs.declared.token.TokenKind.{TokenKind}
 use Rattle.zookie.specs.declared.token.TokenKind.TheVariants.{AclWrite, ContentVersion, ReadSnapshot}
-use Rattle.namespaces.specs.Declaration.{Declaration, declaration_code}
+use Rattle.namespaces.specs.DeclarationCode.{declaration_code}
+use Rattle.namespaces.specs.Declaration.{Declaration}
 use Rattle.version_chains.specs.Commits.{Commit}
 use Rattle.snapshots.specs.Codes.{commit_code, fact_code, text_code}
 use Rattle.trace_lines.specs.declared.entry.EntryKind.{EntryKind}

@@ -21,8 +21,8 @@ const ID: u8 = 2;
 
 const PLAIN: u8 = 4;
 
-// For each byte a digit, whose low bits are the flags above. Names and ids are most of what is read, and comparisons of a
-// byte whose outcome no processor can guess took twice as long.
+// For each byte a digit, whose low bits are the flags above. Names and ids are most of what is read, and comparisons
+// of a byte whose outcome no processor can guess took twice as long.
 static CLASS: [u8; 256] = *b"\
     00000000000000000000000000000000\
     06206666666666667777777777666666\
@@ -61,7 +61,8 @@ fn all_may_stand(part: Part, bytes: &[u8]) -> bool
     bytes.iter().all(|b| may_stand(part, *b))
 }
 
-/// Whether a text is the name of a namespace or of a relation: 1 to 64 bytes, the first `a-z`, the others `a-z`, `0-9` or `_`.
+/// Whether a text is the name of a namespace or of a relation: 1 to 64 bytes, the first `a-z`, the others `a-z`,
+/// `0-9` or `_`.
 pub fn is_name(text: &str) -> bool
     ensures { result ≡ is_name text.now }
 {
@@ -99,12 +100,13 @@ fn begins_plainly(bytes: &[u8]) -> bool
 /// Up to how many digits every number fits 64 bits.
 const FEW_DIGITS: usize = 19;
 
-/// The number that the digits in front write, of which it takes no more than fit, and how many they are. Most numbers of a line are so
-/// short that to look for eight digits at once does not pay.
+/// The number that the digits in front write, of which it takes no more than fit, and how many they are. Most numbers
+/// of a line are so short that to look for eight digits at once does not pay.
 fn digits_before(bytes: &[u8]) -> (u64, usize)
     ensures digits { list_all is_ascii_digit (take result.1 bytes.now) ≡ true }
     ensures within { (result.1 ≤ length bytes.now) × (result.1 ≤ FEW_DIGITS) }
-    ensures stops { result.1 < length bytes.now → result.1 < FEW_DIGITS → is_ascii_digit (slice_index bytes.now result.1) ≡ false }
+    ensures stops { result.1 < length bytes.now → result.1 < FEW_DIGITS
+        → is_ascii_digit (slice_index bytes.now result.1) ≡ false }
     ensures value { result.0 ≡ digits_value 10 (take result.1 bytes.now) }
 {
     let most = bytes.len().min(FEW_DIGITS);
@@ -180,7 +182,8 @@ fn len_in_few(part: Part, bytes: &[u8]) -> usize
     bytes.len()
 }
 
-/// How many bytes from the front may stand in the part. It goes over four bytes at a time, which takes a third fewer instructions.
+/// How many bytes from the front may stand in the part. It goes over four bytes at a time, which takes a third fewer
+/// instructions.
 #[inline(always)]
 fn part_len(part: Part, bytes: &[u8]) -> usize
     ensures { result ≡ prefix_len (may_stand part) bytes.now }
@@ -283,7 +286,8 @@ fn are_few(bytes: &[u8], len: usize) -> bool
     0 < len && len < bytes.len() && (bytes[0] != b'0' || len == 1) && bytes[len] < 128
 }
 
-/// The number in front, of up to nineteen decimal digits with no zero before another, and what stands behind it, which has to be ASCII.
+/// The number in front, of up to nineteen decimal digits with no zero before another, and what stands behind it,
+/// which has to be ASCII.
 pub fn number_before(text: &str) -> Option<(u64, &str)>
     ensures text { IfSome result (λ p. text.now ≡ decimal p.0 ++ p.1.now) }
     ensures fits { IfSome result (λ p. p.0 < 2 ^ 64) }

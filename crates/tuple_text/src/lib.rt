@@ -11,9 +11,9 @@
 //! value has one spelling, a refusal names the leftmost part that fails and the byte at which it begins,
 //! and writing appends the text or changes nothing. Equality is equality of values. The order goes by the
 //! bytes of namespace, object id and relation, and then by the user, ids first and as numbers.
-//! Memory is asked for by parsing, `of`, `to_fact`, `to_tuple`, clones and writing alone: [`read_fact`] and [`read_tuple`] ask
-//! for none. [`quoted_fact`] and [`quoted_tuple`] read from the front of a text, up to the quote that ends the fact or tuple in JSON:
-//! where they answer, its text stands so in JSON.
+//! Memory is asked for by parsing, `of`, `to_fact`, `to_tuple`, clones and writing alone: [`read_fact`] and
+//! [`read_tuple`] ask for none. [`quoted_fact`] and [`quoted_tuple`] read from the front of a text, up to the quote
+//! that ends the fact or tuple in JSON: where they answer, its text stands so in JSON.
 //!
 //! ```text
 //! let tuple = parse_tuple(alloc, "doc:plan#viewer@20")?;

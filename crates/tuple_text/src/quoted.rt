@@ -1,6 +1,7 @@
 //! Tuples and facts as they stand in JSON, taken from in front of the quote that ends them.
 //!
-//! Each call answers None of any other text, also of one that JSON spells with a backslash: who gets None has the text read as JSON.
+//! Each call answers None of any other text, also of one that JSON spells with a backslash: who gets None has the
+//! text read as JSON.
 
 ghost use Rattle.std.specs.Prelude.{◌≡◌, ◌<◌, IfSome, false, true};
 ghost use Rattle.std.specs.Fmt.{decimal};

@@ -142,7 +142,8 @@ pub fn parse_userset(alloc: Global, text: &str) -> Result<Userset, TupleFault>
     set_from(alloc, text)
 }
 
-/// Reads a tuple whose user is an id, and borrows its parts. Another user, also a userset in form, is refused as `User`.
+/// Reads a tuple whose user is an id, and borrows its parts. Another user, also a userset in form, is refused as
+/// `User`.
 pub fn read_fact(text: &str) -> Result<FactRef<'_>, TupleFault>
     ensures found { IfOk result (λ f. IsFact (fact_value f) × (text.now ≡ fact_text (fact_value f))) }
     // What is spelled so is read: no memory is asked for.

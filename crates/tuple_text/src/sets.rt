@@ -61,7 +61,8 @@ impl Model for Userset {
 
     ghost view = { λ s. split_set (string_bytes s.text) s.namespace_len s.id_len };
 
-    ghost invariant = { λ s. IsUserset (split_set (string_bytes s.text) s.namespace_len s.id_len) × IsSplit (string_bytes s.text) s.namespace_len s.id_len };
+    ghost invariant = { λ s. IsUserset (split_set (string_bytes s.text) s.namespace_len s.id_len)
+        × IsSplit (string_bytes s.text) s.namespace_len s.id_len };
 }
 
 impl Clone for Userset {

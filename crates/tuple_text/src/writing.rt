@@ -22,7 +22,8 @@ fn push_set(set: SetRef<'_>, out: &mut String) -> Result<(), AllocError>
 
 /// Appends the text of a tuple. Where memory runs out, the string stays as it was.
 pub fn write_tuple(tuple: &Tuple, out: &mut String) -> Result<(), AllocError>
-    ensures { string_bytes out.new ≡ (if is_ok result then string_bytes out.old ++ tuple_text tuple.now else string_bytes out.old) }
+    ensures { string_bytes out.new ≡ (if is_ok result then string_bytes out.old
+        ++ tuple_text tuple.now else string_bytes out.old) }
 {
     let mut text = String::new(*out.allocator());
     push_set(tuple.set(), &mut text)?;
@@ -36,7 +37,8 @@ pub fn write_tuple(tuple: &Tuple, out: &mut String) -> Result<(), AllocError>
 
 /// Appends the text of a fact. Where memory runs out, the string stays as it was.
 pub fn write_fact(fact: &Fact, out: &mut String) -> Result<(), AllocError>
-    ensures { string_bytes out.new ≡ (if is_ok result then string_bytes out.old ++ fact_text fact.now else string_bytes out.old) }
+    ensures { string_bytes out.new ≡ (if is_ok result then string_bytes out.old
+        ++ fact_text fact.now else string_bytes out.old) }
 {
     let mut text = String::new(*out.allocator());
     push_set(fact.set(), &mut text)?;

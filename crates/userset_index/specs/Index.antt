@@ -17,9 +17,10 @@ use Rattle.userset_index.specs.declared.numbers.Numbers.{Numbers}
 use Rattle.userset_index.specs.declared.life.Way.TheVariants.{Own, Object}
 
 -- what a contract sees of an index: whether it holds of the changelog and the rules; the counts by which usersets are
--- crowded; the lives by the mark of the userset that is stored in; those by that and a namespace, where one of an object
--- is enough at a time; and those by that and an object. And whether the moments hold of them: lives by the mark of the userset that is stored in, at whose
--- places stand the namespaces of which something is stored there while they last
+-- crowded; the lives by the mark of the userset that is stored in; those by that and a namespace, where one of an
+-- object is enough at a time; and those by that and an object. And whether the moments hold of them: lives by the
+-- mark of the userset that is stored in, at whose places stand the namespaces of which something is stored there
+-- while they last
 pub record IndexValue : Type 0 where
   pub is_whole : Bool
   pub crowds : List ℕ

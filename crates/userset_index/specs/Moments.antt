@@ -1,4 +1,5 @@
--- What the pass leaves that finds of which namespaces usersets are stored in a userset. No public clause cites this module.
+-- What the pass leaves that finds of which namespaces usersets are stored in a userset. No public clause cites this
+-- module.
 use Rattle.std.specs.Prelude.{◌≡◌, ◌≤◌, ◌<◌, ◌^◌, ◌%◌, ◌⊎◌, ℕ, true, List, Option, Some, slice_get, Contains}
 use Rattle.tuple_text.specs.Sets.{SetValue}
 use Rattle.tuple_text.specs.declared.users.User.TheVariants.{Set}

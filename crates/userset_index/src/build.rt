@@ -189,8 +189,8 @@ fn key_of(way: Way, rules: &Rules, mark: u64, user: SetRef<'_>) -> Option<(u64, 
     }
 }
 
-/// The life of a touch that may be the last of its tuple up to the timestamp `end`, where its userset has this mark. `None` where it can
-/// never matter.
+/// The life of a touch that may be the last of its tuple up to the timestamp `end`, where its userset has this mark.
+/// `None` where it can never matter.
 fn life_of(
     way: Way,
     rules: &Rules,

@@ -4,16 +4,16 @@
 //!
 //! Contracts see a [`UsersetIndex`] as three lists of [`Life`]s. A life is a touch that adds a tuple whose user is a
 //! userset, and the timestamps from which on and until which it can matter. One list has it by the userset that it is
-//! stored in, from when its own relation is declared; one by that and its namespace, where one userset of an object stands
-//! for all of them at a time; and one by that and its object.
+//! stored in, from when its own relation is declared; one by that and its namespace, where one userset of an object
+//! stands for all of them at a time; and one by that and its object.
 //!
 //! Callers may rely on this: of a userset that is crowded the index gives each userset that is stored in it and
 //! declared at a timestamp ([`UsersetIndex::own`]), of an object each that is stored in it
 //! ([`UsersetIndex::of_object`]), and of a namespace one of each object of which some are stored in it
-//! ([`UsersetIndex::through`]), as touches of the changelog. It may give others, since usersets may share a mark: who asks
-//! looks of which userset a touch is. What `own` and `through` give is stored then, and comes once (`AreExact`). Of any
-//! userset it says of which namespaces usersets are stored there, and maybe of others ([`UsersetIndex::namespaces`]), in
-//! a trace that has a rule which may ask for many.
+//! ([`UsersetIndex::through`]), as touches of the changelog. It may give others, since usersets may share a mark: who
+//! asks looks of which userset a touch is. What `own` and `through` give is stored then, and comes once (`AreExact`).
+//! Of any userset it says of which namespaces usersets are stored there, and maybe of others
+//! ([`UsersetIndex::namespaces`]), in a trace that has a rule which may ask for many.
 //!
 //! ```text
 //! let index = UsersetIndex::of(alloc, &chains, &rules)?;

@@ -34,15 +34,16 @@ struct Stay {
     until: u64,
 }
 
-/// Lives that each say, by what stands at the place `touch` among the numbers, of which namespaces something is stored while they last.
+/// Lives that each say, by what stands at the place `touch` among the numbers, of which namespaces something is
+/// stored while they last.
 #[derive(Drop)]
 struct Moments {
     lives: Vec<Life>,
     numbers: Vec<Numbers>,
 }
 
-/// The moments up to now, and the one that lasts on, of the userset with this mark. For each slot stands the last timestamp at which
-/// something of its namespaces is stored there.
+/// The moments up to now, and the one that lasts on, of the userset with this mark. For each slot stands the last
+/// timestamp at which something of its namespaces is stored there.
 #[derive(Drop)]
 struct Sweep {
     lives: Vec<Life>,
@@ -53,8 +54,8 @@ struct Sweep {
     open: Numbers,
 }
 
-/// The stay of a touch that may be the last of its tuple up to the timestamp `end`. `None` where it adds no userset, or one of a namespace
-/// that nobody declares.
+/// The stay of a touch that may be the last of its tuple up to the timestamp `end`. `None` where it adds no userset,
+/// or one of a namespace that nobody declares.
 fn stay_of(rules: &Rules, touch: TouchRef<'_>, end: u64) -> Option<Stay>
     ensures { IsStayOf rules.now (touch_value touch.entry) end result }
 {
@@ -339,7 +340,8 @@ impl Times {
         }
     }
 
-    /// The namespaces of all moments of a userset's mark that last at a timestamp. Where no two usersets share it there is one.
+    /// The namespaces of all moments of a userset's mark that last at a timestamp. Where no two usersets share it
+    /// there is one.
     pub(crate) fn at(&self, mark: u64, at: u64) -> Numbers
         ensures { (n : ℕ) → IsCovered self.now.moments self.now.numbers.items mark n at → Has result n }
     {

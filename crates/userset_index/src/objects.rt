@@ -70,7 +70,8 @@ impl Merged {
         ensures cover { OnOk result (IsCover (changelog chains.now.commits) self.old
             → IsCover (changelog chains.now.commits) self.new) }
         ensures timely { OnOk result (AreTimely (changelog chains.now.commits) self.old.lives.items
-            → IsTimely (changelog chains.now.commits) life → AreTimely (changelog chains.now.commits) self.new.lives.items) }
+            → IsTimely (changelog chains.now.commits) life
+            → AreTimely (changelog chains.now.commits) self.new.lives.items) }
         ensures more { OnOk result (KeepsOf life self.old.lives.items self.new.lives.items) }
     {
         if !self.reaches(chains, life) {

@@ -64,9 +64,9 @@ AreUpTo at touches = (i : ℕ) (x : Touch) → slice_get touches i ≡ Some x �
 abbrev pub Extends : List TupleValue → List TupleValue → Type 0
 Extends old new = (i : ℕ) (t : TupleValue) → slice_get old i ≡ Some t → slice_get new i ≡ Some t
 
--- each tuple is found by its mark, and by that of its userset and the kind of its user; each touch is one of a tuple that is there, and is
--- linked to the touch of the same tuple before it, and jumps to one; timestamps do not fall; and each tuple is linked to its
--- newest touch
+-- each tuple is found by its mark, and by that of its userset and the kind of its user; each touch is one of a tuple
+-- that is there, and is linked to the touch of the same tuple before it, and jumps to one; timestamps do not fall;
+-- and each tuple is linked to its newest touch
 pub record IsLinked (tuples : List TupleValue) (latest named held : List ℕ) (nodes : List Node) : Type 0 where
   pub apart : AreApartAt tuples
   pub names : named ≡ map tuple_mark tuples

@@ -28,7 +28,8 @@ use tuple_text::{SetRef, TupleRef, UserRef};
 /// counts from 1, and 0 is no place.
 ///
 /// From each touch a link leads to the one before it of the same tuple, and from each tuple to the one before it of
-/// the same userset whose user is of the same kind, a userset or an id, so that each question is a walk back from the newest.
+/// the same userset whose user is of the same kind, a userset or an id, so that each question is a walk back from the
+/// newest.
 #[derive(Drop)]
 pub struct Arena {
     rows: Rows,
@@ -49,7 +50,8 @@ impl Model for Arena {
 
     ghost view = { λ a. record { tuples = tuples_of a.rows; touches = map (touch_of (tuples_of a.rows)) a.nodes.items; room = room_of (vec_capacity a.nodes) (vec_len a.nodes) } };
 
-    ghost invariant = { λ a. IsLinked (tuples_of a.rows) (latest_of a.rows) a.named a.held a.nodes.items × (length a.rows ≤ most) };
+    ghost invariant = { λ a. IsLinked (tuples_of a.rows) (latest_of a.rows) a.named a.held a.nodes.items
+        × (length a.rows ≤ most) };
 }
 
 /// How many touches a tuple has before its newest where the last one up to a timestamp is looked for by time.
@@ -140,7 +142,8 @@ impl Arena {
     pub fn find(&self, set: MarkedSet<'_>, user: MarkedUser<'_>) -> Option<usize>
         ensures found { MatchOption result (IsUnnumbered self.now (tuple_of (set_value set.entry.set) (user_value user.entry.user)))
             (IsNumber self.now.tuples (tuple_of (set_value set.entry.set) (user_value user.entry.user))) }
-        ensures untouched { result ≡ None → IsUntouched self.now (tuple_of (set_value set.entry.set) (user_value user.entry.user)) }
+        ensures untouched { result ≡ None
+            → IsUntouched self.now (tuple_of (set_value set.entry.set) (user_value user.entry.user)) }
     {
         self.find_marked(tuple_mark(set, user), set, user)
     }
@@ -157,7 +160,8 @@ impl Arena {
         }
     }
 
-    /// The number of a tuple whose mark is at hand. Most that are asked for are not there, which shows without a look at a tuple.
+    /// The number of a tuple whose mark is at hand. Most that are asked for are not there, which shows without a look
+    /// at a tuple.
     #[inline(always)]
     fn find_marked(&self, mark: u64, set: MarkedSet<'_>, user: MarkedUser<'_>) -> Option<usize>
         requires { mark ≡ marks.tuple_mark (tuple_of (set_value set.set) (user_value user.user)) }
@@ -188,7 +192,8 @@ impl Arena {
     pub fn newest_of_set(&self, set: MarkedSet<'_>, usersets: bool) -> usize
         ensures apart { AreApartAt self.now.tuples }
         ensures known { AreTouchesKnown self.now }
-        ensures newest { result ≡ last_place (has_mark_of (set_value set.entry.set) usersets) self.now.tuples (length self.now.tuples) }
+        ensures newest { result
+            ≡ last_place (has_mark_of (set_value set.entry.set) usersets) self.now.tuples (length self.now.tuples) }
     {
         self.held.newest(kind_mark(set, usersets))
     }
@@ -203,7 +208,8 @@ impl Arena {
 
     /// The place of the tuple's newest touch.
     pub fn newest(&self, number: usize) -> usize
-        ensures { (t : TupleValue) → IsNumber self.now.tuples t number → result ≡ newest_of t self.now.touches (length self.now.touches) }
+        ensures { (t : TupleValue) → IsNumber self.now.tuples t number
+            → result ≡ newest_of t self.now.touches (length self.now.touches) }
     {
         self.rows.latest(number) as usize
     }
@@ -244,7 +250,8 @@ impl Arena {
     /// The place from which a walk goes on that looks for a touch up to the timestamp, where the touch at this index is
     /// after it: that of its jump, where the touch there is after it too, else that of the touch before it.
     fn further(&self, index: usize, at: u64) -> usize
-        ensures { (x : Touch) → slice_get self.now.touches index ≡ Some x → at < x.at → LeadsBack x.tuple at self.now.touches index result }
+        ensures { (x : Touch) → slice_get self.now.touches index ≡ Some x → at < x.at
+            → LeadsBack x.tuple at self.now.touches index result }
     {
         let Some(touch) = self.nodes.get(index) else {
             return 0;
@@ -266,7 +273,8 @@ impl Arena {
     /// The place of the tuple's last touch among the first `count`, where it is one of the last few of these.
     fn near(&self, number: usize, count: usize) -> Option<usize>
         requires { count ≤ length self.now.touches }
-        ensures { (t : TupleValue) → IsNumber self.now.tuples t number → IfSome result (λ place. place ≡ newest_of t self.now.touches count) }
+        ensures { (t : TupleValue) → IsNumber self.now.tuples t number
+            → IfSome result (λ place. place ≡ newest_of t self.now.touches count) }
     {
         for back in 0..NEAR_TOUCHES.min(count) {
             let place = count - back;
@@ -337,7 +345,8 @@ impl Arena {
         }
     }
 
-    /// Whether the tuple of the number is of this userset. Where it shares its texts with one that is, they are not compared.
+    /// Whether the tuple of the number is of this userset. Where it shares its texts with one that is, they are not
+    /// compared.
     #[inline(always)]
     fn is_of_set(&self, number: usize, set: SetRef<'_>, like: Option<usize>) -> bool
         requires { IfSome like (IsOfSet self.now.tuples (set_value set)) }
@@ -352,8 +361,8 @@ impl Arena {
         }
     }
 
-    /// The user of the tuple, where it is of the kind and the tuple is of this userset and stored at the timestamp. A tuple of that
-    /// userset may be at hand.
+    /// The user of the tuple, where it is of the kind and the tuple is of this userset and stored at the timestamp. A
+    /// tuple of that userset may be at hand.
     pub fn given(
         &self,
         number: usize,

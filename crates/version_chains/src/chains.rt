@@ -88,7 +88,8 @@ fn numbers_of(
     adds: &[TupleRef<'_>],
     removes: &[TupleRef<'_>],
 ) -> Result<Vec<usize>, AllocError>
-    ensures numbers { IfOk result (λ numbers. AreNumbersOf arena.new.tuples numbers.items (tuple_values adds.now ++ tuple_values removes.now)) }
+    ensures numbers { IfOk result (λ numbers. AreNumbersOf arena.new.tuples numbers.items (tuple_values adds.now
+        ++ tuple_values removes.now)) }
     ensures touches { arena.new.touches ≡ arena.old.touches }
 {
     let mut numbers = Vec::with_capacity(alloc, adds.len() + removes.len())?;
@@ -102,7 +103,8 @@ fn push_commit(arena: &mut Arena, at: u64, adds: usize, numbers: &[usize])
     requires numbers { AreNumbersOfParts arena.old.tuples adds numbers.now }
     requires room { length numbers.now ≤ arena.old.room }
     requires late { AreUpTo at arena.old.touches }
-    ensures { (added removed : List TupleValue) → length added ≡ adds → AreNumbersOf arena.old.tuples numbers.now (added ++ removed)
+    ensures { (added removed : List TupleValue) → length added ≡ adds
+        → AreNumbersOf arena.old.tuples numbers.now (added ++ removed)
         → arena.new.touches ≡ arena.old.touches ++ touches (record { at = at; adds = added; removes = removed }) }
 {
     let (added, removed) = numbers.split_at(adds);
@@ -176,7 +178,8 @@ impl Chains {
         removes: &[TupleRef<'_>],
     ) -> Result<(), AppendFault>
         ensures ok { OnOk result (append_fault self.old at (tuple_values adds.now) (tuple_values removes.now) ≡ None) }
-        ensures appends { OnOk result (self.new ≡ appended self.old at (tuple_values adds.now) (tuple_values removes.now)) }
+        ensures appends { OnOk result (self.new
+            ≡ appended self.old at (tuple_values adds.now) (tuple_values removes.now)) }
         // running out of memory may come before any other refusal
         ensures refused { IfErr result (IsRefusal (append_fault self.old at (tuple_values adds.now) (tuple_values removes.now))) }
         ensures unchanged { OnErr result (self.new ≡ self.old) }
@@ -232,7 +235,8 @@ impl Chains {
     /// (Zanzibar, section 2.4.5, expands a userset into its users).
     pub fn users<'a>(&'a self, set: SetRef<'a>, at: u64) -> Users<'a>
         ensures distinct { IsDistinct user_eq result }
-        ensures stored { (user : User) → list_any (user_eq user) result ≡ is_stored self.now.commits at (tuple_of (set_value set.entry) user) }
+        ensures stored { (user : User) → list_any (user_eq user) result
+            ≡ is_stored self.now.commits at (tuple_of (set_value set.entry) user) }
     {
         Users::over(&self.arena, MarkedSet::of(set), at)
     }
@@ -241,7 +245,8 @@ impl Chains {
     /// however many ids the userset has.
     pub fn usersets<'a>(&'a self, set: MarkedSet<'a>, at: u64) -> Usersets<'a>
         ensures distinct { IsDistinct set_eq result }
-        ensures stored { (g : SetValue) → list_any (set_eq g) result ≡ is_stored self.now.commits at (tuple_of (set_value set.entry.set) (Set g)) }
+        ensures stored { (g : SetValue)
+            → list_any (set_eq g) result ≡ is_stored self.now.commits at (tuple_of (set_value set.entry.set) (Set g)) }
     {
         Usersets::over(&self.arena, set, at)
     }
@@ -253,8 +258,8 @@ impl Chains {
         History::over(&self.arena, tuple)
     }
 
-    /// The touch at an index of the changelog, which counts from 0, with the place of the touch before it of the same tuple. `None`
-    /// behind the last.
+    /// The touch at an index of the changelog, which counts from 0, with the place of the touch before it of the same
+    /// tuple. `None` behind the last.
     pub fn touch(&self, index: usize) -> Option<TouchRef<'_>>
         ensures value { option_map touch_value result ≡ slice_get (changelog self.now.commits) index }
         ensures older { IfSome result (λ t. t.older

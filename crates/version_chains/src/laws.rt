@@ -7,8 +7,9 @@ ghost use Rattle.version_chains.specs.Walks.{IsJump, PassesNone};
 
 use crate::chains::Chains;
 
-/// A jump from a touch of a tuple back to an earlier one, taken on the way to a timestamp, passes no touch at or below that timestamp where
-/// the touch that it leads to is above it; so it finds what a walk from touch to touch finds.
+/// A jump from a touch of a tuple back to an earlier one, taken on the way to a timestamp, passes no touch at or
+/// below that timestamp where the touch that it leads to is above it; so it finds what a walk from touch to touch
+/// finds.
 pub fn jump_is_walk(chains: &Chains)
     ensures { (t : TupleValue) (s from to : ℕ) → IsJump s (history_of chains.now.commits t) from to
         → PassesNone s (history_of chains.now.commits t) from to }

@@ -7,8 +7,8 @@
 //!
 //! Callers may rely on this: timestamps rise strictly from commit to commit, no commit touches a tuple twice,
 //! [`Chains::append`] adds one commit at the end or changes nothing, each question is answered by those
-//! definitions alone, and none of the questions takes memory. [`Users`], [`Usersets`] and [`History`] are iterators whose
-//! model is the list of what is left to give; `proofs.CallerLemmas` says what a loop over them shows.
+//! definitions alone, and none of the questions takes memory. [`Users`], [`Usersets`] and [`History`] are iterators
+//! whose model is the list of what is left to give; `proofs.CallerLemmas` says what a loop over them shows.
 //!
 //! [`Chains::touch`] gives the changelog touch by touch, to who keeps an index of it.
 //!

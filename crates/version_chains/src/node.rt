@@ -10,9 +10,9 @@ ghost use Rattle.version_chains.specs.declared.node.Node.{Node};
 /// adds.
 ///
 /// `jump` is the place of one of the touches of the tuple before it, so that a walk by jumps is short: the first touch
-/// of a tuple jumps to itself, and each other to where the second jump from `older` leads, where the two jumps from there
-/// are equally long, else to `older`. A jump of the rank n passes to the touch 2^n - 1 before, so jumps of one rank are
-/// equally long. `depth` counts the touches of the tuple before it, as far as 16 bits go.
+/// of a tuple jumps to itself, and each other to where the second jump from `older` leads, where the two jumps from
+/// there are equally long, else to `older`. A jump of the rank n passes to the touch 2^n - 1 before, so jumps of one
+/// rank are equally long. `depth` counts the touches of the tuple before it, as far as 16 bits go.
 #[derive(Drop)]
 pub struct Node {
     pub at: u64,
@@ -34,7 +34,8 @@ pub struct Links {
 
 /// The touch at a place, which counts from 1.
 pub fn at_place(nodes: &[Node], place: u32) -> Option<&Node>
-    ensures stands { MatchOption result ((i : ℕ) → place ≡ suc i → length nodes.now ≤ i) (λ n. StandsAt nodes.now place n.now) }
+    ensures stands { MatchOption result ((i : ℕ) → place ≡ suc i → length nodes.now ≤ i)
+        (λ n. StandsAt nodes.now place n.now) }
     ensures exact { option_map (λ n. n.now) result ≡ node_at nodes.now place }
 {
     if place == 0 {

@@ -173,8 +173,8 @@ impl Rows {
         }
     }
 
-    /// Adds a tuple without a touch. It shares the texts of its userset with the tuple at the place `near`, if that has the same one.
-    /// Where memory runs out, nothing changes.
+    /// Adds a tuple without a touch. It shares the texts of its userset with the tuple at the place `near`, if that
+    /// has the same one. Where memory runs out, nothing changes.
     pub fn push(
         &mut self,
         tuple: TupleRef<'_>,

@@ -16,8 +16,8 @@ use marks::{MarkedSet, MarkedUser};
 use std::marker::Model;
 use tuple_text::{SetRef, UserRef};
 
-/// The users of one kind, usersets or ids, that a userset has at a timestamp. A contract sees the list of those that are left
-/// to give.
+/// The users of one kind, usersets or ids, that a userset has at a timestamp. A contract sees the list of those that
+/// are left to give.
 #[derive(Drop)]
 pub(crate) struct OfKind<'a> {
     arena: &'a Arena,
@@ -131,7 +131,8 @@ impl<'a> Users<'a> {
     /// The users that the arena gives at the timestamp.
     pub(crate) fn over(arena: &'a Arena, set: MarkedSet<'a>, at: u64) -> Users<'a>
         ensures distinct { IsDistinct user_eq result }
-        ensures stored { (user : User) → list_any (user_eq user) result ≡ is_stored_by arena.now.touches at (tuple_of (set_value set.entry.set) user) }
+        ensures stored { (user : User) → list_any (user_eq user) result
+            ≡ is_stored_by arena.now.touches at (tuple_of (set_value set.entry.set) user) }
     {
         Users {
             usersets: OfKind::over(arena, set, true, at),
@@ -140,7 +141,8 @@ impl<'a> Users<'a> {
     }
 }
 
-/// The usersets among the users of a userset at a timestamp, with their marks. A contract sees the list of those that are left to give.
+/// The usersets among the users of a userset at a timestamp, with their marks. A contract sees the list of those that
+/// are left to give.
 #[derive(Drop)]
 pub struct Usersets<'a> {
     users: OfKind<'a>,
@@ -182,7 +184,9 @@ impl<'a> Usersets<'a> {
     /// The usersets that the arena gives at the timestamp.
     pub(crate) fn over(arena: &'a Arena, set: MarkedSet<'a>, at: u64) -> Usersets<'a>
         ensures distinct { IsDistinct set_eq result }
-        ensures stored { (g : SetValue) → list_any (set_eq g) result ≡ is_stored_by arena.now.touches at (tuple_of (set_value set.entry.set) (Set g)) }
+        ensures stored { (g : SetValue)
+            → list_any (set_eq g) result
+            ≡ is_stored_by arena.now.touches at (tuple_of (set_value set.entry.set) (Set g)) }
     {
         Usersets {
             users: OfKind::over(arena, set, true, at),

@@ -4,8 +4,7 @@ use mathlib.Core.Bool.{beq}
 use Rattle.std.proofs.lemmas.List.Elements.{Contains-append_left, Contains-append_right, Contains-append_cases}
 use Rattle.std.specs.Prelude.{Contains}
 use Rattle.rewrites.specs.Alike.{Leaves}
-use Rattle.rewrites.specs.Expression.{Expression, union, minus}
-use Rattle.rewrites.specs.View.{children}
+use Rattle.rewrites.specs.Expression.{Expression, union, minus, children}
 use Rattle.strata.proofs.Lists.{Contains-cons_cases}
 use Rattle.wide_rules.specs.Asked.{Questions, asked_at, does, Agrees, Follows, AreRightPaths, AsksMore, IsCoveredBy, joined_of}
 use Rattle.judgement.specs.AskedFact.{asked_fact, rules_over, tuples_over}

@@ -4,9 +4,8 @@ use Rattle.std.proofs.lemmas.List.Elements.{Contains-append_cases}
 use Rattle.std.specs.Prelude.{Contains, string_bytes}
 use Rattle.std.specs.declared.vec.Vec.{Vec}
 use Rattle.rewrites.specs.Alike.{Leaves}
-use Rattle.rewrites.specs.Expression.{Expression, tuple_to, union}
+use Rattle.rewrites.specs.Expression.{Expression, tuple_to, union, children}
 use Rattle.rewrites.specs.Parts.{computed_names, part_at, through_expression}
-use Rattle.rewrites.specs.View.{children}
 use Rattle.rewrites.specs.declared.parts.Through.{Through}
 use Rattle.strata.proofs.Lists.{Contains-cons_cases}
 use Rattle.marks.proofs.PlacedLemmas.{slice_get-cases}

@@ -4,11 +4,10 @@ use Rattle.std.specs.Prelude.{Contains, string_bytes}
 use Rattle.tuple_text.specs.Sets.{SetValue}
 use Rattle.tuple_text.specs.Tuples.{TupleValue, FactValue}
 use Rattle.namespaces.specs.Declaration.{Declaration}
-use Rattle.rewrites.specs.Expression.{Expression, tuple_to}
+use Rattle.rewrites.specs.Expression.{Expression, tuple_to, children}
 use Rattle.namespaces.specs.InForce.{names_in_force}
 use Rattle.namespaces.specs.Lookup.{Lookup, rule_at, rule_of}
 use Rattle.rewrites.specs.Parts.{computed_names, through_expression}
-use Rattle.rewrites.specs.View.{children}
 use Rattle.rewrites.specs.declared.parts.Through.{Through}
 use Rattle.strata.specs.Meaning.{with_relation}
 use Rattle.judgement.specs.Decided.{dec_undeclared}

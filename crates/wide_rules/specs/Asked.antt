@@ -4,9 +4,8 @@ use Rattle.std.specs.declared.alloc.Global.{Global}
 use Rattle.std.specs.declared.vec.Vec.{Vec}
 use Rattle.tuple_text.specs.Tuples.{FactValue}
 use Rattle.rewrites.specs.Alike.{Leaves, gives, bars}
-use Rattle.rewrites.specs.Expression.{Expression, union, inter}
+use Rattle.rewrites.specs.Expression.{Expression, union, inter, children}
 use Rattle.rewrites.specs.Parts.{part_at}
-use Rattle.rewrites.specs.View.{children}
 use Rattle.snapshots.specs.Snapshots.{rules_in, tuples_in}
 use Rattle.snapshots.specs.Timelines.{TimelineValue}
 use Rattle.snapshots.specs.declared.snapshot.Snapshot.{Snapshot}

@@ -184,7 +184,8 @@ impl Zookie {
         self.kind
     }
 
-    /// The text of the zookie, from which `parse` gives the same zookie back. It has 19 bytes, and one more where it says the kind.
+    /// The text of the zookie, from which `parse` gives the same zookie back. It has 19 bytes, and one more where it
+    /// says the kind.
     pub fn text(&self) -> TokenText
         ensures text { take result.len result.bytes ≡ token_text self.now }
         ensures len { MatchOption self.now.kind (result.len ≡ 19) (λ _. result.len ≡ 20) }

@@ -1,9 +1,8 @@
 use Rattle.std.proofs.Common.{rules, ◌≡◌, ◌+◌, [], Err, drop, refl, add-one}
 use Rattle.std.proofs.Math.Seq.{drop-cons}
 use Rattle.std.proofs.lemmas.List.{drop_all}
-use Rattle.rewrites.specs.Expression.{Expressions, child}
+use Rattle.rewrites.specs.Expression.{Expressions, child, children}
 use Rattle.rewrites.specs.Parts.{part_expression}
-use Rattle.rewrites.specs.View.{children}
 use Rattle.goal_cone.specs.Leaves.{read_shown}
 use Rattle.goal_cone.proofs.PassLemmas.{over_done, over_start, over_step, over_stopped}
 use Rattle.goal_cone.proofs.premises.see_parts.Goals.{After-see_part}

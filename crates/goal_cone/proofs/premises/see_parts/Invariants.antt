@@ -1,5 +1,5 @@
 use Rattle.std.proofs.Common.{drop}
-use Rattle.rewrites.specs.View.{children}
+use Rattle.rewrites.specs.Expression.{children}
 use Rattle.goal_cone.specs.Leaves.{read_shown}
 use Rattle.goal_cone.specs.Pass.{IsUnderWayOver}
 use Rattle.goal_cone.proofs.premises.see_parts.Given as goal

@@ -2,8 +2,7 @@ use Rattle.std.proofs.Common.{◌≡◌, ◌∙◌, ap, List, option_map, inr, s
 use Rattle.tuple_text.specs.Sets.{SetValue}
 use Rattle.namespaces.specs.Declaration.{Declaration}
 use Rattle.namespaces.specs.Lookup.{Rule, rule_of, expression_in}
-use Rattle.rewrites.specs.Expression.{Expression}
-use Rattle.rewrites.specs.View.{children}
+use Rattle.rewrites.specs.Expression.{Expression, children}
 use Rattle.snapshots.specs.Snapshots.{rules_in, tuples_in}
 use Rattle.goal_cone.specs.Bounds.{links_all, links_of}
 use Rattle.goal_cone.specs.Leaves.{HaveLeavesOf, IsNoted, numbered, read_shown}
