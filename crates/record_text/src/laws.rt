@@ -1,5 +1,4 @@
-//! Laws of a record's text. The functions compute nothing: a law is its function's contract, over the definitions
-//! alone.
+//! Laws of a record's text. The functions compute nothing: a law is its function's contract.
 
 ghost use Rattle.std.specs.Prelude.{ℕ, ◌<◌, ◌≤◌, ◌^◌, ◌∷◌, [], List, IsUtf8};
 ghost use Rattle.trace_lines.specs.Values.{EntryValue};
@@ -9,6 +8,16 @@ ghost use Rattle.tuple_text.specs.Grammar.{IsFact};
 ghost use Rattle.tuple_text.specs.Tuples.{FactValue};
 ghost use Rattle.record_text.specs.Record.{record_text, record_length};
 ghost use Rattle.record_text.specs.ReadBack.{IsTaken, IsReadBack};
+
+use tuple_text::Fact;
+
+/// A fact is in form, by its type.
+pub(crate) fn fact_is_in_form(fact: &Fact)
+    ensures { IsFact fact.now }
+{
+    let _ = fact.set();
+    let _ = fact.user();
+}
 
 /// A record's text is a line of evidence that says the same steps. Of its bytes only this is asked, that they are
 /// UTF-8, as those of a `String` are.

@@ -4,31 +4,22 @@ ghost use Rattle.std.specs.Prelude.{◌≡◌, List, ◌++◌, ◌∷◌, [], st
 ghost use Rattle.std.specs.List.{AllByRecursion, list_all};
 ghost use Rattle.serde_json.specs.Written.{comma_if, compact_text};
 ghost use Rattle.trace_lines.specs.Values.{EntryValue};
-ghost use Rattle.tuple_text.specs.Grammar.{IsFact, userset_text};
+ghost use Rattle.tuple_text.specs.Grammar.{IsFact};
 ghost use Rattle.tuple_text.specs.Quoted.{is_plain_byte};
-ghost use Rattle.tuple_text.specs.Refs.{set_value};
 ghost use Rattle.evidence_check.specs.RecordData.{fact_data, facts_data, step_data, steps_data, HasFacts, HaveFacts};
 ghost use Rattle.evidence_check.specs.Steps.{yes_step, no_step, step_value, step_values};
 ghost use Rattle.record_text.specs.Record.{record_text};
 ghost use Rattle.record_text.specs.ReadBack.{IsTaken, IsReadBack};
 
-use crate::laws::{read_back, taken};
+use crate::laws::{fact_is_in_form, read_back, taken};
 use evidence_check::Step;
 use itoa::Buffer;
 use serde_json::Value;
 use std::alloc::{AllocError, Global};
-use tuple_text::{Fact, SetRef, write_fact};
+use tuple_text::{Fact, push_set, write_fact};
 
 /// How much room a record begins with, in bytes. Most records need no more.
 const ROOM: usize = 512;
-
-/// A fact has a text, by its type.
-pub(crate) fn is_fact(fact: &Fact)
-    ensures { IsFact fact.now }
-{
-    let _ = fact.set();
-    let _ = fact.user();
-}
 
 /// Whether a byte stands for itself in a text of JSON.
 fn is_plain(byte: u8) -> bool
@@ -61,22 +52,12 @@ fn push_escaped(fact: &Fact, out: &mut String) -> Result<(), AllocError>
     out.push_str(text.as_str())
 }
 
-fn push_set(set: SetRef<'_>, out: &mut String) -> Result<(), AllocError>
-    ensures { OnOk result (string_bytes out.new ≡ string_bytes out.old ++ userset_text (set_value set.entry)) }
-{
-    out.push_str(set.namespace)?;
-    out.push(':')?;
-    out.push_str(set.id)?;
-    out.push('#')?;
-    out.push_str(set.relation)
-}
-
 /// Appends a fact of an object id that stands for itself, as its other parts do by their forms.
 fn push_plain(fact: &Fact, out: &mut String) -> Result<(), AllocError>
     requires { list_all is_plain_byte fact.now.set.id ≡ true }
     ensures { OnOk result (string_bytes out.new ≡ string_bytes out.old ++ compact_text (fact_data fact.now)) }
 {
-    is_fact(fact);
+    fact_is_in_form(fact);
     let mut digits = Buffer::new();
     out.push('"')?;
     push_set(fact.set(), out)?;
@@ -89,7 +70,7 @@ fn push_fact(fact: &Fact, out: &mut String) -> Result<(), AllocError>
     ensures text { OnOk result (string_bytes out.new ≡ string_bytes out.old ++ compact_text (fact_data fact.now)) }
     ensures form { IsFact fact.now }
 {
-    is_fact(fact);
+    fact_is_in_form(fact);
     if are_plain(fact.set().id) {
         push_plain(fact, out)
     } else {

@@ -9,8 +9,8 @@
 //!
 //! Callers may rely on this: reading answers a value exactly where the text is the value's text, each
 //! value has one spelling, a refusal names the leftmost part that fails and the byte at which it begins,
-//! and writing appends the text or changes nothing. Equality is equality of values. The order goes by the
-//! bytes of namespace, object id and relation, and then by the user, ids first and as numbers.
+//! and writing a tuple or a fact appends the text or changes nothing. Equality is equality of values. The order
+//! goes by the bytes of namespace, object id and relation, and then by the user, ids first and as numbers.
 //! Memory is asked for by parsing, `of`, `to_fact`, `to_tuple`, clones and writing alone: [`read_fact`] and
 //! [`read_tuple`] ask for none. [`quoted_fact`] and [`quoted_tuple`] read from the front of a text, up to the quote
 //! that ends the fact or tuple in JSON: where they answer, its text stands so in JSON.
@@ -43,4 +43,4 @@ pub use sets::{SetRef, Userset};
 pub use tuple_refs::TupleRef;
 pub use tuples::Tuple;
 pub use users::{User, UserRef};
-pub use writing::{write_fact, write_tuple};
+pub use writing::{push_set, write_fact, write_tuple};

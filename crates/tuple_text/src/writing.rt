@@ -10,7 +10,8 @@ use crate::tuples::Tuple;
 use crate::users::UserRef;
 use std::alloc::AllocError;
 
-fn push_set(set: SetRef<'_>, out: &mut String) -> Result<(), AllocError>
+/// Appends the text of a userset, `namespace:object_id#relation`. Where memory runs out, a part of it may stand.
+pub fn push_set(set: SetRef<'_>, out: &mut String) -> Result<(), AllocError>
     ensures { OnOk result (string_bytes out.new ≡ string_bytes out.old ++ userset_text (set_value set.entry)) }
 {
     out.push_str(set.namespace)?;
