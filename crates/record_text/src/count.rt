@@ -8,7 +8,8 @@ ghost use Rattle.evidence_check.specs.RecordData.{fact_data, facts_data, step_da
 ghost use Rattle.evidence_check.specs.Steps.{step_value, step_values};
 ghost use Rattle.record_text.specs.Record.{record_length};
 
-use crate::record::{are_plain, is_fact};
+use crate::laws::fact_is_in_form;
+use crate::record::are_plain;
 use evidence_check::Step;
 use itoa::Buffer;
 use tuple_text::Fact;
@@ -59,7 +60,7 @@ fn escaped_bytes(text: &str) -> u64
 fn fact_bytes(fact: &Fact) -> u64
     ensures { result ≡ min (length (compact_text (fact_data fact.now))) (2 ^ 64 - 1) }
 {
-    is_fact(fact);
+    fact_is_in_form(fact);
     let set = fact.set();
     let mut digits = Buffer::new();
     // the two quotes, and the three marks between the parts, of which the object id alone may have escapes

@@ -4,4 +4,4 @@ use Rattle.record_text.proofs.Pieces.{fact_stands}
 use Rattle.record_text.proofs.record.push_plain.Goals as goal
 
 pub returns : goal.returns
-returns c = rw (fact_stands c.args.fact.now c.is_fact.ensures c.requires) (grind (arith, common_steps))
+returns c = rw (fact_stands c.args.fact.now c.fact_is_in_form.ensures c.requires) (grind (arith, common_steps))
