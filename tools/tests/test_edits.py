@@ -1,4 +1,5 @@
 """What tools/dev/more_edits makes of edits and of what the prover says, with a stand-in of `rt`."""
+import glob
 import os
 import shutil
 import subprocess
@@ -138,6 +139,14 @@ class Edits(Case):
     def test_an_old_text_that_stands_twice(self):
         edit, = self.crate(twice=("as_slice()", "len()"))
         self.assertEqual(edit.fault, "an old text stands 2 times in src/lists.rt")
+
+    def test_each_edit_of_the_crates_can_be_applied(self):
+        faults = []
+        for path in sorted(glob.glob(os.path.join(TOP, "crates", "*", "more-edits", "*.edit"))):
+            folder = os.path.dirname(os.path.dirname(path))
+            edit = edit_of(path, folder)
+            faults += ["%s: %s" % (edit.path, edit.fault)] if edit.fault else []
+        self.assertEqual(faults, [])
 
     def word(self, said, *names):
         edits = [it for it in self.crate() if it.name in names]

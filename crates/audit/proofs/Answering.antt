@@ -1,5 +1,6 @@
 -- What a call answers, by what its parts did.
 use Rattle.std.proofs.Common.{◌≡◌, ◌≢◌, ◌⊎◌, inl, inr, ℕ, ◌+◌, true, false, List, [], ◌∷◌, ◌++◌, Option, Result, Ok, Err, refl, sym, ap, subst, ◌∙◌, length}
+use Rattle.std.specs.Result.{IsErrAnd}
 use Rattle.std.specs.declared.vec.Vec.{Vec}
 use Rattle.std.specs.declared.alloc.Global.{Global}
 use Rattle.trace_lines.specs.Values.{TraceValue}
@@ -20,9 +21,9 @@ use Rattle.findings.specs.declared.finding.Finding.{Finding}
 use Rattle.findings.proofs.WrongReplies.{named_by_bytes}
 use Rattle.audit.specs.Answers.{TellsOfTrace, Audited}
 use Rattle.audit.specs.Parts.{TraceRead, EvidenceRead, Told, IsReport, AreFound}
-use Rattle.audit.specs.Audit.{Audits, BreaksOffAt, RefusesEvidenceFor, IsOfBytes, BlamesNoDevice, verdict_of}
+use Rattle.audit.specs.Audit.{Audits, BreaksOffAt, RefusesEvidenceFor, IsOfBytes, verdict_of}
 use Rattle.audit.specs.Devices.{Reader, Reading, Writer, Writing, OfWhole, OfInput, OfBoth, OfBytes, GivesFew, GivesNext, reads, ReaderFailed, ReaderNeverFailed, WriterNeverFailed, FailsWriting, StandsBehind}
-use Rattle.audit.specs.Kinds.{IsOneOf}
+use Rattle.audit.specs.Faults.{TellsEvidenceFault}
 use Rattle.audit.specs.Kinds as kind
 use Rattle.audit.specs.declared.plain.Verdict.{Verdict}
 use Rattle.audit.specs.declared.plain.Verdict.TheVariants.{Clean}
@@ -102,12 +103,10 @@ module _ (t : TraceValue) (r : Reading) where
       → GivesNext r
       → (fault.cause ≡ evidence_causes.Read → ReaderFailed r)
       → (fault.cause ≢ evidence_causes.Read → ReaderNeverFailed r)
-      → ((f : EvidenceFault) → e ≡ faults.Evidence f → f ≡ fault)
-      → (BlamesNoDevice e → fault.cause ≢ evidence_causes.Read) → IsOneOf (kind.evidence ∷ kind.memory ∷ []) e
-      → EvidenceRead {V = V} Says t r (Err e)
-  evidence_stopped {V} Says fault e refused cut most known failed kept told device kinds =
+      → TellsEvidenceFault fault e → EvidenceRead {V = V} Says t r (Err e)
+  evidence_stopped {V} Says fault e refused cut most known failed kept told =
       let same =
-      λ (f : EvidenceFault) (is : ◌≡◌ {A = Result V AuditFault} (Err e) (Err (faults.Evidence f))). told f
+      λ (f : EvidenceFault) (is : ◌≡◌ {A = Result V AuditFault} (Err e) (Err (faults.Evidence f))). told.same f
       (cc (is)) in
       record {
         given = tt;
@@ -120,8 +119,8 @@ module _ (t : TraceValue) (r : Reading) where
         known = known;
         failed = λ f is read. failed (subst (λ (x : EvidenceFault). x.cause ≡ evidence_causes.Read) (same f is) read);
         kept = tt;
-        unfailed = λ none. kept (device none);
-        kinds = kinds;
+        unfailed = λ none. kept (told.device none);
+        kinds = told.kinds;
       }
 
   -- reading evidence came to the reader's end
@@ -154,15 +153,14 @@ module _ {R : Type 0} (given : R → List ℕ) (ends failures : R → ℕ) (rema
       evidence_whole t (reads given ends failures remaining old new) (λ given v. AreJudged t given v.items) v all.1.2.0
       all.1.2.2 (all.0, (all.1.0, all.1.1, all.1.2.1)) h.most h.known h.kept
 
-  pub judged_stopped : (fault : EvidenceFault) (e : AuditFault)
-      → ((f : EvidenceFault) → e ≡ faults.Evidence f → f ≡ fault)
-      → (BlamesNoDevice e → fault.cause ≢ evidence_causes.Read) → IsOneOf (kind.evidence ∷ kind.memory ∷ []) e
+  pub judged_stopped : (fault : EvidenceFault) (answer : Result (Vec Judged Global) AuditFault)
+      → IsErrAnd answer (TellsEvidenceFault fault)
       → reading.EvidenceRead (GivesJudged t) t.entries given ends failures remaining old new (Err fault)
-      → EvidenceRead {V = Vec Judged Global} (λ given v. AreJudged t given v.items) t
-      (reads given ends failures remaining old new) (Err e)
-  judged_stopped fault e told device kinds h =
+      → EvidenceRead (λ given v. AreJudged t given v.items) t (reads given ends failures remaining old new) answer
+  judged_stopped fault (Ok v) told h = absurd told
+  judged_stopped fault (Err e) told h =
       evidence_stopped t (reads given ends failures remaining old new) _ fault e h.exact h.failed h.most h.known
-      h.counted h.unfailed told device kinds
+      h.counted h.unfailed told
 
 -- ---- calls that read a trace alone
 

@@ -1,9 +1,10 @@
 -- Faults by their kinds.
-use Rattle.std.proofs.Common.{◌≡◌, ℕ, inl, inr, true, false, List, [], ◌∷◌, Result, Err, refl, subst, sym}
+use Rattle.std.proofs.Common.{◌≡◌, ℕ, inl, inr, true, false, List, [], ◌∷◌, Result, Ok, Err, refl, subst, sym}
 use Rattle.std.proofs.lemmas.Bool.{and_parts, or_cases}
 use Rattle.std.proofs.lemmas.Result.{IfErr-weaker}
 use Rattle.std.specs.List.{list_all}
 use Rattle.std.specs.Prelude.{IfErr}
+use Rattle.std.specs.Result.{IsErrAnd}
 use Rattle.audit.specs.Kinds.{Kind, kind_of, is_same, is_among, IsOneOf}
 use Rattle.audit.specs.Kinds as kind
 use Rattle.audit.specs.declared.plain.AuditFault.{AuditFault}
@@ -42,6 +43,12 @@ kinds-more ks ms all r h = IfErr-weaker r (IsOneOf ks) (IsOneOf ms) (one_of-more
 pub same_fault : {V X : Type 0} (e f : AuditFault) → ◌≡◌ {A = Result V AuditFault} (Err e) (Err f)
     → ◌≡◌ {A = Result X AuditFault} (Err e) (Err f)
 same_fault e f is = cc (is)
+
+-- a call that hands a fault on answers it
+pub handed_on : {V : Type 0} (P : Result V AuditFault → Type 0) (r : Result V AuditFault) {e : AuditFault}
+    → IsErrAnd r (λ x. x ≡ e) → P (Err e) → P r
+handed_on P (Ok v) is h = absurd is
+handed_on P (Err x) {e} is h = subst (λ (y : AuditFault). P (Err y)) (sym is) h
 
 -- a fault is of no other kind
 pub never_kind : {X : Type 0} (ks : List Kind) (e f : AuditFault) → is_among ks (kind_of f) ≡ false → IsOneOf ks e

@@ -2,6 +2,8 @@ pub mod Answers
 pub mod Audit
 pub mod Devices
 pub mod Early
+pub mod EarlyLines
+pub mod Faults
 pub mod History
 pub mod Joined
 pub mod JoinedParts
@@ -10,4 +12,3 @@ pub mod Made
 pub mod MadeAudit
 pub mod Parts
 pub mod Shared
-pub mod EarlyLines

@@ -179,15 +179,9 @@ impl<'r, 'e, A: Source, B: Source, R: Threads + Wait + Sync, E: Sink> Finder<A, 
         trace: &Trace,
         evidence: &mut B,
     ) -> Result<Vec<Finding>, AuditFault> {
-        let judgements = match judgements_by(self.rt, alloc, evidence, trace, self.crew.workers) {
-            Ok(judgements) => judgements,
-            Err(fault) => return Err(fault),
-        };
+        let judgements = judgements_by(self.rt, alloc, evidence, trace, self.crew.workers)?;
         let early = &mut *self.early;
-        match findings_early(self.rt, alloc, trace, &judgements, early, self.crew) {
-            Ok(findings) => Ok(findings),
-            Err(_) => Err(AuditFault::OutOfMemory),
-        }
+        Ok(findings_early(self.rt, alloc, trace, &judgements, early, self.crew)?)
     }
 }
 

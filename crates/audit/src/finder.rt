@@ -68,13 +68,7 @@ impl<A: Source, B: Source> Finder<A, B> for OneThread {
         trace: &Trace,
         evidence: &mut B,
     ) -> Result<Vec<Finding>, AuditFault> {
-        let judgements = match judgements_from(alloc, evidence, trace) {
-            Ok(judgements) => judgements,
-            Err(fault) => return Err(fault),
-        };
-        match findings_judged(alloc, trace, &judgements) {
-            Ok(findings) => Ok(findings),
-            Err(_) => Err(AuditFault::OutOfMemory),
-        }
+        let judgements = judgements_from(alloc, evidence, trace)?;
+        Ok(findings_judged(alloc, trace, &judgements)?)
     }
 }

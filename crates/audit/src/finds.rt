@@ -31,8 +31,8 @@ fn key_of(goal: FactRef<'_>, reply: bool) -> u64 {
     if reply { mark } else { !mark }
 }
 
-/// For each userset and reply what was made for the last entry that has them. Those of one mark share a place. Where the steps name too many
-/// facts together, all is forgotten.
+/// For each userset and reply what was made for the last entry that has them. Those of one mark share a place. Where
+/// the steps name too many facts together, all is forgotten.
 #[derive(Drop)]
 pub(crate) struct Finds {
     alloc: Global,
@@ -89,8 +89,8 @@ impl Finds {
         Ok(())
     }
 
-    /// Keeps what was made for entry `i` in place of what was made before for one of its userset and reply: that was tried for it, and is
-    /// tried no more. A step of one fact is not kept, since it is tried for each entry.
+    /// Keeps what was made for entry `i` in place of what was made before for one of its userset and reply: that was
+    /// tried for it, and is tried no more. A step of one fact is not kept, since it is tried for each entry.
     pub(crate) fn keep(
         &mut self,
         goal: FactRef<'_>,

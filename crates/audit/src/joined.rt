@@ -6,7 +6,6 @@ ghost use Rattle.audit.specs.Joined.{AuditedJoined};
 ghost use Rattle.audit.specs.JoinedParts.{PartsRead, FrontRead, BehindRead, of_input};
 
 use crate::plain::{AuditFault, Verdict};
-use crate::reading::{of_evidence, of_trace};
 use crate::telling::tell_findings;
 use devices::{Sink, Source};
 use evidence_check::{Judged, judge_evidence_behind};
@@ -33,17 +32,14 @@ impl From<InputFault> for AuditFault {
 fn trace_of_front<R: Source>(alloc: Global, input: &mut R) -> Result<(Trace, Rest), AuditFault>
     ensures { FrontRead (reads R.given R.ends R.failures R.remaining input.old input.new) result }
 {
-    let TraceFront { trace, rest } = match read_trace_front(alloc, input) {
-        Ok(front) => front,
-        Err(fault) => return Err(AuditFault::from(fault)),
-    };
+    let TraceFront { trace, rest } = read_trace_front(alloc, input)?;
     let Some(rest) = rest else {
         return Err(AuditFault::Joined);
     };
     match trace {
         Ok(trace) => Ok((trace, rest)),
         Err(fault) => match rest.pass(alloc, input) {
-            Ok(()) => Err(of_trace(fault)),
+            Ok(()) => Err(AuditFault::from(fault)),
             Err(stop) => Err(AuditFault::from(stop)),
         },
     }
@@ -60,7 +56,7 @@ fn judgements_behind<R: Source>(
 {
     match judge_evidence_behind(alloc, rest, input, trace) {
         Ok(Ok(judgements)) => Ok(judgements),
-        Ok(Err(fault)) => Err(of_evidence(fault)),
+        Ok(Err(fault)) => Err(AuditFault::from(fault)),
         Err(stop) => Err(AuditFault::from(stop)),
     }
 }
@@ -69,14 +65,9 @@ fn judgements_behind<R: Source>(
 fn parts_from<R: Source>(alloc: Global, input: &mut R) -> Result<(Trace, Vec<Judged>), AuditFault>
     ensures { PartsRead (reads R.given R.ends R.failures R.remaining input.old input.new) result }
 {
-    let (trace, rest) = match trace_of_front(alloc, input) {
-        Ok(front) => front,
-        Err(fault) => return Err(fault),
-    };
-    match judgements_behind(alloc, rest, input, &trace) {
-        Ok(judgements) => Ok((trace, judgements)),
-        Err(fault) => Err(fault),
-    }
+    let (trace, rest) = trace_of_front(alloc, input)?;
+    let judgements = judgements_behind(alloc, rest, input, &trace)?;
+    Ok((trace, judgements))
 }
 
 /// Audits joined input: the trace, a line that is exactly `---`, and the evidence. The first such line counts, and
@@ -94,16 +85,10 @@ pub fn audit_joined<R: Source, W: Sink>(
     ensures { AuditedJoined (reads R.given R.ends R.failures R.remaining input.old input.new)
         (writes W.taken W.flushes W.failures W.idle W.contents out.old out.new) result }
 {
-    let (trace, judgements) = match parts_from(alloc, input) {
-        Ok(parts) => parts,
-        Err(fault) => return Err(fault),
-    };
+    let (trace, judgements) = parts_from(alloc, input)?;
     right_and_fresh_without_findings(&trace);
     let found = findings_judged(alloc, &trace, &judgements);
     let entries = trace.len();
     drop(trace);
-    match found {
-        Ok(findings) => tell_findings(alloc, &findings, entries, out),
-        Err(_) => Err(AuditFault::OutOfMemory),
-    }
+    tell_findings(alloc, &found?, entries, out)
 }

@@ -107,10 +107,7 @@ pub fn make_records_listing<A: Source, W: Sink>(
         (writes W.taken W.flushes W.failures W.idle W.contents out.old out.new) result }
     ensures kinds { IfErr result (IsOneOf (kind.trace ∷ kind.write ∷ kind.memory ∷ [])) }
 {
-    let trace = match trace_from(alloc, trace) {
-        Ok(trace) => trace,
-        Err(fault) => return Err(fault),
-    };
+    let trace = trace_from(alloc, trace)?;
     let answer = tell_records(alloc, &trace, out);
     drop(trace);
     answer
@@ -136,8 +133,6 @@ pub fn make_records<A: Source, W: Sink>(
         (writes W.taken W.flushes W.failures W.idle W.contents out.old out.new) result }
     ensures kinds { IfErr result (IsOneOf (kind.trace ∷ kind.write ∷ kind.memory ∷ [])) }
 {
-    match make_records_listing(alloc, trace, out) {
-        Ok(given_up) => Ok(given_up.len() as u64),
-        Err(fault) => Err(fault),
-    }
+    let given_up = make_records_listing(alloc, trace, out)?;
+    Ok(given_up.len() as u64)
 }

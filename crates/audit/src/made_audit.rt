@@ -90,7 +90,8 @@ impl<'t, 'a> Check for MakingCheck<'t, 'a> {
     }
 }
 
-/// What is found on entry `i` by evidence that is made for it. What was made for others is tried first, and this is kept with that.
+/// What is found on entry `i` by evidence that is made for it. What was made for others is tried first, and this is
+/// kept with that.
 fn found_making(
     maker: &mut Maker<'_>,
     trace: &Trace,
@@ -132,8 +133,8 @@ fn judgement_made(
 /// How many slices a worker takes, about, where a trace has many entries.
 const SLICES_EACH: usize = 16;
 
-/// The same crew, with slices so long that each worker takes few of them, however many entries there are: with each slice the rules of many
-/// places are begun anew.
+/// The same crew, with slices so long that each worker takes few of them, however many entries there are: with each
+/// slice the rules of many places are begun anew.
 fn with_few_slices(crew: Crew, entries: usize) -> Crew
     ensures { result.workers ≡ crew.workers }
 {
@@ -199,18 +200,12 @@ fn audit_made_by<A: Source, W: Sink, R: Threads + Wait + Sync>(
         (writes W.taken W.flushes W.failures W.idle W.contents out.old out.new) result }
     ensures kinds { IfErr result (IsOneOf (kind.trace ∷ kind.write ∷ kind.memory ∷ [])) }
 {
-    let trace = match trace_by(rt, alloc, trace, crew.workers) {
-        Ok(trace) => trace,
-        Err(fault) => return Err(fault),
-    };
+    let trace = trace_by(rt, alloc, trace, crew.workers)?;
     right_and_fresh_without_findings(&trace);
     let found = findings_made(rt, alloc, &trace, crew);
     let entries = trace.len();
     drop(trace);
-    match found {
-        Ok(findings) => tell_findings(alloc, &findings, entries, out),
-        Err(_) => Err(AuditFault::OutOfMemory),
-    }
+    tell_findings(alloc, &found?, entries, out)
 }
 
 /// Audits a trace by evidence that is made for it in place, and never written. The report is on some such evidence;

@@ -104,18 +104,12 @@ pub(crate) fn audit_with<A: Source, B: Source, W: Sink, F: Finder<A, B>>(
         (reads B.given B.ends B.failures B.remaining evidence.old evidence.new)
         (λ a b. IsOfBytes a b (λ t given. F.tells t given finder.old finder.new)) }
 {
-    let trace = match finder.trace_of(alloc, trace) {
-        Ok(trace) => trace,
-        Err(fault) => return Err(fault),
-    };
+    let trace = finder.trace_of(alloc, trace)?;
     right_and_fresh_without_findings(&trace);
     let found = finder.findings(alloc, &trace, evidence);
     let entries = trace.len();
     drop(trace);
-    match found {
-        Ok(findings) => tell_findings(alloc, &findings, entries, out),
-        Err(fault) => Err(fault),
-    }
+    tell_findings(alloc, &found?, entries, out)
 }
 
 /// Audits a trace by its evidence, and writes the report: a line for each finding, by trace line, then how many

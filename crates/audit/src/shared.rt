@@ -256,14 +256,8 @@ impl<'r, A: Source, B: Source, R: Threads + Wait + Sync> Finder<A, B> for Worker
         trace: &Trace,
         evidence: &mut B,
     ) -> Result<Vec<Finding>, AuditFault> {
-        let judgements = match judgements_by(self.rt, alloc, evidence, trace, self.crew.workers) {
-            Ok(judgements) => judgements,
-            Err(fault) => return Err(fault),
-        };
-        match findings_by(self.rt, alloc, trace, &judgements, self.crew) {
-            Ok(findings) => Ok(findings),
-            Err(_) => Err(AuditFault::OutOfMemory),
-        }
+        let judgements = judgements_by(self.rt, alloc, evidence, trace, self.crew.workers)?;
+        Ok(findings_by(self.rt, alloc, trace, &judgements, self.crew)?)
     }
 }
 

@@ -84,10 +84,7 @@ pub fn history<A: Source, W: Sink>(
         (writes W.taken W.flushes W.failures W.idle W.contents out.old out.new) result }
     ensures kinds { IfErr result (IsOneOf (kind.trace ∷ kind.write ∷ kind.memory ∷ [])) }
 {
-    let trace = match trace_from(alloc, trace) {
-        Ok(trace) => trace,
-        Err(fault) => return Err(fault),
-    };
+    let trace = trace_from(alloc, trace)?;
     let answer = tell_history(alloc, &trace, tuple, out);
     drop(trace);
     answer

@@ -45,7 +45,8 @@ after_steps known (s ∷ ss) = after_steps (after_step known s) ss
 -- each step is accepted by what is known before it
 abbrev pub AreAccepted : Lookup → List TupleValue → KnownValue → List StepValue → Type 0
 AreAccepted rules store known [] = Unit {0}
-AreAccepted rules store known (s ∷ ss) = IsAccepted rules store known s × AreAccepted rules store (after_step known s) ss
+AreAccepted rules store known (s ∷ ss) = IsAccepted rules store known s
+    × AreAccepted rules store (after_step known s) ss
 
 -- what is known to hold are members, and what is known not to are none
 pub record IsTrueOf (rules : Lookup) (store : List TupleValue) (known : KnownValue) : Type 0 where

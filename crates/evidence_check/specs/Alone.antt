@@ -16,7 +16,8 @@ use Rattle.evidence_check.specs.declared.judged.Judged.{Judged}
 
 -- the judgement of the entry at a place, where the steps do not have too many facts
 abbrev pub judgement_at : TraceValue → ℕ → List StepValue → Option Judged
-judgement_at t place steps = if nat_lt 100000 (fact_count steps) then None else Some (judged_by t (slice_get t.entries place) steps)
+judgement_at t place steps = if nat_lt 100000 (fact_count steps) then None
+    else Some (judged_by t (slice_get t.entries place) steps)
 
 -- what a record says, by the trace and the lines of its entries alone
 unfoldable pub verdict_in : TraceValue → List ℕ → Data → Result Verdict EvidenceCause
@@ -29,4 +30,5 @@ verdict_of t lines text = of_json causes.NotJson (verdict_in t lines) (read text
 -- what that makes of the judgements: of these only the one at the place changes
 unfoldable pub settled : Judgements → Verdict → Result Judgements EvidenceCause
 settled j v = if is_judged (slice_get j.judgements v.place) then Err causes.RepeatedLine
-    else (needed causes.TooMany v.judgement >>= λ judgement. Ok (record j { judgements = slice_set j.judgements v.place judgement }))
+    else (needed causes.TooMany v.judgement
+    >>= λ judgement. Ok (record j { judgements = slice_set j.judgements v.place judgement }))

@@ -24,7 +24,9 @@ step_of-step_parts (yes_step f) = refl
 step_of-step_parts (no_step fs) = refl
 
 abbrev pub steps_code : Coded (List (Option (List StepValue)))
-steps_code = coded_list (coded_option (coded_list (code_by (FactValue ⊎ List FactValue) (coded⊎ fact_code (coded_list fact_code)) step_parts step_of step_of-step_parts)))
+steps_code = coded_list (coded_option
+    (coded_list (code_by (FactValue ⊎ List FactValue) (coded⊎ fact_code (coded_list fact_code)) step_parts step_of
+    step_of-step_parts)))
 
 abbrev pub records_code : Coded Records
 records_code =
@@ -39,7 +41,8 @@ judged_parts by.Missing = inl 3
 judged_parts (by.Bad k) = inr k
 
 abbrev judged_of : ℕ ⊎ ℕ → Judged
-judged_of (inl n) = if n == 0 then by.Supported else (if n == 1 then by.Contradicted else (if n == 2 then by.Silent else by.Missing))
+judged_of (inl n) = if n == 0 then by.Supported
+    else (if n == 1 then by.Contradicted else (if n == 2 then by.Silent else by.Missing))
 judged_of (inr k) = by.Bad k
 
 pub judged_of-judged_parts : (j : Judged) → judged_of (judged_parts j) ≡ j
@@ -51,5 +54,8 @@ judged_of-judged_parts (by.Bad k) = refl
 
 abbrev pub judgements_code : Coded Judgements
 judgements_code =
-    code_by (TraceValue × (List ℕ × List Judged)) (coded× trace_code (coded× (coded_list coded_ℕ) (coded_list (code_by (ℕ ⊎ ℕ) (coded⊎ coded_ℕ coded_ℕ) judged_parts judged_of judged_of-judged_parts))))
-    (λ j. (j.trace, (j.lines, j.judgements))) (λ p. record { trace = p.0; lines = p.1.0; judgements = p.1.1 }) (λ _. refl)
+    code_by (TraceValue × (List ℕ × List Judged))
+    (coded× trace_code (coded× (coded_list coded_ℕ)
+    (coded_list (code_by (ℕ ⊎ ℕ) (coded⊎ coded_ℕ coded_ℕ) judged_parts judged_of judged_of-judged_parts))))
+    (λ j. (j.trace, (j.lines, j.judgements))) (λ p. record { trace = p.0; lines = p.1.0; judgements = p.1.1 })
+    (λ _. refl)

@@ -34,7 +34,10 @@ unfoldable pub put_judged : Judgements → ℕ → List StepValue → Result Jud
 put_judged j place steps =
     if is_judged (slice_get j.judgements place) then Err causes.RepeatedLine
     else (if nat_lt 100000 (fact_count steps) then Err causes.TooMany
-    else Ok (record j { judgements = slice_set j.judgements place (judged_by j.trace (slice_get j.trace.entries place) steps) }))
+    else Ok (record j {
+      judgements = slice_set j.judgements place
+          (judged_by j.trace (slice_get j.trace.entries place) steps);
+    }))
 
 unfoldable pub judge_line : Judgements → Data → Result Judgements EvidenceCause
 judge_line j d = placed_steps j.lines d >>= λ p. put_judged j p.0 p.1
@@ -43,15 +46,22 @@ abbrev pub judged_text : Judgements → List ℕ → Result Judgements EvidenceC
 judged_text j text = of_json causes.NotJson (judge_line j) (read text)
 
 abbrev pub no_judgements : TraceValue → Judgements
-no_judgements t = record { trace = t; lines = entry_lines t.entries; judgements = replicate (length t.entries) by.Missing }
+no_judgements t = record {
+  trace = t;
+  lines = entry_lines t.entries;
+  judgements = replicate (length t.entries) by.Missing;
+}
 
 -- each entry is judged by the steps that the evidence gives for it
 abbrev pub AreJudged : TraceValue → List (Option (List StepValue)) → List Judged → Type 0
 AreJudged t evidence judgements =
     (length judgements ≡ length t.entries)
-    × ((i : ℕ) (e : EntryValue) → slice_get t.entries i ≡ Some e → slice_get judgements i ≡ Some (judged t e (steps_of evidence i)))
+    × ((i : ℕ) (e : EntryValue) → slice_get t.entries i ≡ Some e
+    → slice_get judgements i ≡ Some (judged t e (steps_of evidence i)))
 
 -- what is answered are the judgements by the evidence that is given, or the fault that is
-abbrev pub GivesJudged : TraceValue → Result (Vec Judged Global) EvidenceFault → Result (List (Option (List StepValue))) EvidenceFault → Type 0
-GivesJudged t (Ok v) given = (evidence : List (Option (List StepValue))) × (given ≡ Ok evidence) × AreJudged t evidence v.items
+abbrev pub GivesJudged : TraceValue → Result (Vec Judged Global) EvidenceFault
+    → Result (List (Option (List StepValue))) EvidenceFault → Type 0
+GivesJudged t (Ok v) given = (evidence : List (Option (List StepValue))) × (given ≡ Ok evidence)
+    × AreJudged t evidence v.items
 GivesJudged t (Err e) given = Unless (is_memory e.cause || is_read e.cause) (given ≡ Err e)

@@ -158,7 +158,8 @@ no_records entries = record { lines = entry_lines entries; steps = replicate (le
 
 -- The steps for each entry that an input says, or its first fault. Whole says that the input ended, and did not fail.
 abbrev pub evidence_of : List EntryValue → Bool → List ℕ → Result (List (Option (List StepValue))) EvidenceFault
-evidence_of entries whole input = faulted (read_all (taken_line causes.NotJson (λ n. record_line)) whole (no_records entries) input)
+evidence_of entries whole input =
+    faulted (read_all (taken_line causes.NotJson (λ n. record_line)) whole (no_records entries) input)
 
 -- a fault that was answered is the one that the input gives, unless memory ran out or the reader failed
 abbrev pub FailsBy : {Y : Type 0} → EvidenceCause → EvidenceFault → Result Y EvidenceFault → Type 0

@@ -114,7 +114,8 @@ fn settles_narrow<F: KnownFact>(
 ) -> bool
     requires { IsRuleOf trace.now.declarations at (marked_fact fact).set (option_map (λ r. expression_of r.now) rule) }
     ensures { IsTrue result
-        ↔ IsSettled (rule_at trace.now.declarations at) (store_at trace.now.commits at) known.now is_given (marked_fact fact.entry) }
+        ↔ IsSettled (rule_at trace.now.declarations at) (store_at trace.now.commits at) known.now is_given
+        (marked_fact fact.entry) }
 {
     let Some(rule) = rule else {
         return !is_given;
@@ -145,7 +146,8 @@ fn settles<'t, F: KnownFact>(
     requires rule { IsInForce asked.old.declarations at (marked_fact fact).set rule }
     ensures asked { asked.new ≡ asked.old }
     ensures settles { IfOk result (λ r. IsTrue r
-        ↔ IsSettled (rule_at asked.old.declarations at) (store_at asked.old.commits at) known.now is_given (marked_fact fact.entry)) }
+        ↔ IsSettled (rule_at asked.old.declarations at) (store_at asked.old.commits at) known.now is_given
+        (marked_fact fact.entry)) }
 {
     let trace = asked.trace();
     match rule {
@@ -191,7 +193,8 @@ fn is_settled<'t, 'a>(
     ensures asked { asked.new ≡ asked.old }
     ensures last { IsLast asked.old.declarations at last.new }
     ensures settled { IfOk result (λ r. IsTrue r
-        ↔ IsSettled (rule_at asked.old.declarations at) (store_at asked.old.commits at) known.now is_given (marked_fact fact.entry)) }
+        ↔ IsSettled (rule_at asked.old.declarations at) (store_at asked.old.commits at) known.now is_given
+        (marked_fact fact.entry)) }
 {
     let rule = rule_after(asked.trace().rules(), at, *last, fact.set.set);
     *last = Some(LastRule {
@@ -212,7 +215,8 @@ fn are_disproved<'t, 'a>(
     ensures asked { asked.new ≡ asked.old }
     ensures last { IsLast asked.old.declarations at last.new }
     ensures disproved { IfOk result (λ r. IsTrue r
-        ↔ AllByRecursion (IsDisproved (rule_at asked.old.declarations at) (store_at asked.old.commits at) known.now) (map marked_fact facts.now)) }
+        ↔ AllByRecursion (IsDisproved (rule_at asked.old.declarations at) (store_at asked.old.commits at) known.now)
+        (map marked_fact facts.now)) }
 {
     for fact in facts {
         if !is_settled(asked, last, false, at, known, *fact)? {
@@ -272,7 +276,8 @@ fn take_yes<'t, 'a>(
     ensures asked { asked.new ≡ asked.old }
     ensures last { IsLast asked.old.declarations at last.new }
     ensures accepted { IfOk result (λ r. r
-        ≡ is_accepted (rule_at asked.old.declarations at) (store_at asked.old.commits at) known.old (yes_step (marked_fact fact.entry))) }
+        ≡ is_accepted (rule_at asked.old.declarations at) (store_at asked.old.commits at) known.old
+        (yes_step (marked_fact fact.entry))) }
     ensures known { OnOk result (known.new ≡ after_step known.old (yes_step (marked_fact fact.entry))) }
     ensures borne { IfOk result (λ r. r ≡ true
         → IsBorneOut (rule_at asked.old.declarations at) (store_at asked.old.commits at) known.new) }
@@ -301,7 +306,8 @@ fn take_no<'t, 'a>(
     ensures asked { asked.new ≡ asked.old }
     ensures last { IsLast asked.old.declarations at last.new }
     ensures accepted { IfOk result (λ r. r
-        ≡ is_accepted (rule_at asked.old.declarations at) (store_at asked.old.commits at) known.old (no_step (map fact_value facts.now))) }
+        ≡ is_accepted (rule_at asked.old.declarations at) (store_at asked.old.commits at) known.old
+        (no_step (map fact_value facts.now))) }
     ensures known { OnOk result (known.new ≡ after_step known.old (no_step (map fact_value facts.now))) }
     ensures borne { IfOk result (λ r. r ≡ true
         → IsBorneOut (rule_at asked.old.declarations at) (store_at asked.old.commits at) known.new) }
@@ -325,7 +331,8 @@ fn take_step<'t, 'a>(
     ensures asked { asked.new ≡ asked.old }
     ensures last { AreLast asked.old.declarations at rules.new }
     ensures accepted { IfOk result (λ r. r
-        ≡ is_accepted (rule_at asked.old.declarations at) (store_at asked.old.commits at) known.old (borrowed_step step.now)) }
+        ≡ is_accepted (rule_at asked.old.declarations at) (store_at asked.old.commits at) known.old
+        (borrowed_step step.now)) }
     ensures known { OnOk result (known.new ≡ after_step known.old (borrowed_step step.now)) }
     ensures borne { IfOk result (λ r. r ≡ true
         → IsBorneOut (rule_at asked.old.declarations at) (store_at asked.old.commits at) known.new) }
@@ -347,7 +354,8 @@ fn first_bad<'t, 'a>(
     requires borne { IsBorneOut (rule_at asked.old.declarations at) (store_at asked.old.commits at) known.old }
     ensures asked { asked.new ≡ asked.old }
     ensures first { IfOk result (λ r. r
-        ≡ first_bad (rule_at asked.old.declarations at) (store_at asked.old.commits at) known.old 1 (borrowed_steps steps.now)) }
+        ≡ first_bad (rule_at asked.old.declarations at) (store_at asked.old.commits at) known.old 1
+        (borrowed_steps steps.now)) }
     ensures known { IfOk result (λ r. r ≡ None → known.new ≡ after_steps known.old (borrowed_steps steps.now)) }
 {
     let mut fresh = Vec::new(alloc);

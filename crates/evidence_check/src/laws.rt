@@ -13,7 +13,8 @@ ghost use Rattle.evidence_check.specs.Steps.{StepValue, yes_step, no_step};
 pub fn yes_sound()
     ensures { (rules : Lookup) (store : List TupleValue) → HasValidStrata rules store →
         (before : List StepValue) → AreAccepted rules store nothing_known before →
-        (f : FactValue) → IsAccepted rules store (after_steps nothing_known before) (yes_step f) → Member rules store f }
+        (f : FactValue) → IsAccepted rules store (after_steps nothing_known before) (yes_step f)
+        → Member rules store f }
 {
     strata::laws::stable();
     strata::laws::closed();

@@ -89,7 +89,8 @@ impl Recorder {
     }
 
     fn set(&mut self, place: usize, steps: Steps)
-        ensures { self.new ≡ record self.old { steps = slice_set self.old.steps place (Some (step_values steps.items)) } }
+        ensures { self.new ≡ record self.old
+            { steps = slice_set self.old.steps place (Some (step_values steps.items)) } }
     {
         if place < self.steps.len() {
             self.steps[place] = Some(steps);

@@ -34,14 +34,16 @@ IsRecord t e steps = Settles t e steps × Fits e.line steps
 abbrev pub IsOneStep : TraceValue → EntryValue → Type 0
 IsOneStep t e =
     IsAccepted (rule_at t.declarations e.snapshot) (store_at t.commits e.snapshot) nothing_known (yes_step e.goal)
-    ⊎ IsAccepted (rule_at t.declarations e.snapshot) (store_at t.commits e.snapshot) nothing_known (no_step (e.goal ∷ []))
+    ⊎ IsAccepted (rule_at t.declarations e.snapshot) (store_at t.commits e.snapshot) nothing_known
+    (no_step (e.goal ∷ []))
 
 -- The record of the goal's cone is longer than 2^20 bytes: of steps that settle the entry, and speak of facts of the
 -- cone alone, of none twice.
 pub record IsTooLong (t : TraceValue) (e : EntryValue) : Type 0 where
   pub steps : List StepValue
   pub settles : Settles t e steps
-  pub needed : (f : FactValue) → Contains (facts_of steps) f → IsNeeded (rule_at t.declarations e.snapshot) (store_at t.commits e.snapshot) e.goal f
+  pub needed : (f : FactValue) → Contains (facts_of steps) f
+      → IsNeeded (rule_at t.declarations e.snapshot) (store_at t.commits e.snapshot) e.goal f
   pub distinct : AreDistinct (facts_of steps)
   pub long : 2 ^ 20 < record_length e.line steps
 

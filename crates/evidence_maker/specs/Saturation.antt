@@ -10,7 +10,8 @@ use Rattle.goal_cone.specs.Cone.{AreDistinct}
 use Rattle.evidence_maker.specs.Settled.{IsSettled}
 
 -- no fact of R is settled or proved, and their premises are settled or facts of R, settled under a subtracted side
-pub record IsLeftOver (rules : Lookup) (store : List TupleValue) (known : KnownValue) (R : List FactValue) : Type 0 where
+pub record IsLeftOver (rules : Lookup) (store : List TupleValue) (known : KnownValue) (R : List FactValue) :
+    Type 0 where
   pub unsettled : (f : FactValue) → Contains R f → ¬ IsSettled rules known f
   pub unproved : (f : FactValue) → Contains R f → ¬ IsProved rules store known f
   pub premises : (f : FactValue) → Contains R f → (r : Rule) → rule_of rules f.set ≡ Some r →
@@ -22,7 +23,8 @@ AreUnsettled rules known C k R =
     (f : FactValue) → (Contains R f ↔ (Contains C f × IsAtMost rules k f × ¬ IsSettled rules known f))
 
 -- the steps are accepted, and settle the facts of C of the strata below k
-pub record IsSaturating (rules : Lookup) (store : List TupleValue) (C : List FactValue) (k : ℕ) (steps : List StepValue) : Type 0 where
+pub record IsSaturating (rules : Lookup) (store : List TupleValue) (C : List FactValue) (k : ℕ)
+    (steps : List StepValue) : Type 0 where
   pub accepted : AreAccepted rules store nothing_known steps
   pub below : (f : FactValue) → Contains C f → IsLower rules k f → IsSettled rules (after_steps nothing_known steps) f
 

@@ -218,8 +218,8 @@ pub fn make(alloc: Global, trace: &Trace, i: usize) -> Result<Steps, MakeFault>
     ensures short { IfOk result (λ v. (e : EntryValue) → slice_get trace.now.entries i ≡ Some e
         → record_length e.line (step_values v.items) ≤ 2 ^ 20) }
     ensures complete { result ≡ Err MakeFault.GaveUp → (e : EntryValue) → slice_get trace.now.entries i ≡ Some e →
-        IsOutgrown MAX_FACTS MAX_LINKS (rule_at trace.now.declarations e.snapshot) (store_at trace.now.commits e.snapshot) e.goal
-        ⊎ IsTooLong trace.now e }
+        IsOutgrown MAX_FACTS MAX_LINKS (rule_at trace.now.declarations e.snapshot)
+        (store_at trace.now.commits e.snapshot) e.goal ⊎ IsTooLong trace.now e }
     ensures one_step { result ≡ Err MakeFault.GaveUp → (e : EntryValue) → slice_get trace.now.entries i ≡ Some e
         → ¬ IsOneStep trace.now e }
 {

@@ -8,7 +8,7 @@ ghost use Rattle.evidence_check.specs.Growing.{Grows};
 ghost use Rattle.evidence_check.specs.Accepted.{IsProved, with_no};
 ghost use Rattle.evidence_check.specs.Steps.{step_values};
 ghost use Rattle.goal_cone.specs.Cone.{HasItsPremises, AreDistinct};
-ghost use Rattle.evidence_maker.specs.Making.{IsMaking, IsKnown, IsSifted, AreLeft, IsMade, stratum_of};
+ghost use Rattle.evidence_maker.specs.Making.{IsMakingAt, IsKnown, IsSifted, AreLeft, IsMade, stratum_of};
 ghost use Rattle.evidence_maker.specs.Saturation.{AreUnsettled};
 
 use crate::layers::{layer_of, strata_of, top_of, well_formed};
@@ -37,8 +37,8 @@ fn look_at(
 ) -> Result<bool, AllocError>
     ensures asked { asked.new ≡ asked.old }
     ensures kept { OnOk result ((C : List FactValue) (k : ℕ) → Contains C fact.now →
-        IsMaking (rule_at asked.old.declarations at) (store_at asked.old.commits at) C k known.old (step_values steps.old.items) →
-        IsMaking (rule_at asked.old.declarations at) (store_at asked.old.commits at) C k known.new (step_values steps.new.items)) }
+        IsMakingAt asked.old at C k known.old (step_values steps.old.items) →
+        IsMakingAt asked.old at C k known.new (step_values steps.new.items)) }
     ensures grows { OnOk result (Grows known.old known.new) }
     ensures settled { IfOk result (λ left. left ≡ false → IsKnown known.new fact.now) }
     ensures left { IfOk result (λ left. left ≡ true → (known.new ≡ known.old) × (¬ IsKnown known.old fact.now)
@@ -66,8 +66,8 @@ fn look_at_each(
 ) -> Result<(), AllocError>
     ensures asked { asked.new ≡ asked.old }
     ensures kept { OnOk result ((k : ℕ) →
-        IsMaking (rule_at asked.old.declarations at) (store_at asked.old.commits at) cone.now k known.old (step_values steps.old.items) →
-        IsMaking (rule_at asked.old.declarations at) (store_at asked.old.commits at) cone.now k known.new (step_values steps.new.items)) }
+        IsMakingAt asked.old at cone.now k known.old (step_values steps.old.items) →
+        IsMakingAt asked.old at cone.now k known.new (step_values steps.new.items)) }
 {
     for place in places {
         if *place < cone.len() {
@@ -87,10 +87,11 @@ fn sift(
 ) -> Result<Vec<Fact>, AllocError>
     ensures asked { asked.new ≡ asked.old }
     ensures kept { OnOk result ((C : List FactValue) (k : ℕ) → ((f : FactValue) → Contains facts.now f → Contains C f) →
-        IsMaking (rule_at asked.old.declarations at) (store_at asked.old.commits at) C k known.old (step_values steps.old.items) →
-        IsMaking (rule_at asked.old.declarations at) (store_at asked.old.commits at) C k known.new (step_values steps.new.items)) }
+        IsMakingAt asked.old at C k known.old (step_values steps.old.items) →
+        IsMakingAt asked.old at C k known.new (step_values steps.new.items)) }
     ensures sifted { IfOk result
-        (λ v. IsSifted (rule_at asked.old.declarations at) (store_at asked.old.commits at) known.old known.new facts.now v.items) }
+        (λ v. IsSifted (rule_at asked.old.declarations at) (store_at asked.old.commits at) known.old known.new
+        facts.now v.items) }
 {
     let mut left = Vec::new(*steps.allocator());
     for fact in facts {
@@ -112,10 +113,11 @@ fn settle_layer(
     ensures asked { asked.new ≡ asked.old }
     ensures kept { OnOk result ((C : List FactValue) (k : ℕ)
         → ((f : FactValue) → Contains layer.items f → Contains C f) →
-        IsMaking (rule_at asked.old.declarations at) (store_at asked.old.commits at) C k known.old (step_values steps.old.items) →
-        IsMaking (rule_at asked.old.declarations at) (store_at asked.old.commits at) C k known.new (step_values steps.new.items)) }
+        IsMakingAt asked.old at C k known.old (step_values steps.old.items) →
+        IsMakingAt asked.old at C k known.new (step_values steps.new.items)) }
     ensures left { IfOk result
-        (λ v. AreLeft (rule_at asked.old.declarations at) (store_at asked.old.commits at) known.new layer.items v.items) }
+        (λ v. AreLeft (rule_at asked.old.declarations at) (store_at asked.old.commits at) known.new
+        layer.items v.items) }
 {
     let rounds = layer.len();
     let mut left = layer;
@@ -150,10 +152,11 @@ fn leave(
     ensures { OnOk result ((C : List FactValue) (k : ℕ) →
         HasItsPremises (rule_at trace.now.declarations at) (store_at trace.now.commits at) C →
         AreUnsettled (rule_at trace.now.declarations at) known.old C k left.items →
-        ((f : FactValue) → Contains left.items f → ¬ IsProved (rule_at trace.now.declarations at) (store_at trace.now.commits at) known.old f) →
+        ((f : FactValue) → Contains left.items f
+        → ¬ IsProved (rule_at trace.now.declarations at) (store_at trace.now.commits at) known.old f) →
         AreDistinct left.items →
-        IsMaking (rule_at trace.now.declarations at) (store_at trace.now.commits at) C k known.old (step_values steps.old.items) →
-        IsMaking (rule_at trace.now.declarations at) (store_at trace.now.commits at) C (k + 1) known.new (step_values steps.new.items)) }
+        IsMakingAt trace.now at C k known.old (step_values steps.old.items) →
+        IsMakingAt trace.now at C (k + 1) known.new (step_values steps.new.items)) }
 {
     // Their strata are valid.
     well_formed(trace.rules());
@@ -179,9 +182,10 @@ fn settle_stratum(
     requires { strata.now ≡ map (stratum_of (rule_at asked.old.declarations at)) cone.now }
     ensures asked { asked.new ≡ asked.old }
     ensures making { OnOk result (
-        HasItsPremises (rule_at asked.old.declarations at) (store_at asked.old.commits at) cone.now → AreDistinct cone.now →
-        IsMaking (rule_at asked.old.declarations at) (store_at asked.old.commits at) cone.now stratum known.old (step_values steps.old.items) →
-        IsMaking (rule_at asked.old.declarations at) (store_at asked.old.commits at) cone.now (stratum + 1) known.new (step_values steps.new.items)) }
+        HasItsPremises (rule_at asked.old.declarations at) (store_at asked.old.commits at) cone.now →
+        AreDistinct cone.now →
+        IsMakingAt asked.old at cone.now stratum known.old (step_values steps.old.items) →
+        IsMakingAt asked.old at cone.now (stratum + 1) known.new (step_values steps.new.items)) }
 {
     look_at_each(asked, at, cone, places, known, steps)?;
     let layer = layer_of(*steps.allocator(), cone, strata, stratum)?;
@@ -199,7 +203,8 @@ pub(crate) fn settle(
 ) -> Result<Steps, AllocError>
     ensures asked { asked.new ≡ asked.old }
     ensures made { IfOk result (λ v.
-        HasItsPremises (rule_at asked.old.declarations at) (store_at asked.old.commits at) cone.now → AreDistinct cone.now →
+        HasItsPremises (rule_at asked.old.declarations at) (store_at asked.old.commits at) cone.now →
+        AreDistinct cone.now →
         IsMade (rule_at asked.old.declarations at) (store_at asked.old.commits at) cone.now (step_values v.items)) }
 {
     let snapshot = asked.trace().timeline().at(at);

@@ -27,7 +27,8 @@ if_told what true = Some what
 -- what is found on the tokens of an entry, by the findings' numbers
 abbrev pub found_on_tokens : OrderFindings → List (Option What)
 found_on_tokens f =
-    if_told Stale f.stale ∷ option_map OldToken f.old_token ∷ option_map NotLatest f.not_latest ∷ option_map OpenSnapshot f.open_snapshot
+    if_told Stale f.stale ∷ option_map OldToken f.old_token ∷ option_map NotLatest f.not_latest
+    ∷ option_map OpenSnapshot f.open_snapshot
     ∷ if_told WrongToken f.wrong_token ∷ if_told UnknownVersion f.unknown_version ∷ []
 
 -- what is found on entry i, which is e, where its evidence judges it so: on its tokens, and by that

@@ -26,9 +26,11 @@ pub record IsBeforeContent (t : TraceValue) (k : ℕ) (commit : Commit) (c : Ent
 pub record HasNoNewEnemy (t : TraceValue) : Type 0 where
   pub removed : (e c : EntryValue) → IsCheckOf t e c
       → (k : ℕ) (commit : Commit) → IsBeforeContent t k commit c → (x : TupleValue) → Contains commit.removes x
-      → ((m : ℕ) (later : Commit) → k < m → slice_get t.commits m ≡ Some later → later.at ≤ e.snapshot → ¬ Contains later.adds x)
+      → ((m : ℕ) (later : Commit) → k < m → slice_get t.commits m ≡ Some later → later.at ≤ e.snapshot
+      → ¬ Contains later.adds x)
       → ¬ Contains (store_at t.commits e.snapshot) x
   pub added : (e c : EntryValue) → IsCheckOf t e c
       → (k : ℕ) (commit : Commit) → IsBeforeContent t k commit c → (x : TupleValue) → Contains commit.adds x
-      → ((m : ℕ) (later : Commit) → k ≤ m → slice_get t.commits m ≡ Some later → later.at ≤ e.snapshot → ¬ Contains later.removes x)
+      → ((m : ℕ) (later : Commit) → k ≤ m → slice_get t.commits m ≡ Some later → later.at ≤ e.snapshot
+      → ¬ Contains later.removes x)
       → Contains (store_at t.commits e.snapshot) x

@@ -29,7 +29,8 @@ is_elsewhere objects (Err c) = false
 -- the value is that of an entry of another object
 abbrev pub is_of_others : (List ℕ → List ℕ → Bool) → Option Data → Bool
 is_of_others objects None = false
-is_of_others objects (Some d) = is_entry_kind (option_and_then as_str (get (codes "kind") d)) && is_elsewhere objects (goal_at d)
+is_of_others objects (Some d) = is_entry_kind (option_and_then as_str (get (codes "kind") d)) && is_elsewhere objects
+    (goal_at d)
 
 -- a line of a trace, blank where it is an entry of another object
 abbrev pub line_of_part : (List ℕ → List ℕ → Bool) → List ℕ → List ℕ

@@ -20,20 +20,25 @@ part_of objects t = record {
 }
 
 -- the steps for each of those among the entries from entry i on
-abbrev pub evidence_from : (List ℕ → List ℕ → Bool) → List (Option (List StepValue)) → ℕ → List EntryValue → List (Option (List StepValue))
+abbrev pub evidence_from : (List ℕ → List ℕ → Bool) → List (Option (List StepValue)) → ℕ → List EntryValue
+    → List (Option (List StepValue))
 evidence_from objects evidence i [] = []
 evidence_from objects evidence i (e ∷ es) =
-    if is_of objects e then steps_of evidence i ∷ evidence_from objects evidence (i + 1) es else evidence_from objects evidence (i + 1) es
+    if is_of objects e then steps_of evidence i ∷ evidence_from objects evidence (i + 1) es
+    else evidence_from objects evidence (i + 1) es
 
 -- the evidence for the entries of these objects
-abbrev pub evidence_of_part : (List ℕ → List ℕ → Bool) → TraceValue → List (Option (List StepValue)) → List (Option (List StepValue))
+abbrev pub evidence_of_part : (List ℕ → List ℕ → Bool) → TraceValue → List (Option (List StepValue))
+    → List (Option (List StepValue))
 evidence_of_part objects t evidence = evidence_from objects evidence 0 t.entries
 
 -- the whole's findings on those among the entries from entry i on
-abbrev pub findings_on_part_from : (List ℕ → List ℕ → Bool) → TraceValue → List (Option (List StepValue)) → ℕ → List EntryValue → List Finding
+abbrev pub findings_on_part_from : (List ℕ → List ℕ → Bool) → TraceValue → List (Option (List StepValue)) → ℕ
+    → List EntryValue → List Finding
 findings_on_part_from objects t evidence i [] = []
 findings_on_part_from objects t evidence i (e ∷ es) =
-    if is_of objects e then on_line e.line (found_on t evidence i e) ++ findings_on_part_from objects t evidence (i + 1) es
+    if is_of objects e then on_line e.line (found_on t evidence i e) ++ findings_on_part_from objects t
+    evidence (i + 1) es
     else findings_on_part_from objects t evidence (i + 1) es
 
 -- the whole's findings on the entries of these objects
@@ -42,4 +47,6 @@ findings_on_part objects t evidence = findings_on_part_from objects t evidence 0
 
 -- nothing is found in any part, where each object is of the part that a number names
 abbrev pub IsCleanInParts : (List ℕ → List ℕ → ℕ) → TraceValue → List (Option (List StepValue)) → Type 0
-IsCleanInParts part t evidence = (k : ℕ) → findings_of (part_of (λ n i. nat_eq (part n i) k) t) (evidence_of_part (λ n i. nat_eq (part n i) k) t evidence) ≡ []
+IsCleanInParts part t evidence =
+    (k : ℕ) → findings_of (part_of (λ n i. nat_eq (part n i) k) t)
+    (evidence_of_part (λ n i. nat_eq (part n i) k) t evidence) ≡ []

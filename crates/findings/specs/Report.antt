@@ -30,7 +30,8 @@ abbrev pub count_text : List ℕ → ℕ → List ℕ
 count_text name n = name ++ decimal n ++ (10 ∷ [])
 
 abbrev pub last_lines : List Finding → ℕ → List ℕ
-last_lines findings entries = count_text (codes "entries ") entries ++ (count_text (codes "findings ") (length findings) ++ verdict_text findings)
+last_lines findings entries = count_text (codes "entries ") entries
+    ++ (count_text (codes "findings ") (length findings) ++ verdict_text findings)
 
 -- a line for each finding, the two counts, and the verdict
 abbrev pub report_text : List Finding → ℕ → List ℕ

@@ -11,10 +11,12 @@ use Rattle.findings.specs.declared.finding.What.TheVariants.{WrongReply}
 
 -- each entry of which the findings say so has a wrong reply
 abbrev pub HasOnlyWrongRepliesNamed : TraceValue → List Finding → Type 0
-HasOnlyWrongRepliesNamed t findings = All (λ e. Contains findings (record { line = e.line; what = WrongReply }) → IsWrong t e) t.entries
+HasOnlyWrongRepliesNamed t findings =
+    All (λ e. Contains findings (record { line = e.line; what = WrongReply }) → IsWrong t e) t.entries
 
 -- the bytes say a trace and evidence for it, and of the findings on them that holds
 abbrev pub NamesOnlyWrongReplies : List ℕ → List ℕ → Type 0
 NamesOnlyWrongReplies a b =
-    (t : TraceValue) × (given : List (Option (List StepValue))) × (trace_of true a ≡ Ok t) × (evidence_of t.entries true b ≡ Ok given)
+    (t : TraceValue) × (given : List (Option (List StepValue))) × (trace_of true a ≡ Ok t)
+    × (evidence_of t.entries true b ≡ Ok given)
     × HasOnlyWrongRepliesNamed t (findings_of t given)

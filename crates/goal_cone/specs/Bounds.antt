@@ -42,8 +42,10 @@ links_by store s (Some r) = links store s r.expression
 abbrev pub links_of : Lookup → List TupleValue → FactValue → ℕ
 links_of rules store f = links_by store f.set (rule_of rules f.set)
 
--- each list of facts that holds the goal and its own premises has more than so many facts, or more than so many stored links
+-- each list of facts that holds the goal and its own premises has more than so many facts, or more than so many stored
+-- links
 abbrev pub IsOutgrown : ℕ → ℕ → Lookup → List TupleValue → FactValue → Type 0
 IsOutgrown most_facts most_links rules store goal =
-    (D : List FactValue) → ((f : FactValue) → Contains D f → IsFact f) → Contains D goal → HasItsPremises rules store D →
+    (D : List FactValue) → ((f : FactValue) → Contains D f → IsFact f) → Contains D goal
+    → HasItsPremises rules store D →
     (most_facts < length D) ⊎ (most_links < sum_by (links_of rules store) D)

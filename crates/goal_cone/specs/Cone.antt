@@ -30,7 +30,8 @@ pub record IsCone (rules : Lookup) (store : List TupleValue) (goal : FactValue) 
   pub least : (f : FactValue) → Contains C f → IsNeeded rules store goal f
 
 -- a search for the cone: each fact seen is needed, and waits or has its premises seen
-pub record IsExploring (rules : Lookup) (store : List TupleValue) (goal : FactValue) (seen todo : List FactValue) : Type 0 where
+pub record IsExploring (rules : Lookup) (store : List TupleValue) (goal : FactValue) (seen todo : List FactValue) :
+    Type 0 where
   pub holds_goal : Contains seen goal
   pub least : (f : FactValue) → Contains seen f → IsNeeded rules store goal f
   pub explored : (f : FactValue) → Contains seen f → Contains todo f ⊎ HasPremisesOf rules store seen f

@@ -35,7 +35,8 @@ read_shown rs = parts_shown (map (λ r. r.part) rs)
 
 -- of a part that reads through a tupleset the namespaces are noted that declare what it reads, and maybe others
 abbrev pub IsNoted : List Declaration → ReadPart → Type 0
-IsNoted declarations r = (through : Through) → r.part ≡ Part.Through through → HaveDeclaring declarations (computed_names through) r.declaring
+IsNoted declarations r = (through : Through) → r.part ≡ Part.Through through
+    → HaveDeclaring declarations (computed_names through) r.declaring
 
 -- the leaves of the rule at their place, and what is noted of each part
 pub record IsPlaced (declarations : List Declaration) (p : PlacedLeaves) : Type 0 where

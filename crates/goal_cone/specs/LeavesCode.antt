@@ -9,5 +9,6 @@ use Rattle.goal_cone.specs.Leaves.{LeavesValue}
 
 abbrev pub leaves_code : Coded LeavesValue
 leaves_code =
-    code_by (List Declaration × List (List Expression)) (coded× (coded_list declaration_code) (coded_list (coded_list expression_code)))
+    code_by (List Declaration × List (List Expression))
+    (coded× (coded_list declaration_code) (coded_list (coded_list expression_code)))
     (λ l. (l.declarations, l.found)) (λ p. record { declarations = p.0; found = p.1 }) (λ _. refl)

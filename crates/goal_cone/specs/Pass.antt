@@ -51,8 +51,8 @@ PassesOverAll most_facts most_links a es =
     Passes most_facts most_links a.snapshot.now (ReadsSome (tuples_in a.snapshot.now) (read_fact a) es)
     (links_all (tuples_in a.snapshot.now) (set_value a.set) es)
 
--- Once the facts that meet S are seen too, those that meet R are: so far the room for links went from `had` to `room`, and of `all`
--- links `left` are to come.
+-- Once the facts that meet S are seen too, those that meet R are: so far the room for links went from `had` to `room`,
+-- and of `all` links `left` are to come.
 pub record IsUnderWay (most_facts most_links : ℕ) (rules : Lookup) (store : List TupleValue) (R S : FactValue → Type 0)
     (old now : List FactValue) (had room all left : ℕ) : Type 0 where
   pub seen : (new : List FactValue) → Sees rules S now new → Sees rules R old new
@@ -68,8 +68,10 @@ IsUnderWayOver most_facts most_links a es rest old now had room =
     old now had room (links_all (tuples_in a.snapshot.now) (set_value a.set) es)
     (links_all (tuples_in a.snapshot.now) (set_value a.set) rest)
 
--- The search saw the goal first, and has looked at the first `next` facts that it saw, whose rules read what is gone of the room for links.
-pub record IsSearching (most_links : ℕ) (rules : Lookup) (store : List TupleValue) (goal : FactValue) (seen : List FactValue) (next room : ℕ) : Type 0 where
+-- The search saw the goal first, and has looked at the first `next` facts that it saw, whose rules read what is gone of
+-- the room for links.
+pub record IsSearching (most_links : ℕ) (rules : Lookup) (store : List TupleValue) (goal : FactValue)
+    (seen : List FactValue) (next room : ℕ) : Type 0 where
   pub exploring : IsExploring rules store goal seen (drop next seen)
   pub first : slice_get seen 0 ≡ Some goal
   pub distinct : AreDistinct seen

@@ -24,12 +24,14 @@ Matters s tupleset g c = IsStored (tuples_in s) tupleset (Set g) × (¬ (rules_i
 -- the numbers up to n of the namespaces of which something matters, and maybe others
 abbrev pub AreWanted : Snapshot → SetValue → List (List ℕ) → ℕ → Numbers → Type 0
 AreWanted s tupleset names n wanted =
-    (k : ℕ) (g : SetValue) (c : List ℕ) → k ≤ n → IsNumbered s g k → Contains names c → Matters s tupleset g c → Has wanted k
+    (k : ℕ) (g : SetValue) (c : List ℕ) → k ≤ n → IsNumbered s g k → Contains names c → Matters s tupleset g c
+    → Has wanted k
 
 -- usersets that are stored in a tupleset, each once, among them one of the object of each that matters
 pub record AreObjects (s : Snapshot) (tupleset : SetValue) (names : List (List ℕ)) (gs : List SetValue) : Type 0 where
   pub stored : AreStored s tupleset gs
-  pub matter : (g : SetValue) (c : List ℕ) → Contains names c → Matters s tupleset g c → (h : SetValue) × Contains gs h × IsOfObject g h
+  pub matter : (g : SetValue) (c : List ℕ) → Contains names c → Matters s tupleset g c → (h : SetValue) × Contains gs h
+      × IsOfObject g h
 
 -- the object of a userset under some relations
 abbrev pub targets_under : SetValue → List (List ℕ) → List SetValue
@@ -43,7 +45,8 @@ pub record IsTarget (s : Snapshot) (tupleset : SetValue) (names : List (List ℕ
   pub read : Contains names relation
   pub is : t ≡ with_relation set relation
 
--- objects of usersets that are stored in a tupleset, each under the relations that it declares: no more than each stored one under each
+-- objects of usersets that are stored in a tupleset, each under the relations that it declares: no more than each
+-- stored one under each
 pub record AreTargets (s : Snapshot) (tupleset : SetValue) (names : List (List ℕ)) (ts : List SetValue) : Type 0 where
   pub each : (t : SetValue) → Contains ts t → IsTarget s tupleset names t
   pub led : (g : SetValue) (c : List ℕ) → Contains names c → Matters s tupleset g c → Contains ts (with_relation g c)
@@ -52,13 +55,15 @@ pub record AreTargets (s : Snapshot) (tupleset : SetValue) (names : List (List �
 -- ---- as they are gathered
 
 -- of the first k names of a list those that are wanted, which are among some
-pub record AreReadBefore (source names : List (List ℕ)) (IsWanted : List ℕ → Type 0) (k : ℕ) (ks : List (List ℕ)) : Type 0 where
+pub record AreReadBefore (source names : List (List ℕ)) (IsWanted : List ℕ → Type 0) (k : ℕ) (ks : List (List ℕ)) :
+    Type 0 where
   pub few : length ks ≤ k
   pub read : (c : List ℕ) → Contains ks c → Contains names c
   pub wanted : (i : ℕ) (c : List ℕ) → i < k → slice_get source i ≡ Some c → IsWanted c → Contains ks c
 
 -- of the usersets that are stored the last ones are left
-pub record AreTargeted (s : Snapshot) (tupleset : SetValue) (names : List (List ℕ)) (gs left ts : List SetValue) : Type 0 where
+pub record AreTargeted (s : Snapshot) (tupleset : SetValue) (names : List (List ℕ)) (gs left ts : List SetValue) :
+    Type 0 where
   pub each : (t : SetValue) → Contains ts t → IsTarget s tupleset names t
   pub within : (g : SetValue) → Contains left g → Contains gs g
   pub led : (g : SetValue) (c : List ℕ) → Contains gs g → Contains names c → ¬ (rules_in s g.namespace c ≡ None)

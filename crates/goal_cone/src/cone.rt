@@ -46,8 +46,8 @@ pub fn explore_by(
 
 /// The cone of a goal, each fact once, and the goal first.
 ///
-/// Refusals: Outgrown, only where every list of facts that holds the goal and its own premises has more than [`MAX_USERSETS`] facts or reads
-/// more than [`MAX_LINKS`] stored usersets; OutOfMemory.
+/// Refusals: Outgrown, only where every list of facts that holds the goal and its own premises has more than
+/// [`MAX_USERSETS`] facts or reads more than [`MAX_LINKS`] stored usersets; OutOfMemory.
 pub fn explore(alloc: Global, snapshot: &Snapshot<'_>, goal: &Fact) -> Result<Vec<Fact>, ConeFault>
     ensures cone { IfOk result (λ v. IsCone (rules_in snapshot.now) (tuples_in snapshot.now) goal.now v.items) }
     ensures distinct { IfOk result (λ v. AreDistinct v.items) }

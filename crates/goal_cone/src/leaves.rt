@@ -18,7 +18,8 @@ use std::marker::Model;
 use userset_index::Numbers;
 use wide_rules::namespaces_declaring;
 
-/// A part of a rule, and, where it reads through a tupleset, the namespaces that ever declare a relation that it reads there.
+/// A part of a rule, and, where it reads through a tupleset, the namespaces that ever declare a relation that it reads
+/// there.
 #[derive(Drop)]
 pub struct ReadPart {
     pub part: Part,
@@ -32,8 +33,8 @@ pub(crate) struct PlacedLeaves {
     pub(crate) parts: Vec<ReadPart>,
 }
 
-/// The leaves of the rules that were asked for, each of which is gone over once, however many facts have it. Contracts see the rules that
-/// it is of, and what was found.
+/// The leaves of the rules that were asked for, each of which is gone over once, however many facts have it. Contracts
+/// see the rules that it is of, and what was found.
 #[derive(Drop)]
 pub struct Leaves<'r> {
     alloc: Global,
@@ -52,7 +53,10 @@ impl<'r> Model for Leaves<'r> {
 
     ghost coded = { leaves_code };
 
-    ghost view = { λ l. record { declarations = l.rules.now; found = map (λ p. read_shown p.parts.items) l.placed.items } };
+    ghost view = { λ l. record {
+      declarations = l.rules.now;
+      found = map (λ p. read_shown p.parts.items) l.placed.items;
+    } };
 
     ghost invariant = { λ l. ArePlaced l.rules.now l.placed.items };
 }
@@ -105,7 +109,8 @@ fn put_through(
 
 /// Puts a leaf of a rule behind others, or to those that go through its tupleset.
 fn put(alloc: Global, parts: &mut Vec<Part>, leaf: Rewrite) -> Result<(), AllocError>
-    ensures { OnOk result (Collects (parts_shown parts.old.items) (parts_shown parts.new.items) (leaves (expression_of leaf))) }
+    ensures { OnOk result (Collects (parts_shown parts.old.items) (parts_shown parts.new.items)
+        (leaves (expression_of leaf))) }
 {
     match leaf {
         Rewrite::TupleTo { tupleset, computed } => put_through(alloc, parts, &tupleset, &computed),
@@ -170,7 +175,8 @@ impl<'r> Leaves<'r> {
     /// Refusals: OutOfMemory.
     pub fn number(&mut self, place: RulePlace) -> Result<usize, AllocError>
         ensures rules { self.new.declarations ≡ self.old.declarations }
-        ensures found { IfOk result (λ n. HaveLeavesOf (numbered n self.new.found) (expression_in place self.old.declarations)) }
+        ensures found { IfOk result (λ n. HaveLeavesOf (numbered n self.new.found)
+            (expression_in place self.old.declarations)) }
     {
         let key = (place.line, place.relation);
         let number = self.numbers.get(&key).copied().unwrap_or(self.placed.len());
@@ -186,7 +192,8 @@ impl<'r> Leaves<'r> {
         Ok(number)
     }
 
-    /// The leaves of a number, each once; those that go through one tupleset are one part. None where the number is not given yet.
+    /// The leaves of a number, each once; those that go through one tupleset are one part. None where the number is not
+    /// given yet.
     pub fn parts(&self, number: usize) -> &[ReadPart]
         ensures shown { read_shown result.now ≡ numbered number self.now.found }
         ensures noted { (r : ReadPart) → Contains result.now r → IsNoted self.now.declarations r }

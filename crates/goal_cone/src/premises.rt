@@ -60,8 +60,10 @@ fn see(
     user: u64,
     seen: &mut Seen,
 ) -> Result<(), ConeFault>
-    ensures seen { OnOk result (Sees (rules_in snapshot.now) (λ q. fact_of (set_value set.entry) user ≡ q) seen.old seen.new) }
-    ensures stuck { result ≡ Err ConeFault.Outgrown → IsStuck MAX_USERSETS MAX_LINKS (rules_in snapshot.now) (tuples_in snapshot.now)
+    ensures seen { OnOk result (Sees (rules_in snapshot.now) (λ q. fact_of (set_value set.entry) user ≡ q) seen.old
+        seen.new) }
+    ensures stuck { result ≡ Err ConeFault.Outgrown
+        → IsStuck MAX_USERSETS MAX_LINKS (rules_in snapshot.now) (tuples_in snapshot.now)
         (λ q. fact_of (set_value set.entry) user ≡ q) seen.old }
 {
     if snapshot.rule(set).is_none() || seen.has(set, user) {

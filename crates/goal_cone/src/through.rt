@@ -140,7 +140,8 @@ fn names_read<'s>(
     at: u64,
 ) -> Result<Vec<&'s str>, AllocError>
     ensures { HaveDeclaring rules.now (computed_names through.now) declaring
-        → IfOk result (λ v. AreRead (rule_at rules.now at namespace.now) (computed_names through.now) (map (λ s. s.now) v.items)) }
+        → IfOk result (λ v. AreRead (rule_at rules.now at namespace.now) (computed_names through.now)
+        (map (λ s. s.now) v.items)) }
 {
     if !may_declare(rules, namespace, declaring) {
         return Ok(Vec::new(alloc));
@@ -152,7 +153,8 @@ fn names_read<'s>(
     }
 }
 
-/// Whether something is stored in a crowded tupleset, of the namespace of a number, that declares a relation that is read.
+/// Whether something is stored in a crowded tupleset, of the namespace of a number, that declares a relation that is
+/// read.
 fn is_wanted(
     alloc: Global,
     snapshot: &Snapshot<'_>,
@@ -164,8 +166,10 @@ fn is_wanted(
 ) -> Result<bool, AllocError>
     requires { IfSome stored (HaveStored snapshot.now (set_value tupleset.set)) }
     ensures { HaveDeclaring snapshot.now.timeline.declarations (computed_names through.now) declaring
-        → IfOk result (λ r. r ≡ false → (g : SetValue) (c : List ℕ) → IsStored (tuples_in snapshot.now) (set_value tupleset.entry.set) (Set g)
-        → IsNumbered snapshot.now g number → Contains (computed_names through.now) c → rules_in snapshot.now g.namespace c ≡ None) }
+        → IfOk result (λ r. r ≡ false → (g : SetValue) (c : List ℕ)
+        → IsStored (tuples_in snapshot.now) (set_value tupleset.entry.set) (Set g)
+        → IsNumbered snapshot.now g number → Contains (computed_names through.now) c
+        → rules_in snapshot.now g.namespace c ≡ None) }
 {
     snapshot.fits();
     if !declaring.has(number)
@@ -224,7 +228,8 @@ fn are_apart(stored: Option<Numbers>, declaring: Numbers) -> bool
     }
 }
 
-/// Usersets that are stored in a tupleset, each once, among them one of the object of each whose namespace declares a relation that is read.
+/// Usersets that are stored in a tupleset, each once, among them one of the object of each whose namespace declares a
+/// relation that is read.
 fn objects<'s>(
     alloc: Global,
     snapshot: &'s Snapshot<'_>,
@@ -233,7 +238,8 @@ fn objects<'s>(
     declaring: Numbers,
 ) -> Result<Vec<SetRef<'s>>, AllocError>
     ensures { HaveDeclaring snapshot.now.timeline.declarations (computed_names through.now) declaring
-        → IfOk result (λ v. AreObjects snapshot.now (set_value tupleset.entry.set) (computed_names through.now) (map set_value v.items)) }
+        → IfOk result (λ v. AreObjects snapshot.now (set_value tupleset.entry.set) (computed_names through.now)
+        (map set_value v.items)) }
 {
     snapshot.fits();
     let stored = stored_in(snapshot, tupleset);
@@ -263,7 +269,8 @@ fn push_under<'s>(
     set: SetRef<'s>,
     names: &[&'s str],
 ) -> Result<(), AllocError>
-    ensures { OnOk result (map set_value targets.new.items ≡ map set_value targets.old.items ++ targets_under (set_value set.entry) (map (λ s. s.now) names.now)) }
+    ensures { OnOk result (map set_value targets.new.items ≡ map set_value targets.old.items ++ targets_under
+        (set_value set.entry) (map (λ s. s.now) names.now)) }
 {
     for relation in names {
         targets.push(SetRef {
@@ -274,11 +281,11 @@ fn push_under<'s>(
     Ok(())
 }
 
-/// What relations give through a tupleset of the object of a userset: the objects of what is stored there, each under those of the relations
-/// that it declares then. What is stored is gone over once for all of the relations.
+/// What relations give through a tupleset of the object of a userset: the objects of what is stored there, each under
+/// those of the relations that it declares then. What is stored is gone over once for all of the relations.
 ///
-/// `declaring` says of which namespaces that may be: what is stored of others is passed over, unread where much is stored. So all that is
-/// declared is given where each namespace that ever declares one of the relations is there.
+/// `declaring` says of which namespaces that may be: what is stored of others is passed over, unread where much is
+/// stored. So all that is declared is given where each namespace that ever declares one of the relations is there.
 ///
 /// Refusals: OutOfMemory.
 pub fn targets<'s>(
@@ -289,7 +296,8 @@ pub fn targets<'s>(
     declaring: Numbers,
 ) -> Result<Vec<SetRef<'s>>, AllocError>
     ensures { HaveDeclaring snapshot.now.timeline.declarations (computed_names through.now) declaring
-        → IfOk result (λ v. AreTargets snapshot.now (with_relation (set_value set.entry) (string_bytes through.now.tupleset))
+        → IfOk result (λ v. AreTargets snapshot.now
+        (with_relation (set_value set.entry) (string_bytes through.now.tupleset))
         (computed_names through.now) (map set_value v.items)) }
 {
     let rules = snapshot.timeline.rules();

@@ -11,8 +11,8 @@ use rewrites::Rewrite;
 use std::alloc::AllocError;
 use tuple_text::SetRef;
 
-/// A link that is to be made to the gate of a fact of a rule of many places: as what the rule reads the gate that it leads from, and when it
-/// was found.
+/// A link that is to be made to the gate of a fact of a rule of many places: as what the rule reads the gate that it
+/// leads from, and when it was found.
 #[derive(Clone, Copy, Drop)]
 struct Feed {
     read: Read,
@@ -58,7 +58,8 @@ impl<'g, 't> Gates<'g, 't> {
         Ok(())
     }
 
-    /// What a rule of many places reads for a fact, in the order of its parts. It takes steps for what is read, and none for the other parts.
+    /// What a rule of many places reads for a fact, in the order of its parts. It takes steps for what is read, and
+    /// none for the other parts.
     fn feeds_of(&self, site: Site<'_>, rule: usize) -> Result<Vec<Feed>, AllocError> {
         let mut feeds = Vec::new(*self.gates.allocator());
         let Some(rule) = self.rules.rule(rule) else {

@@ -1,9 +1,10 @@
 //! Which facts of a cone hold, in which order that shows, and on which of them the goal leans.
 //!
-//! These are the counters of Dowling and Gallier, over an and/or graph: each fact has a gate, and so has each place of its rule's plain
-//! form. A gate opens once as many of those that feed it as it waits for have opened, so that each link is looked at once. A rule of many
-//! places has no gates for these: what it reads feeds the fact's own gate, and as parts of it open, the rule says whether the gate does
-//! (`wide`). Nothing here is trusted: each fact is looked at again by its rule.
+//! These are the counters of Dowling and Gallier, over an and/or graph: each fact has a gate, and so has each place of
+//! its rule's plain form. A gate opens once as many of those that feed it as it waits for have opened, so that each
+//! link is looked at once. A rule of many places has no gates for these: what it reads feeds the fact's own gate, and
+//! as parts of it open, the rule says whether the gate does (`wide`). Nothing here is trusted: each fact is looked at
+//! again by its rule.
 
 ghost use Rattle.std.specs.Prelude.{◌≡◌};
 
@@ -29,8 +30,8 @@ pub(crate) enum Wants {
     Parts(u32),
 }
 
-/// A gate: how many openings it waits for and of which gates, the links to those that it feeds and from those that feed it, and how many gates
-/// had opened when it had, itself among them.
+/// A gate: how many openings it waits for and of which gates, the links to those that it feeds and from those that feed
+/// it, and how many gates had opened when it had, itself among them.
 #[derive(Clone, Copy, Drop)]
 pub(crate) struct Gate {
     pub(crate) wanted: u32,
@@ -114,7 +115,8 @@ impl<'g, 't> Drop for Gates<'g, 't> {
 }
 
 impl<'g, 't> Gates<'g, 't> {
-    /// The gates of a cone. The rules are those of the trace of the snapshot, with what was found of them for other goals; their leaves too.
+    /// The gates of a cone. The rules are those of the trace of the snapshot, with what was found of them for other
+    /// goals; their leaves too.
     pub fn of(
         alloc: Global,
         snapshot: &'g Snapshot<'t>,

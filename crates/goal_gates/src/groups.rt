@@ -1,7 +1,8 @@
 //! What a rule of many places reads, and which of its parts do.
 //!
-//! A part may read many relations, and one of them may be read by many parts. What is read by the same parts has one group, the parts that
-//! open with it. So a premise of a fact is one link to the fact's gate, however many parts of the rule read it.
+//! A part may read many relations, and one of them may be read by many parts. What is read by the same parts has one
+//! group, the parts that open with it. So a premise of a fact is one link to the fact's gate, however many parts of the
+//! rule read it.
 
 use crate::premises::Reading;
 use marks::Places;
@@ -99,7 +100,8 @@ impl Groups {
         &self.own
     }
 
-    /// The groups of all that is read, rising. All of them together have no more parts than the parts have relations that they read.
+    /// The groups of all that is read, rising. All of them together have no more parts than the parts have relations
+    /// that they read.
     pub(crate) fn of_reads(&self) -> &[usize] {
         &self.of_reads
     }

@@ -14,8 +14,9 @@ const MOST_LEANING: usize = 1 << 20;
 
 /// The rules of many places of one trace, by their numbers, with what was found of them for all goals so far.
 ///
-/// Its memory is that of the rules, which the trace holds too, and of what was found, which is bounded: [`KeptRules::make_room`] bounds
-/// the stages from goal to goal, and [`KeptRules::find_leaning`] what is leaned on. The stages of one goal are no more than its cone has links.
+/// Its memory is that of the rules, which the trace holds too, and of what was found, which is bounded:
+/// [`KeptRules::make_room`] bounds the stages from goal to goal, and [`KeptRules::find_leaning`] what is leaned on. The
+/// stages of one goal are no more than its cone has links.
 #[derive(Drop)]
 pub struct KeptRules<'t> {
     alloc: Global,
@@ -118,7 +119,8 @@ impl<'t> KeptRules<'t> {
         }
     }
 
-    /// Finds on which groups a rule leans, for [`KeptRules::leaning`]. Where that gets too much, what was found before is forgotten.
+    /// Finds on which groups a rule leans, for [`KeptRules::leaning`]. Where that gets too much, what was found before
+    /// is forgotten.
     pub(crate) fn find_leaning(&mut self, reached: Reached) -> Result<(), AllocError> {
         if self.leaning.contains_key(&reached) {
             return Ok(());

@@ -46,8 +46,8 @@ impl Leaning {
 }
 
 impl<'g, 't> Gates<'g, 't> {
-    /// Which gates the first fact leans on, itself among them: an open one on those that opened it, and one that is shut on enough of
-    /// those that keep it shut.
+    /// Which gates the first fact leans on, itself among them: an open one on those that opened it, and one that is
+    /// shut on enough of those that keep it shut.
     pub fn leaning(&mut self) -> Result<Leaning, AllocError> {
         let mut leaning = Leaning::new(*self.open.allocator(), self.gates.len())?;
         leaning.add(0)?;
@@ -106,7 +106,8 @@ impl<'g, 't> Gates<'g, 't> {
         Ok(())
     }
 
-    /// One that is shut is enough to keep a gate shut that waits for each: one that is kept already, and else the first.
+    /// One that is shut is enough to keep a gate shut that waits for each: one that is kept already, and else the
+    /// first.
     fn lean_on_one(&self, gate: Gate, leaning: &mut Leaning) -> Result<(), AllocError> {
         let mut first = None;
         let mut walk = self.links.walk(gate.fed_by, Way::FedBy);
@@ -132,7 +133,8 @@ impl<'g, 't> Gates<'g, 't> {
         }
     }
 
-    /// How many gates had opened when that had from which a link comes: 0 where it comes from none, and no number where the gate is shut.
+    /// How many gates had opened when that had from which a link comes: 0 where it comes from none, and no number where
+    /// the gate is shut.
     fn opening(&self, link: Link) -> Option<u32> {
         let Some(from) = link.from() else {
             return Some(0);
@@ -161,8 +163,8 @@ impl<'g, 't> Gates<'g, 't> {
         Ok(first)
     }
 
-    /// Where a link of a group leads from, if the group leans on that: one that is open on the first gate that opened it, and one that is
-    /// shut on each that feeds it.
+    /// Where a link of a group leads from, if the group leans on that: one that is open on the first gate that opened
+    /// it, and one that is shut on each that feeds it.
     fn leans_on(&self, link: Link, first: &BTreeMap<u32, u32>) -> Option<usize> {
         if first.get(&link.group).copied() == self.opening(link) {
             Some(link.from()? as usize)

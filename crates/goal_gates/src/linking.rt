@@ -195,7 +195,8 @@ impl<'g, 't> Gates<'g, 't> {
         Ok(())
     }
 
-    /// The gate of what is read as that through a tupleset, which feeds that of the site. A rule of few places reads few relations so.
+    /// The gate of what is read as that through a tupleset, which feeds that of the site. A rule of few places reads
+    /// few relations so.
     fn add_read(&mut self, site: Site<'_>, reading: Reading<'_>) -> Result<(), AllocError> {
         let gate = self.add_below(site, 1, Wants::Some)?;
         for premise in site.premises {

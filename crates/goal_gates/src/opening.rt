@@ -13,7 +13,8 @@ fn is_of(strata: &[Option<u8>], place: usize, stratum: u16) -> bool {
 }
 
 impl<'g, 't> Gates<'g, 't> {
-    /// Lets each gate that opened feed the others, once, and looks at facts of which parts opened, until there is nothing to do.
+    /// Lets each gate that opened feed the others, once, and looks at facts of which parts opened, until there is
+    /// nothing to do.
     fn drain(&mut self) -> Result<(), AllocError> {
         let most = self.gates.len().saturating_add(self.links.len());
         for _ in 0..most.saturating_add(self.wide.len()).saturating_add(1) {
@@ -65,7 +66,8 @@ impl<'g, 't> Gates<'g, 't> {
         }
     }
 
-    /// A group of the parts of a fact opens. What opens once the fact itself has opened is not looked at: it may lean on the fact.
+    /// A group of the parts of a fact opens. What opens once the fact itself has opened is not looked at: it may lean
+    /// on the fact.
     pub(crate) fn open_group(&mut self, gate: usize, group: usize) -> Result<(), AllocError> {
         let Some(number) = self.wide_number(gate) else {
             return Ok(());
@@ -144,7 +146,8 @@ impl<'g, 't> Gates<'g, 't> {
         self.wait(number)
     }
 
-    /// The places of the facts that turn out to hold where the exclusions of a stratum are told, those of the lower strata being told.
+    /// The places of the facts that turn out to hold where the exclusions of a stratum are told, those of the lower
+    /// strata being told.
     pub fn tell(&mut self, strata: &[Option<u8>], stratum: u16) -> Result<Vec<usize>, AllocError> {
         self.drain()?;
         self.tell_exclusions(strata, stratum)?;

@@ -58,8 +58,9 @@ fn push_through<'a>(
     Ok(())
 }
 
-/// What the rule of a fact reads through tuplesets, by its leaves, one tupleset after the other. These are at most the 256 relations of a
-/// namespace, and what is stored in each is gone over once, however many relations are read through it.
+/// What the rule of a fact reads through tuplesets, by its leaves, one tupleset after the other. These are at most the
+/// 256 relations of a namespace, and what is stored in each is gone over once, however many relations are read through
+/// it.
 pub(crate) fn premises_of<'a>(
     alloc: Global,
     snapshot: &'a Snapshot<'_>,

@@ -1,7 +1,8 @@
 //! A rule of many places, and which of its parts open it.
 //!
-//! Facts of one rule are alike where the same groups of its parts opened for them one after the other: what was found for one holds for the
-//! others. So a rule is walked over once for each way in which its groups opened, and not once for each fact. Nothing here is trusted.
+//! Facts of one rule are alike where the same groups of its parts opened for them one after the other: what was found
+//! for one holds for the others. So a rule is walked over once for each way in which its groups opened, and not once
+//! for each fact. Nothing here is trusted.
 
 use crate::groups::{Groups, Read};
 use crate::premises::Reading;
@@ -45,7 +46,8 @@ pub(crate) struct WideRule<'t> {
     stages: Vec<Stage>,
     // by a stage and a group, the stage behind it
     turns: BTreeMap<(usize, usize), usize>,
-    // while the rule is looked at, as which the parts and the groups opened, counted from 1; else, and where one is shut, 0
+    // while the rule is looked at, as which the parts and the groups opened, counted from 1; else, and where one is
+    // shut, 0
     open: Vec<usize>,
     open_groups: Vec<usize>,
 }
@@ -311,7 +313,8 @@ impl<'t> WideRule<'t> {
         }
     }
 
-    /// Whether the group is open at the stage. A stage has each group once, so its turns are no more than the rule has groups.
+    /// Whether the group is open at the stage. A stage has each group once, so its turns are no more than the rule has
+    /// groups.
     fn has(&self, turn: Turn) -> bool {
         let mut stage = turn.stage;
         for _ in 0..self.stages.len() {
@@ -354,8 +357,8 @@ impl<'t> WideRule<'t> {
         Ok(next)
     }
 
-    /// From now on the groups of a stage are open as they opened, or shut. A part of some of them is as the one that opened first, which comes
-    /// last here. It takes no more steps than a walk over the rule.
+    /// From now on the groups of a stage are open as they opened, or shut. A part of some of them is as the one that
+    /// opened first, which comes last here. It takes no more steps than a walk over the rule.
     fn set_groups(&mut self, stage: usize, to_open: bool) {
         let mut stage = stage;
         for _ in 0..self.stages.len() {
@@ -439,8 +442,8 @@ impl<'t> WideRule<'t> {
         Ok(groups)
     }
 
-    /// The groups on which the rule leans at a stage, rising: where it is open, on those that opened it, and else on enough of those that keep it
-    /// shut.
+    /// The groups on which the rule leans at a stage, rising: where it is open, on those that opened it, and else on
+    /// enough of those that keep it shut.
     pub(crate) fn leaning(
         &mut self,
         alloc: Global,

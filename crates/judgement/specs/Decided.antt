@@ -42,22 +42,27 @@ mutual
       → Dec (Established rules store known f e)
   dec_established rules store known f this =
       dec_either (dec_contains same_tuple store (record { set = f.set; user = Id f.user }))
-      (dec_some_stored store f.set (λ g. Contains known.yes (same_user f g)) (λ g c. dec_contains same_facts known.yes (same_user f g)))
-  dec_established rules store known f (computed q) = dec_contains same_facts known.yes (same_user f (with_relation f.set q))
+      (dec_some_stored store f.set (λ g. Contains known.yes (same_user f g))
+      (λ g c. dec_contains same_facts known.yes (same_user f g)))
+  dec_established rules store known f (computed q) =
+      dec_contains same_facts known.yes (same_user f (with_relation f.set q))
   dec_established rules store known f (tuple_to q c) =
       dec_some_stored store (with_relation f.set q) (λ g. Contains known.yes (same_user f (with_relation g c)))
       (λ g h. dec_contains same_facts known.yes (same_user f (with_relation g c)))
   dec_established rules store known f (union es) = dec_some_established rules store known f es
   dec_established rules store known f (inter es) = dec_each_established rules store known f es
-  dec_established rules store known f (minus a b) = dec_both (dec_established rules store known f a) (dec_refuted rules store known f b)
+  dec_established rules store known f (minus a b) =
+      dec_both (dec_established rules store known f a) (dec_refuted rules store known f b)
 
-  dec_some_established : (rules : Lookup) (store : List TupleValue) (known : KnownValue) (f : FactValue) (es : Expressions)
+  dec_some_established : (rules : Lookup) (store : List TupleValue) (known : KnownValue) (f : FactValue)
+      (es : Expressions)
       → Dec (SomeEstablished rules store known f es)
   dec_some_established rules store known f no_child = no (λ h. h)
   dec_some_established rules store known f (child e es) =
       dec_either (dec_established rules store known f e) (dec_some_established rules store known f es)
 
-  dec_each_established : (rules : Lookup) (store : List TupleValue) (known : KnownValue) (f : FactValue) (es : Expressions)
+  dec_each_established : (rules : Lookup) (store : List TupleValue) (known : KnownValue) (f : FactValue)
+      (es : Expressions)
       → Dec (EachEstablished rules store known f es)
   dec_each_established rules store known f no_child = yes tt
   dec_each_established rules store known f (child e es) =
@@ -74,7 +79,8 @@ mutual
       (λ g. dec_out rules known (same_user f (with_relation g c)))
   dec_refuted rules store known f (union es) = dec_each_refuted rules store known f es
   dec_refuted rules store known f (inter es) = dec_some_refuted rules store known f es
-  dec_refuted rules store known f (minus a b) = dec_either (dec_refuted rules store known f a) (dec_established rules store known f b)
+  dec_refuted rules store known f (minus a b) =
+      dec_either (dec_refuted rules store known f a) (dec_established rules store known f b)
 
   dec_each_refuted : (rules : Lookup) (store : List TupleValue) (known : KnownValue) (f : FactValue) (es : Expressions)
       → Dec (EachRefuted rules store known f es)

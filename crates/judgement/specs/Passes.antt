@@ -76,17 +76,21 @@ IsObjectStored store set other = (g : SetValue) × IsStored store set (Set g) ×
 -- the touch at an index is not of a userset of that object that is stored in `set`
 abbrev pub IsTouchApart : Snapshot → SetValue → SetValue → ℕ → Type 0
 IsTouchApart s set other touch =
-    (x : Touch) (g : SetValue) → slice_get (changelog s.timeline.commits) touch ≡ Some x → x.tuple ≡ tuple_of set (Set g)
+    (x : Touch) (g : SetValue) → slice_get (changelog s.timeline.commits) touch ≡ Some x
+    → x.tuple ≡ tuple_of set (Set g)
     → IsStored (tuples_in s) set (Set g) → ¬ AreOfOneObject g other
 
 -- the touch at an index is not of a userset that is stored in `set` and has a target that may hold the user id
 abbrev pub IsTouchOut : Snapshot → KnownValue → SetValue → Option (List ℕ) → ℕ → ℕ → Type 0
 IsTouchOut s known set relation id touch =
-    (x : Touch) (g : SetValue) → slice_get (changelog s.timeline.commits) touch ≡ Some x → x.tuple ≡ tuple_of set (Set g)
+    (x : Touch) (g : SetValue) → slice_get (changelog s.timeline.commits) touch ≡ Some x
+    → x.tuple ≡ tuple_of set (Set g)
     → IsStored (tuples_in s) set (Set g) → IsOut (rules_in s) known (fact_of (target g relation) id)
 
 -- nor is any touch that is found by the number of a namespace in which the relation is declared
 abbrev pub AreThroughOut : Snapshot → List Life → KnownValue → SetValue → List ℕ → ℕ → ℕ → Type 0
 AreThroughOut s lives known set relation id n =
-    (namespace : List ℕ) → namespace_numbered n s.timeline.declarations ≡ Some namespace → ¬ (rules_in s namespace relation ≡ None)
-    → All (IsTouchOut s known set (Some relation) id) (touches_alive (pair_mark (set_mark set) n) s.at lives (length lives))
+    (namespace : List ℕ) → namespace_numbered n s.timeline.declarations ≡ Some namespace
+    → ¬ (rules_in s namespace relation ≡ None)
+    → All (IsTouchOut s known set (Some relation) id)
+    (touches_alive (pair_mark (set_mark set) n) s.at lives (length lives))

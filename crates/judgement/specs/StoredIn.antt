@@ -12,4 +12,5 @@ use Rattle.snapshots.specs.declared.snapshot.Snapshot.{Snapshot}
 -- the namespaces, by their numbers, of all usersets that are stored in `set`, and maybe others
 abbrev pub HaveStored : Snapshot → SetValue → Numbers → Type 0
 HaveStored s set numbers =
-    (n : ℕ) (g : SetValue) → IsStored (tuples_in s) set (Set g) → place_of g.namespace (namespace_names s.timeline.declarations) ≡ Some n → Has numbers n
+    (n : ℕ) (g : SetValue) → IsStored (tuples_in s) set (Set g)
+    → place_of g.namespace (namespace_names s.timeline.declarations) ≡ Some n → Has numbers n

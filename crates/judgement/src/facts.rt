@@ -19,14 +19,14 @@ use tuple_text::SetRef;
 /// How many facts are looked at one after the other, which needs neither marks nor memory for them.
 const FEW: usize = 16;
 
-/// How many facts are compared by the texts of their usersets. From more of them on it is quicker to make the mark of the userset that is
-/// asked for, where they keep theirs.
+/// How many facts are compared by the texts of their usersets. From more of them on it is quicker to make the mark of
+/// the userset that is asked for, where they keep theirs.
 const VERY_FEW: usize = 4;
 
 /// Facts, which contracts see as the list of them in the order in which they were added.
 ///
-/// Where they are more than a few they are found by their marks, as the store finds tuples: no choice of texts makes that slower
-/// than the logarithm of their number, as long as few texts have one mark.
+/// Where they are more than a few they are found by their marks, as the store finds tuples: no choice of texts makes
+/// that slower than the logarithm of their number, as long as few texts have one mark.
 #[derive(Drop)]
 pub(crate) struct Facts<F: KnownFact> {
     facts: Vec<F>,
@@ -57,7 +57,8 @@ impl<F: KnownFact> Model for Facts<F> {
 
     ghost view = { λ s. map F.fact s.facts.items };
 
-    ghost invariant = { λ s. ForSome s.index (λ i. (i.value.marks ≡ map tuple_mark (map fact_tuple (map F.fact s.facts.items)))
+    ghost invariant = { λ s. ForSome s.index
+        (λ i. (i.value.marks ≡ map tuple_mark (map fact_tuple (map F.fact s.facts.items)))
         × (s.by_user ≡ true → i.value.users ≡ map user_of (map F.fact s.facts.items))) };
 }
 
@@ -197,8 +198,8 @@ impl Index {
         Ok(())
     }
 
-    /// Adds a fact behind these. Where it is asked, says whether the fact is one of them: the place before its own with the
-    /// same mark tells that, so that the mark is looked for once.
+    /// Adds a fact behind these. Where it is asked, says whether the fact is one of them: the place before its own with
+    /// the same mark tells that, so that the mark is looked for once.
     fn add<F: KnownFact>(
         &mut self,
         facts: &[F],
@@ -207,9 +208,12 @@ impl Index {
         is_asked: bool,
     ) -> Result<bool, AllocError>
         requires { self.old.marks ≡ map tuple_mark (map fact_tuple (map F.fact facts.now)) }
-        ensures marks { OnOk result (self.new.marks ≡ self.old.marks ++ tuple_mark (fact_tuple (F.fact fact.now)) ∷ []) }
-        ensures users { OnOk result (by_user ≡ true → self.new.users ≡ self.old.users ++ user_of (F.fact fact.now) ∷ []) }
-        ensures was { IfOk result (λ was. is_asked ≡ true → IsTrue was ↔ Contains (map F.fact facts.now) (F.fact fact.now)) }
+        ensures marks { OnOk result (self.new.marks ≡ self.old.marks ++ tuple_mark
+            (fact_tuple (F.fact fact.now)) ∷ []) }
+        ensures users { OnOk result (by_user ≡ true
+            → self.new.users ≡ self.old.users ++ user_of (F.fact fact.now) ∷ []) }
+        ensures was { IfOk result (λ was. is_asked ≡ true → IsTrue was
+            ↔ Contains (map F.fact facts.now) (F.fact fact.now)) }
     {
         let mark = fact.mark();
         self.push(mark, by_user, fact.user_id())?;
@@ -245,7 +249,8 @@ impl<F: KnownFact> Facts<F> {
         })
     }
 
-    /// Finds all facts by an index from now on. There is room in it for as many as for facts. Where memory runs out, nothing changes.
+    /// Finds all facts by an index from now on. There is room in it for as many as for facts. Where memory runs out,
+    /// nothing changes.
     fn mark(&mut self) -> Result<(), AllocError>
         ensures same { self.new ≡ self.old }
     {
@@ -258,7 +263,8 @@ impl<F: KnownFact> Facts<F> {
         Ok(())
     }
 
-    /// Adds a fact. Where it is asked, says whether the fact was there before. Where memory runs out, the facts stay as they were.
+    /// Adds a fact. Where it is asked, says whether the fact was there before. Where memory runs out, the facts stay as
+    /// they were.
     pub(crate) fn add(&mut self, fact: F, is_asked: bool) -> Result<bool, AllocError>
         ensures ok { OnOk result (self.new ≡ self.old ++ F.fact fact ∷ []) }
         ensures was { IfOk result (λ was. is_asked ≡ true → IsTrue was ↔ Contains self.old (F.fact fact)) }

@@ -17,7 +17,8 @@ use namespaces::MAX_NUMBER;
 use tuple_text::{SetRef, UserRef};
 use userset_index::{Alive, UsersetIndex};
 
-/// Whether a touch of the changelog is not of a userset that is stored in a fact's userset and has a target that may hold the user.
+/// Whether a touch of the changelog is not of a userset that is stored in a fact's userset and has a target that may
+/// hold the user.
 fn is_touch_out<F: KnownFact>(fact: &AskedFact<'_, F>, relation: Option<&str>, touch: usize) -> bool
     ensures out { IsTrue result → IsOutFor fact.now (option_map (λ s. s.now) relation.entry) touch }
     ensures barred { IsBarredFor fact.now (option_map (λ s. s.now) relation.entry) → IsTrue result }
@@ -90,8 +91,9 @@ fn is_namespace_out<F: KnownFact>(
     fact.snapshot.rule(target).is_none() || is_number_out(fact, index, relation, number)
 }
 
-/// Whether it holds of each touch of a crowded set that leads to a relation which is declared at the timestamp. It goes over the namespaces,
-/// of which there are 256 at most, and passes over those of which it was noted that nothing is stored.
+/// Whether it holds of each touch of a crowded set that leads to a relation which is declared at the timestamp. It goes
+/// over the namespaces, of which there are 256 at most, and passes over those of which it was noted that nothing is
+/// stored.
 pub(crate) fn are_out_through<F: KnownFact>(
     fact: &AskedFact<'_, F>,
     index: &UsersetIndex,
@@ -100,7 +102,8 @@ pub(crate) fn are_out_through<F: KnownFact>(
     ensures out { IsTrue result → (n : ℕ) (g : SetValue) → n < 256
         → IsStored (tuples_over fact.now) (asked_set fact.now) (Set g)
         → place_of g.namespace (namespace_names fact.now.snapshot.now.timeline.declarations) ≡ Some (suc n)
-        → AreThroughOut fact.now.snapshot.now index.now.through fact.now.known.now (asked_set fact.now) relation.now fact.now.user (suc n) }
+        → AreThroughOut fact.now.snapshot.now index.now.through fact.now.known.now (asked_set fact.now) relation.now
+        fact.now.user (suc n) }
     ensures few { IsTrue result → length (namespace_names fact.now.snapshot.now.timeline.declarations) ≤ 256 }
     ensures barred { IsBarredFor fact.now (Some relation.now) → IsTrue result }
 {

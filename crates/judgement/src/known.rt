@@ -12,8 +12,8 @@ use std::alloc::{AllocError, Global};
 use std::marker::Model;
 use tuple_text::SetRef;
 
-/// The facts that are known to hold, and those that are known not to. Contracts see the two lists, in the order in which facts
-/// were added.
+/// The facts that are known to hold, and those that are known not to. Contracts see the two lists, in the order in
+/// which facts were added.
 ///
 /// A look-up takes no memory, and its comparisons are few against what is known.
 #[derive(Drop)]
@@ -44,7 +44,8 @@ impl<F: KnownFact> Known<F> {
         }
     }
 
-    /// Nothing is known, and there is memory for so many facts that are known to hold, and so many that are known not to.
+    /// Nothing is known, and there is memory for so many facts that are known to hold, and so many that are known not
+    /// to.
     pub fn with_room(alloc: Global, yes: usize, no: usize) -> Result<Known<F>, AllocError>
         ensures { IfOk result (λ k. k ≡ record { yes = []; no = [] }) }
     {

@@ -65,7 +65,8 @@ fn is_one_of_object(
     false
 }
 
-/// Whether some userset that is stored in a crowded set has this target: the userset itself, or its object under a relation.
+/// Whether some userset that is stored in a crowded set has this target: the userset itself, or its object under a
+/// relation.
 fn is_target_stored(
     snapshot: &Snapshot<'_>,
     index: &UsersetIndex,
@@ -91,12 +92,12 @@ fn is_target_stored(
     }
 }
 
-/// For how many usersets of which a user is known it is asked first whether they are stored. What is stored is gone over only then,
-/// since a step there passes over all that is dead.
+/// For how many usersets of which a user is known it is asked first whether they are stored. What is stored is gone
+/// over only then, since a step there passes over all that is dead.
 const FIRST: usize = 64;
 
-/// Whether one of some usersets is the target of what is stored in a crowded set. `None` where that does not show of the first few, which
-/// are given by then.
+/// Whether one of some usersets is the target of what is stored in a crowded set. `None` where that does not show of
+/// the first few, which are given by then.
 fn is_first_stored<F: KnownFact>(
     snapshot: &Snapshot<'_>,
     index: &UsersetIndex,
@@ -105,7 +106,8 @@ fn is_first_stored<F: KnownFact>(
     targets: &mut SetsOfUser<'_, F>,
 ) -> Option<bool>
     requires { IsCrowd snapshot.now (set_value set.set) index.now }
-    ensures some { IfSome result (λ b. IsTrue b ↔ SomeSet (IsTargetStored (tuples_in snapshot.now) (set_value set.entry.set)
+    ensures some { IfSome result (λ b. IsTrue b
+        ↔ SomeSet (IsTargetStored (tuples_in snapshot.now) (set_value set.entry.set)
         (option_map (λ s. s.now) relation.entry)) targets.old) }
     ensures none { result ≡ None → (SomeSet (IsTargetStored (tuples_in snapshot.now) (set_value set.entry.set)
         (option_map (λ s. s.now) relation.entry)) targets.new
@@ -125,8 +127,9 @@ fn is_first_stored<F: KnownFact>(
     None
 }
 
-/// Whether one of some usersets has a target that is known to hold a user, or one of some others is the target of what is stored in a
-/// crowded set. It goes over both lists side by side, so it takes no more steps than the shorter has items.
+/// Whether one of some usersets has a target that is known to hold a user, or one of some others is the target of what
+/// is stored in a crowded set. It goes over both lists side by side, so it takes no more steps than the shorter has
+/// items.
 fn leads_either<F: KnownFact>(
     fact: &AskedFact<'_, F>,
     index: &UsersetIndex,
@@ -138,7 +141,8 @@ fn leads_either<F: KnownFact>(
     ensures leads { result ≡ true → SomeSet (GivesFor fact.now (option_map (λ s. s.now) relation.entry)) stored.entry
         ⊎ SomeSet (IsTargetStored (tuples_over fact.now) (asked_set fact.now)
         (option_map (λ s. s.now) relation.entry)) targets.entry }
-    ensures none { result ≡ false → (¬ SomeSet (GivesFor fact.now (option_map (λ s. s.now) relation.entry)) stored.entry)
+    ensures none { result ≡ false → (¬ SomeSet (GivesFor fact.now (option_map (λ s. s.now) relation.entry))
+        stored.entry)
         ⊎ (¬ SomeSet (IsTargetStored (tuples_over fact.now) (asked_set fact.now)
         (option_map (λ s. s.now) relation.entry)) targets.entry) }
 {

@@ -1,8 +1,8 @@
 //! The program: an auditor for recorded decisions of an authorization service that works as Zanzibar does.
 //!
 //! Without words it reads joined input, a trace and evidence for each recorded reply, and writes a report: a line for
-//! each finding, how many entries and findings there are, and the verdict. Its commands do so with files, make evidence,
-//! and write a tuple's history. [`run::run_on`] is the program on its devices, and says of them what they
+//! each finding, how many entries and findings there are, and the verdict. Its commands do so with files, make
+//! evidence, and write a tuple's history. [`run::run_on`] is the program on its devices, and says of them what they
 //! gave and took; what it audits by is the library `audit`.
 //!
 //! Callers may rely on this: the exit status tells what the audit answered, or why it gave no verdict; where it is 0,

@@ -24,5 +24,6 @@ only_steps entries place steps = slice_set (replicate (length entries) None) pla
 -- entry, and no others.
 abbrev pub IsReadBack : List EntryValue → ℕ → List StepValue → Type 0
 IsReadBack entries line steps =
-    (place : ℕ) → place_of line (entry_lines entries) ≡ Some place → record_length line steps ≤ 2 ^ 20 → fact_count steps ≤ 100000
+    (place : ℕ) → place_of line (entry_lines entries) ≡ Some place → record_length line steps ≤ 2 ^ 20
+    → fact_count steps ≤ 100000
     → evidence_of entries true (record_text line steps ++ 10 ∷ []) ≡ Ok (only_steps entries place steps)

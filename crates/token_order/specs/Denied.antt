@@ -28,7 +28,8 @@ pub record AreDenied (t : TraceValue) (e : EntryValue) (f : OrderFindings) : Typ
   -- F4: the entry is not closed
   pub open_snapshot : (line : ℕ) → f.open_snapshot ≡ Some line → ¬ IsClosed t e
   -- F5: the content check was authorized, and issued no token of content that carries its snapshot
-  pub wrong_token : f.wrong_token ≡ true → (e.kind ≡ Content) × IsTrue e.reply × ¬ IsTrue (is_token_of e.snapshot e.zookie)
+  pub wrong_token : f.wrong_token ≡ true → (e.kind ≡ Content) × IsTrue e.reply
+      × ¬ IsTrue (is_token_of e.snapshot e.zookie)
   -- F6: no earlier content check issued the version that the check names
   pub unknown_version : f.unknown_version ≡ true → (v : Version) × (version_named e.kind (entry_version e) ≡ Some v)
       × ((c : EntryValue) → Contains t.entries c → c.line < e.line → ¬ IsTrue (issues v c))

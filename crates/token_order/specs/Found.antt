@@ -40,7 +40,8 @@ line_if_short z c = if is_short_of z c.snapshot then Some c.line else None
 
 -- a check names a version that was issued at a snapshot of which its zookie is short
 abbrev pub old_token : TraceValue → ℕ → EntryValue → Option ℕ
-old_token t i e = option_and_then (line_if_short e.zookie) (option_and_then (slice_get t.entries) (content_of t.entries i))
+old_token t i e = option_and_then (line_if_short e.zookie)
+    (option_and_then (slice_get t.entries) (content_of t.entries i))
 
 abbrev pub earlier_commits : TraceValue → EntryValue → List CommitLine
 earlier_commits t e = filter (λ c. nat_lt c.line e.line) (commit_lines_of t)
@@ -58,11 +59,13 @@ last_line (c ∷ cs) = option_or (last_line cs) (Some c.line)
 
 -- of a content check: some commit on an earlier line is above the snapshot; the last such line is told
 abbrev pub not_latest : TraceValue → EntryValue → Option ℕ
-not_latest t e = if is_content e.kind && list_any (λ c. nat_lt e.snapshot c.at) (earlier_commits t e) then last_line (earlier_commits t e) else None
+not_latest t e = if is_content e.kind && list_any (λ c. nat_lt e.snapshot c.at) (earlier_commits t e)
+    then last_line (earlier_commits t e) else None
 
 -- some commit on a later line is at or below the snapshot; the first later line of a commit is told
 abbrev pub open_snapshot : TraceValue → EntryValue → Option ℕ
-open_snapshot t e = if list_any (λ c. nat_le c.at e.snapshot) (later_commits t e) then first_line (later_commits t e) else None
+open_snapshot t e = if list_any (λ c. nat_le c.at e.snapshot) (later_commits t e)
+    then first_line (later_commits t e) else None
 
 -- a zookie without a kind may be of any
 abbrev pub may_stand_for_content : Option TokenKind → Bool
@@ -96,7 +99,14 @@ order_of t i e = record {
 }
 
 abbrev pub nothing_found : OrderFindings
-nothing_found = record { stale = false; old_token = None; not_latest = None; open_snapshot = None; wrong_token = false; unknown_version = false }
+nothing_found = record {
+  stale = false;
+  old_token = None;
+  not_latest = None;
+  open_snapshot = None;
+  wrong_token = false;
+  unknown_version = false;
+}
 
 -- none of the six is found on any entry
 abbrev pub HasNoOrderFindings : TraceValue → Type 0

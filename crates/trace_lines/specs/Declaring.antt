@@ -48,4 +48,5 @@ rules_changed at t d = changed_rules at t.declarations (added t.commits) d >>= �
 
 -- a change that is not later than the last commit is refused, for its own sake or for that
 abbrev pub refused_late : ℕ → ℕ → List Declaration → Data → Result TraceValue Cause
-refused_late last at ds d = namespace_cause (rules_change ds at d) >>= λ es. rules_checked es >>= λ u. Err (Commit (NotLater last))
+refused_late last at ds d = namespace_cause (rules_change ds at d) >>= λ es. rules_checked es
+    >>= λ u. Err (Commit (NotLater last))

@@ -13,7 +13,8 @@ pub record IsPlaced (lines : List ℕ) (e : EntryValue) : Type 0 where
 
 -- lines rise, each entry stands behind the commits before it, and the contents say which one issued the version that
 -- it names
-pub record IsKept (commits : List Commit) (lines : List ℕ) (es : List EntryValue) (contents : List (Option ℕ)) : Type 0 where
+pub record IsKept (commits : List Commit) (lines : List ℕ) (es : List EntryValue) (contents : List (Option ℕ)) :
+    Type 0 where
   pub counted : length lines ≡ length commits
   pub commits_rise : IsStrictlyIncreasing lines
   pub entries_rise : IsStrictlyIncreasing (entry_lines es)

@@ -17,7 +17,16 @@ abbrev pub entry_said : EntryKind → ℕ → ℕ → Option Said → Result Ent
 entry_said kind n before None = Err causes.Shape
 entry_said kind n before (Some s) =
     goal_of s.goal.now >>= λ goal. token_of (option_map (λ t. t.now) s.zookie) >>= λ token.
-    Ok (record { kind = kind; line = n; goal = goal; snapshot = s.snapshot; reply = s.reply; zookie = token; version = option_map (λ t. t.now) s.version; before = before })
+    Ok (record {
+      kind = kind;
+      line = n;
+      goal = goal;
+      snapshot = s.snapshot;
+      reply = s.reply;
+      zookie = token;
+      version = option_map (λ t. t.now) s.version;
+      before = before;
+    })
 
 -- what line n that says this makes of a trace
 abbrev pub said_line : EntryKind → ℕ → TraceValue → Said → Result TraceValue Cause

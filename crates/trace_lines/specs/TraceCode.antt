@@ -28,7 +28,8 @@ kind_numbered-kind_number ReadSnapshot = refl
 
 abbrev token_code : Coded Token
 token_code =
-    code_by (Option TokenKind × ℕ) (coded× (coded_option (code_by ℕ coded_ℕ kind_number kind_numbered kind_numbered-kind_number)) coded_ℕ)
+    code_by (Option TokenKind × ℕ)
+    (coded× (coded_option (code_by ℕ coded_ℕ kind_number kind_numbered kind_numbered-kind_number)) coded_ℕ)
     (λ t. (t.kind, t.at)) (λ p. record { kind = p.0; at = p.1 }) (λ _. refl)
 
 abbrev is_check : EntryKind → Bool
@@ -49,14 +50,26 @@ entry_kind_code = code_by Bool coded_bool is_check entry_kind entry_kind-is_chec
 abbrev pub entry_code : Coded EntryValue
 entry_code =
     code_by (EntryKind × (ℕ × (FactValue × (ℕ × (Bool × (Option Token × (Option (List ℕ) × ℕ)))))))
-    (coded× entry_kind_code (coded× coded_ℕ (coded× fact_code (coded× coded_ℕ (coded× coded_bool (coded× (coded_option token_code) (coded× (coded_option text_code) coded_ℕ)))))))
+    (coded× entry_kind_code (coded× coded_ℕ
+    (coded× fact_code (coded× coded_ℕ
+    (coded× coded_bool (coded× (coded_option token_code) (coded× (coded_option text_code) coded_ℕ)))))))
     (λ e. (e.kind, (e.line, (e.goal, (e.snapshot, (e.reply, (e.zookie, (e.version, e.before))))))))
-    (λ p. record { kind = p.0; line = p.1.0; goal = p.1.1.0; snapshot = p.1.1.1.0; reply = p.1.1.1.1.0; zookie = p.1.1.1.1.1.0; version = p.1.1.1.1.1.1.0; before = p.1.1.1.1.1.1.1 })
+    (λ p. record {
+      kind = p.0;
+      line = p.1.0;
+      goal = p.1.1.0;
+      snapshot = p.1.1.1.0;
+      reply = p.1.1.1.1.0;
+      zookie = p.1.1.1.1.1.0;
+      version = p.1.1.1.1.1.1.0;
+      before = p.1.1.1.1.1.1.1;
+    })
     (λ _. refl)
 
 abbrev pub trace_code : Coded TraceValue
 trace_code =
     code_by (List Declaration × (List Commit × (List ℕ × List EntryValue)))
-    (coded× (coded_list declaration_code) (coded× (coded_list commit_code) (coded× (coded_list coded_ℕ) (coded_list entry_code))))
+    (coded× (coded_list declaration_code)
+    (coded× (coded_list commit_code) (coded× (coded_list coded_ℕ) (coded_list entry_code))))
     (λ t. (t.declarations, (t.commits, (t.commit_lines, t.entries))))
     (λ p. record { declarations = p.0; commits = p.1.0; commit_lines = p.1.1.0; entries = p.1.1.1 }) (λ _. refl)

@@ -135,11 +135,13 @@ entry_of kind n before d = do
   version ← needed (version_at kind reply d)
   goal ← goal_of text
   token ← token_of zookie
-  Ok (record { kind = kind; line = n; goal = goal; snapshot = snapshot; reply = reply; zookie = token; version = version; before = before })
+  Ok (record { kind = kind; line = n; goal = goal; snapshot = snapshot; reply = reply; zookie = token;
+  version = version; before = before })
 
 -- an object's version is issued once
 abbrev pub recorded : TraceValue → EntryValue → Result TraceValue Cause
-recorded t e = if is_repeated t.entries e then Err causes.RepeatedVersion else Ok (record t { entries = t.entries ++ e ∷ [] })
+recorded t e = if is_repeated t.entries e then Err causes.RepeatedVersion
+    else Ok (record t { entries = t.entries ++ e ∷ [] })
 
 unfoldable pub with_entry : TraceValue → EntryValue → Result TraceValue Cause
 with_entry t e = if is_declared t.declarations e.goal.set then recorded t e else Err causes.Unknown

@@ -37,7 +37,8 @@ put_more [] ms = ms
 put_more (m ∷ more) ms = put_more more (put m.0 (string m.1) ms)
 
 -- what the line writes
-abbrev pub check_spelled : EntryKind → List ℕ → ℕ → Bool → Option (List ℕ) → Option (List ℕ) → List (List ℕ × List ℕ) → Data
+abbrev pub check_spelled : EntryKind → List ℕ → ℕ → Bool → Option (List ℕ) → Option (List ℕ)
+    → List (List ℕ × List ℕ) → Data
 check_spelled kind goal snapshot reply zookie version more =
     object (member (codes "kind") (string (kind_name kind))
     (member (codes "goal") (string goal)
@@ -138,7 +139,8 @@ fields_text goal snapshot reply zookie version rest =
     ++ optional_text (codes ",\"zookie\":\"") zookie (optional_text (codes ",\"version\":\"") version rest))))))
 
 abbrev pub said_text : Said → List ℕ → List ℕ
-said_text s rest = fields_text s.goal.now s.snapshot s.reply (option_map (λ t. t.now) s.zookie) (option_map (λ t. t.now) s.version) rest
+said_text s rest = fields_text s.goal.now s.snapshot s.reply (option_map (λ t. t.now) s.zookie)
+    (option_map (λ t. t.now) s.version) rest
 
 -- no byte of the text is escaped
 abbrev pub IsPlain : Option (List ℕ) → Type 0
@@ -146,7 +148,8 @@ IsPlain None = ⊤
 IsPlain (Some t) = escape t ≡ t
 
 abbrev pub ArePlain : Said → Type 0
-ArePlain s = (escape s.goal.now ≡ s.goal.now) × IsPlain (option_map (λ t. t.now) s.zookie) × IsPlain (option_map (λ t. t.now) s.version)
+ArePlain s = (escape s.goal.now ≡ s.goal.now) × IsPlain (option_map (λ t. t.now) s.zookie)
+    × IsPlain (option_map (λ t. t.now) s.version)
     × (s.snapshot < 2 ^ 64)
 
 -- a list of tuples behind its opening bracket, and what stands behind it

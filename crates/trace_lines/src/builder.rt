@@ -335,7 +335,11 @@ impl TraceBuilder {
     ) -> Result<(), Cause>
         requires { next_line self.old ≤ line }
         ensures { Gives (λ _. self.new) result
-            (with_commit line self.old (record { at = at; adds = tuple_values adds.now; removes = tuple_values removes.now })) }
+            (with_commit line self.old (record {
+              at = at;
+              adds = tuple_values adds.now;
+              removes = tuple_values removes.now;
+            })) }
     {
         if !self.are_declared(adds) || !self.are_declared(removes) {
             return Err(Cause::Unknown);

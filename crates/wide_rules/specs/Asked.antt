@@ -58,16 +58,19 @@ AsksMore old new = (a : Asked) → Contains old a → Contains new a
 abbrev pub AreRightPaths : Questions → Expression → List Path → Type 0
 AreRightPaths q e paths = (p : Path) → Contains paths p → Follows q p.asked.items p.is_given e p.answer
 
--- an expression that gives a fact, or rules it out, where some of others does (`stop` is true), or where each of them does
+-- an expression that gives a fact, or rules it out, where some of others does (`stop` is true), or where each of them
+-- does
 abbrev pub joined_of : Bool → Bool → List Expression → Expression
 joined_of true true es = union (children es)
 joined_of true false es = inter (children es)
 joined_of false true es = inter (children es)
 joined_of false false es = union (children es)
 
--- where a cover has no answer that helps, its part has none: what a cover does not give, its part does not; what it rules out, its part does
+-- where a cover has no answer that helps, its part has none: what a cover does not give, its part does not; what it
+-- rules out, its part does
 abbrev pub IsCoveredBy : Expression → Expression → Type 0
-IsCoveredBy e cover = (l : Leaves) (is_given : Bool) → does l is_given cover ≡ not is_given → does l is_given e ≡ not is_given
+IsCoveredBy e cover = (l : Leaves) (is_given : Bool) → does l is_given cover ≡ not is_given
+    → does l is_given e ≡ not is_given
 
 -- these are numbers of its covers
 abbrev pub AreCovers : List Expression → Expression → List ℕ → Type 0

@@ -9,7 +9,8 @@ use Rattle.wide_rules.specs.Asked.{PartsValue, RuleValue}
 
 abbrev pub parts_code : Coded PartsValue
 parts_code =
-    code_by (TimelineValue × (List Expression × List Expression)) (coded× timeline_code (coded× (coded_list expression_code) (coded_list expression_code)))
+    code_by (TimelineValue × (List Expression × List Expression))
+    (coded× timeline_code (coded× (coded_list expression_code) (coded_list expression_code)))
     (λ p. (p.timeline, (p.questions.parts, p.questions.covers)))
     (λ p. record { timeline = p.0; questions = record { parts = p.1.0; covers = p.1.1 } }) (λ _. refl)
 

@@ -34,7 +34,8 @@ AreRight a q asked =
     (one : Asked) → Contains asked one → (IsTrue one.answer ↔ DoesFor a one.is_given (asked_at q one.is_cover one.part))
 
 -- more was asked, each answer is right, and an answer follows for an expression
-pub record Tells {F : Type 0} (a : AskedFact F) (q : Questions) (is_given : Bool) (e : Expression) (old new : List Asked)
+pub record Tells {F : Type 0} (a : AskedFact F) (q : Questions) (is_given : Bool) (e : Expression)
+    (old new : List Asked)
     (answer : Bool) : Type 0 where
   pub more : AsksMore old new
   pub right : AreRight a q old → AreRight a q new

@@ -17,8 +17,8 @@ pub(crate) struct Asked {
 
 /// Answers in the order in which they were asked for, as contracts see them.
 ///
-/// For each part stands where its answers may be found, as in a sparse set (Briggs and Torczon): what stands there is believed only where
-/// it is of that part, so that nothing has to be cleared for the next fact.
+/// For each part stands where its answers may be found, as in a sparse set (Briggs and Torczon): what stands there is
+/// believed only where it is of that part, so that nothing has to be cleared for the next fact.
 #[derive(Drop)]
 pub(crate) struct Answers {
     asked: Vec<Asked>,

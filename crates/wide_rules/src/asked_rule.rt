@@ -135,8 +135,8 @@ impl<'r> AskedRule<'r> {
         Ok(answer)
     }
 
-    /// Whether what is known gives by the rule that a user is in a userset, or whether it rules that out, over the tuples that are stored
-    /// at a timestamp.
+    /// Whether what is known gives by the rule that a user is in a userset, or whether it rules that out, over the
+    /// tuples that are stored at a timestamp.
     pub fn does<F: KnownFact>(
         &mut self,
         is_given: bool,
@@ -147,7 +147,8 @@ impl<'r> AskedRule<'r> {
     ) -> Result<bool, AllocError>
         ensures rule { self.new ≡ self.old }
         ensures does { IfOk result (λ r. IsTrue r
-            ↔ Does (snapshot_at self.old.timeline at) known.now (fact_of (set_value set.entry.set) user) is_given self.old.expression) }
+            ↔ Does (snapshot_at self.old.timeline at) known.now (fact_of (set_value set.entry.set) user) is_given
+            self.old.expression) }
     {
         let snapshot = self.parts.at(at);
         let fact = AskedFact {

@@ -49,7 +49,8 @@ impl<'r> Model for Parts<'r> {
 
     ghost invariant = { λ p. AreKeptByPart p.timeline p.parts.now p.kept.items
         × AreKeptByPart p.timeline p.covers.covers.items p.covers_kept.items
-        × AreCoversByPart (record { parts = parts_shown p.parts.now; covers = parts_shown p.covers.covers.items }) p.covers.by_part.items };
+        × AreCoversByPart (record { parts = parts_shown p.parts.now; covers = parts_shown p.covers.covers.items })
+        p.covers.by_part.items };
 }
 
 /// Whether a part without children gives a fact, or whether it rules the fact out.
@@ -73,7 +74,8 @@ fn nothing_kept(alloc: Global, parts: &[Part]) -> Result<Vec<Option<Box<Kept>>>,
     Ok(kept)
 }
 
-/// Whether the part of a number gives a fact, or whether it rules the fact out. Where there is no such part, it is as a union of nothing.
+/// Whether the part of a number gives a fact, or whether it rules the fact out. Where there is no such part, it is as a
+/// union of nothing.
 fn part_does<F: KnownFact>(
     alloc: Global,
     parts: &[Part],
@@ -133,7 +135,8 @@ impl<'r> Parts<'r> {
 
     /// One of the covers of a part, from the widest on.
     fn cover(&self, part: usize, k: usize) -> Option<usize>
-        ensures { IfSome result (λ cover. IsCoveredBy (part_at self.now.questions.parts part) (part_at self.now.questions.covers cover)) }
+        ensures { IfSome result (λ cover. IsCoveredBy (part_at self.now.questions.parts part)
+            (part_at self.now.questions.covers cover)) }
     {
         self.covers.by_part.get(part)?.get(k).copied()
     }
@@ -232,8 +235,8 @@ fn is_decided(nodes: &Vec<Node>, stop: bool, is_given: bool, answers: &Answers) 
     false
 }
 
-/// Whether some of the nodes gives a fact, or rules it out; or where `stop` is false, whether each does. It looks no further than is needed,
-/// and asks for nothing where what was asked for decides.
+/// Whether some of the nodes gives a fact, or rules it out; or where `stop` is false, whether each does. It looks no
+/// further than is needed, and asks for nothing where what was asked for decides.
 #[cycle(node)]
 fn nodes_do<F: KnownFact>(
     parts: &mut Parts<'_>,

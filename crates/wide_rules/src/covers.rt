@@ -1,7 +1,8 @@
 //! Covers: parts that each read through one tupleset what many parts of a rule read.
 //!
-//! Where a cover does not give a fact, none of its parts does, and where it rules the fact out, each of them does: one question is enough for
-//! all. The covers of a tupleset make a tree. A part is asked for only where no cover above it answers for it.
+//! Where a cover does not give a fact, none of its parts does, and where it rules the fact out, each of them does: one
+//! question is enough for all. The covers of a tupleset make a tree. A part is asked for only where no cover above it
+//! answers for it.
 
 ghost use Rattle.std.specs.Prelude.{◌≡◌, ◌<◌, ℕ, List, Contains, true, IfOk};
 ghost use Rattle.rewrites.specs.Parts.{computed_names, part_at, part_expression, parts_shown, through_expression};
@@ -195,7 +196,8 @@ fn unchecked_covers(alloc: Global, parts: &[Part]) -> Result<Covers, AllocError>
 
 /// Whether all relations that are read through one tupleset are read through another.
 fn reads_all(cover: &Through, through: &Through) -> bool
-    ensures { result ≡ true → (c : List ℕ) → Contains (computed_names through.now) c → Contains (computed_names cover.now) c }
+    ensures { result ≡ true → (c : List ℕ) → Contains (computed_names through.now) c
+        → Contains (computed_names cover.now) c }
 {
     for k in 0..through.computed.len() {
         let Some(name) = name_at(through, k) else {
@@ -289,7 +291,8 @@ fn check_each(
     parts: &[Part],
     unchecked: &[Vec<usize>],
 ) -> Result<Vec<Vec<usize>>, AllocError>
-    ensures { IfOk result (λ v. AreCoversByPart (record { parts = parts_shown parts.now; covers = parts_shown covers.now }) v.items) }
+    ensures { IfOk result (λ v. AreCoversByPart
+        (record { parts = parts_shown parts.now; covers = parts_shown covers.now }) v.items) }
 {
     let mut each = Vec::with_capacity(alloc, parts.len())?;
     for k in 0..parts.len() {
@@ -301,7 +304,8 @@ fn check_each(
 
 /// The covers of the parts of a rule.
 pub(crate) fn covers_of(alloc: Global, parts: &[Part]) -> Result<Covers, AllocError>
-    ensures { IfOk result (λ c. AreCoversByPart (record { parts = parts_shown parts.now; covers = parts_shown c.covers.items }) c.by_part.items) }
+    ensures { IfOk result (λ c. AreCoversByPart
+        (record { parts = parts_shown parts.now; covers = parts_shown c.covers.items }) c.by_part.items) }
 {
     let Covers { covers, by_part } = unchecked_covers(alloc, parts)?;
     let by_part = check_each(alloc, &covers, parts, &by_part)?;

@@ -52,7 +52,8 @@ fn are_names_out<F: KnownFact>(
     true
 }
 
-/// Whether it holds of the namespace of a number, where there is one. Where nothing of it is stored, its relations are not looked at.
+/// Whether it holds of the namespace of a number, where there is one. Where nothing of it is stored, its relations are
+/// not looked at.
 fn is_namespace_out<F: KnownFact>(
     fact: &AskedFact<'_, F>,
     through: &Through,
@@ -75,8 +76,8 @@ fn is_namespace_out<F: KnownFact>(
     are_names_out(fact, through, index, namespace, number)
 }
 
-/// Whether no userset that is stored in a crowded set may have the user under a relation that is read. It goes over the namespaces of which
-/// something matters that is stored, of which there are 256 at most.
+/// Whether no userset that is stored in a crowded set may have the user under a relation that is read. It goes over the
+/// namespaces of which something matters that is stored, of which there are 256 at most.
 pub(crate) fn are_barred_by_index<F: KnownFact>(
     fact: &AskedFact<'_, F>,
     through: &Through,

@@ -20,7 +20,8 @@ pub(crate) fn name_at(through: &Through, k: usize) -> Option<&str>
     Some(name.as_str())
 }
 
-/// Whether a namespace declares, at a timestamp, one of the relations that are read, asked for these: at most as many as it declares.
+/// Whether a namespace declares, at a timestamp, one of the relations that are read, asked for these: at most as many
+/// as it declares.
 fn declares_name(rules: &Rules, through: &Through, namespace: &str, at: u64) -> bool
     ensures { result ≡ false → DeclaresNone (rule_at rules.now at) (computed_names through.now) namespace.now }
 {
@@ -66,7 +67,8 @@ pub(crate) fn declares_some(rules: &Rules, through: &Through, namespace: &str, a
 
 /// Whether it ever does. What is declared stays declared, so the last declaration tells.
 fn declares_ever(rules: &Rules, through: &Through, namespace: &str) -> bool
-    ensures { result ≡ false → (at : ℕ) → at < 2 ^ 64 → DeclaresNone (rule_at rules.now at) (computed_names through.now) namespace.now }
+    ensures { result ≡ false → (at : ℕ) → at < 2 ^ 64
+        → DeclaresNone (rule_at rules.now at) (computed_names through.now) namespace.now }
 {
     declares_some(rules, through, namespace, u64::MAX)
 }

@@ -20,8 +20,8 @@ use std::alloc::{AllocError, Global};
 use tuple_text::SetRef;
 use userset_index::Numbers;
 
-/// The namespaces that declare what is read, and those of them of which something matters that is stored in the tupleset of one object at
-/// one timestamp. Facts of one object mostly follow one another.
+/// The namespaces that declare what is read, and those of them of which something matters that is stored in the
+/// tupleset of one object at one timestamp. Facts of one object mostly follow one another.
 #[derive(Drop)]
 pub(crate) struct Kept {
     declaring: Vec<u16>,
@@ -120,7 +120,8 @@ fn is_quiet(
     }
 }
 
-/// Whether all that is read through a tupleset rules a fact out. Where something matters of the tupleset, it is looked for once, and kept.
+/// Whether all that is read through a tupleset rules a fact out. Where something matters of the tupleset, it is looked
+/// for once, and kept.
 pub(crate) fn through_bars<F: KnownFact>(
     alloc: Global,
     through: &Through,

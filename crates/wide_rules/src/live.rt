@@ -60,7 +60,8 @@ fn is_live(
     }
 }
 
-/// The numbers of those of which something may matter that is stored in a crowded set. There are 256 namespaces at most.
+/// The numbers of those of which something may matter that is stored in a crowded set. There are 256 namespaces at
+/// most.
 fn live_in_crowd(
     alloc: Global,
     snapshot: &Snapshot<'_>,
@@ -104,7 +105,8 @@ fn are_quiet(
     declaring: &[u16],
 ) -> bool
     requires { AreDeclaring snapshot.now.timeline.declarations (computed_names through.now) declaring.now }
-    ensures { IsTrue result → EachSet (λ g. DeclaresNone (rules_in snapshot.now) (computed_names through.now) g.namespace) sets.entry }
+    ensures { IsTrue result → EachSet
+        (λ g. DeclaresNone (rules_in snapshot.now) (computed_names through.now) g.namespace) sets.entry }
 {
     for set in sets {
         if !is_quiet(snapshot, through, set.set.namespace, declaring) {

@@ -8,7 +8,8 @@ use crate::answers::{Answers, Asked};
 use std::alloc::{AllocError, Global};
 use std::marker::Model;
 
-/// Parts with their answers, in the order in which they were asked for, and the answer of the rule that follows from these.
+/// Parts with their answers, in the order in which they were asked for, and the answer of the rule that follows from
+/// these.
 #[derive(Drop)]
 pub(crate) struct Path {
     asked: Vec<Asked>,
@@ -50,9 +51,9 @@ pub(crate) struct Reached {
 
 /// The paths that were gone for facts before, as contracts see them.
 ///
-/// Questions make a decision tree of them, by which the path of a fact is found. What is found is believed only where all answers on the
-/// path are those of the fact. So many answers are kept as the rule has places, and then all paths are forgotten: to go over the rule once
-/// costs as much.
+/// Questions make a decision tree of them, by which the path of a fact is found. What is found is believed only where
+/// all answers on the path are those of the fact. So many answers are kept as the rule has places, and then all paths
+/// are forgotten: to go over the rule once costs as much.
 #[derive(Drop)]
 pub(crate) struct Paths {
     alloc: Global,
@@ -100,8 +101,8 @@ impl Paths {
         Reached { next, turn: None }
     }
 
-    /// The question that was reached: the number of the part or the cover, whether it is a cover, and whether it is asked what it gives.
-    /// `None` where a path ends or is not known.
+    /// The question that was reached: the number of the part or the cover, whether it is a cover, and whether it is
+    /// asked what it gives. `None` where a path ends or is not known.
     pub(crate) fn question(&self, reached: Reached) -> Option<(usize, bool, bool)> {
         let Next::Question(number) = reached.next else {
             return None;

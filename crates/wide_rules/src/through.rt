@@ -28,7 +28,8 @@ pub(crate) fn tupleset_of<'a>(set: SetRef<'a>, through: &'a Through) -> MarkedSe
     MarkedSet::of(under(set, through.tupleset.as_str()))
 }
 
-/// Whether relation number `k` of a stored userset's namespace is not read, or its object does not have the user under it.
+/// Whether relation number `k` of a stored userset's namespace is not read, or its object does not have the user under
+/// it.
 fn bars_name_at<F: KnownFact>(
     fact: &AskedFact<'_, F>,
     through: &Through,
@@ -52,8 +53,8 @@ fn bars_name_at<F: KnownFact>(
     }
 }
 
-/// Whether a stored userset's object has the user under none of the relations that are read. Those that its namespace does not declare
-/// have no members, so no others are asked for; there are 256 at most.
+/// Whether a stored userset's object has the user under none of the relations that are read. Those that its namespace
+/// does not declare have no members, so no others are asked for; there are 256 at most.
 fn bars_names<F: KnownFact>(
     fact: &AskedFact<'_, F>,
     through: &Through,
@@ -101,8 +102,8 @@ fn leads_by_name<F: KnownFact>(
     through.reads(name) && is_led(fact, Some(name))
 }
 
-/// Whether one has the user under a relation that is read, or under that of one of some targets. It goes over both lists side by side, so it
-/// takes no more steps than the shorter has items.
+/// Whether one has the user under a relation that is read, or under that of one of some targets. It goes over both
+/// lists side by side, so it takes no more steps than the shorter has items.
 fn leads_by_either<F: KnownFact>(
     fact: &AskedFact<'_, F>,
     through: &Through,
@@ -135,7 +136,8 @@ fn is_led_by_name<F: KnownFact>(fact: &AskedFact<'_, F>, through: &Through) -> b
     leads_by_either(fact, through, fact.known.sets_of(fact.user))
 }
 
-/// Whether no userset that is stored in the set may have the user under a relation that is read, one relation after the other.
+/// Whether no userset that is stored in the set may have the user under a relation that is read, one relation after the
+/// other.
 fn are_barred_one_by_one<F: KnownFact>(fact: &AskedFact<'_, F>, through: &Through) -> bool
     ensures { IsTrue result ↔ IsBarredBy fact.now (computed_names through.now) }
 {

@@ -1,15 +1,17 @@
-use Rattle.audit.proofs.JoinedLemmas.{behind_are, front_are, parts_whole, parts_without_evidence, parts_without_front}
+use Rattle.audit.specs.JoinedParts.{PartsRead}
+use Rattle.audit.proofs.JoinedLemmas.{parts_whole, parts_without_evidence, parts_without_front}
+use Rattle.audit.proofs.KindLemmas.{handed_on}
 use Rattle.audit.proofs.joined.parts_from.Goals as goal
 
-pub returns-in-Err : goal.returns-in-Err
-returns-in-Err g c = parts_without_front _ c.in-Err.fault (front_are c.in-Err.is c.trace_of_front.ensures)
+pub returns-in_err-trace : goal.returns-in_err-trace
+returns-in_err-trace g c =
+    handed_on (PartsRead _) _ c.from_residual.ensures.1 (parts_without_front _ _ c.in_err-trace.ensures)
 
-pub returns-in-Err-judgements_behind : goal.returns-in-Err-judgements_behind
-returns-in-Err-judgements_behind g c =
-    parts_without_evidence _ _ _ _ _ (front_are c.in-Ok.is c.trace_of_front.ensures) c.in-Err-judgements_behind.fault
-    (behind_are c.in-Err-judgements_behind.is c.judgements_behind.ensures)
+pub returns-in_err-judgements : goal.returns-in_err-judgements
+returns-in_err-judgements g c =
+    handed_on (PartsRead _) _ c.from_residual-in_err-judgements.ensures.1
+    (parts_without_evidence _ _ _ _ _ c.in_ok-trace.ensures _ c.in_err-judgements.ensures)
 
-pub returns-in-Ok-judgements_behind : goal.returns-in-Ok-judgements_behind
-returns-in-Ok-judgements_behind g c =
-    parts_whole _ _ _ _ _ (front_are c.in-Ok.is c.trace_of_front.ensures) c.in-Ok-judgements_behind.judgements
-    (behind_are c.in-Ok-judgements_behind.is c.judgements_behind.ensures)
+pub returns : goal.returns
+returns g c =
+    parts_whole _ _ _ _ _ c.in_ok-trace.ensures c.in_ok-judgements.judgements c.in_ok-judgements.ensures

@@ -1,13 +1,12 @@
 use Rattle.audit.proofs.Answering.{judged_stopped, judged_whole}
 use Rattle.audit.proofs.reading.judgements_from.Goals as goal
 
-pub returns-in-Ok : goal.returns-in-Ok
-returns-in-Ok g c =
-    judged_whole g.R.Source.given g.R.Source.ends g.R.Source.failures g.R.Read.remaining c.args.reader.now
-    c.judge_evidence.new.reader c.args.trace.now c.in-Ok.judgements c.in-Ok.ensures
+pub returns : goal.returns
+returns g c =
+    judged_whole g.R.Source.given g.R.Source.ends g.R.Source.failures g.R.Read.remaining _ _ _ _
+    c.in_ok-judge_evidence.ensures
 
-pub returns-in-Err : goal.returns-in-Err
-returns-in-Err g c =
-    judged_stopped g.R.Source.given g.R.Source.ends g.R.Source.failures g.R.Read.remaining c.args.reader.now
-    c.judge_evidence.new.reader c.args.trace.now c.in-Err.fault c.of_evidence.result
-    c.of_evidence.ensures.same c.of_evidence.ensures.device c.of_evidence.ensures.kinds c.in-Err.ensures
+pub returns-in_err-judge_evidence : goal.returns-in_err-judge_evidence
+returns-in_err-judge_evidence g c =
+    judged_stopped g.R.Source.given g.R.Source.ends g.R.Source.failures g.R.Read.remaining _ _ _ _ _
+    c.from_residual.ensures.1 c.in_err-judge_evidence.ensures
