@@ -153,6 +153,7 @@ fn findings_early<E: Sink, R: Threads + Wait + Sync>(
 #[derive(Drop)]
 struct Tellers<'r, 'e, R: Threads + Wait + Sync, E: Sink> {
     rt: &'r R,
+    alloc: Global,
     early: &'e mut E,
     crew: Crew,
 }
@@ -169,19 +170,14 @@ impl<'r, 'e, A: Source, B: Source, R: Threads + Wait + Sync, E: Sink> Finder<A, 
         (state_of E.taken E.failures E.idle E.since old.early.now)
         (state_of E.taken E.failures E.idle E.since new.early.now) };
 
-    fn trace_of(&self, alloc: Global, reader: &mut A) -> Result<Trace, AuditFault> {
-        trace_by(self.rt, alloc, reader, self.crew.workers)
+    fn trace_of(&self, reader: &mut A) -> Result<Trace, AuditFault> {
+        trace_by(self.rt, self.alloc, reader, self.crew.workers)
     }
 
-    fn findings(
-        &mut self,
-        alloc: Global,
-        trace: &Trace,
-        evidence: &mut B,
-    ) -> Result<Vec<Finding>, AuditFault> {
-        let judgements = judgements_by(self.rt, alloc, evidence, trace, self.crew.workers)?;
+    fn findings(&mut self, trace: &Trace, evidence: &mut B) -> Result<Vec<Finding>, AuditFault> {
+        let judgements = judgements_by(self.rt, self.alloc, evidence, trace, self.crew.workers)?;
         let early = &mut *self.early;
-        Ok(findings_early(self.rt, alloc, trace, &judgements, early, self.crew)?)
+        Ok(findings_early(self.rt, self.alloc, trace, &judgements, early, self.crew)?)
     }
 }
 
@@ -221,6 +217,11 @@ pub fn audit_early<A: Source, B: Source, W: Sink, E: Sink, R: Threads + Wait + S
     let Some(crew) = Crew::within_limits(workers, slice) else {
         return Err(AuditFault::Limits);
     };
-    let mut finder = Tellers { rt, early, crew };
+    let mut finder = Tellers {
+        rt,
+        alloc,
+        early,
+        crew,
+    };
     audit_with(alloc, trace, evidence, out, &mut finder)
 }

@@ -25,16 +25,11 @@ pub(crate) trait Finder<A: Source, B: Source> {
     // What it tells of them elsewhere, from its value before to that after.
     ghost tells: { TraceValue → List (Option (List StepValue)) → Self → Self → Type 0 };
 
-    fn trace_of(&self, alloc: Global, reader: &mut A) -> Result<Trace, AuditFault>
+    fn trace_of(&self, reader: &mut A) -> Result<Trace, AuditFault>
         requires { asks self.now }
         ensures { TraceRead (reads A.given A.ends A.failures A.remaining reader.old reader.new) result };
 
-    fn findings(
-        &mut self,
-        alloc: Global,
-        trace: &Trace,
-        evidence: &mut B,
-    ) -> Result<Vec<Finding>, AuditFault>
+    fn findings(&mut self, trace: &Trace, evidence: &mut B) -> Result<Vec<Finding>, AuditFault>
         requires { asks self.old }
         ensures read { EvidenceRead (AreFound trace.now) trace.now
             (reads B.given B.ends B.failures B.remaining evidence.old evidence.new) result }
@@ -47,7 +42,9 @@ pub(crate) trait Finder<A: Source, B: Source> {
 
 /// It does both in the calling thread, and lets each record go once it has judged by it.
 #[derive(Drop)]
-pub(crate) struct OneThread;
+pub(crate) struct OneThread {
+    pub(crate) alloc: Global,
+}
 
 impl<A: Source, B: Source> Finder<A, B> for OneThread {
     ghost use Rattle.std.specs.Prelude.{⊤};
@@ -58,17 +55,12 @@ impl<A: Source, B: Source> Finder<A, B> for OneThread {
 
     ghost tells = { λ _ _ _ _. ⊤ };
 
-    fn trace_of(&self, alloc: Global, reader: &mut A) -> Result<Trace, AuditFault> {
-        trace_from(alloc, reader)
+    fn trace_of(&self, reader: &mut A) -> Result<Trace, AuditFault> {
+        trace_from(self.alloc, reader)
     }
 
-    fn findings(
-        &mut self,
-        alloc: Global,
-        trace: &Trace,
-        evidence: &mut B,
-    ) -> Result<Vec<Finding>, AuditFault> {
-        let judgements = judgements_from(alloc, evidence, trace)?;
-        Ok(findings_judged(alloc, trace, &judgements)?)
+    fn findings(&mut self, trace: &Trace, evidence: &mut B) -> Result<Vec<Finding>, AuditFault> {
+        let judgements = judgements_from(self.alloc, evidence, trace)?;
+        Ok(findings_judged(self.alloc, trace, &judgements)?)
     }
 }

@@ -104,9 +104,9 @@ pub(crate) fn audit_with<A: Source, B: Source, W: Sink, F: Finder<A, B>>(
         (reads B.given B.ends B.failures B.remaining evidence.old evidence.new)
         (λ a b. IsOfBytes a b (λ t given. F.tells t given finder.old finder.new)) }
 {
-    let trace = finder.trace_of(alloc, trace)?;
+    let trace = finder.trace_of(trace)?;
     right_and_fresh_without_findings(&trace);
-    let found = finder.findings(alloc, &trace, evidence);
+    let found = finder.findings(&trace, evidence);
     let entries = trace.len();
     drop(trace);
     tell_findings(alloc, &found?, entries, out)
@@ -130,5 +130,5 @@ pub fn audit_plain<A: Source, B: Source, W: Sink>(
         (writes W.taken W.flushes W.failures W.idle W.contents out.old out.new) result }
     ensures kinds { IfErr result (IsOneOf (kind.trace ∷ kind.evidence ∷ kind.write ∷ kind.memory ∷ [])) }
 {
-    audit_with(alloc, trace, evidence, out, &mut OneThread)
+    audit_with(alloc, trace, evidence, out, &mut OneThread { alloc })
 }

@@ -233,6 +233,7 @@ fn findings_by<R: Threads + Wait + Sync>(
 #[derive(Drop)]
 struct Workers<'r, R: Threads + Wait + Sync> {
     rt: &'r R,
+    alloc: Global,
     crew: Crew,
 }
 
@@ -246,18 +247,13 @@ impl<'r, A: Source, B: Source, R: Threads + Wait + Sync> Finder<A, B> for Worker
 
     ghost tells = { λ _ _ _ _. ⊤ };
 
-    fn trace_of(&self, alloc: Global, reader: &mut A) -> Result<Trace, AuditFault> {
-        trace_by(self.rt, alloc, reader, self.crew.workers)
+    fn trace_of(&self, reader: &mut A) -> Result<Trace, AuditFault> {
+        trace_by(self.rt, self.alloc, reader, self.crew.workers)
     }
 
-    fn findings(
-        &mut self,
-        alloc: Global,
-        trace: &Trace,
-        evidence: &mut B,
-    ) -> Result<Vec<Finding>, AuditFault> {
-        let judgements = judgements_by(self.rt, alloc, evidence, trace, self.crew.workers)?;
-        Ok(findings_by(self.rt, alloc, trace, &judgements, self.crew)?)
+    fn findings(&mut self, trace: &Trace, evidence: &mut B) -> Result<Vec<Finding>, AuditFault> {
+        let judgements = judgements_by(self.rt, self.alloc, evidence, trace, self.crew.workers)?;
+        Ok(findings_by(self.rt, self.alloc, trace, &judgements, self.crew)?)
     }
 }
 
@@ -291,6 +287,6 @@ pub fn audit<A: Source, B: Source, W: Sink, R: Threads + Wait + Sync>(
     if crew.workers == 1 {
         return audit_plain(alloc, trace, evidence, out);
     }
-    let mut finder = Workers { rt, crew };
+    let mut finder = Workers { rt, alloc, crew };
     audit_with(alloc, trace, evidence, out, &mut finder)
 }

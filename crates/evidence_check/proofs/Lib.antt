@@ -10,3 +10,4 @@ pub mod RecordSteps
 pub mod Shown
 pub mod Sound
 pub mod StepLoops
+pub mod Taking

@@ -12,12 +12,13 @@ ghost use Rattle.version_chains.specs.Commits.{store_at};
 ghost use Rattle.judgement.specs.Facts.{marked_fact};
 ghost use Rattle.trace_lines.specs.EntryViews.{entry_value};
 ghost use Rattle.trace_lines.specs.Values.{EntryValue};
-ghost use Rattle.evidence_check.specs.Accepted.{IsProved, IsDisproved, with_no, after_step, after_steps, nothing_known};
+ghost use Rattle.evidence_check.specs.Accepted.{IsProved, IsDisproved, with_no, after_steps, nothing_known};
 ghost use Rattle.evidence_check.specs.Growing.{AreFresh, IsBorneOut};
 ghost use Rattle.evidence_check.specs.Evidences.{evidence_value, steps_of};
-ghost use Rattle.evidence_check.specs.Judged.{is_accepted, first_bad, by_reply, by_goal, judged, judged_at};
+ghost use Rattle.evidence_check.specs.Judged.{first_bad, by_reply, by_goal, judged, judged_at};
 ghost use Rattle.evidence_check.specs.Members.{IsRight, IsWrong};
 ghost use Rattle.evidence_check.specs.Steps.{yes_step, no_step, step_values, borrowed_step, borrowed_steps};
+ghost use Rattle.evidence_check.specs.Taking.{TakesStep};
 ghost use Rattle.evidence_check.specs.declared.judged.Judged.TheVariants.{Supported, Contradicted};
 
 use crate::asked_rules::AskedRules;
@@ -275,12 +276,7 @@ fn take_yes<'t, 'a>(
     requires borne { IsBorneOut (rule_at asked.old.declarations at) (store_at asked.old.commits at) known.old }
     ensures asked { asked.new ≡ asked.old }
     ensures last { IsLast asked.old.declarations at last.new }
-    ensures accepted { IfOk result (λ r. r
-        ≡ is_accepted (rule_at asked.old.declarations at) (store_at asked.old.commits at) known.old
-        (yes_step (marked_fact fact.entry))) }
-    ensures known { OnOk result (known.new ≡ after_step known.old (yes_step (marked_fact fact.entry))) }
-    ensures borne { IfOk result (λ r. r ≡ true
-        → IsBorneOut (rule_at asked.old.declarations at) (store_at asked.old.commits at) known.new) }
+    ensures taken { TakesStep asked.old at known.old known.new (yes_step (marked_fact fact.entry)) result }
 {
     let proved = if known.yes_marked(fact.set, fact.user) {
         true
@@ -305,12 +301,7 @@ fn take_no<'t, 'a>(
     requires borne { IsBorneOut (rule_at asked.old.declarations at) (store_at asked.old.commits at) known.old }
     ensures asked { asked.new ≡ asked.old }
     ensures last { IsLast asked.old.declarations at last.new }
-    ensures accepted { IfOk result (λ r. r
-        ≡ is_accepted (rule_at asked.old.declarations at) (store_at asked.old.commits at) known.old
-        (no_step (map fact_value facts.now))) }
-    ensures known { OnOk result (known.new ≡ after_step known.old (no_step (map fact_value facts.now))) }
-    ensures borne { IfOk result (λ r. r ≡ true
-        → IsBorneOut (rule_at asked.old.declarations at) (store_at asked.old.commits at) known.new) }
+    ensures taken { TakesStep asked.old at known.old known.new (no_step (map fact_value facts.now)) result }
 {
     deny_each(known, fresh, facts)?;
     let are_all = are_disproved(asked, last, at, known, fresh)?;
@@ -330,12 +321,7 @@ fn take_step<'t, 'a>(
     requires borne { IsBorneOut (rule_at asked.old.declarations at) (store_at asked.old.commits at) known.old }
     ensures asked { asked.new ≡ asked.old }
     ensures last { AreLast asked.old.declarations at rules.new }
-    ensures accepted { IfOk result (λ r. r
-        ≡ is_accepted (rule_at asked.old.declarations at) (store_at asked.old.commits at) known.old
-        (borrowed_step step.now)) }
-    ensures known { OnOk result (known.new ≡ after_step known.old (borrowed_step step.now)) }
-    ensures borne { IfOk result (λ r. r ≡ true
-        → IsBorneOut (rule_at asked.old.declarations at) (store_at asked.old.commits at) known.new) }
+    ensures taken { TakesStep asked.old at known.old known.new (borrowed_step step.now) result }
 {
     match step {
         StepRef::Yes(fact) => take_yes(asked, &mut rules.given, at, known, MarkedFact::of(*fact)),

@@ -1,7 +1,4 @@
 use Rattle.std.proofs.Common.{rules, ◌≡◌, sym, ◌∙◌, false}
-use Rattle.std.specs.Str.{is_utf8}
-use Rattle.std.proofs.lemmas.Bool.{false_from_ne_true}
-use Rattle.std.proofs.lemmas.Str.{IsUtf8-from_is_utf8, is_utf8-from_IsUtf8}
 use Rattle.json_lines.specs.Json.{is_blank}
 use Rattle.evidence_check.specs.Causes.{is_memory}
 use Rattle.evidence_blocks.proofs.VerdictLines.{is_none, is_no_text, is_verdict, is_refusal}
@@ -18,11 +15,8 @@ returns-then-is_blank c =
 pub returns-in_default : goal.returns-in_default
 returns-in_default c =
     let blank : is_blank c.args.line.now ≡ false = sym c.is_blank.ensures ∙ c.if-is_blank.false in
-    let text : is_utf8 c.args.line.now ≡ false =
-    false_from_ne_true (is_utf8 c.args.line.now)
-    (λ is. c.in_default.ensures (IsUtf8-from_is_utf8 c.args.line.now is)) in
     record {
-      told = sym (is_no_text c.args.self.now.trace.now c.args.self.now.lines c.args.line.now blank text);
+      told = sym (is_no_text c.args.self.now.trace.now c.args.self.now.lines c.args.line.now blank c.in_default.ensures);
       suits = search rules;
     }
 
@@ -33,7 +27,7 @@ returns-in-Ok-judge_alone c =
     let judged = rw (c.requires, c.in-Ok.ensures.0) at c.in-Ok-judge_alone.ensures.verdict in
     record {
       told = sym (is_verdict c.args.self.now.trace.now c.args.self.now.lines line c.in-Ok-judge_alone.verdict blank
-          (is_utf8-from_IsUtf8 line c.in-Ok.ensures.1) judged);
+          c.in-Ok.ensures.1 judged);
       suits = search rules;
     }
 
@@ -44,4 +38,4 @@ returns-in-Err-2-clause-told c =
     let known : is_memory c.in-Err.cause ≡ false = search rules in
     let told = rw (c.requires, c.in-Ok.ensures.0) at c.in-Err.ensures.verdict in
     sym (is_refusal c.args.self.now.trace.now c.args.self.now.lines line c.in-Err.cause blank
-    (is_utf8-from_IsUtf8 line c.in-Ok.ensures.1) known told)
+    c.in-Ok.ensures.1 known told)

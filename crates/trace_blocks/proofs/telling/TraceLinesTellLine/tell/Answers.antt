@@ -1,7 +1,4 @@
 use Rattle.std.proofs.Common.{◌≡◌, ◌∙◌, ℕ, List, Ok, Err, false, sym, subst}
-use Rattle.std.specs.Str.{is_utf8}
-use Rattle.std.proofs.lemmas.Bool.{false_from_ne_true}
-use Rattle.std.proofs.lemmas.Str.{IsUtf8-from_is_utf8, is_utf8-from_IsUtf8}
 use Rattle.serde_json.specs.Read.{read}
 use Rattle.json_lines.specs.Json.{is_blank, of_json}
 use Rattle.trace_lines.specs.LineValues.{line_said}
@@ -16,15 +13,12 @@ returns-then-is_blank c =
 pub returns-in_default : goal.returns-in_default
 returns-in_default c =
     let blank : is_blank c.args.line.now ≡ false = sym c.is_blank.ensures ∙ c.if-is_blank.false in
-    let text : is_utf8 c.args.line.now ≡ false =
-    false_from_ne_true (is_utf8 c.args.line.now)
-    (λ is. c.in_default.ensures (IsUtf8-from_is_utf8 c.args.line.now is)) in
-    record { told = sym (is_no_text c.args.line.now blank text); suits = tt }
+    record { told = sym (is_no_text c.args.line.now blank c.in_default.ensures); suits = tt }
 
 pub returns-in-Ok-read-clause-told : goal.returns-in-Ok-read-clause-told
 returns-in-Ok-read-clause-told c =
     let blank : is_blank c.args.line.now ≡ false = sym c.is_blank.ensures ∙ c.if-is_blank.false in
-    sym (is_said c.args.line.now c.in-Ok-read.said blank (is_utf8-from_IsUtf8 c.args.line.now c.in-Ok.ensures.1)
+    sym (is_said c.args.line.now c.in-Ok-read.said blank c.in-Ok.ensures.1
     (subst (λ (x : List ℕ). of_json causes.NotJson (line_said x) (read x) ≡ Ok c.in-Ok-read.said) c.in-Ok.ensures.0
     c.in-Ok-read.ensures))
 
@@ -32,6 +26,6 @@ pub returns-in-Err-2-clause-told : goal.returns-in-Err-2-clause-told
 returns-in-Err-2-clause-told c =
     let blank : is_blank c.args.line.now ≡ false = sym c.is_blank.ensures ∙ c.if-is_blank.false in
     let refused = rw (sym c.is_memory.ensures ∙ c.if-is_memory.false) at c.in-Err.ensures in
-    sym (is_refused c.args.line.now c.in-Err.cause blank (is_utf8-from_IsUtf8 c.args.line.now c.in-Ok.ensures.1)
+    sym (is_refused c.args.line.now c.in-Err.cause blank c.in-Ok.ensures.1
     (subst (λ (x : List ℕ). of_json causes.NotJson (line_said x) (read x) ≡ Err c.in-Err.cause) c.in-Ok.ensures.0
     refused))
