@@ -1,5 +1,5 @@
 -- What a status tells of the answer of a call.
-use Rattle.std.proofs.Common.{◌≡◌, ◌≢◌, inl, inr, ℕ, ◌≤◌, Result, Ok, Err, refl, arith, subst}
+use Rattle.std.proofs.Common.{◌≡◌, ◌≢◌, ◌↔◌, inl, inr, ℕ, ◌≤◌, Result, Ok, Err, refl, arith, subst}
 use Rattle.std.specs.Prelude.{IfOk}
 use Rattle.trace_lines.specs.Values.{TraceValue}
 use Rattle.trace_lines.specs.Results.{FailsBy}
@@ -116,7 +116,7 @@ ends_at_limits (Err e) s h three =
     let is : e ≡ faults.Limits = three_is_limits e s h.1 three in
     cc (is)
 
-pub limits_end : {V : Type 0} (answer : Result V AuditFault) (s : ℕ) → Ends answer s → answer ≡ Err faults.Limits
+limits_end : {V : Type 0} (answer : Result V AuditFault) (s : ℕ) → Ends answer s → answer ≡ Err faults.Limits
     → s ≡ 3
 limits_end (Ok v) s one is = absurd (cc (is))
 limits_end (Err (faults.Trace f)) s h is = absurd (cc (is))
@@ -126,6 +126,15 @@ limits_end (Err faults.OutOfMemory) s h is = absurd (cc (is))
 limits_end (Err faults.Limits) s h is = h.1
 limits_end (Err faults.Joined) s h is = absurd (cc (is))
 limits_end (Err faults.Input) s h is = absurd (cc (is))
+
+-- an audit has status 3 where it is asked beyond its limits, and nowhere else
+pub three_beyond_limits : {L : Type 0} (answer : Result Verdict AuditFault) (s : ℕ) → IsStatusOf answer s
+    → answer ≡ Err faults.Limits ↔ L → s ≡ 3 ↔ L
+three_beyond_limits answer s told limits =
+    let ends = verdict_ends answer s told in (
+      λ three. limits.0 (ends_at_limits answer s ends three),
+      λ beyond. limits_end answer s ends (limits.1 beyond),
+    )
 
 -- status 0 says that there is an answer
 pub of_done : {V : Type 0} (answer : Result V AuditFault) (s : ℕ) (P : V → Type 0) → IsStatusDone answer s → s ≡ 0

@@ -1,7 +1,6 @@
 -- What a line of a trace says, by its text.
 use Rattle.std.proofs.Common.{◌≡◌, ℕ, true, false, List, Option, None, Some, Result, Ok, Err, refl, ap, ◌∙◌}
-use Rattle.std.specs.Prelude.{IsUtf8}
-use Rattle.std.specs.Str.{is_utf8}
+use Rattle.std.specs.Str.{IsUtf8, is_utf8}
 use Rattle.std.proofs.lemmas.Bool.{false_from_ne_true}
 use Rattle.std.proofs.lemmas.Str.{IsUtf8-from_is_utf8, is_utf8-from_IsUtf8}
 use Rattle.serde_json.specs.Data.{Data}

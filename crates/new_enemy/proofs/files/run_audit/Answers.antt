@@ -1,7 +1,7 @@
 use Rattle.devices.specs.Devices.{counted_inner}
 use Rattle.audit.specs.Devices.{writes}
 use Rattle.new_enemy.proofs.FileRuns.{runs_audit}
-use Rattle.new_enemy.proofs.Statuses.{ends_at_limits, limits_end, verdict_ends}
+use Rattle.new_enemy.proofs.Statuses.{three_beyond_limits}
 use Rattle.new_enemy.proofs.files.run_audit.Goals as goal
 
 pub returns-clause-runs : goal.returns-clause-runs
@@ -17,8 +17,4 @@ returns-clause-runs g c =
 
 pub returns-clause-limits : goal.returns-clause-limits
 returns-clause-limits g c =
-    let answer = c.audit_sharing-answer in
-    let ends = verdict_ends answer.result c.status_with.result c.status_with.ensures in (
-      λ three. answer.ensures.limits.0 (ends_at_limits answer.result c.status_with.result ends three),
-      λ none. limits_end answer.result c.status_with.result ends (answer.ensures.limits.1 none),
-    )
+    three_beyond_limits c.audit_sharing-answer.result c.status_with.result c.status_with.ensures c.audit_sharing-answer.ensures.limits

@@ -25,12 +25,4 @@ returns-clause-runs g c =
     answer.new.out) c.status_told.result
     (λ a. TellsHistory a c.args.tuple.now) (λ a. BreaksHistory a c.args.tuple.now) answer.result (codes "history")
     (ran.Told answer.new.trace) (λ is. absurd (cc (is))) refl (λ P p. p) (λ none. none) refl
-    (λ zero. (
-      c.args.tuple.now,
-      told_of_trace (λ x. g.F.Read.remaining (counted_inner x)) c.new-trace.result answer.new.trace
-          (c.new-trace.ensures.moved, c.new-trace.ensures.stops, c.new-trace.ensures.failures)
-          (writes g.W.Sink.taken g.W.Sink.flushes g.W.Sink.failures g.W.Sink.idle g.W.Write.contents c.args.out.now
-          answer.new.out) c.status_told.result
-          (λ a. TellsHistory a c.args.tuple.now) (λ a. BreaksHistory a c.args.tuple.now) answer.result
-          c.status_told.ensures answer.ensures.told zero,
-    )) c.status_told.ensures answer.ensures.kinds answer.ensures.told
+    (λ zero. (c.args.tuple.now, returns-clause-told g c zero)) c.status_told.ensures answer.ensures.kinds answer.ensures.told
