@@ -135,8 +135,16 @@ entry_of kind n before d = do
   version ← needed (version_at kind reply d)
   goal ← goal_of text
   token ← token_of zookie
-  Ok (record { kind = kind; line = n; goal = goal; snapshot = snapshot; reply = reply; zookie = token;
-  version = version; before = before })
+  Ok (record {
+    kind = kind;
+    line = n;
+    goal = goal;
+    snapshot = snapshot;
+    reply = reply;
+    zookie = token;
+    version = version;
+    before = before;
+  })
 
 -- an object's version is issued once
 abbrev pub recorded : TraceValue → EntryValue → Result TraceValue Cause
