@@ -27,6 +27,7 @@ use Rattle.findings.specs.Headline.{IsRightAndFresh, IsTraceRightAndFresh}
 use Rattle.findings.specs.WrongReplies.{NamesOnlyWrongReplies}
 use Rattle.audit.specs.Audit.{Audits, BreaksOffAt, BlamesOnly, RefusesTrace, RefusesEvidence, RefusesEvidenceFor}
 use Rattle.audit.specs.Devices.{Reader, Reading, Writer, Writing, OfWhole, OfInput, OfBytes, GivesFew, GivesNext, ReaderFailed, ReaderNeverFailed, FailsWriting}
+use Rattle.audit.specs.Faults.{TellsTraceFault}
 use Rattle.audit.specs.Joined.{OfParts, OfBothParts, HasNoParts, AuditedJoined}
 use Rattle.audit.specs.JoinedParts.{IsRead, of_input, SayBoth, PartsRead, FrontRead, BehindRead}
 use Rattle.audit.specs.Kinds.{IsOneOf}
@@ -220,9 +221,8 @@ module _ (old mid : Reader) (read : Result TraceValue TraceFault) (left : Option
     pub front_refused : (e : AuditFault)
         → IsTaken mid.given new.given rest.at_hand (λ came. length came ≤ rest.room)
         → new.ends ≡ mid.ends + ends_left rest.ended → (rest.ended ≡ true → new.given ≡ mid.given)
-        → ReaderNeverFailed (between mid new) → ((f : TraceFault) → e ≡ faults.Trace f → f ≡ fault)
-        → IsOneOf (kind.trace ∷ kind.memory ∷ []) e → FrontRead (between old new) (Err e)
-    front_refused e taken ends over still same kinds =
+        → ReaderNeverFailed (between mid new) → TellsTraceFault fault e → FrontRead (between old new) (Err e)
+    front_refused e taken ends over still told =
         let by : fault.cause ≢ causes.Read =
         subst (λ (r : Result TraceValue TraceFault). IfErr r (λ f. f.cause ≢ causes.Read)) refused unread in
         let all =
@@ -234,8 +234,8 @@ module _ (old mid : Reader) (read : Result TraceValue TraceFault) (left : Option
           ended = tt;
           trace_refused = λ f is.
               subst (λ (x : TraceFault). OfBothParts (between old new) (λ a b. RefusesTrace a x))
-              (sym (same f (cc (is)))) all;
-          joined = λ is. never_answered (kind.trace ∷ kind.memory ∷ []) e faults.Joined refl kinds is;
+              (sym (told.same f (cc (is)))) all;
+          joined = λ is. never_answered (kind.trace ∷ kind.memory ∷ []) e faults.Joined refl told.kinds is;
           most =
               most_behind old mid new rest (λ a. GivesTrace (Err fault) (trace_of true a))
               (front_by (Err fault) refused) most;
@@ -243,13 +243,13 @@ module _ (old mid : Reader) (read : Result TraceValue TraceFault) (left : Option
           devices =
               devices_of_reading e _ ⊥ ⊥ ⊥
               (one_of-more (kind.trace ∷ kind.memory ∷ []) (kind.trace ∷ kind.evidence ∷ kind.memory ∷ []) refl e
-              kinds)
-              (λ f is read. by (subst (λ (x : TraceFault). x.cause ≡ causes.Read) (same f is) read))
-              (λ f is read. never_kind (kind.trace ∷ kind.memory ∷ []) e (faults.Evidence f) refl kinds is);
+              told.kinds)
+              (λ f is read. by (subst (λ (x : TraceFault). x.cause ≡ causes.Read) (told.same f is) read))
+              (λ f is read. never_kind (kind.trace ∷ kind.memory ∷ []) e (faults.Evidence f) refl told.kinds is);
           kept = λ not. still ∙ kept;
           kinds =
               one_of-more (kind.trace ∷ kind.memory ∷ [])
-              (kind.trace ∷ kind.memory ∷ kind.joined ∷ kind.input ∷ []) refl e kinds;
+              (kind.trace ∷ kind.memory ∷ kind.joined ∷ kind.input ∷ []) refl e told.kinds;
         }
 
     pub front_passed : (stop : InputFault) (e : AuditFault) → e ≡ of_input stop
@@ -290,19 +290,6 @@ module _ (t : TraceValue) (rest : RestValue) (r : Reading)
       })
 
 -- ---- both parts
-
--- what was read, by what the answer is
-pub front_are : {r : Reading} {x y : Result (TraceValue × RestValue) AuditFault} → x ≡ y → FrontRead r x → FrontRead r y
-front_are {r} is read = subst (λ (z : Result (TraceValue × RestValue) AuditFault). FrontRead r z) is read
-
-pub behind_are : {t : TraceValue} {rest : RestValue} {r : Reading} {x y : Result (Vec Judged Global) AuditFault}
-    → x ≡ y → BehindRead t rest r x → BehindRead t rest r y
-behind_are {t} {rest} {r} is read =
-    subst (λ (z : Result (Vec Judged Global) AuditFault). BehindRead t rest r z) is read
-
-pub parts_are : {r : Reading} {x y : Result (TraceValue × Vec Judged Global) AuditFault} → x ≡ y → PartsRead r x
-    → PartsRead r y
-parts_are {r} is read = subst (λ (z : Result (TraceValue × Vec Judged Global) AuditFault). PartsRead r z) is read
 
 pub parts_without_front : (r : Reading) (e : AuditFault) → FrontRead r (Err e) → PartsRead r (Err e)
 parts_without_front r e read =
