@@ -19,6 +19,8 @@ FULL = {"fullyConsistent": True}
 class Client:
     def __init__(self, port):
         self.channel = grpc.insecure_channel("127.0.0.1:%s" % port, [("grpc.use_local_subchannel_pool", 1)])
+        # of the client's last write
+        self.seen = ()
 
     def ask(self, name, body, *metadata):
         call = self.channel.unary_unary(PERMISSIONS + name, encoder(name + "Request"), decoder(name + "Response"))
@@ -28,11 +30,12 @@ class Client:
         return list(self.channel.unary_stream(PERMISSIONS + name, encoder(name + "Request"), decoder(name + "Response"))(body, timeout=20))
 
     def write(self, operation, *parts):
-        return self.ask("WriteRelationships", {"updates": [{"operation": "OPERATION_" + operation, "relationship": relationship_of(one)}
-                                                          for one in parts]})
+        answer, _ = self.ask("WriteRelationships", {"updates": [{"operation": "OPERATION_" + operation, "relationship": relationship_of(one)}
+                                                                for one in parts]})
+        self.seen = (("x-seen", answer["writtenAt"]["token"]),)
 
     def check(self, user, permission, thing, consistency, *metadata):
-        return self.ask("CheckPermission", {"consistency": consistency, **asked(user, permission, thing)}, *metadata)[0]
+        return self.ask("CheckPermission", {"consistency": consistency, **asked(user, permission, thing)}, *metadata, *self.seen)[0]
 
 
 def asked(user, permission, thing):

@@ -2,7 +2,7 @@
 [--postgres].
 
 Of the share of checks, one is answered wrongly (`wrong`), at a snapshot before the one that its token demands (`stale`), or though it
-asks for the newest state, at one before the last dozen of writes (`old`).
+asks for the newest state, at one before what its client was told of by then (`old`): a token that the header X-Seen has.
 """
 import base64
 import sys
@@ -32,7 +32,7 @@ RULES = {"user": {}, "group": {"member": [("user", "")]},
 # The schema without the banned, which tests write later.
 OPEN = SCHEMA.replace("(viewer + owner) - banned", "viewer + owner")
 OPEN_RULES = {**RULES, "document": {**RULES["document"], "view": ("+", [("name", "viewer"), ("name", "owner")])}}
-# So many writes are surely behind whatever was under way.
+# So many writes are surely behind the base state of a log.
 DOZEN = 12
 STEP = 1000
 
@@ -52,9 +52,7 @@ def varint(number):
 
 
 class Numbers:
-    """Tokens whose revisions are numbers. So many writes are surely known when a check begins, by their answers."""
-
-    behind = DOZEN
+    """Tokens whose revisions are numbers."""
 
     def token_of(self, revision, is_write=False):
         return wrapped(str(revision).encode())
@@ -65,9 +63,6 @@ class Numbers:
 
 class Snapshots(Numbers):
     """Tokens as of PostgreSQL: what a transaction saw, and which one it was where it wrote. Others come and go in between."""
-
-    # Here by the changes alone, which may come a little later.
-    behind = 4 * DOZEN
 
     def token_of(self, revision, is_write=False):
         own = 1000 + (revision - FIRST) // STEP * EACH
@@ -179,22 +174,18 @@ class SpiceDb:
 
     # Checks
 
-    def looked_at(self, consistency, goal):
-        """The commit at which a check is evaluated."""
+    def looked_at(self, consistency, goal, seen):
+        """The commit at which a check is evaluated, whose client has seen a token."""
         with self.changed:
             commits = list(self.commits)
-        demanded = consistency.get("atLeastAsFresh")
-        if consistency.get("fullyConsistent"):
-            if len(commits) > self.tokens.behind + 2 * DOZEN and self.faults.strikes():
-                self.faults.told("old", goal)
-                return commits[-self.tokens.behind]
-            return commits[-1]
+        is_full = consistency.get("fullyConsistent")
+        demanded = seen if is_full else consistency.get("atLeastAsFresh")
         least = self.tokens.revision_of(demanded) if demanded else commits[-1][0] - 3 * STEP
         before = [one for one in commits[DOZEN:] if one[0] < least]
         if demanded and before and self.faults.strikes():
-            self.faults.told("stale", goal)
+            self.faults.told("old" if is_full else "stale", goal)
             return before[-1]
-        return self.random.choice([one for one in commits[-4:] if one[0] >= least] or commits[-1:])
+        return commits[-1] if is_full else self.random.choice([one for one in commits[-4:] if one[0] >= least] or commits[-1:])
 
     def decided(self, state, thing, permission, subject):
         service = Service(self.rules)
@@ -209,7 +200,8 @@ class SpiceDb:
         jitter(self.random)
         goal = [body["resource"]["objectId"], body["permission"], body["subject"]["object"]["objectId"]]
         told = self.faults.file and len(goal)
-        revision, state, _ = self.looked_at(body.get("consistency", {}), goal)
+        seen = handler.headers.get("x-seen")
+        revision, state, _ = self.looked_at(body.get("consistency", {}), goal, seen and {"token": seen})
         allowed = self.decided(state, body["resource"], body["permission"], body["subject"])
         if told and revision == self.commits[-1][0] and self.faults.strikes():
             self.faults.told("wrong", goal)

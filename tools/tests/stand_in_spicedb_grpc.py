@@ -20,7 +20,10 @@ CALLS = {"PermissionsService/CheckPermission": ("do_permissions_check", False),
 
 
 class Answer:
-    """Takes what the stand-in answers."""
+    """Takes what the stand-in answers, and has what it is asked with."""
+
+    def __init__(self, headers):
+        self.headers = headers
 
     def answer(self, value, status=200):
         self.value = value
@@ -48,7 +51,7 @@ class Handler(grpc.GenericRpcHandler):
                 context.set_trailing_metadata((("x-why", "asked for"),))
                 context.abort(grpc.StatusCode.FAILED_PRECONDITION, "refused as asked")
             context.send_initial_metadata((("x-first", "1"),))
-            answer = Answer()
+            answer = Answer(metadata)
             getattr(self.service_, call)(answer, body)
             return answer.value
         make = grpc.unary_stream_rpc_method_handler if is_stream else grpc.unary_unary_rpc_method_handler

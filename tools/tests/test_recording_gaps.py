@@ -247,6 +247,7 @@ class Behind(SpiceDb):
         _, answer = self.check(client, "u0", "edit", "d0", {"fullyConsistent": True}, X_Content_Save="first")
         self.wait_for(lambda: self.of_kind("gap"))
         client.ask("/v1/control/go_on", {})
+        self.wait_for(lambda: len(self.of_kind("write")) == 3)
         self.check(client, "u1", "view", "d0", {"atLeastAsFresh": answer["checkedAt"]}, X_Content_Version="first")
         client.close()
         self.wait_for(lambda: self.of_kind("check"))
@@ -319,7 +320,10 @@ class Chain(Failing):
     def test_files_of_a_log(self):
         self.start_service()
         recorder = self.start_recorder("--file-bytes", "8000")
-        self.run_clients(4, 60, self.work)
+        for turn in range(2):
+            # More than fits into one file, however much of it is written at once.
+            self.run_clients(4, 30, lambda client, random, number, step, turn=turn: self.work(client, random, number + 4 * turn, step))
+            self.wait_for(lambda turn=turn: len(self.files()) > turn + 1)
         self.end(recorder)
         self.assertNotIn("is not closed", self.import_log())
         files = self.files()

@@ -1,10 +1,12 @@
 """The order of commits on PostgreSQL, as tools/record has it while they come."""
+import json
 from random import Random
 
 from new_enemy_tools.importing.reading import Bad
 from new_enemy_tools.importing.zedtokens import Snapshot
 from new_enemy_tools.recording.transactions import REMEMBERED, Transactions
 from tests.recorded import Client
+from tests.stand_in_spicedb import DOZEN
 from tests.support import Case
 from tests.test_recording_spicedb import FULL, SpiceDb
 
@@ -72,6 +74,33 @@ class Order(Case):
                 else:
                     self.assertRaises(Bad, made.number, snapshot)
         self.assertGreater(min(told.values()), 500)
+
+
+class Late(SpiceDb):
+    def test_what_answers_had_shown_while_the_changes_stand_still(self):
+        """A check stands behind the answers before it, and so behind the content that it shows."""
+        self.start_service("1", "planted", "--postgres")
+        recorder = self.start_recorder()
+        client = Client(self.port)
+        self.prepare(client)
+        for turn in range(2 * DOZEN):
+            self.write(client, ("TOUCH", ("document:d%d" % turn, "viewer", "user:u2", "")))
+        self.check(client, "u2", "view", "d1", FULL)
+        self.wait_for(lambda: self.of_kind("check"))
+        client.ask("/v1/control/pause", {})
+        _, answer = self.write(client, ("TOUCH", ("document:d2", "viewer", "user:u3", "")))
+        seen = {"X_Seen": answer["writtenAt"]["token"]}
+        self.check(client, "u0", "edit", "d0", FULL, X_Content_Save="old", **seen)
+        self.check(client, "u1", "view", "d0", FULL, X_Content_Version="old", **seen)
+        self.check(client, "u1", "view", "d0", {"atLeastAsFresh": answer["writtenAt"]}, X_Content_Version="old")
+        client.ask("/v1/control/go_on", {})
+        client.close()
+        self.wait_for(lambda: len(self.of_kind("check")) == 3)
+        self.end(recorder)
+        self.assertEqual([json.loads(row)[0] for row in self.get("planted").splitlines()], ["wrong", "old", "old", "stale"])
+        self.import_log()
+        found = [(self.row_at(place)["event"], *kinds) for place, kinds in self.found().items()]
+        self.assertEqual(found, [("check", "F10 wrong reply"), ("content", "F3 not latest"), ("check", "F1 stale"), ("check", "F1 stale")])
 
 
 class Again(SpiceDb):

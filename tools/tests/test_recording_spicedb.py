@@ -41,16 +41,23 @@ class Loaded(SpiceDb):
     def setUp(self):
         super().setUp()
         self.versions = {}
+        # what each client was told of its last write
+        self.seen = {}
 
     def work(self, client, random, number, turn):
         form = random.random()
         user, thing = random.choice(USERS), random.choice(DOCUMENTS)
+        seen = self.seen.get(number, {})
+        if number == 0 and turn % 25 in (0, 20):
+            # For most of the time nothing but the answers says what is known.
+            client.ask("/v1/control/" + ("go_on" if turn % 25 else "pause"), {})
         if form < 0.2:
             relation = random.choice(["viewer", "viewer", "banned"])
-            self.write(client, (random.choice(["TOUCH", "DELETE"]), ("document:" + thing, relation, "user:" + user, "")))
+            _, answer = self.write(client, (random.choice(["TOUCH", "DELETE"]), ("document:" + thing, relation, "user:" + user, "")))
+            self.seen[number] = {"X_Seen": answer["writtenAt"]["token"]}
         elif form < 0.3:
             version = "v%d.%d" % (number, turn)
-            status, answer = self.check(client, USERS[0], "edit", thing, FULL, X_Content_Save=version)
+            status, answer = self.check(client, USERS[0], "edit", thing, FULL, X_Content_Save=version, **seen)
             if answer["permissionship"] == "PERMISSIONSHIP_HAS_PERMISSION":
                 self.versions[thing] = version, answer["checkedAt"]["token"]
         elif form < 0.6 and thing in self.versions:
@@ -62,7 +69,7 @@ class Loaded(SpiceDb):
             client.ask("/v1/permissions/resources", {"consistency": FULL, "resourceObjectType": "document", "permission": "view",
                                                      "subject": {"object": {"objectType": "user", "objectId": user}}})
         else:
-            self.check(client, user, "view", thing, random.choice([FULL, {"minimizeLatency": True}]))
+            self.check(client, user, "view", thing, random.choice([FULL, {"minimizeLatency": True}]), **seen)
 
     def run_load(self, *words):
         self.start_service(*words)
@@ -71,8 +78,16 @@ class Loaded(SpiceDb):
         client.close()
         recorder = self.start_recorder()
         self.run_clients(CLIENTS, REQUESTS, self.work)
+        self.wait_for_changes()
         self.end(recorder)
         return self.import_log()
+
+    def wait_for_changes(self):
+        """Till the log has all changes, and so all checks, which wait for them; a recorder that ends does so for a little."""
+        client = Client(self.port)
+        self.write(client, ("TOUCH", ("document:last", "viewer", "user:" + USERS[0], "")))
+        client.close()
+        self.wait_for(lambda: any("last" in self.get(name).split('"') for name in self.files()))
 
 
 class Load(Loaded):

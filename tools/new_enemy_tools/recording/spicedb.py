@@ -212,14 +212,22 @@ class Feed:
 
 
 class Waiting(NamedTuple):
-    """A call on PostgreSQL, which waits for the commits that it saw, or should have seen."""
+    """A call on PostgreSQL, which waits for the commits that it saw, or should have seen; `begun` is when, by the clock of all processes."""
 
     message: Ended
     request: Any
     answers: list[Answer]
-    known: int
+    begun: int
     snapshot: Snapshot
     demanded: Optional[Snapshot]
+
+
+class Answered(NamedTuple):
+    """What an answer on PostgreSQL saw. It is known since then, and has a number when the changes have come to it."""
+
+    at: int
+    clock: int
+    snapshot: Snapshot
 
 
 class SpiceDb:
@@ -234,6 +242,7 @@ class SpiceDb:
         # on PostgreSQL
         self.transactions: Optional[Transactions] = None
         self.pending: list[Waiting] = []
+        self.answered: list[Answered] = []
 
     def feed(self, left: Optional[Left], put: Callable[[Any], None]) -> None:
         self.reader.run(left, put)
@@ -286,6 +295,9 @@ class SpiceDb:
         revision = self._revision(message)
         if not message.is_known:
             self._put_watched(message, revision, keeper)
+        answered, self.answered = self.answered, []
+        for told in answered:
+            self._learn(told)
         waiting, self.pending = self.pending, []
         for one in waiting:
             keeper.tried(one.message, partial(self._wait, one, keeper))
@@ -335,6 +347,7 @@ class SpiceDb:
     def late(self, before: int) -> list[Ended]:
         found = [one.message for one in self.pending if one.message.at < before]
         self.pending = [one for one in self.pending if one.message.at >= before]
+        self.answered = [one for one in self.answered if one.at >= before]
         return found
 
     def end(self, message: Ended, asked: Asked, keeper: Keeper) -> None:
@@ -344,12 +357,14 @@ class SpiceDb:
             if revision.number is not None:
                 insort(self.commits, revision.number)
                 self.history.add(message.clock, revision.number)
+            elif revision.snapshot is not None:
+                self._learn(Answered(message.at, message.clock, revision.snapshot))
             return
         if message.call == "stream":
             response = [one for one in response if get(one, "error") is None]
-        self.decided(message, request, response, asked.known, keeper)
+        self.decided(message, request, response, asked, keeper)
 
-    def decided(self, message: Ended, request: Any, response: Any, known: int, keeper: Keeper) -> None:
+    def decided(self, message: Ended, request: Any, response: Any, asked: Asked, keeper: Keeper) -> None:
         """Puts the decisions of a call behind all that it saw, and behind all that was surely visible when it began."""
         answers = list(answers_of(request, response, Refusals())) if response else []
         if not answers:
@@ -361,16 +376,25 @@ class SpiceDb:
         if revision.snapshot is not None:
             token = _demand(request) if message.save is None else message.token
             demanded = None if token is None else revision_of(token).snapshot
-            self._wait(Waiting(message, request, answers, known, revision.snapshot, demanded), keeper)
+            self._learn(Answered(message.at, message.clock, revision.snapshot))
+            self._wait(Waiting(message, request, answers, asked.clock, revision.snapshot, demanded), keeper)
             return
         self.history.add(message.clock, revision.number or 0)
-        self._place(message, request, answers, known, revision.number or 0, keeper)
+        self._place(message, request, answers, asked.known, revision.number or 0, keeper)
+
+    def _learn(self, answered: Answered) -> None:
+        """What an answer on PostgreSQL saw is known, when its number is."""
+        if self.transactions is not None and self.transactions.reaches(answered.snapshot):
+            self.history.add(answered.clock, self.transactions.demanded(answered.snapshot))
+        else:
+            self.answered.append(answered)
 
     def _wait(self, one: Waiting, keeper: Keeper) -> None:
-        """Places a call on PostgreSQL, or lets it wait."""
+        """Places a call on PostgreSQL, or lets it wait; also for the numbers of all answers before it, which come in their order."""
         assert self.transactions is not None
-        if self.transactions.reaches(one.snapshot) and (one.demanded is None or self.transactions.reaches(one.demanded)):
-            self._place(*one[:4], self.transactions.number(one.snapshot), keeper)
+        is_known = not self.answered or self.answered[0].clock > one.begun
+        if is_known and self.transactions.reaches(one.snapshot) and (one.demanded is None or self.transactions.reaches(one.demanded)):
+            self._place(*one[:3], self.history.at(one.begun), self.transactions.number(one.snapshot), keeper)
         else:
             self.pending.append(one)
 
