@@ -41,6 +41,7 @@ impl From<EvidenceFault> for AuditFault {
 }
 
 /// The trace of a reader.
+#[tactic(auto, using(crate::proofs::TracesRead::trace_refused))]
 pub(crate) fn trace_from<R: Source>(alloc: Global, reader: &mut R) -> Result<Trace, AuditFault>
     ensures { TraceRead (reads R.given R.ends R.failures R.remaining reader.old reader.new) result }
 {
@@ -48,6 +49,7 @@ pub(crate) fn trace_from<R: Source>(alloc: Global, reader: &mut R) -> Result<Tra
 }
 
 /// The trace of a reader, by so many workers, of which several read a block of lines each.
+#[tactic(auto, using(crate::proofs::TracesRead::trace_refused))]
 pub(crate) fn trace_by<R: Source, T: Threads + Sync>(
     rt: &T,
     alloc: Global,
@@ -64,6 +66,7 @@ pub(crate) fn trace_by<R: Source, T: Threads + Sync>(
 }
 
 /// How the evidence of a reader judges each entry of a trace, each record as it is read.
+#[tactic(auto, using(crate::proofs::Answering::judged_stopped))]
 pub(crate) fn judgements_from<R: Source>(
     alloc: Global,
     reader: &mut R,
@@ -76,6 +79,7 @@ pub(crate) fn judgements_from<R: Source>(
 }
 
 /// How the evidence of a reader judges each entry of a trace, by so many workers that read and judge blocks of records.
+#[tactic(auto, using(crate::proofs::Answering::judged_stopped))]
 pub(crate) fn judgements_by<R: Source, T: Threads + Sync>(
     rt: &T,
     alloc: Global,

@@ -27,7 +27,7 @@ returns g c =
     let read = c.in_ok-trace.ensures in
     let t = c.in_ok-trace.trace in
     joined_told _ _ t c.in_ok-trace.judgements read c.right_and_fresh_without_findings.ensures c.tell_findings.result
-    (as_report t read.given.0 c.deref-found.result.now c.len-entries.result _ c.tell_findings.result
-    (c.deref-found.ensures.value ∙ c.in_ok-found.ensures read.given.0
+    (as_report t read.given.0 c.deref-2.result.now c.len-entries.result _ c.tell_findings.result
+    (c.deref-2.ensures.value ∙ c.in_ok-found.ensures read.given.0
     (subst (λ (js : List Judged). AreJudged t read.given.0 js) (sym c.deref.ensures.value) read.given.1))
     c.len-entries.ensures.count c.tell_findings.ensures)

@@ -25,19 +25,19 @@ returns-in_default g c =
     c.read_trace_front.new.reader) (c.in_ok-trace.ensures.none c.in_default.is) c.read_trace_front.ensures.most
     c.read_trace_front.ensures.known (c.in_ok-trace.ensures.kept (λ is. absurd (cc (is))))
 
-pub returns-in-Ok-trace : goal.returns-in-Ok-trace
-returns-in-Ok-trace g c =
+pub returns-in-Ok : goal.returns-in-Ok
+returns-in-Ok g c =
     let at = reader g.R.Source.given g.R.Source.ends g.R.Source.failures g.R.Read.remaining in
-    front_whole (at c.args.input.now) (at c.read_trace_front.new.reader) c.in_ok-trace.trace c.in_ok-trace.rest
+    front_whole (at c.args.input.now) (at c.read_trace_front.new.reader) c.in_ok-trace.field-0.trace c.in_ok-trace.field-0.rest
     c.in-Some.rest c.in-Some.is c.in_ok-trace.ensures.front c.in_ok-trace.ensures.ended c.read_trace_front.ensures.known
-    (c.in_ok-trace.ensures.kept (λ is. absurd (cc (is)))) c.in-Ok-trace.trace c.in-Ok-trace.is c.read_trace_front.ensures.most
+    (c.in_ok-trace.ensures.kept (λ is. absurd (cc (is)))) c.in-Ok.trace c.in-Ok.is c.read_trace_front.ensures.most
 
 pub returns-in-Ok-pass : goal.returns-in-Ok-pass
 returns-in-Ok-pass g c =
     let at = reader g.R.Source.given g.R.Source.ends g.R.Source.failures g.R.Read.remaining in
-    front_refused (at c.args.input.now) (at c.read_trace_front.new.reader) c.in_ok-trace.trace c.in_ok-trace.rest
+    front_refused (at c.args.input.now) (at c.read_trace_front.new.reader) c.in_ok-trace.field-0.trace c.in_ok-trace.field-0.rest
     c.in-Some.rest c.in-Some.is c.in_ok-trace.ensures.front c.in_ok-trace.ensures.ended c.read_trace_front.ensures.known
-    (c.in_ok-trace.ensures.kept (λ is. absurd (cc (is)))) c.in-Err-trace.fault c.in-Err-trace.is c.in_ok-trace.ensures.refused
+    (c.in_ok-trace.ensures.kept (λ is. absurd (cc (is)))) c.in-Err.fault c.in-Err.is c.in_ok-trace.ensures.refused
     (at c.pass.new.reader) c.pass.ensures.read.asked.most c.pass.ensures.read.asked.known c.from.result
     c.in-Ok-pass.ensures.taken c.in-Ok-pass.ensures.read.ended c.pass.ensures.read.over
     (c.in-Ok-pass.ensures.read.asked.kept (λ is. absurd (cc (is)))) c.from.ensures
@@ -46,9 +46,9 @@ pub returns-in-Err-pass : goal.returns-in-Err-pass
 returns-in-Err-pass g c =
     let at = reader g.R.Source.given g.R.Source.ends g.R.Source.failures g.R.Read.remaining in
     let read = c.pass.ensures.read.asked in
-    front_passed (at c.args.input.now) (at c.read_trace_front.new.reader) c.in_ok-trace.trace c.in_ok-trace.rest
+    front_passed (at c.args.input.now) (at c.read_trace_front.new.reader) c.in_ok-trace.field-0.trace c.in_ok-trace.field-0.rest
     c.in-Some.rest c.in-Some.is c.in_ok-trace.ensures.front c.in_ok-trace.ensures.ended c.read_trace_front.ensures.known
-    (c.in_ok-trace.ensures.kept (λ is. absurd (cc (is)))) c.in-Err-trace.fault c.in-Err-trace.is c.in_ok-trace.ensures.refused
+    (c.in_ok-trace.ensures.kept (λ is. absurd (cc (is)))) c.in-Err.fault c.in-Err.is c.in_ok-trace.ensures.refused
     (at c.pass.new.reader) read.most read.known c.in-Err-pass.stop c.from-in-Err-pass.result
     c.from-in-Err-pass.ensures (λ is. read.long (c.in-Err-pass.is ∙ ap (λ (x : InputFault). Err x) is))
     (λ is. read.failed (c.in-Err-pass.is ∙ ap (λ (x : InputFault). Err x) is))

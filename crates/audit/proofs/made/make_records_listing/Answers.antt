@@ -6,9 +6,8 @@ use Rattle.audit.proofs.made.make_records_listing.Goals as goal
 
 pub returns-in_err-trace-clause-told : goal.returns-in_err-trace-clause-told
 returns-in_err-trace-clause-told g c =
-    let tells = λ a old new v. MakesRecords a old new v.items in
-    handed_on (TellsOfTrace tells BreaksMaking _ _) _ c.from_residual.ensures.1
-    (trace_not_read tells BreaksMaking _ _ _ c.in_err-trace.ensures)
+    handed_on (TellsOfTrace (λ a old new v. MakesRecords a old new v.items) BreaksMaking _ _) _
+    c.from_residual.ensures.1 (trace_not_read _ _ _ _ _ c.in_err-trace.ensures)
 
 pub returns-clause-told : goal.returns-clause-told
 returns-clause-told g c =

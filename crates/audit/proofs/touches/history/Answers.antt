@@ -8,10 +8,8 @@ use Rattle.audit.proofs.touches.history.Goals as goal
 
 pub returns-in_err-trace-clause-told : goal.returns-in_err-trace-clause-told
 returns-in_err-trace-clause-told g c =
-    let tells = λ a. TellsHistory a c.args.tuple.now in
-    let breaks = λ a. BreaksHistory a c.args.tuple.now in
-    handed_on (TellsOfTrace tells breaks _ _) _ c.from_residual.ensures.1
-    (trace_not_read tells breaks _ _ _ c.in_err-trace.ensures)
+    handed_on (TellsOfTrace (λ a. TellsHistory a c.args.tuple.now) (λ a. BreaksHistory a c.args.tuple.now) _ _) _
+    c.from_residual.ensures.1 (trace_not_read _ _ _ _ _ c.in_err-trace.ensures)
 
 pub returns-clause-told : goal.returns-clause-told
 returns-clause-told g c =
