@@ -15,11 +15,8 @@ use Rattle.trace_lines.specs.Traces.{trace_of}
 use Rattle.trace_lines.specs.Values.{TraceValue}
 use Rattle.trace_lines.specs.declared.cause.Cause.TheVariants as causes
 use Rattle.trace_lines.specs.declared.cause.TraceFault.{TraceFault}
-use Rattle.evidence_check.specs.Judging.{GivesJudged}
 use Rattle.evidence_check.specs.Reading.{evidence_of}
 use Rattle.evidence_check.specs.Steps.{StepValue}
-use Rattle.evidence_check.specs.declared.cause.EvidenceCause.TheVariants as evidence_causes
-use Rattle.evidence_check.specs.declared.cause.EvidenceFault.{EvidenceFault}
 use Rattle.evidence_check.specs.declared.judged.Judged.{Judged}
 use Rattle.findings.proofs.WrongReplies.{named_by_bytes}
 use Rattle.findings.specs.Findings.{findings_of}

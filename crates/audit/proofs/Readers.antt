@@ -1,5 +1,5 @@
 -- What readers say and what a writer took, put together.
-use Rattle.std.proofs.Common.{◌≡◌, ℕ, true, false, List, [], ◌∷◌, Option, Result, Ok, Err, arith, refl, subst, sym, ◌∙◌, append-nil}
+use Rattle.std.proofs.Common.{◌≡◌, ℕ, true, false, List, [], ◌∷◌, Option, Result, Ok, Err, arith, refl, sym, ◌∙◌, append-nil}
 use Rattle.std.specs.Prelude.{IfErr}
 use Rattle.devices.proofs.Given as devices
 use Rattle.devices.proofs.Given.{next-refl}
@@ -13,7 +13,6 @@ use Rattle.trace_lines.specs.declared.cause.Cause.TheVariants as causes
 use Rattle.trace_lines.specs.declared.cause.TraceFault.{TraceFault}
 use Rattle.audit.specs.Audit.{RefusesEvidence, RefusesEvidenceFor, CutsEvidence, BlamesOnly, BlamesNoDevice, IsNotWrite, IsWrite, verdict_of}
 use Rattle.audit.specs.Kinds.{IsOneOf}
-use Rattle.audit.specs.Parts.{TraceRead, EvidenceRead}
 use Rattle.audit.specs.Kinds as kind
 use Rattle.audit.proofs.KindLemmas.{of_writing}
 use Rattle.std.proofs.KnownBytes.{Appends-nil}
@@ -45,16 +44,6 @@ next_at_rest r = next-refl (λ (s : Reader). s.given) (λ (s : Reader). s.ends) 
 
 pub behind_at_rest : (w : Writer) → StandsBehind (record { before = w; after = w })
 behind_at_rest w = ([], sym (append-nil w.taken), Appends-nil w.held)
-
--- what was read, by what the answer is
-pub read_is : {trace : Reading} {r s : Result TraceValue AuditFault} → r ≡ s → TraceRead trace r → TraceRead trace s
-read_is {trace} {r} {s} is read = subst (λ (x : Result TraceValue AuditFault). TraceRead trace x) is read
-
-pub evidence_is : {V : Type 0} {Says : List (Option (List StepValue)) → V → Type 0} {t : TraceValue}
-    {evidence : Reading} {r s : Result V AuditFault} → r ≡ s → EvidenceRead Says t evidence r
-    → EvidenceRead Says t evidence s
-evidence_is {V} {Says} {t} {evidence} {r} {s} is read =
-    subst (λ (x : Result V AuditFault). EvidenceRead Says t evidence x) is read
 
 module _ (trace evidence : Reading) (t : TraceValue) (says : OfWhole trace (λ a. trace_of true a ≡ Ok t)) where
   pub refused_evidence : (f : EvidenceFault) → OfInput evidence (λ b. RefusesEvidenceFor t b f)
