@@ -15,7 +15,7 @@ use Rattle.trace_lines.proofs.IssuedVersions.{Means, named_content-means}
 use Rattle.token_order.specs.Order.{CommitLine, commit_lines_of, IsLatest, IsClosed}
 use Rattle.token_order.specs.Denied.{IsContentOf, AreDenied}
 use Rattle.token_order.specs.Found.{is_check, is_content, is_above, is_short_of, line_if_short, old_token, earlier_commits, later_commits, first_line, last_line, is_unknown_version, order_of}
-use Rattle.token_order.proofs.Fresh.{line_before}
+use Rattle.token_order.proofs.Lines.{line_before}
 
 -- where all that one test passes fail another, none passes both
 none_kept : {X : Type 0} (p q : X → Bool) (xs : List X) → AllByRecursion (λ x. p x ≡ true → q x ≡ false) xs → list_any q (filter p xs) ≡ false
@@ -111,7 +111,7 @@ module _ (t : TraceValue) (rising : IsStrictlyIncreasing (entry_lines t.entries)
             short_of e.zookie c.snapshot told.1,
           )
 
-  unknown_told : is_unknown_version t i e ≡ true → (v : Version) × (version_named e.kind (entry_version e) ≡ Some v)
+  pub unknown_told : is_unknown_version t i e ≡ true → (v : Version) × (version_named e.kind (entry_version e) ≡ Some v)
       × ((c : EntryValue) → Contains t.entries c → c.line < e.line → ¬ IsTrue (issues v c))
   unknown_told h = by_name (version_named e.kind (entry_version e)) refl (and_parts _ _ h)
     where

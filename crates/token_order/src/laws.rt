@@ -6,9 +6,10 @@ ghost use Rattle.trace_lines.specs.Values.{EntryValue};
 ghost use Rattle.token_order.specs.Denied.{AreDenied};
 ghost use Rattle.token_order.specs.Order.{IsInOrder};
 ghost use Rattle.token_order.specs.Found.{order_of, HasNoOrderFindings};
+ghost use Rattle.token_order.specs.Upheld.{AreUpheld};
 
 use trace_lines::Trace;
-use trace_lines::laws::entries_rise;
+use trace_lines::laws::{entries_rise, versions_issued_once};
 
 /// Where nothing is found on the tokens of any entry, every content check covers all commits on earlier lines, every
 /// entry is below all commits on later lines, and every check is as new as its zookie and as the content check of the
@@ -17,7 +18,7 @@ use trace_lines::laws::entries_rise;
 pub fn fresh_without_findings(trace: &Trace)
     ensures { HasNoOrderFindings trace.now → IsInOrder trace.now }
 {
-    entries_rise(trace);
+    unfound_is_upheld(trace);
 }
 
 /// Each finding on tokens denies what it is named for: F1 that the snapshot reaches the zookie, F2 that the check's
@@ -29,4 +30,14 @@ pub fn findings_deny(trace: &Trace)
         → AreDenied trace.now e (order_of trace.now i e) }
 {
     entries_rise(trace);
+}
+
+/// And nothing is missed: where a finding on tokens is not found on an entry, what it is named for holds of the entry,
+/// whatever else is found. So the six findings on an entry are exactly what is wrong with its tokens.
+pub fn unfound_is_upheld(trace: &Trace)
+    ensures { (i : ℕ) (e : EntryValue) → slice_get trace.now.entries i ≡ Some e
+        → AreUpheld trace.now e (order_of trace.now i e) }
+{
+    entries_rise(trace);
+    versions_issued_once(trace);
 }

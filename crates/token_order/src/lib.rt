@@ -9,7 +9,8 @@
 //! By the law [`laws::fresh_without_findings`] a trace without such findings is in order: every content check covers
 //! all commits before it, no commit behind an entry changes what its snapshot has, every check is as new as its
 //! zookie and as the content check of its version, and each token that was issued for content carries the snapshot of
-//! its check. By the law [`laws::findings_deny`] each finding denies what it is named for.
+//! its check. By the laws [`laws::findings_deny`] and [`laws::unfound_is_upheld`] each finding denies what it is named
+//! for, and where it is not found, that holds.
 //!
 //! ```text
 //! let findings = order_of(&trace, 0);

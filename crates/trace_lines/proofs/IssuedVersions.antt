@@ -131,7 +131,7 @@ module _ (es : List EntryValue) (e : EntryValue) (old : Versions) (are : AreIssu
 
 -- ---- who issues a version
 
-issued_here : (v : Version) (o : Option Version) → is_version v o ≡ true → o ≡ Some v
+pub issued_here : (v : Version) (o : Option Version) → is_version v o ≡ true → o ≡ Some v
 issued_here v None h = cc
 issued_here v (Some w) h = ap Some (sym (version_eq-same v w h))
 

@@ -1,6 +1,7 @@
 pub mod Answers
 pub mod Declared
 pub mod EntryLemmas
+pub mod FirstIssuers
 pub mod FrontLemmas
 pub mod IssuedVersions
 pub mod IssuerWalk

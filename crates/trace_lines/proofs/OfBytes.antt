@@ -1,5 +1,5 @@
 -- What holds of the trace that bytes say, by induction over their lines.
-use Rattle.std.proofs.Common.{◌≡◌, ℕ, ◌+◌, ◌-◌, ◌^◌, ◌<◌, ◌≤◌, ◌&&◌, ◌==◌, not, Bool, true, List, [], ◌∷◌, ◌++◌, length, Option, Some, None, Result, Ok, Err, refl, ap, ◌∙◌, append-nil, arith}
+use Rattle.std.proofs.Common.{◌≡◌, ℕ, ◌+◌, ◌-◌, ◌^◌, ◌<◌, ◌≤◌, ◌&&◌, ◌==◌, not, if◌then◌else◌, Bool, true, false, List, [], ◌∷◌, ◌++◌, length, Option, Some, None, Result, Ok, Err, refl, ap, ◌∙◌, append-nil, arith}
 use Rattle.std.specs.Prelude.{codes, bytes_eq, option_and_then}
 use Rattle.std.specs.List.Sorted.{IsStrictlyIncreasing}
 use Rattle.std.specs.Str.{is_utf8}
@@ -28,7 +28,7 @@ use Rattle.json_lines.specs.declared.reading.LineFault.{LineFault}
 use Rattle.trace_lines.specs.Causes.{namespace_cause}
 use Rattle.trace_lines.specs.Placed.{HasPlacedCommits}
 use Rattle.trace_lines.specs.Values.{EntryValue, TraceValue, empty_trace, entry_lines, next_line}
-use Rattle.trace_lines.specs.Versions.{is_repeated}
+use Rattle.trace_lines.specs.Versions.{AreIssuedOnce, is_repeated}
 use Rattle.trace_lines.specs.Traces.{is_begun, rules_checked, tuples_checked, late_or, with_namespace, namespace_line, changes_of, append_cause, commit_checked, with_touches, with_commit, commit_of, empty_commit, change_line, declared_from, declaration_line, are_declared, entry_of, is_declared, recorded, with_entry, entry_line, of_kind, value_line, faulted, trace_of}
 use Rattle.trace_lines.specs.Declaring.{changed_rules}
 use Rattle.edge_checks.specs.Sampled.{Represents}
@@ -39,6 +39,7 @@ use Rattle.trace_lines.specs.declared.cause.Cause.{Cause}
 use Rattle.trace_lines.specs.declared.cause.Cause.TheVariants as causes
 use Rattle.trace_lines.proofs.Orderly.{orderly_empty, orderly_commit, orderly_declared, orderly_change, nothing_before, valid_strata, commit_ok, accepted, added_pushed, last_pushed}
 use Rattle.trace_lines.proofs.Placing.{ArePlaced, placed_empty, placed_push}
+use Rattle.trace_lines.proofs.FirstIssuers.{HasFirstIssuers, first_issuers_empty, first_issuers_push, first_issuers_once}
 use Rattle.trace_lines.proofs.RisingLines.{rising_push, fits_value, entry_stands}
 
 -- ---- steps
@@ -58,14 +59,20 @@ both_hold P Q (Err e) p q = tt
 
 -- ---- what is kept from one line to the next
 
--- no edge is broken, the commits are placed, and the entries stand on lines that rise
+-- no edge is broken, the commits are placed, and the entries stand on lines that rise, and issue no version twice
 record IsSound (t : TraceValue) : Type 0 where
   orderly : IsOrderly t.declarations t.commits (added t.commits)
   placed : ArePlaced t.commit_lines t.commits
   rising : IsStrictlyIncreasing (entry_lines t.entries)
+  once : HasFirstIssuers t.entries
 
 sound_empty : IsSound empty_trace
-sound_empty = record { orderly = orderly_empty; placed = placed_empty; rising = λ k lt. absurd (omega (arith, lt)) }
+sound_empty = record {
+  orderly = orderly_empty;
+  placed = placed_empty;
+  rising = λ k lt. absurd (omega (arith, lt));
+  once = first_issuers_empty;
+}
 
 -- a commit more, and what all have added
 added_alike : (commits : List Commit) (c : Commit) → Represents (added (commits ++ c ∷ [])) (added commits ++ c.adds)
@@ -97,6 +104,7 @@ sound_namespace t d is =
           (value_has (KeepsLater t.declarations) (with_namespace (is_begun t) t.declarations d) es made (later_namespace (is_begun t) t.declarations d));
       placed = is.placed;
       rising = is.rising;
+      once = is.once;
     })
 
 -- ---- lines of changes
@@ -133,6 +141,7 @@ module _ (at n : ℕ) (t : TraceValue) (d : Data) (le : next_line t ≤ n) (is :
             (of_rules (IsBefore at) (rules_change t.declarations at d) (before_next at t.declarations d later_before)));
         placed = placed_push t.commit_lines n t.commits (empty_commit at) is.placed (omega (arith, le)) fault;
         rising = is.rising;
+        once = is.once;
       }
 
 sound_change : (at n : ℕ) (t : TraceValue) (d : Data) → next_line t ≤ n → IsSound t → OkHas IsSound (change_line at n t d)
@@ -166,6 +175,7 @@ sound_commit n t c le is =
       orderly = orderly_commit t.declarations t.commits (added t.commits) (added (t.commits ++ c ∷ [])) is.orderly c fine.0 fine.1 (added_alike t.commits c);
       placed = placed_push t.commit_lines n t.commits c is.placed (omega (arith, le)) fine.1;
       rising = is.rising;
+      once = is.once;
     }))
     tt
 
@@ -175,13 +185,18 @@ sound_entry : (n : ℕ) (t : TraceValue) (e : EntryValue) → next_line t ≤ n 
 unfolding with_entry
 sound_entry n t e le at is =
     either_passes IsSound (is_declared t.declarations e.goal.set) (recorded t e) (Err causes.Unknown)
-    (either_passes IsSound (is_repeated t.entries e) (Err causes.RepeatedVersion) _ tt
-    (record {
+    (by_test (is_repeated t.entries e) refl)
+    tt
+  where
+    by_test : (b : Bool) → is_repeated t.entries e ≡ b
+        → OkHas IsSound (if b then Err causes.RepeatedVersion else Ok (record t { entries = t.entries ++ e ∷ [] }))
+    by_test true is_said = tt
+    by_test false is_said = record {
       orderly = is.orderly;
       placed = is.placed;
       rising = rw (map-append (λ (x : EntryValue). x.line) t.entries (e ∷ [])) (rising_push (entry_lines t.entries) e.line is.rising (omega (arith, at, le)));
-    }))
-    tt
+      once = first_issuers_push t.entries e is.once is_said;
+    }
 
 sound_entry_line : (kind : EntryKind) (n : ℕ) (t : TraceValue) (d : Data) → next_line t ≤ n → IsSound t → OkHas IsSound (entry_line kind n t d)
 sound_entry_line kind n t d le is =
@@ -246,6 +261,9 @@ strata_of_bytes bytes t h = valid_strata t.declarations t.commits (added t.commi
 
 pub lines_of_bytes : (bytes : List ℕ) (t : TraceValue) → trace_of true bytes ≡ Ok t → IsStrictlyIncreasing (entry_lines t.entries)
 lines_of_bytes bytes t h = (sound_bytes bytes t h).rising
+
+pub versions_of_bytes : (bytes : List ℕ) (t : TraceValue) → trace_of true bytes ≡ Ok t → AreIssuedOnce t.entries
+versions_of_bytes bytes t h = first_issuers_once t.entries (sound_bytes bytes t h).once
 
 pub commits_placed : (bytes : List ℕ) (t : TraceValue) → trace_of true bytes ≡ Ok t → HasPlacedCommits t
 commits_placed bytes t h =

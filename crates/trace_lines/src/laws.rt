@@ -51,3 +51,8 @@ pub fn entries_of_bytes_rise()
 pub fn commits_of_bytes()
     ensures { (bytes : List ℕ) (t : TraceValue) → trace_of true bytes ≡ Ok t → HasPlacedCommits t }
 {}
+
+/// In the trace that some bytes say, a version of an object is issued by one content check.
+pub fn versions_of_bytes_issued_once()
+    ensures { (bytes : List ℕ) (t : TraceValue) → trace_of true bytes ≡ Ok t → AreIssuedOnce t.entries }
+{}
