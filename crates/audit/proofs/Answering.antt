@@ -14,10 +14,12 @@ use Rattle.evidence_check.specs.declared.cause.EvidenceCause.TheVariants as evid
 use Rattle.evidence_check.specs.declared.cause.EvidenceFault.{EvidenceFault}
 use Rattle.evidence_check.specs.declared.judged.Judged.{Judged}
 use Rattle.findings.specs.Findings.{findings_of}
+use Rattle.findings.specs.EachEntry.{TellsOfEachEntry}
 use Rattle.findings.specs.Headline.{IsRightAndFresh, IsTraceRightAndFresh}
 use Rattle.findings.specs.Report.{report_text}
 use Rattle.findings.specs.WrongReplies.{NamesOnlyWrongReplies}
 use Rattle.findings.specs.declared.finding.Finding.{Finding}
+use Rattle.findings.proofs.EachEntryLemmas.{entries_by_bytes, headline_by_bytes}
 use Rattle.findings.proofs.WrongReplies.{named_by_bytes}
 use Rattle.audit.specs.Answers.{TellsOfTrace, Audited}
 use Rattle.audit.specs.Parts.{TraceRead, EvidenceRead, Told, IsReport, AreFound}
@@ -267,6 +269,7 @@ audited_no_trace trace b w e read =
       flushed = tt;
       headline = λ is. absurd (cc (is));
       wrong_replies = tt;
+      entries = tt;
       trace_refused = λ f is. read.refused f (same_fault e (faults.Trace f) is);
       trace_cut = λ f is. read.cut f (same_fault e (faults.Trace f) is);
       evidence_refused =
@@ -299,6 +302,7 @@ audited_no_evidence Says trace evidence w t e read given =
       flushed = tt;
       headline = λ is. absurd (cc (is));
       wrong_replies = tt;
+      entries = tt;
       trace_refused =
           λ f is. never_answered (kind.evidence ∷ kind.memory ∷ []) e (faults.Trace f) refl given.kinds is;
       trace_cut =
@@ -347,10 +351,13 @@ audited trace evidence out t found (Ok v) read by law told =
       flushed = told.flushed;
       headline = λ clean.
           of_whole-map trace (λ a. trace_of true a ≡ Ok t) IsTraceRightAndFresh
-          (λ a is. (t, is, law given (told_clean t given out (Ok v) told clean))) read.given;
+          (λ a is. headline_by_bytes a t is (law given (told_clean t given out (Ok v) told clean))) read.given;
       wrong_replies =
           on_both trace evidence t read.given NamesOnlyWrongReplies given by.given.2
           (λ a b is says. (t, given, is, says, named_by_bytes a t given is));
+      entries =
+          on_both trace evidence t read.given TellsOfEachEntry given by.given.2
+          (λ a b is says. (t, given, is, says, entries_by_bytes a t given is));
       trace_refused = λ f is. absurd (cc (is));
       trace_cut = λ f is. absurd (cc (is));
       evidence_refused = λ f is. absurd (cc (is));
@@ -371,6 +378,7 @@ audited trace evidence out t found (Err e) read by law told =
       flushed = tt;
       headline = λ is. absurd (cc (is));
       wrong_replies = tt;
+      entries = tt;
       trace_refused =
           λ f is. never_answered (kind.write ∷ kind.memory ∷ []) e (faults.Trace f) refl told.kinds is;
       trace_cut =

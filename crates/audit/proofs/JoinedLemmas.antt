@@ -18,8 +18,10 @@ use Rattle.trace_lines.specs.declared.cause.TraceFault.{TraceFault}
 use Rattle.evidence_check.specs.Reading.{evidence_of}
 use Rattle.evidence_check.specs.Steps.{StepValue}
 use Rattle.evidence_check.specs.declared.judged.Judged.{Judged}
+use Rattle.findings.proofs.EachEntryLemmas.{entries_by_bytes, headline_by_bytes}
 use Rattle.findings.proofs.WrongReplies.{named_by_bytes}
 use Rattle.findings.specs.Findings.{findings_of}
+use Rattle.findings.specs.EachEntry.{TellsOfEachEntry}
 use Rattle.findings.specs.Headline.{IsRightAndFresh, IsTraceRightAndFresh}
 use Rattle.findings.specs.WrongReplies.{NamesOnlyWrongReplies}
 use Rattle.audit.specs.Audit.{Audits, BreaksOffAt, BlamesOnly, RefusesTrace, RefusesEvidence, RefusesEvidenceFor}
@@ -372,6 +374,7 @@ joined_unread r w e read =
       flushed = tt;
       headline = λ is. absurd (cc (is));
       wrong_replies = tt;
+      entries = tt;
       trace_refused = λ f is. read.trace_refused f (same_fault e (faults.Trace f) is);
       evidence_refused = λ f is. read.evidence_refused f (same_fault e (faults.Evidence f) is);
       joined = λ is. read.joined (same_fault e faults.Joined is);
@@ -418,9 +421,10 @@ module _ (r : Reading) (out : Writing) (t : TraceValue) (v : Vec Judged Global) 
         ));
         flushed = told.flushed;
         headline = λ clean. of_both (λ a b. IsTraceRightAndFresh a)
-            (λ a b is by. (t, is, law given (told_clean t given out (Ok verdict) told clean)));
+            (λ a b is by. headline_by_bytes a t is (law given (told_clean t given out (Ok verdict) told clean)));
         wrong_replies =
             of_both NamesOnlyWrongReplies (λ a b is by. (t, given, is, by, named_by_bytes a t given is));
+        entries = of_both TellsOfEachEntry (λ a b is by. (t, given, is, by, entries_by_bytes a t given is));
         trace_refused = λ f is. absurd (cc (is));
         evidence_refused = λ f is. absurd (cc (is));
         joined = λ is. absurd (cc (is));
@@ -441,6 +445,7 @@ module _ (r : Reading) (out : Writing) (t : TraceValue) (v : Vec Judged Global) 
         flushed = tt;
         headline = λ is. absurd (cc (is));
         wrong_replies = tt;
+        entries = tt;
         trace_refused = λ f is. never_answered (kind.write ∷ kind.memory ∷ []) e (faults.Trace f) refl told.kinds is;
         evidence_refused =
             λ f is. never_answered (kind.write ∷ kind.memory ∷ []) e (faults.Evidence f) refl told.kinds is;

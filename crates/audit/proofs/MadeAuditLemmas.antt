@@ -16,6 +16,7 @@ use Rattle.evidence_check.proofs.JudgedLemmas.{judged_right}
 use Rattle.findings.specs.Findings.{found_by, found_where, found_on, on_line, findings_from, findings_of}
 use Rattle.findings.specs.declared.finding.Finding.{Finding}
 use Rattle.findings.specs.declared.finding.What.TheVariants.{NoEvidence, WrongReply}
+use Rattle.findings.specs.EachEntry.{SpeaksOfEachEntry}
 use Rattle.findings.specs.Headline.{IsRightAndFresh, IsTraceRightAndFresh}
 use Rattle.findings.proofs.EachFinding.{HoldsOfTokens, each_finding}
 use Rattle.findings.proofs.ToldFindings.{by_evidence, told}
@@ -31,6 +32,7 @@ use Rattle.audit.specs.Parts.{TraceRead, Told, IsReport}
 use Rattle.audit.specs.Devices.{Reading, Writing, Writer, FailsWriting, OfWhole}
 use Rattle.audit.proofs.Answering.{tells_of, told_clean}
 use Rattle.audit.proofs.Readers.{of_whole-map}
+use Rattle.findings.proofs.EachEntryLemmas.{entries_by_bytes, headline_by_bytes}
 use Rattle.findings.proofs.WrongReplies.{named_by_bytes}
 use Rattle.findings.specs.WrongReplies.{HasOnlyWrongRepliesNamed}
 
@@ -169,10 +171,11 @@ module _ (trace : Reading) (out : Writing) (t : TraceValue) (read : TraceRead tr
             (t, given, is, made, subst (λ (l : List ℕ). FailsWriting out n l) says.0 fails));
         headline = λ clean.
             of_whole-map trace (λ a. trace_of true a ≡ Ok t) IsTraceRightAndFresh
-            (λ a is. (t, is, law given (told_clean t given out r told clean))) read.given;
+            (λ a is. headline_by_bytes a t is (law given (told_clean t given out r told clean))) read.given;
         wrong_replies =
             whatever_made trace t read.given r HasOnlyWrongRepliesNamed
             (λ a given is made. named_by_bytes a t given is);
+        entries = whatever_made trace t read.given r SpeaksOfEachEntry (λ a given is made. entries_by_bytes a t given is);
         given_up = whatever_made trace t read.given r AreOfMaker (λ a given is made. of_maker t given made);
         complete =
             whatever_made trace t read.given r MissesNoWrongReply (λ a given is made. misses_none a t given is made);
@@ -183,4 +186,4 @@ pub made_fault : (trace : Reading) (w : Writer) (e : AuditFault)
     → TellsOfTrace AuditsMade BreaksMade trace (record { before = w; after = w }) (Err e)
     → AuditedMade trace (record { before = w; after = w }) (Err e)
 made_fault trace w e tells =
-    record { of_trace = tells; headline = λ is. absurd (cc (is)); wrong_replies = tt; given_up = tt; complete = tt }
+    record { of_trace = tells; headline = λ is. absurd (cc (is)); wrong_replies = tt; entries = tt; given_up = tt; complete = tt }

@@ -11,6 +11,7 @@ use Rattle.trace_lines.specs.declared.cause.Cause.TheVariants as causes
 use Rattle.trace_lines.specs.declared.cause.TraceFault.{TraceFault}
 use Rattle.evidence_check.specs.declared.cause.EvidenceCause.TheVariants as evidence_causes
 use Rattle.evidence_check.specs.declared.cause.EvidenceFault.{EvidenceFault}
+use Rattle.findings.specs.EachEntry.{SpeaksOfEachEntry, TellsOfEachEntry}
 use Rattle.findings.specs.Headline.{IsTraceRightAndFresh}
 use Rattle.findings.specs.WrongReplies.{HasOnlyWrongRepliesNamed, NamesOnlyWrongReplies}
 use Rattle.audit.specs.Audit.{Audits, BreaksOffAt, RefusesTrace, RefusesEvidence, CutsEvidence}
@@ -30,11 +31,14 @@ pub record Audited (trace evidence : Reading) (out : Writing) (result : Result V
   pub flushed : OnOk result (out.after.flushes ≡ out.before.flushes + 1)
   -- A clean verdict says that each reply is what the rules mean over the tuples committed up to its snapshot; that no
   -- check is older than its zookie, nor than the content check of the version that it names, nor than any commit on a
-  -- line before that content check; and that entries are closed, content checks latest, and issued tokens carry their
-  -- snapshots.
+  -- line before that content check; that entries are closed, content checks latest, and issued tokens carry their
+  -- snapshots; and that each check of a version saw all access changes before that version's content check.
   pub headline : result ≡ Ok Clean → OfWhole trace IsTraceRightAndFresh
   -- whatever the verdict: a reply that a finding F10 calls wrong is wrong
   pub wrong_replies : OnOk result (OfBoth trace evidence NamesOnlyWrongReplies)
+  -- Whatever the verdict, of each entry by itself: what is wrong with it stands on its line; and where nothing stands
+  -- there, its reply is right, and its tokens are in order.
+  pub entries : OnOk result (OfBoth trace evidence TellsOfEachEntry)
   -- a refusal holds of every input that begins with the bytes that came
   pub trace_refused : (f : TraceFault) → result ≡ Err (faults.Trace f) → OfInput trace (λ a. RefusesTrace a f)
   -- where a reader failed (the flag false), the fault is of the line that its bytes had come to
@@ -100,11 +104,13 @@ pub record AuditedMade (trace : Reading) (out : Writing) (result : Result Verdic
   pub of_trace : TellsOfTrace AuditsMade BreaksMade trace out result
   -- A clean verdict says that each reply is what the rules mean over the tuples committed up to its snapshot; that no
   -- check is older than its zookie, nor than the content check of the version that it names, nor than any commit on a
-  -- line before that content check; and that entries are closed, content checks latest, and issued tokens carry their
-  -- snapshots.
+  -- line before that content check; that entries are closed, content checks latest, and issued tokens carry their
+  -- snapshots; and that each check of a version saw all access changes before that version's content check.
   pub headline : result ≡ Ok Clean → OfWhole trace IsTraceRightAndFresh
   -- whatever evidence is made, and whatever the verdict: a reply that a finding F10 calls wrong is wrong
   pub wrong_replies : OnOk result (OfWhole trace (WhateverIsMade HasOnlyWrongRepliesNamed))
+  -- and, of each entry by itself, what is wrong with it stands on its line
+  pub entries : OnOk result (OfWhole trace (WhateverIsMade SpeaksOfEachEntry))
   -- whatever evidence is made, and so of this report: F7 is found only on the line of an entry that is out of reach,
   -- and F8 and F9 nowhere
   pub given_up : OnOk result (OfWhole trace (WhateverIsMade AreOfMaker))

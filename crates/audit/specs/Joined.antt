@@ -3,6 +3,7 @@ use Rattle.std.specs.Prelude.{◌≡◌, ◌≢◌, ℕ, ◌+◌, ◌^◌, ◌<�
 use Rattle.json_lines.specs.Joined.{joined_of}
 use Rattle.trace_lines.specs.declared.cause.TraceFault.{TraceFault}
 use Rattle.evidence_check.specs.declared.cause.EvidenceFault.{EvidenceFault}
+use Rattle.findings.specs.EachEntry.{TellsOfEachEntry}
 use Rattle.findings.specs.Headline.{IsTraceRightAndFresh}
 use Rattle.findings.specs.WrongReplies.{NamesOnlyWrongReplies}
 use Rattle.audit.specs.Audit.{Audits, BreaksOffAt, RefusesTrace, RefusesEvidence, BlamesOnly, IsNotWrite}
@@ -36,6 +37,8 @@ pub record AuditedJoined (input : Reading) (out : Writing) (result : Result Verd
   pub headline : result ≡ Ok Clean → OfBothParts input (λ a b. IsTraceRightAndFresh a)
   -- whatever the verdict: a reply that a finding F10 calls wrong is wrong
   pub wrong_replies : OnOk result (OfBothParts input NamesOnlyWrongReplies)
+  -- and, of each entry by itself, what is wrong with it stands on its line
+  pub entries : OnOk result (OfBothParts input TellsOfEachEntry)
   -- A part is refused only once the reader is at its end, and only where the input has the marker, and 2^30 bytes at
   -- most.
   pub trace_refused : (f : TraceFault) → result ≡ Err (faults.Trace f) → OfBothParts input (λ a b. RefusesTrace a f)

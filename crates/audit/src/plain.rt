@@ -11,7 +11,9 @@ ghost use Rattle.audit.specs.Kinds as kind;
 ghost use Rattle.audit.specs.declared.plain.AuditFault.TheVariants as faults;
 ghost use Rattle.audit.specs.declared.plain.Verdict.TheVariants.{Clean};
 ghost use Rattle.findings.specs.Findings.{findings_of};
+ghost use Rattle.findings.specs.EachEntry.{SpeaksOfEachEntry};
 ghost use Rattle.findings.specs.Headline.{IsRightAndFresh};
+ghost use Rattle.findings.specs.NewEnemy.{HasNoNewEnemy};
 ghost use Rattle.findings.specs.WrongReplies.{HasOnlyWrongRepliesNamed};
 
 use crate::finder::{Finder, OneThread};
@@ -19,7 +21,9 @@ use crate::telling::tell_findings;
 use devices::{Sink, Source};
 use evidence_check::{Evidence, EvidenceFault};
 use findings::findings_of;
-use findings::laws::{right_and_fresh_without_findings, wrong_replies_are_wrong};
+use findings::laws::{
+    each_entry, no_new_enemy, right_and_fresh_without_findings, wrong_replies_are_wrong,
+};
 use std::alloc::{AllocError, Global};
 use thiserror::Error;
 use trace_lines::{Trace, TraceFault};
@@ -75,11 +79,16 @@ pub fn audit_values<W: Sink>(
         (writes W.taken W.flushes W.failures W.idle W.contents out.old out.new) result }
     // Whoever made the evidence.
     ensures headline { result ≡ Ok Clean → IsRightAndFresh trace.now }
+    ensures no_new_enemy { result ≡ Ok Clean → HasNoNewEnemy trace.now }
     // Whatever the verdict: a reply that a finding F10 calls wrong is wrong.
     ensures wrong_replies { HasOnlyWrongRepliesNamed trace.now (findings_of trace.now (evidence_value evidence.now)) }
+    // Of each entry by itself: what is wrong with it stands on its line.
+    ensures entries { SpeaksOfEachEntry trace.now (findings_of trace.now (evidence_value evidence.now)) }
 {
     right_and_fresh_without_findings(trace);
+    no_new_enemy(trace);
     wrong_replies_are_wrong(trace);
+    each_entry(trace);
     let findings = findings_of(alloc, trace, evidence)?;
     tell_findings(alloc, &findings, trace.len(), out)
 }

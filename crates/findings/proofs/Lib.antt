@@ -1,4 +1,3 @@
-pub mod Headline
 pub mod OneMore
 pub mod PartLemmas
 pub mod PartLines
@@ -6,6 +5,9 @@ pub mod PartReads
 pub mod EvidenceParts
 pub mod FindingsByLine
 pub mod WrongReplies
+pub mod EachEntryLemmas
 pub mod EachFinding
 pub mod NewEnemyLemmas
 pub mod ToldFindings
+pub mod PartsTogether
+pub mod PartsSaid

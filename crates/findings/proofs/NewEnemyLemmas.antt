@@ -18,7 +18,7 @@ use Rattle.trace_lines.specs.Versions.{Version, entry_version, version_named, Ar
 use Rattle.trace_lines.specs.declared.entry.EntryKind.{EntryKind}
 use Rattle.trace_lines.specs.declared.entry.EntryKind.TheVariants.{Check, Content}
 use Rattle.token_order.specs.Order.{CommitLine, on_lines, commit_lines_of, CoversVersion, IsFresh, IsInOrder}
-use Rattle.findings.specs.NewEnemy.{IsCheckOf, IsBeforeContent, HasNoNewEnemy}
+use Rattle.findings.specs.NewEnemy.{IsCheckOf, IsBeforeContent, HasSeen, HasNoNewEnemy}
 
 -- ---- the last touch of a tuple
 
@@ -185,15 +185,9 @@ placed_at (l ∷ ls) (d ∷ ds) (suc k) line c at there = placed_at ls ds k line
 there_of : {X : Type 0} (xs : List X) (x : X) (h : Contains xs x) → slice_get xs h.0 ≡ Some x
 there_of xs x h = slice_get-get_or xs h.0 x h.1 ∙ ap Some h.2
 
-module _ (t : TraceValue) (once : AreIssuedOnce t.entries) (order : IsInOrder t) (e c : EntryValue) (is : IsCheckOf t e
-    c)
-    (k : ℕ) (commit : Commit) (before : IsBeforeContent t k commit c) where
+module _ (t : TraceValue) (once : AreIssuedOnce t.entries) (e c : EntryValue) (is : IsCheckOf t e c) (fresh : IsFresh t e) where
   covers : CoversVersion t e is.version
-  covers =
-      let at = is.checked in
-      let fresh = subst (λ (y : EntryValue). y.kind ≡ Check
-      → IsFresh t y) at.2 (order.fresh at.0 e at.1) (named_by_check e.kind (entry_version e) is.version is.named) in
-      subst (λ (o : Option Version). IfSome o (CoversVersion t e)) is.named fresh.covers_version
+  covers = subst (λ (o : Option Version). IfSome o (CoversVersion t e)) is.named fresh.covers_version
 
   -- the version has one content check
   same : covers.content ≡ c
@@ -204,8 +198,8 @@ module _ (t : TraceValue) (once : AreIssuedOnce t.entries) (order : IsInOrder t)
       in
       same_Some covers.content c (sym first ∙ ap (slice_get t.entries) place ∙ second)
 
-  pub in_time : commit.at ≤ e.snapshot
-  in_time =
+  in_time : (k : ℕ) (commit : Commit) → IsBeforeContent t k commit c → commit.at ≤ e.snapshot
+  in_time k commit before =
       let at = placed_at t.commit_lines t.commits k before.line commit before.placed before.there in
       let lt = slice_get_within (commit_lines_of t) k _ at in
       let item = get_or_from_slice_get (commit_lines_of t) k _ (record { line = before.line; at = commit.at }) at in
@@ -214,16 +208,25 @@ module _ (t : TraceValue) (once : AreIssuedOnce t.entries) (order : IsInOrder t)
       subst (λ (y : CommitLine). y.line < covers.content.line
       → y.at ≤ e.snapshot) item (covers.covered k (record { line = before.line; at = commit.at }) lt) earlier
 
+  -- a fresh check has seen each change before its content check
+  pub seen : HasSeen t e c
+  seen = record {
+    removed = λ k commit before x has later stored.
+        let gone = stays x e.snapshot false t.commits k commit false before.there
+        (removes_it x e.snapshot commit (in_time k commit before) has) (λ m d lt at le. later m d lt at le) in
+        true≢false (sym ((store_at-iff t.commits e.snapshot x).0 stored) ∙ gone);
+    added = λ k commit before x has later.
+        let le = in_time k commit before in
+        (store_at-iff t.commits e.snapshot x).1 (stays x e.snapshot true t.commits k commit false before.there
+        (adds_it x e.snapshot commit le has (later k commit (omega arith) before.there le)) (λ m d lt at le. later m d
+        (omega (arith, lt)) at le));
+  }
+
+pub is_check : (t : TraceValue) (e c : EntryValue) → IsCheckOf t e c → e.kind ≡ Check
+is_check t e c is = named_by_check e.kind (entry_version e) is.version is.named
+
 pub new_enemy : (t : TraceValue) → AreIssuedOnce t.entries → IsInOrder t → HasNoNewEnemy t
-new_enemy t once order = record {
-  removed = λ e c is k commit before x has later stored.
-      let gone = stays x e.snapshot false t.commits k commit false before.there
-      (removes_it x e.snapshot commit (in_time t once order e c is k commit before) has) (λ m d lt at le. later m d lt
-      at le) in
-      true≢false (sym ((store_at-iff t.commits e.snapshot x).0 stored) ∙ gone);
-  added = λ e c is k commit before x has later.
-      let le = in_time t once order e c is k commit before in
-      (store_at-iff t.commits e.snapshot x).1 (stays x e.snapshot true t.commits k commit false before.there
-      (adds_it x e.snapshot commit le has (later k commit (omega arith) before.there le)) (λ m d lt at le. later m d
-      (omega (arith, lt)) at le));
-}
+new_enemy t once order e c is =
+    let at = is.checked in
+    let fresh = subst (λ (y : EntryValue). y.kind ≡ Check → IsFresh t y) at.2 (order.fresh at.0 e at.1) (is_check t e c is) in
+    seen t once e c is fresh

@@ -80,7 +80,7 @@ named_object Check (Some l) s v h = let same : version_of s l ≡ v = cc in (ap 
 named_object Content label s v h = cc
 
 -- who issues what an entry names asks of the same object
-same_object : (objects : List ℕ → List ℕ → Bool) (e : EntryValue) (v : Version) → is_of objects e ≡ true → version_named e.kind (entry_version e) ≡ Some v
+pub same_object : (objects : List ℕ → List ℕ → Bool) (e : EntryValue) (v : Version) → is_of objects e ≡ true → version_named e.kind (entry_version e) ≡ Some v
     → (x : EntryValue) → issues v x ≡ true → is_of objects x ≡ true
 same_object objects e v kept named x h =
     let by = issued_object x.kind x.version x.goal.set v h in

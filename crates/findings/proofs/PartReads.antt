@@ -49,7 +49,7 @@ told : {A B E : Type 0} (P : B → Type 0) (r : Result A E) (f : A → Result B 
 told P (Ok x) f k = k x refl
 told P (Err e) f k = tt
 
-has_goal : (kind : EntryKind) (n before : ℕ) (d : Data) → OkHas (λ e. goal_at d ≡ Ok e.goal) (entry_of kind n before d)
+pub has_goal : (kind : EntryKind) (n before : ℕ) (d : Data) → OkHas (λ e. goal_at d ≡ Ok e.goal) (entry_of kind n before d)
 unfolding entry_of
 has_goal kind n before d =
     told _ (needed (text_at (codes "goal") d)) _
@@ -62,7 +62,7 @@ has_goal kind n before d =
 
 module _ (objects : List ℕ → List ℕ → Bool) where
   -- where the whole accepts a line, so does the part, and has the part of what the whole has then
-  abbrev Carries : Result TraceValue Cause → Result TraceValue Cause → Type 0
+  abbrev pub Carries : Result TraceValue Cause → Result TraceValue Cause → Type 0
   Carries whole part = OkHas (λ u. part ≡ Ok (part_of objects u)) whole
 
   abbrev part_read : TraceValue → Result TraceValue Cause
@@ -144,7 +144,7 @@ module _ (objects : List ℕ → List ℕ → Bool) where
       let of = issued_here e.kind e.version e.goal.set v issued in
       ap (λ n. objects n x.goal.set.id) (sym by.0 ∙ of.0) ∙ ap (λ i. objects e.goal.set.namespace i) (sym by.1 ∙ of.1) ∙ kept
 
-  repeated_alike : (es : List EntryValue) (e : EntryValue) → is_of objects e ≡ true → is_repeated (filter (is_of objects) es) e ≡ is_repeated es e
+  pub repeated_alike : (es : List EntryValue) (e : EntryValue) → is_of objects e ≡ true → is_repeated (filter (is_of objects) es) e ≡ is_repeated es e
   repeated_alike es e kept = by_version (version_issued e.kind (entry_version e)) refl
     where
       by_version : (o : Option Version) → version_issued e.kind (entry_version e) ≡ o
@@ -248,7 +248,7 @@ module _ (objects : List ℕ → List ℕ → Bool) where
       by_utf8 true h = json_dropped n t (read line) h
       by_utf8 false h = tt
 
-  line_carried : (n : ℕ) (t : TraceValue) (line : List ℕ) → Carries (taken_line causes.NotJson value_line n t line) (taken_line causes.NotJson value_line n (part_of objects t) (line_of_part objects line))
+  pub line_carried : (n : ℕ) (t : TraceValue) (line : List ℕ) → Carries (taken_line causes.NotJson value_line n t line) (taken_line causes.NotJson value_line n (part_of objects t) (line_of_part objects line))
   line_carried n t line = by_test (is_utf8 line && is_of_others objects (read line)) refl
     where
       by_test : (b : Bool) → (is_utf8 line && is_of_others objects (read line)) ≡ b

@@ -1,3 +1,4 @@
+pub mod EachEntry
 pub mod Findings
 pub mod Headline
 pub mod NewEnemy
@@ -5,4 +6,6 @@ pub mod PartBytes
 pub mod PartEvidence
 pub mod Parts
 pub mod Report
+pub mod Said
 pub mod WrongReplies
+pub mod WellFormed

@@ -20,17 +20,20 @@ pub record IsBeforeContent (t : TraceValue) (k : ℕ) (commit : Commit) (c : Ent
   pub placed : slice_get t.commit_lines k ≡ Some line
   pub before : line < c.line
 
--- Where a commit before the content check removed a tuple, and no later commit up to the check's snapshot adds it,
--- the tuple is not among those by which the check was answered. Where such a commit added one that none removes, it
--- is.
-pub record HasNoNewEnemy (t : TraceValue) : Type 0 where
-  pub removed : (e c : EntryValue) → IsCheckOf t e c
-      → (k : ℕ) (commit : Commit) → IsBeforeContent t k commit c → (x : TupleValue) → Contains commit.removes x
+-- The check e has seen each change before the content check c. Where a commit before it removed a tuple, and no later
+-- commit up to the check's snapshot adds it, the tuple is not among those by which the check was answered. Where such a
+-- commit added one that none removes, it is.
+pub record HasSeen (t : TraceValue) (e c : EntryValue) : Type 0 where
+  pub removed : (k : ℕ) (commit : Commit) → IsBeforeContent t k commit c → (x : TupleValue)
+      → Contains commit.removes x
       → ((m : ℕ) (later : Commit) → k < m → slice_get t.commits m ≡ Some later → later.at ≤ e.snapshot
       → ¬ Contains later.adds x)
       → ¬ Contains (store_at t.commits e.snapshot) x
-  pub added : (e c : EntryValue) → IsCheckOf t e c
-      → (k : ℕ) (commit : Commit) → IsBeforeContent t k commit c → (x : TupleValue) → Contains commit.adds x
+  pub added : (k : ℕ) (commit : Commit) → IsBeforeContent t k commit c → (x : TupleValue) → Contains commit.adds x
       → ((m : ℕ) (later : Commit) → k ≤ m → slice_get t.commits m ≡ Some later → later.at ≤ e.snapshot
       → ¬ Contains later.removes x)
       → Contains (store_at t.commits e.snapshot) x
+
+-- each check of a content version has seen each change before that version's content check
+abbrev pub HasNoNewEnemy : TraceValue → Type 0
+HasNoNewEnemy t = (e c : EntryValue) → IsCheckOf t e c → HasSeen t e c

@@ -1,5 +1,6 @@
 -- A trace that is cut by object, and what of the whole's findings is a part's own.
-use Rattle.std.specs.Prelude.{◌≡◌, ℕ, ◌+◌, Bool, List, [], ◌∷◌, ◌++◌, Option, filter, nat_eq, if◌then◌else◌}
+use Rattle.std.specs.Prelude.{◌≡◌, ℕ, ◌+◌, Bool, true, List, [], ◌∷◌, ◌++◌, Option, Ok, filter, nat_eq, if◌then◌else◌}
+use Rattle.trace_lines.specs.Traces.{trace_of}
 use Rattle.trace_lines.specs.Values.{TraceValue, EntryValue}
 use Rattle.evidence_check.specs.Evidences.{steps_of}
 use Rattle.evidence_check.specs.Steps.{StepValue}
@@ -50,3 +51,14 @@ abbrev pub IsCleanInParts : (List ℕ → List ℕ → ℕ) → TraceValue → L
 IsCleanInParts part t evidence =
     (k : ℕ) → findings_of (part_of (λ n i. nat_eq (part n i) k) t)
     (evidence_of_part (λ n i. nat_eq (part n i) k) t evidence) ≡ []
+
+-- some bytes say the trace, and by some evidence nothing is found in it
+pub record IsReadClean (t : TraceValue) : Type 0 where
+  pub bytes : List ℕ
+  pub said : trace_of true bytes ≡ Ok t
+  pub evidence : List (Option (List StepValue))
+  pub clean : findings_of t evidence ≡ []
+
+-- so it is with each part of a trace, of which itself no bytes are asked for
+abbrev pub ArePartsReadClean : (List ℕ → List ℕ → ℕ) → TraceValue → Type 0
+ArePartsReadClean part t = (k : ℕ) → IsReadClean (part_of (λ n i. nat_eq (part n i) k) t)
