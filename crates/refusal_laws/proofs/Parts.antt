@@ -8,13 +8,13 @@ use Rattle.std.proofs.lemmas.List.{get_or-take, length-append, length-take}
 use Rattle.std.proofs.lemmas.List.Folds.{list_any_none}
 use Rattle.std.proofs.lemmas.List.Sums.{fails_before_first, passes_at_first, split_at_first}
 use Rattle.tuple_text.specs.Forms.{is_name, is_object_id, plain_number}
-use Rattle.tuple_text.specs.Reading.{part_at, userset_at, id_or, user_at, head_at, tuple_at}
+use Rattle.tuple_text.specs.Reading.{part_at, userset_at, id_or, id_only, user_at, head_at, tuple_at, fact_at}
 use Rattle.tuple_text.specs.Sets.{SetValue}
-use Rattle.tuple_text.specs.Tuples.{TupleValue, tuple_of}
+use Rattle.tuple_text.specs.Tuples.{FactValue, TupleValue, fact_of, tuple_of}
 use Rattle.tuple_text.specs.declared.fault.TupleFault.{TupleFault}
 use Rattle.tuple_text.specs.declared.fault.TupleFault.TheVariants as faults
 use Rattle.refusals.specs.Refusals.{◌>>=◌}
-use Rattle.refusal_laws.specs.Leftmost.{BeginsWith, Lacks, Namespaced, Named, Related, IsLeftmost}
+use Rattle.refusal_laws.specs.Leftmost.{BeginsWith, Lacks, Namespaced, Named, Related, IsLeftmost, IsLeftmostOfFact, IsLeftmostWhere}
 
 abbrev Part : Type 0
 Part = Result (List ℕ × List ℕ) TupleFault
@@ -105,11 +105,11 @@ module _ (delimiter : ℕ) where
   behind test text part rest begins = let n = ap length begins.split ∙ length-append part (delimiter ∷ rest) in
       omega (arith, n)
 
-module _ (text : List ℕ) (f : TupleFault) where
-  -- what is read behind each part
-  abbrev then_user : SetValue × List ℕ → Result TupleValue TupleFault
-  then_user head = user_at (length text - length head.1) head.1 >>= λ user. Ok (tuple_of head.0 user)
-
+-- what is read behind the head stops at the user alone
+module _ {V : Type 0} (IsNoUser : List ℕ → Type 0) (text : List ℕ) (f : TupleFault)
+    (then_user : SetValue × List ℕ → Result V TupleFault)
+    (user_stops : (s : SetValue) (rest : List ℕ) → Related text (length text - length rest) rest
+    → then_user (s, rest) ≡ Err f → IsLeftmostWhere IsNoUser text f) where
   abbrev then_relation : List ℕ → List ℕ → List ℕ × List ℕ → Front
   then_relation n i relation = Ok (record { namespace = n; id = i; relation = relation.0 }, relation.1)
 
@@ -120,33 +120,20 @@ module _ (text : List ℕ) (f : TupleFault) where
   then_namespace namespace = part_at is_object_id 35 (faults.ObjectId (length text - length namespace.1)) namespace.1
       >>= then_id namespace.0
 
-  user_stops : (rest : List ℕ) (at : ℕ) (s : SetValue) → Related text at rest
-      → (user_at at rest >>= λ user. Ok (tuple_of s user)) ≡ Err f → IsLeftmost text f
-  unfolding user_at
-  user_stops rest at s related h = by_number (plain_number rest) refl (userset_at rest) refl h
-    where
-      by_number : (o : Option ℕ) → plain_number rest ≡ o → (r : Result SetValue TupleFault) → userset_at rest ≡ r
-          → (id_or at o r >>= λ user. Ok (tuple_of s user)) ≡ Err f → IsLeftmost text f
-      by_number (Some n) is r set h = cc
-      by_number None is (Ok u) set h = cc
-      by_number None is (Err e) set h =
-          let same : faults.User at ≡ f = cc in
-          subst (IsLeftmost text) same (rest, related, is, λ u ok. (let no : Ok u ≡ Err e = sym ok ∙ set in cc))
-
   relation_stops : (rest : List ℕ) (at : ℕ) (r : Part) (n i : List ℕ) → Named text at rest
       → at ≡ length text - length rest
       → part_at is_name 64 (faults.Relation (length text - length rest)) rest ≡ r
-      → ((r >>= then_relation n i) >>= then_user) ≡ Err f → IsLeftmost text f
+      → ((r >>= then_relation n i) >>= then_user) ≡ Err f → IsLeftmostWhere IsNoUser text f
   relation_stops rest at (Err e) n i named here is h =
       let lacks = part_lacks 64 is_name (faults.Relation (length text - length rest)) rest e is in
       let same : e ≡ f = cc in
-      subst (IsLeftmost text) (ap faults.Relation here ∙ sym lacks.0 ∙ same) (rest, named, lacks.1)
+      subst (IsLeftmostWhere IsNoUser text) (ap faults.Relation here ∙ sym lacks.0 ∙ same) (rest, named, lacks.1)
   relation_stops rest at (Ok p) n i named here is h =
       let begins = part_begins 64 is_name (faults.Relation (length text - length rest)) rest p is in
       let long = behind 64 is_name rest p.0 p.1 begins in
       let front = at_front named in
       let there : at + (length p.0 + 1) ≡ length text - length p.1 = omega (arith, long, front) in
-      user_stops p.1 (length text - length p.1) _ (record {
+      user_stops _ p.1 (record {
         front = at;
         behind = rest;
         relation = p.0;
@@ -164,13 +151,13 @@ module _ (text : List ℕ) (f : TupleFault) where
 
   id_stops : (n rest : List ℕ) (r : Part) → Namespaced text n rest
       → part_at is_object_id 35 (faults.ObjectId (length text - length rest)) rest ≡ r
-      → ((r >>= then_id n) >>= then_user) ≡ Err f → IsLeftmost text f
+      → ((r >>= then_id n) >>= then_user) ≡ Err f → IsLeftmostWhere IsNoUser text f
   id_stops n rest (Err e) begins is h =
       let lacks = part_lacks 35 is_object_id (faults.ObjectId (length text - length rest)) rest e is in
       let same : e ≡ f = cc in
       let long = behind 58 is_name text n rest begins in
       let here : length text - length rest ≡ length n + 1 = omega (arith, long) in
-      subst (IsLeftmost text) (sym lacks.0 ∙ same) (n, rest, begins, here, lacks.1)
+      subst (IsLeftmostWhere IsNoUser text) (sym lacks.0 ∙ same) (n, rest, begins, here, lacks.1)
   id_stops n rest (Ok p) begins is h =
       let further = part_begins 35 is_object_id (faults.ObjectId (length text - length rest)) rest p is in
       let one = behind 58 is_name text n rest begins in
@@ -180,16 +167,56 @@ module _ (text : List ℕ) (f : TupleFault) where
       p.1) n p.0
       (record { namespace = n; behind = rest; id = p.0; begins = begins; further = further; long = long }) refl refl h
 
-  pub leftmost : tuple_at text ≡ Err f → IsLeftmost text f
-  unfolding tuple_at head_at
-  leftmost h = by_namespace (part_at is_name 58 (faults.Namespace 0) text) refl h
+  head_stops : (head_at text >>= then_user) ≡ Err f → IsLeftmostWhere IsNoUser text f
+  unfolding head_at
+  head_stops h = by_namespace (part_at is_name 58 (faults.Namespace 0) text) refl h
     where
       by_namespace : (r : Part) → part_at is_name 58 (faults.Namespace 0) text ≡ r
-          → ((r >>= then_namespace) >>= then_user) ≡ Err f → IsLeftmost text f
+          → ((r >>= then_namespace) >>= then_user) ≡ Err f → IsLeftmostWhere IsNoUser text f
       by_namespace (Err e) is h =
           let lacks = part_lacks 58 is_name (faults.Namespace 0) text e is in
           let same : e ≡ f = cc in
-          subst (IsLeftmost text) (sym lacks.0 ∙ same) (refl, lacks.1)
+          subst (IsLeftmostWhere IsNoUser text) (sym lacks.0 ∙ same) (refl, lacks.1)
       by_namespace (Ok p) is h =
           id_stops p.0 p.1 (part_at is_object_id 35 (faults.ObjectId (length text - length p.1)) p.1) (part_begins 58
           is_name (faults.Namespace 0) text p is) refl h
+
+module _ (text : List ℕ) (f : TupleFault) where
+  abbrev then_user : SetValue × List ℕ → Result TupleValue TupleFault
+  then_user head = user_at (length text - length head.1) head.1 >>= λ user. Ok (tuple_of head.0 user)
+
+  abbrev then_number : SetValue × List ℕ → Result FactValue TupleFault
+  then_number head = id_only (length text - length head.1) (plain_number head.1) >>= λ user. Ok (fact_of head.0 user)
+
+  user_fails : (s : SetValue) (rest : List ℕ) → Related text (length text - length rest) rest → then_user (s, rest) ≡ Err f
+      → IsLeftmost text f
+  unfolding user_at
+  user_fails s rest related h = by_number (plain_number rest) refl (userset_at rest) refl h
+    where
+      by_number : (o : Option ℕ) → plain_number rest ≡ o → (r : Result SetValue TupleFault) → userset_at rest ≡ r
+          → (id_or (length text - length rest) o r >>= λ user. Ok (tuple_of s user)) ≡ Err f → IsLeftmost text f
+      by_number (Some n) is r set h = cc
+      by_number None is (Ok u) set h = cc
+      by_number None is (Err e) set h =
+          let same : faults.User (length text - length rest) ≡ f = cc in
+          subst (IsLeftmost text) same (rest, related, (is, λ u ok. (let no : Ok u ≡ Err e = sym ok ∙ set in cc)))
+
+  number_fails : (s : SetValue) (rest : List ℕ) → Related text (length text - length rest) rest
+      → then_number (s, rest) ≡ Err f → IsLeftmostOfFact text f
+  number_fails s rest related h = by_number (plain_number rest) refl h
+    where
+      by_number : (o : Option ℕ) → plain_number rest ≡ o
+          → (id_only (length text - length rest) o >>= λ user. Ok (fact_of s user)) ≡ Err f → IsLeftmostOfFact text f
+      by_number (Some n) is h = cc
+      by_number None is h =
+          let same : faults.User (length text - length rest) ≡ f = cc in
+          subst (IsLeftmostOfFact text) same (rest, related, is)
+
+  pub leftmost : tuple_at text ≡ Err f → IsLeftmost text f
+  unfolding tuple_at
+  leftmost h = head_stops (λ rest. (plain_number rest ≡ None) × ((s : SetValue) → ¬ (userset_at rest ≡ Ok s))) text f
+      then_user user_fails h
+
+  pub leftmost_of_fact : fact_at text ≡ Err f → IsLeftmostOfFact text f
+  unfolding fact_at
+  leftmost_of_fact h = head_stops (λ rest. plain_number rest ≡ None) text f then_number number_fails h

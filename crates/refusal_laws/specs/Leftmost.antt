@@ -39,12 +39,22 @@ pub record Related (text : List ℕ) (at : ℕ) (rest : List ℕ) : Type 0 where
   pub further : BeginsWith is_name 64 behind relation rest
   pub long : at ≡ front + (length relation + 1)
 
--- The part that begins at this byte fails, and all before it is in form.
+-- The part that begins at this byte fails, and all before it is in form. The user is no user where this holds of what
+-- stands behind the `@`.
+abbrev pub IsLeftmostWhere : (List ℕ → Type 0) → List ℕ → TupleFault → Type 0
+IsLeftmostWhere IsNoUser text (faults.Namespace at) = (at ≡ 0) × Lacks is_name 58 text
+IsLeftmostWhere IsNoUser text (faults.ObjectId at) =
+    (namespace rest : List ℕ) × Namespaced text namespace rest × (at ≡ length namespace + 1)
+    × Lacks is_object_id 35 rest
+IsLeftmostWhere IsNoUser text (faults.Relation at) = (rest : List ℕ) × Named text at rest × Lacks is_name 64 rest
+IsLeftmostWhere IsNoUser text (faults.User at) = (rest : List ℕ) × Related text at rest × IsNoUser rest
+IsLeftmostWhere IsNoUser text faults.OutOfMemory = ⊥
+
+-- of a tuple, whose user is a number or a userset
 abbrev pub IsLeftmost : List ℕ → TupleFault → Type 0
-IsLeftmost text (faults.Namespace at) = (at ≡ 0) × Lacks is_name 58 text
-IsLeftmost text (faults.ObjectId at) =
-    (namespace rest : List ℕ) × Namespaced text namespace rest × (at ≡ length namespace + 1) × Lacks is_object_id 35 rest
-IsLeftmost text (faults.Relation at) = (rest : List ℕ) × Named text at rest × Lacks is_name 64 rest
-IsLeftmost text (faults.User at) =
-    (rest : List ℕ) × Related text at rest × (plain_number rest ≡ None) × ((s : SetValue) → ¬ (userset_at rest ≡ Ok s))
-IsLeftmost text faults.OutOfMemory = ⊥
+IsLeftmost text f =
+    IsLeftmostWhere (λ rest. (plain_number rest ≡ None) × ((s : SetValue) → ¬ (userset_at rest ≡ Ok s))) text f
+
+-- of a fact, whose user is a number
+abbrev pub IsLeftmostOfFact : List ℕ → TupleFault → Type 0
+IsLeftmostOfFact text f = IsLeftmostWhere (λ rest. plain_number rest ≡ None) text f

@@ -6,10 +6,10 @@ ghost use Rattle.namespaces.specs.Adding.{namespace, rules_add};
 ghost use Rattle.namespaces.specs.Changing.{rules_change};
 ghost use Rattle.namespaces.specs.Declaration.{Namespace, Declaration, addition, change};
 ghost use Rattle.namespaces.specs.declared.fault.RulesFault.{RulesFault};
-ghost use Rattle.tuple_text.specs.Reading.{tuple_at};
+ghost use Rattle.tuple_text.specs.Reading.{tuple_at, fact_at};
 ghost use Rattle.tuple_text.specs.declared.fault.TupleFault.{TupleFault};
 ghost use Rattle.refusal_laws.specs.LeastFault.{applies_to_addition, applies_to_change, of_addition, of_change, first_of, unless};
-ghost use Rattle.refusal_laws.specs.Leftmost.{IsLeftmost};
+ghost use Rattle.refusal_laws.specs.Leftmost.{IsLeftmost, IsLeftmostOfFact};
 
 /// Of the faults that apply to a namespace which is declared for the first time, the one with the least number is
 /// told; where none applies, it is declared. A value without the shape of a namespace is refused for that, whatever
@@ -32,4 +32,9 @@ pub fn least_fault_of_change()
 /// part begins.
 pub fn leftmost_part()
     ensures { (text : List ℕ) (f : TupleFault) → tuple_at text ≡ Err f → IsLeftmost text f }
+{}
+
+/// The same of the text of a fact, as of a goal: its user is a number.
+pub fn leftmost_part_of_fact()
+    ensures { (text : List ℕ) (f : TupleFault) → fact_at text ≡ Err f → IsLeftmostOfFact text f }
 {}

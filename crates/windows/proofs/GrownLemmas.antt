@@ -44,7 +44,7 @@ module _ (es more : List EntryValue) (i : ℕ) (within : i < length es) where
   same_entry (Some j) is = let lt = content_of-earlier es i (Some j) is in
       slice_get-front es more j (omega (arith, lt, within))
 
-on_more_lines : (ls ms : List ℕ) (cs ds : List Commit) → length ls ≡ length cs
+pub on_more_lines : (ls ms : List ℕ) (cs ds : List Commit) → length ls ≡ length cs
     → on_lines (ls ++ ms) (cs ++ ds) ≡ on_lines ls cs ++ on_lines ms ds
 on_more_lines [] ms [] ds h = refl
 on_more_lines [] ms (c ∷ cs) ds h = absurd (omega (arith, h))
@@ -113,7 +113,7 @@ below_each s at cs closed h =
     let is = h.2 in
     omega (arith, up, here, is)
 
-module _ (u t : TraceValue) (goes : GoesOn u t) (placed : HasPlacedCommits u) (rising : IsStrictlyIncreasing
+module _ {k : ℕ} (u t : TraceValue) (goes : GoesOn k u t) (placed : HasPlacedCommits u) (rising : IsStrictlyIncreasing
     (entry_lines u.entries)) where
   module _ (i : ℕ) (e : EntryValue) (at : slice_get u.entries i ≡ Some e) where
     inside : i < length u.entries
@@ -130,8 +130,8 @@ module _ (u t : TraceValue) (goes : GoesOn u t) (placed : HasPlacedCommits u) (r
         ∙ ap (filter p) (on_more_lines u.commit_lines goes.commit_lines u.commits goes.commits placed.counted)
         ∙ filter-append p (commit_lines_of u) (on_lines goes.commit_lines goes.commits)
         ∙ ap (λ (cs : List CommitLine). earlier_commits u e ++ cs) (none_before e.line goes.commit_lines goes.commits
-        (recursion_from_All (λ (l : ℕ). e.line ≤ l) goes.commit_lines (λ k d lt. let later = goes.later k d lt in
-        omega (arith, later, before))))
+        (recursion_from_All (λ (l : ℕ). e.line ≤ l) goes.commit_lines (λ j d lt. let later = goes.commits_behind j d lt in
+        let within = goes.within in omega (arith, later, within, before))))
         ∙ append-nil (earlier_commits u e)
 
     content : content_of t.entries i ≡ content_of u.entries i

@@ -32,7 +32,7 @@ use Rattle.trace_lines.specs.Traces.{is_begun, rules_checked, tuples_checked, la
 use Rattle.trace_lines.specs.declared.entry.EntryKind.TheVariants.{Check, Content}
 use Rattle.trace_lines.specs.declared.cause.Cause.{Cause}
 use Rattle.trace_lines.specs.declared.cause.Cause.TheVariants as causes
-use Rattle.trace_lines.proofs.RisingLines.{fits_value}
+use Rattle.trace_lines.proofs.RisingLines.{fits_value, entry_stands}
 use Rattle.windows.specs.Growth.{GoesOn}
 
 -- ---- one line more
@@ -53,8 +53,13 @@ either false false c d f g h = cc
 nothing_more : {X : Type 0} (xs ys zs : List X) (x : X) → xs ≡ ys ++ zs → xs ++ x ∷ [] ≡ ys ++ (zs ++ x ∷ [])
 nothing_more xs ys zs x e = ap (λ ws. ws ++ x ∷ []) e ∙ append_assoc ys zs (x ∷ [])
 
-module _ (u : TraceValue) where
-  goes_on-itself : GoesOn u u
+passes_told : {A B E : Type 0} (P : B → Type 0) (r : Result A E) (f : A → Result B E)
+    → ((x : A) → r ≡ Ok x → OkHas P (f x)) → OkHas P (r >>= f)
+passes_told P (Ok x) f h = h x refl
+passes_told P (Err e) f h = tt
+
+module _ (k : ℕ) (u : TraceValue) (fits : next_line u ≤ k + 1) where
+  goes_on-itself : GoesOn k u u
   goes_on-itself = record {
     declarations = [];
     commits = [];
@@ -64,19 +69,21 @@ module _ (u : TraceValue) where
     committed = sym (append-nil u.commits);
     on_lines = sym (append-nil u.commit_lines);
     recorded = sym (append-nil u.entries);
-    later = All-nil (λ (l : ℕ). next_line u ≤ l);
+    within = fits;
+    commits_behind = All-nil (λ (l : ℕ). k < l);
+    entries_behind = All-nil (λ (e : EntryValue). k < e.line);
     changes = λ begun. All-nil (λ (d : Declaration). Contains [] d.at);
   }
 
-  begun_on : (s : TraceValue) → GoesOn u s → is_begun u ≡ true → is_begun s ≡ true
+  begun_on : (s : TraceValue) → GoesOn k u s → is_begun u ≡ true → is_begun s ≡ true
   begun_on s goes begun =
       either (not (length u.commit_lines == 0)) (not (length u.entries == 0)) (not (length s.commit_lines == 0)) (not
       (length s.entries == 0))
       (λ h. ap (λ (ls : List ℕ). not (length ls == 0)) goes.on_lines ∙ longer u.commit_lines goes.commit_lines h)
       (λ h. ap (λ (es : List EntryValue). not (length es == 0)) goes.recorded ∙ longer u.entries goes.entries h) begun
 
-  declared_more : (s : TraceValue) (n : Namespace) → GoesOn u s → is_begun s ≡ false
-      → GoesOn u (record s { declarations = s.declarations ++ addition n ∷ [] })
+  declared_more : (s : TraceValue) (n : Namespace) → GoesOn k u s → is_begun s ≡ false
+      → GoesOn k u (record s { declarations = s.declarations ++ addition n ∷ [] })
   declared_more s n goes fresh = record {
     declarations = goes.declarations ++ addition n ∷ [];
     commits = goes.commits;
@@ -86,12 +93,14 @@ module _ (u : TraceValue) where
     committed = goes.committed;
     on_lines = goes.on_lines;
     recorded = goes.recorded;
-    later = goes.later;
+    within = fits;
+    commits_behind = goes.commits_behind;
+    entries_behind = goes.entries_behind;
     changes = λ begun. let no : true ≡ false = sym (begun_on s goes begun) ∙ fresh in cc;
   }
 
-  committed_more : (line : ℕ) (s : TraceValue) (c : Commit) → next_line u ≤ line → GoesOn u s
-      → GoesOn u (with_touches line s c)
+  committed_more : (line : ℕ) (s : TraceValue) (c : Commit) → k < line → GoesOn k u s
+      → GoesOn k u (with_touches line s c)
   committed_more line s c le goes = record {
     declarations = goes.declarations;
     commits = goes.commits ++ c ∷ [];
@@ -101,9 +110,11 @@ module _ (u : TraceValue) where
     committed = nothing_more s.commits u.commits goes.commits c goes.committed;
     on_lines = nothing_more s.commit_lines u.commit_lines goes.commit_lines line goes.on_lines;
     recorded = goes.recorded;
-    later = All-append (λ (l : ℕ). next_line u ≤ l) goes.commit_lines (line ∷ []) goes.later
-        (All-cons (λ (l : ℕ). next_line u ≤ l) line [] le (All-nil (λ (l : ℕ). next_line u ≤ l)));
-    changes = λ begun k d lt. at_more (goes.changes begun k d lt);
+    within = fits;
+    commits_behind = All-append (λ (l : ℕ). k < l) goes.commit_lines (line ∷ []) goes.commits_behind
+        (All-cons (λ (l : ℕ). k < l) line [] le (All-nil (λ (l : ℕ). k < l)));
+    entries_behind = goes.entries_behind;
+    changes = λ begun j d lt. at_more (goes.changes begun j d lt);
   }
     where
       at_more : {at : ℕ} → Contains (map (λ (x : Commit). x.at) goes.commits) at
@@ -111,8 +122,8 @@ module _ (u : TraceValue) where
       at_more {at} h = subst (λ (xs : List ℕ). Contains xs at) (sym (map-append (λ (x : Commit). x.at) goes.commits (c
           ∷ []))) (Contains-append_left (map (λ (x : Commit). x.at) goes.commits) (c.at ∷ []) at h)
 
-  changed_more : (line at : ℕ) (s : TraceValue) (n : Namespace) → next_line u ≤ line → GoesOn u s
-      → GoesOn u (record (with_touches line s (empty_commit at)) { declarations = s.declarations ++ change at n ∷ [] })
+  changed_more : (line at : ℕ) (s : TraceValue) (n : Namespace) → k < line → GoesOn k u s
+      → GoesOn k u (record (with_touches line s (empty_commit at)) { declarations = s.declarations ++ change at n ∷ [] })
   unfolding committed_more
   changed_more line at s n le goes =
       let more = committed_more line s (empty_commit at) le goes in
@@ -125,7 +136,9 @@ module _ (u : TraceValue) where
         committed = more.committed;
         on_lines = more.on_lines;
         recorded = more.recorded;
-        later = more.later;
+        within = fits;
+        commits_behind = more.commits_behind;
+        entries_behind = more.entries_behind;
         changes = λ begun. All-append (λ (d : Declaration). Contains (map (λ (c : Commit). c.at) more.commits) d.at)
             goes.declarations (change at n ∷ []) (more.changes begun)
             (All-cons (λ (d : Declaration). Contains (map (λ (c : Commit). c.at) more.commits) d.at) (change at n) []
@@ -138,8 +151,9 @@ module _ (u : TraceValue) where
           ∷ [])))
           (Contains-append_right (map (λ (c : Commit). c.at) goes.commits) (at ∷ []) at (0, omega arith, refl))
 
-  recorded_more : (s : TraceValue) (e : EntryValue) → GoesOn u s → GoesOn u (record s { entries = s.entries ++ e ∷ [] })
-  recorded_more s e goes = record {
+  recorded_more : (s : TraceValue) (e : EntryValue) → k < e.line → GoesOn k u s
+      → GoesOn k u (record s { entries = s.entries ++ e ∷ [] })
+  recorded_more s e le goes = record {
     declarations = goes.declarations;
     commits = goes.commits;
     commit_lines = goes.commit_lines;
@@ -148,7 +162,10 @@ module _ (u : TraceValue) where
     committed = goes.committed;
     on_lines = goes.on_lines;
     recorded = nothing_more s.entries u.entries goes.entries e goes.recorded;
-    later = goes.later;
+    within = fits;
+    commits_behind = goes.commits_behind;
+    entries_behind = All-append (λ (x : EntryValue). k < x.line) goes.entries (e ∷ []) goes.entries_behind
+        (All-cons (λ (x : EntryValue). k < x.line) e [] le (All-nil (λ (x : EntryValue). k < x.line)));
     changes = goes.changes;
   }
 
@@ -162,7 +179,7 @@ module _ (u : TraceValue) where
   of_rules P (Ok ds) h = h
   of_rules P (Err f) h = tt
 
-  namespace_on : (s : TraceValue) (d : Data) → GoesOn u s → OkHas (GoesOn u) (namespace_line s d)
+  namespace_on : (s : TraceValue) (d : Data) → GoesOn k u s → OkHas (GoesOn k u) (namespace_line s d)
   unfolding namespace_line
   namespace_on s d goes =
       by_begun (namespace_cause (rules_add s.declarations d))
@@ -172,95 +189,97 @@ module _ (u : TraceValue) where
     where
       checked : (es : List Declaration) → Adds addition s.declarations es → is_begun s ≡ false
           → (r : Result (Unit {0}) Cause)
-          → OkHas (GoesOn u) ((r >>= λ v. Ok es) >>= λ ds. Ok (record s { declarations = ds }))
+          → OkHas (GoesOn k u) ((r >>= λ v. Ok es) >>= λ ds. Ok (record s { declarations = ds }))
       checked es adds fresh (Err e) = tt
-      checked es adds fresh (Ok v) = subst (λ (ds : List Declaration). GoesOn u (record s { declarations = ds })) (sym
+      checked es adds fresh (Ok v) = subst (λ (ds : List Declaration). GoesOn k u (record s { declarations = ds })) (sym
           adds.1) (declared_more s adds.0 goes fresh)
 
       by_begun : (r : Result (List Declaration) Cause) → OkHas (Adds addition s.declarations) r → (b : Bool)
           → is_begun s ≡ b
-          → OkHas (GoesOn u) ((r >>= late_or b) >>= λ ds. Ok (record s { declarations = ds }))
+          → OkHas (GoesOn k u) ((r >>= late_or b) >>= λ ds. Ok (record s { declarations = ds }))
       by_begun (Err e) adds b is = tt
       by_begun (Ok es) adds true is = tt
       by_begun (Ok es) adds false is = checked es adds is (rules_checked es)
 
-  change_on : (at n : ℕ) (s : TraceValue) (d : Data) → next_line u ≤ n → GoesOn u s
-      → OkHas (GoesOn u) (change_line at n s d)
+  change_on : (at n : ℕ) (s : TraceValue) (d : Data) → k < n → GoesOn k u s
+      → OkHas (GoesOn k u) (change_line at n s d)
   unfolding change_line
   change_on at n s d le goes =
-      passes_with (Adds (change at) s.declarations) (GoesOn u) (namespace_cause (rules_change s.declarations at d)) _
+      passes_with (Adds (change at) s.declarations) (GoesOn k u) (namespace_cause (rules_change s.declarations at d)) _
       (of_rules (Adds (change at) s.declarations) (rules_change s.declarations at d) (passes (Adds (change at)
       s.declarations) (changed s.declarations d) _ (λ m. (m, refl))))
-      (λ es adds. passes (GoesOn u) (rules_checked es) _
-      (λ v. passes (GoesOn u) (append_cause (append_fault (changes_of s) at [] [])) _
-      (λ w. passes (GoesOn u) (tuples_checked es (added s.commits)) _
-      (λ x. subst (λ (ds : List Declaration). GoesOn u (record (with_touches n s (empty_commit at)) {
+      (λ es adds. passes (GoesOn k u) (rules_checked es) _
+      (λ v. passes (GoesOn k u) (append_cause (append_fault (changes_of s) at [] [])) _
+      (λ w. passes (GoesOn k u) (tuples_checked es (added s.commits)) _
+      (λ x. subst (λ (ds : List Declaration). GoesOn k u (record (with_touches n s (empty_commit at)) {
         declarations = ds;
       })) (sym adds.1) (changed_more n at s adds.0 le goes)))))
 
-  declaration_on : (o : Option (Option ℕ)) (n : ℕ) (s : TraceValue) (d : Data) → next_line u ≤ n → GoesOn u s
-      → OkHas (GoesOn u) (declared_from o n s d)
+  declaration_on : (o : Option (Option ℕ)) (n : ℕ) (s : TraceValue) (d : Data) → k < n → GoesOn k u s
+      → OkHas (GoesOn k u) (declared_from o n s d)
   declaration_on None n s d le goes = tt
   declaration_on (Some None) n s d le goes = namespace_on s d goes
   declaration_on (Some (Some at)) n s d le goes = change_on at n s d le goes
 
-  commit_on : (n : ℕ) (s : TraceValue) (c : Commit) → next_line u ≤ n → GoesOn u s
-      → OkHas (GoesOn u) (with_commit n s c)
+  commit_on : (n : ℕ) (s : TraceValue) (c : Commit) → k < n → GoesOn k u s
+      → OkHas (GoesOn k u) (with_commit n s c)
   unfolding with_commit
   commit_on n s c le goes =
-      either_passes (GoesOn u) (are_declared s.declarations c.adds && are_declared s.declarations c.removes) _ (Err
+      either_passes (GoesOn k u) (are_declared s.declarations c.adds && are_declared s.declarations c.removes) _ (Err
       causes.Unknown)
-      (passes (GoesOn u) (commit_checked s.declarations (changes_of s) c.at c.adds c.removes) _ (λ v. committed_more n
+      (passes (GoesOn k u) (commit_checked s.declarations (changes_of s) c.at c.adds c.removes) _ (λ v. committed_more n
       s c le goes)) tt
 
-  entry_on : (s : TraceValue) (e : EntryValue) → GoesOn u s → OkHas (GoesOn u) (with_entry s e)
+  entry_on : (s : TraceValue) (e : EntryValue) → k < e.line → GoesOn k u s → OkHas (GoesOn k u) (with_entry s e)
   unfolding with_entry
-  entry_on s e goes =
-      either_passes (GoesOn u) (is_declared s.declarations e.goal.set) (recorded s e) (Err causes.Unknown)
-      (either_passes (GoesOn u) (is_repeated s.entries e) (Err causes.RepeatedVersion) _ tt (recorded_more s e goes)) tt
+  entry_on s e le goes =
+      either_passes (GoesOn k u) (is_declared s.declarations e.goal.set) (recorded s e) (Err causes.Unknown)
+      (either_passes (GoesOn k u) (is_repeated s.entries e) (Err causes.RepeatedVersion) _ tt (recorded_more s e le goes)) tt
 
-  kind_on : (n : ℕ) (s : TraceValue) (d : Data) (kind : Option (List ℕ)) → next_line u ≤ n → GoesOn u s
-      → OkHas (GoesOn u) (of_kind n s d kind)
+  kind_on : (n : ℕ) (s : TraceValue) (d : Data) (kind : Option (List ℕ)) → k < n → GoesOn k u s
+      → OkHas (GoesOn k u) (of_kind n s d kind)
   unfolding declaration_line
   kind_on n s d None le goes = tt
   kind_on n s d (Some kind) le goes =
-      either_passes (GoesOn u) (bytes_eq kind (codes "namespace")) _ _ (declaration_on (optional_number_at (codes "at")
+      either_passes (GoesOn k u) (bytes_eq kind (codes "namespace")) _ _ (declaration_on (optional_number_at (codes "at")
       d) n s d le goes)
-      (either_passes (GoesOn u) (bytes_eq kind (codes "commit")) _ _ (passes (GoesOn u) (commit_of d) (with_commit n s)
+      (either_passes (GoesOn k u) (bytes_eq kind (codes "commit")) _ _ (passes (GoesOn k u) (commit_of d) (with_commit n s)
       (λ c. commit_on n s c le goes))
-      (either_passes (GoesOn u) (bytes_eq kind (codes "content")) _ _ (passes (GoesOn u) (entry_of Content n (length
-      s.commits) d) (with_entry s) (λ e. entry_on s e goes))
-      (either_passes (GoesOn u) (bytes_eq kind (codes "check")) _ _ (passes (GoesOn u) (entry_of Check n (length
-      s.commits) d) (with_entry s) (λ e. entry_on s e goes)) tt)))
+      (either_passes (GoesOn k u) (bytes_eq kind (codes "content")) _ _ (passes_told (GoesOn k u) (entry_of Content n
+      (length s.commits) d) (with_entry s) (λ e is. entry_on s e (let line = (entry_stands Content n (length s.commits) d e
+      is).0 in omega (arith, line, le)) goes))
+      (either_passes (GoesOn k u) (bytes_eq kind (codes "check")) _ _ (passes_told (GoesOn k u) (entry_of Check n
+      (length s.commits) d) (with_entry s) (λ e is. entry_on s e (let line = (entry_stands Check n (length s.commits) d e
+      is).0 in omega (arith, line, le)) goes)) tt)))
 
-  value_on : (n : ℕ) (s : TraceValue) (d : Data) → next_line u ≤ n → GoesOn u s → OkHas (GoesOn u) (value_line n s d)
+  value_on : (n : ℕ) (s : TraceValue) (d : Data) → k < n → GoesOn k u s → OkHas (GoesOn k u) (value_line n s d)
   unfolding value_line
   value_on n s d le goes = kind_on n s d (option_and_then as_str (get (codes "kind") d)) le goes
 
   abbrev taken : ℕ → TraceValue → List ℕ → Result TraceValue Cause
   taken n s line = taken_line causes.NotJson value_line n s line
 
-  json_on : (n : ℕ) (s : TraceValue) (o : Option Data) → next_line u ≤ n → GoesOn u s
-      → OkHas (GoesOn u) (of_json causes.NotJson (value_line n s) o)
+  json_on : (n : ℕ) (s : TraceValue) (o : Option Data) → k < n → GoesOn k u s
+      → OkHas (GoesOn k u) (of_json causes.NotJson (value_line n s) o)
   json_on n s None le goes = tt
   json_on n s (Some d) le goes = value_on n s d le goes
 
-  line_on : (n : ℕ) (s : TraceValue) (line : List ℕ) → next_line u ≤ n → GoesOn u s → OkHas (GoesOn u) (taken n s line)
+  line_on : (n : ℕ) (s : TraceValue) (line : List ℕ) → k < n → GoesOn k u s → OkHas (GoesOn k u) (taken n s line)
   unfolding json_line
   line_on n s line le goes =
-      either_passes (GoesOn u) (is_blank line) (Ok s) _ goes
-      (either_passes (GoesOn u) (is_utf8 line) _ (Err causes.NotJson) (json_on n s (read line) le goes) tt)
+      either_passes (GoesOn k u) (is_blank line) (Ok s) _ goes
+      (either_passes (GoesOn k u) (is_utf8 line) _ (Err causes.NotJson) (json_on n s (read line) le goes) tt)
 
-  on_line : (n : ℕ) (r : Result TraceValue Cause) → OkHas (GoesOn u) r → OkHas (GoesOn u) (at_line n r)
+  on_line : (n : ℕ) (r : Result TraceValue Cause) → OkHas (GoesOn k u) r → OkHas (GoesOn k u) (at_line n r)
   on_line n (Ok s) h = h
   on_line n (Err c) h = tt
 
-  lines_on : (n room : ℕ) (s : TraceValue) (lines : List (List ℕ)) → next_line u ≤ n → GoesOn u s
-      → OkHas (GoesOn u) (read_from taken true n room s lines)
+  lines_on : (n room : ℕ) (s : TraceValue) (lines : List (List ℕ)) → k < n → GoesOn k u s
+      → OkHas (GoesOn k u) (read_from taken true n room s lines)
   lines_on n room s [] le goes = goes
   lines_on n room s (line ∷ lines) le goes =
-      either_passes (GoesOn u) (passes_limit room line (not (length lines == 0))) _ _ tt
-      (passes_with (GoesOn u) (GoesOn u) (at_line n (taken n s line)) _ (on_line n (taken n s line) (line_on n s line
+      either_passes (GoesOn k u) (passes_limit room line (not (length lines == 0))) _ _ tt
+      (passes_with (GoesOn k u) (GoesOn k u) (at_line n (taken n s line)) _ (on_line n (taken n s line) (line_on n s line
       le goes))
       (λ t next. lines_on (n + 1) (room - (length line + 1)) t lines (omega (arith, le)) next))
 
@@ -288,6 +307,7 @@ record HasFirst (n room : ℕ) (s : TraceValue) (xs ys : List (List ℕ)) (t : T
   pub u : TraceValue
   pub first : read_from takes true n room s (xs ++ [] ∷ []) ≡ Ok u
   pub number : ℕ
+  pub counted : number ≡ n + length xs
   pub left : ℕ
   pub fits : Fits number u
   pub then : read_from takes true number left u ys ≡ Ok t
@@ -304,9 +324,9 @@ has_first n room s [] ys t some le h = record {
   u = s;
   first = rw (no_limit room) refl;
   number = n;
+  counted = omega arith;
   left = room;
-  fits =
-      le;
+  fits = le;
   then = h;
 }
 has_first n room s (x ∷ xs) ys t some le h =
@@ -339,6 +359,7 @@ has_first n room s (x ∷ xs) ys t some le h =
               ∙ ap (λ (r : Result TraceValue Cause). at_line n r >>= further (xs ++ [] ∷ [])) is
               ∙ rest.first;
           number = rest.number;
+          counted = let counted = rest.counted in omega (arith, counted);
           left = rest.left;
           fits = rest.fits;
           then = rest.then;
@@ -351,7 +372,7 @@ read_ok (Ok s) t h = let same : s ≡ t = cc in ap Ok same
 read_ok (Err e) t h = cc
 
 pub begins : (a b : List ℕ) (t : TraceValue) → trace_of true ((a ++ 10 ∷ []) ++ b) ≡ Ok t → (u : TraceValue)
-    × (trace_of true (a ++ 10 ∷ []) ≡ Ok u) × GoesOn u t
+    × (trace_of true (a ++ 10 ∷ []) ≡ Ok u) × GoesOn (length (parts a)) u t
 unfolding read_all
 begins a b t h =
     let lines : parts ((a ++ 10 ∷ []) ++ b) ≡ parts a ++ parts b = ap parts (append_assoc a (10 ∷ []) b)
@@ -363,6 +384,25 @@ begins a b t h =
       f.u,
       ap (λ (ls : List (List ℕ)). faulted (read_from takes true 1 (2 ^ 30) empty_trace ls)) (parts_at a [])
           ∙ ap faulted f.first,
-      value_has (GoesOn f.u) (read_from takes true f.number f.left f.u (parts b)) t f.then (lines_on f.u f.number
-          f.left f.u (parts b) f.fits (goes_on-itself f.u)),
+      let fits = f.fits in
+          let counted = f.counted in
+          let within : next_line f.u ≤ length (parts a) + 1 = omega (arith, fits, counted) in
+          value_has (GoesOn (length (parts a)) f.u) (read_from takes true f.number f.left f.u (parts b)) t f.then (lines_on
+          (length (parts a)) f.u within f.number f.left f.u (parts b) (omega (arith, counted)) (goes_on-itself (length
+          (parts a)) f.u within)),
     )
+
+blank_line : (n room : ℕ) (s : TraceValue) → read_from takes true n room s ([] ∷ []) ≡ Ok s
+blank_line n room s = rw (no_limit room) refl
+
+-- no bytes say the empty trace, and all that bytes say goes on from it
+pub nothing_said : trace_of true [] ≡ Ok empty_trace
+unfolding read_all
+nothing_said = ap faulted (blank_line 1 (2 ^ 30) empty_trace)
+
+pub from_nothing : (a : List ℕ) (t : TraceValue) → trace_of true a ≡ Ok t → GoesOn 0 empty_trace t
+unfolding read_all
+from_nothing a t h =
+    let fits : next_line empty_trace ≤ 0 + 1 = omega arith in
+    value_has (GoesOn 0 empty_trace) (read_from takes true 1 (2 ^ 30) empty_trace (parts a)) t (read_ok _ t h) (lines_on 0
+    empty_trace fits 1 (2 ^ 30) empty_trace (parts a) (omega arith) (goes_on-itself 0 empty_trace fits))

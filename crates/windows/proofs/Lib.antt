@@ -11,3 +11,4 @@ pub mod MergedLemmas
 pub mod GrowthLemmas
 pub mod GrownLemmas
 pub mod WholeLemmas
+pub mod SettledLemmas

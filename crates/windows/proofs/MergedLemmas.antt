@@ -6,7 +6,7 @@ use Rattle.std.proofs.lemmas.Bool.{eq-eqb, ne_eqb}
 use Rattle.std.proofs.lemmas.List.Elements.{filter-append}
 use Rattle.std.proofs.lemmas.Option.{same_Some}
 use Rattle.trace_lines.specs.Values.{EntryValue, TraceValue, entry_lines}
-use Rattle.token_order.proofs.Fresh.{line_before}
+use Rattle.token_order.proofs.Lines.{line_before}
 use Rattle.evidence_check.specs.Steps.{StepValue}
 use Rattle.findings.specs.Findings.{found_on, on_line, findings_from, findings_of}
 use Rattle.findings.specs.Parts.{is_of, findings_on_part_from}

@@ -3,6 +3,7 @@
 ghost use Rattle.std.specs.Prelude.{◌≡◌, ℕ, ◌<◌, ◌≤◌, Bool, true, List, [], ◌∷◌, ◌++◌, length, map, All, Option, Some, Ok, option_map, slice_get, ◌↔◌};
 ghost use Rattle.tuple_text.specs.Tuples.{TupleValue, FactValue};
 ghost use Rattle.version_chains.specs.Commits.{Commit, store_at};
+ghost use Rattle.json_lines.specs.Reading.{parts};
 ghost use Rattle.trace_lines.specs.Traces.{trace_of};
 ghost use Rattle.trace_lines.specs.Values.{TraceValue, EntryValue};
 ghost use Rattle.token_order.specs.Found.{order_of};
@@ -12,12 +13,14 @@ ghost use Rattle.evidence_check.specs.Members.{IsMemberAt};
 ghost use Rattle.evidence_check.specs.Steps.{StepValue};
 ghost use Rattle.findings.specs.Findings.{found_on, on_line, findings_from, findings_of};
 ghost use Rattle.findings.specs.Headline.{IsRightAndFresh};
+ghost use Rattle.findings.specs.NewEnemy.{HasNoNewEnemy};
 ghost use Rattle.findings.specs.Parts.{findings_on_part_from};
+ghost use Rattle.findings.specs.WellFormed.{IsWellFormed};
 ghost use Rattle.findings.specs.WrongReplies.{HasOnlyWrongRepliesNamed};
 ghost use Rattle.windows.specs.Alike.{AreSameTuples, IsSameAt, AsksTheSame};
 ghost use Rattle.windows.specs.Compaction.{AreRising, above, up_to, StandsFor, snapshot_commit};
 ghost use Rattle.windows.specs.Cuts.{lines_between, window_of};
-ghost use Rattle.windows.specs.Growth.{GoesOn, Stands};
+ghost use Rattle.windows.specs.Growth.{GoesOn, HasRisingLines, IsSettled, Stands};
 ghost use Rattle.windows.specs.Merged.{of_part, merged};
 ghost use Rattle.windows.specs.Nearest.{commit_before, commit_behind, content_entry, order_by};
 ghost use Rattle.windows.specs.Together.{Window, told, told_of_part, IsShown, ShowAll, all_told};
@@ -150,6 +153,13 @@ pub fn right_and_fresh_by_windows(trace: &Trace)
     right_and_fresh_without_findings(trace);
 }
 
+/// The same of a trace as a value, of which no bytes are asked for: so the whole may be longer than an input may be.
+/// And each check of a version saw all changes before that version's content check.
+pub fn right_and_fresh_of_windows()
+    ensures { (t : TraceValue) → IsWellFormed t → AreRising t.commits → (evidence : List (Option (List StepValue)))
+        (ws : List Window) → ShowAll t evidence ws → all_told ws ≡ [] → IsRightAndFresh t × HasNoNewEnemy t }
+{}
+
 /// Whatever is told of windows that show a whole trace: a reply that a finding F10 calls wrong is wrong.
 pub fn wrong_replies_by_windows(trace: &Trace)
     ensures { (evidence : List (Option (List StepValue))) (ws : List Window) → ShowAll trace.now evidence ws
@@ -176,7 +186,29 @@ pub fn right_and_fresh_in_windows(trace: &Trace)
 /// entry's snapshot.
 pub fn grown_log()
     ensures { (a b : List ℕ) (t : TraceValue) → trace_of true ((a ++ 10 ∷ []) ++ b) ≡ Ok t
-        → (u : TraceValue) × (trace_of true (a ++ 10 ∷ []) ≡ Ok u) × (goes : GoesOn u t) × Stands u t goes }
+        → (u : TraceValue) × (trace_of true (a ++ 10 ∷ []) ≡ Ok u)
+        × (goes : GoesOn (length (parts a)) u t) × Stands u t goes }
+{
+    commits_of_bytes();
+    entries_of_bytes_rise();
+}
+
+/// What is found on an entry that is settled stays: in each longer log the same ten findings are found on it, by the
+/// same steps. An entry is settled once a commit at or above its snapshot stands in the log, on whatever line.
+pub fn settled_stays()
+    ensures { (k : ℕ) (t u : TraceValue) → GoesOn k t u → HasRisingLines t → HasRisingLines u
+        → (i : ℕ) (e : EntryValue) → slice_get t.entries i ≡ Some e → IsSettled t e
+        → (evidence more : List (Option (List StepValue))) → steps_of more i ≡ steps_of evidence i
+        → found_on u more i e ≡ found_on t evidence i e }
+{}
+
+/// The same of bytes: whatever is appended to lines that came whole, so that all together is a trace.
+pub fn settled_stays_in_bytes()
+    ensures { (a b : List ℕ) (u : TraceValue) → trace_of true ((a ++ 10 ∷ []) ++ b) ≡ Ok u
+        → (t : TraceValue) × (trace_of true (a ++ 10 ∷ []) ≡ Ok t)
+        × ((i : ℕ) (e : EntryValue) → slice_get t.entries i ≡ Some e → IsSettled t e
+        → (evidence more : List (Option (List StepValue))) → steps_of more i ≡ steps_of evidence i
+        → (slice_get u.entries i ≡ Some e) × (found_on u more i e ≡ found_on t evidence i e)) }
 {
     commits_of_bytes();
     entries_of_bytes_rise();

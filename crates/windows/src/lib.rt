@@ -8,8 +8,9 @@
 //! ([`laws::findings_of_windows`]); where they tell nothing, the whole is right and fresh
 //! ([`laws::right_and_fresh_by_windows`]).
 //!
-//! Two more laws are of use to who audits piece by piece: a log that grows says the same of its beginning
-//! ([`laws::grown_log`]), and the findings of a trace that is cut by object are those of its parts, merged by line
+//! More laws are of use to who audits piece by piece: a log that grows says the same of its beginning
+//! ([`laws::grown_log`]); what is found on an entry stays once a commit at or above its snapshot stands in the log
+//! ([`laws::settled_stays`]); and the findings of a trace that is cut by object are those of its parts, merged by line
 //! ([`laws::merged_by_line`]).
 //!
 //! The crate computes nothing: no function here cuts a trace, and each law is what a function ensures that does
