@@ -121,6 +121,12 @@ class WhatRuns(Checkout):
         self.assertIn("cannot open --quiet\n", self.run_command("make", "--", "--quiet").stderr)
         self.assertIn("cannot open a b\n", self.run_command("make", "--quiet", "a b").stderr)
 
+    def test_over_a_limit_of_the_size_of_files_a_write_fails(self):
+        """The program says so; the signal of the system would end it without a word."""
+        out = os.path.join(self.room, "out")
+        run = self.run_command("-c", 'ulimit -f 0; exec "$0" >"$1"', self.path("new_enemy"), out, command="sh")
+        self.assertEqual((run.returncode, run.stderr), (5, "write fault after 0 bytes\n"))
+
     def test_what_the_program_does_not_stand_on_may_change(self):
         change(self.path("crates", "tests_of_texts", "src", "lib.rt"), b"//!", b"//! ")
         with open(self.path("crates.txt"), "a", encoding="utf-8") as file:

@@ -3,14 +3,13 @@ use Rattle.std.specs.Prelude.{slice_index_or, slice_get, ◌≡◌, Bool, true, 
 use Rattle.std.proofs.Common.{refl, sym, ap, ◌∙◌, subst}
 use Rattle.std.specs.Str.{bytes_eq}
 use Rattle.clap.specs.Lexer.{long_of, short_of}
-use Rattle.clap.specs.declared.error.kind.ErrorKind.{ErrorKind}
 use Rattle.std.specs.Option.{option_map_or}
 use Rattle.std.specs.Str.{chars}
 use Rattle.std.specs.Prelude.{option_and_then}
 use Rattle.std.proofs.lemmas.Slice.Eq.{bytes_eq-Decides}
 use Rattle.std.proofs.Math.Bool.{or-false}
 use Rattle.std.proofs.Common.{◌||◌, if◌then◌else◌, length}
-use Rattle.clap.specs.Walk.{Text, Rule, Walk, Held, Names, idle, trailing, walked, answers_to, nothing_held, walk_from, subcommand_met, subcommand_or_other, arg_by_long, arg_by_short, after_flag, bundle_step, bundle_met, plain, short_or_plain, long_or_other}
+use Rattle.clap.specs.Walk.{Text, Rule, Walk, Held, Names, idle, trailing, walked, answers_to, nothing_held, walk_from, subcommand_met, subcommand_or_other, after_flag, bundle_step, bundle_met, plain, short_or_plain, long_or_other}
 use Rattle.clap.specs.Simple.{subcommand_of, Shape, built, label_of, names_of, entered, help_rule, rows_at}
 use Rattle.clap.specs.Faults.{fault_of, walk_fault, turn_fault, other_fault, flag_word_fault, step_fault, long_fault, short_fault, bundle_step_fault, bundle_fault, flags_fault}
 use Rattle.clap.specs.Kinds.{Kinds, or_else}

@@ -1,5 +1,5 @@
 -- The numbers that stand where none is written.
-use Rattle.std.proofs.Common.{refl, sym, ap, ◌∙◌, ◌≡◌, ◌<◌, ◌^◌, ℕ, List, Option, Some, None, Result, Ok, Err, codes, rules, arith, Bor, Bool, true, false, not, is_some, if◌then◌else◌, option_map}
+use Rattle.std.proofs.Common.{refl, sym, ap, ◌∙◌, ◌≡◌, ◌<◌, ◌^◌, ℕ, List, Option, Some, None, Result, Ok, Err, codes, rules, arith, Bool, true, false, if◌then◌else◌}
 use Rattle.std.specs.Str.Parse.{IsNumeral, ParsesUnsigned, digits_value, without_leading_plus}
 use Rattle.std.specs.Prelude.{IfSome}
 use Rattle.clap.specs.Words.{ReadsOne, Row, Text, one_of}
@@ -15,13 +15,6 @@ one_is_numeral = (omega arith, (omega arith, search rules))
 
 pub slice_is_numeral : IsNumeral 10 (codes "64")
 slice_is_numeral = (omega arith, (omega arith, (omega arith, search rules)))
-
--- evidence is made where none is named
-pub made_or_named : (named : Option (Bor Text)) (e found : Option Text) (make : Bool) → option_map (λ s. s.now) named ≡ e
-    → (found ≡ Some (codes "true") → make ≡ true) → (found ≡ Some (codes "false") → make ≡ false)
-    → found ≡ Some (if is_some e then codes "false" else codes "true") → make ≡ not (is_some named)
-made_or_named None e found make is given left m = given (rw (← is) at m)
-made_or_named (Some s) e found make is given left m = left (rw (← is) at m)
 
 -- a number is that of the text from which it was read
 pub number_given : (E : Type 0) (G : List ℕ → Result ℕ E → Type 0) (rows : List Row) (id : Text) (o : Option ℕ) → (one_of id rows ≡ None → o ≡ None)

@@ -1,14 +1,14 @@
 -- What clap's function of the words gives at the plain forms.
 use Rattle.std.specs.Prelude.{slice_index_or, ◌≡◌, Bool, true, false, ℕ, Some, None, codes, List, [], ◌∷◌, ◌==◌, ◌&&◌}
-use Rattle.std.proofs.Common.{refl, ap, ap₂, ◌∙◌}
+use Rattle.std.proofs.Common.{refl, ap, ap₂, ◌∙◌, arith}
 use Rattle.clap.specs.Walk.{Row, Text, Rule, Walk, Held, Step, idle, value, word_met, walked, after_step, to_positional, arg_by_index, nothing_held, walk_from, finished, rows_after}
 use Rattle.clap.specs.Simple.{subcommand_of, Shape, built}
 use Rattle.clap.specs.Takes.{takes, level_passes, walk_passes, word_passes, step_passes, turn_passes, settle_passes, default_passes, is_valid}
-use Rattle.clap.specs.Faults.{is_simple_and_free}
 use Rattle.std.specs.List.{list_all}
 use Rattle.std.proofs.lemmas.Bool.{not-true}
 use Rattle.clap.proofs.OnLiterals.{clap_on_literals}
 use Rattle.command_line.specs.Commands.{program}
+use Rattle.command_line.proofs.Numbers.{one_is_numeral, slice_is_numeral}
 use Rattle.command_line.specs.Asked.{is_plain_word, IsAuditFound, IsMakeFound, IsHistoryFound}
 
 -- a plain word goes to a positional
@@ -86,8 +86,16 @@ within_audit t e = refl
 pub audit_is : (t e : Text) → is_plain_word t ≡ true → is_plain_word e ≡ true → subcommand_of program (codes "audit" ∷ t ∷ e ∷ []) ≡ Some (codes "audit", rows_of_two (sub 0) t e)
 audit_is t e p q = within_audit t e ∙ ap (λ (rows : List Row). Some (codes "audit", rows)) (two_rows (sub 0) t e p q refl)
 
-pub audit_found : (t e : Text) → IsAuditFound (rows_of_two (sub 0) t e) t (Some e)
-audit_found t e = record { trace = refl; evidence = refl; make = refl; workers = refl; slice = refl; early = refl }
+pub audit_found : (t e : Text) → IsAuditFound (rows_of_two (sub 0) t e) t (Some e) 1 64 false
+audit_found t e = record {
+  trace = refl;
+  evidence = refl;
+  make = refl;
+  workers_given = (record { text = codes "1"; here = refl; numeral = one_is_numeral; value = refl }, omega arith);
+  slice_given = (record { text = codes "64"; here = refl; numeral = slice_is_numeral; value = refl }, omega arith);
+  early_given = refl;
+  fits = λ early. refl;
+}
 
 -- ---- `audit` with a word and `--make`
 
@@ -113,9 +121,17 @@ made_taken t p = below_audit t (codes "--make") ∙ ap (λ (b : Bool). b && true
 pub made_is : (t : Text) → is_plain_word t ≡ true → subcommand_of program (codes "audit" ∷ t ∷ codes "--make" ∷ []) ≡ Some (codes "audit", made_rows t)
 made_is t p = within_audit t (codes "--make") ∙ ap (λ (rows : List Row). Some (codes "audit", rows)) (then_rows (sub 0) t (codes "--make") p)
 
-pub made_found : (t : Text) → IsAuditFound (made_rows t) t None
+pub made_found : (t : Text) → IsAuditFound (made_rows t) t None 1 64 false
 unfolding clap_on_literals
-made_found t = record { trace = refl; evidence = refl; make = refl; workers = refl; slice = refl; early = refl }
+made_found t = record {
+  trace = refl;
+  evidence = refl;
+  make = refl;
+  workers_given = (record { text = codes "1"; here = refl; numeral = one_is_numeral; value = refl }, omega arith);
+  slice_given = (record { text = codes "64"; here = refl; numeral = slice_is_numeral; value = refl }, omega arith);
+  early_given = refl;
+  fits = λ early. absurd cc;
+}
 
 -- ---- `make` with a word
 
@@ -137,8 +153,8 @@ pub make_is : (t : Text) → is_plain_word t ≡ true → subcommand_of program 
 unfolding clap_on_literals
 make_is t p = ap (λ (w : Walk). Some (codes "make", finished (sub 1).rules w.held)) (step (sub 1) 1 t nothing_held p)
 
-pub make_found : (t : Text) → IsMakeFound (make_rows t) t
-make_found t = record { trace = refl; list = refl }
+pub make_found : (t : Text) → IsMakeFound (make_rows t) t false
+make_found t = record { trace = refl; list_given = refl }
 
 -- ---- `history` with two words
 

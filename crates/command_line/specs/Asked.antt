@@ -1,8 +1,11 @@
 -- What a request asks for, and the words that are no option.
-use Rattle.std.specs.Prelude.{◌≡◌, ℕ, Bool, true, not, List, [], ◌∷◌, ◌==◌, Option, Some, None, option_map, codes, is_some, if◌then◌else◌}
+use Rattle.std.specs.Prelude.{◌≡◌, ◌<◌, ◌^◌, ◌⊎◌, ℕ, Bool, true, false, not, List, [], ◌∷◌, ◌==◌, Option, Some, None, option_map, codes, is_some, if◌then◌else◌}
 use Rattle.std.specs.Str.Parse.{IsNumeral, digits_value, without_leading_plus}
 use Rattle.clap.specs.Walk.{Row, Text, first_of, one_of}
 use Rattle.clap.specs.Simple.{subcommand_of}
+use Rattle.clap.specs.Kinds.{IsAmong}
+use Rattle.clap.specs.Faults.{fault_of}
+use Rattle.clap.specs.declared.error.kind.ErrorKind.TheVariants.{DisplayHelp, DisplayVersion}
 use Rattle.command_line.specs.Commands.{program}
 use Rattle.command_line.specs.declared.request.Request.{Request}
 use Rattle.command_line.specs.declared.request.Request.TheVariants as request
@@ -38,30 +41,39 @@ command_of (audits _ _ _ _ _) = Some (codes "audit")
 command_of (makes _ _) = Some (codes "make")
 command_of (tells _ _) = Some (codes "history")
 
--- what clap found for the commands, where no option was used but `--make`
-pub record IsAuditFound (rows : List Row) (t : Text) (e : Option Text) : Type 0 where
-  pub trace : first_of (codes "TRACE") rows ≡ Some t
-  pub evidence : first_of (codes "EVIDENCE") rows ≡ e
-  pub make : one_of (codes "make") rows
-      ≡ Some (if is_some e then codes "false" else codes "true")
-  pub workers : one_of (codes "workers") rows ≡ Some (codes "1")
-  pub slice : one_of (codes "slice") rows ≡ Some (codes "64")
-  pub early : one_of (codes "early") rows ≡ Some (codes "false")
-
-pub record IsMakeFound (rows : List Row) (t : Text) : Type 0 where
-  pub trace : first_of (codes "TRACE") rows ≡ Some t
-  pub list : one_of (codes "list") rows ≡ Some (codes "false")
-
-pub record IsHistoryFound (rows : List Row) (t u : Text) : Type 0 where
-  pub trace : first_of (codes "TRACE") rows ≡ Some t
-  pub tuple : first_of (codes "TUPLE") rows ≡ Some u
-
 -- the number that the text of an argument writes
 pub record IsNumberIn (rows : List Row) (id : Text) (n : ℕ) : Type 0 where
   pub text : Text
   pub here : one_of id rows ≡ Some text
   pub numeral : IsNumeral 10 (without_leading_plus text)
   pub value : digits_value 10 (without_leading_plus text) ≡ n
+
+-- an argument is given as a number that fits 64 bits
+abbrev pub GivesNumber : List Row → Text → ℕ → Type 0
+GivesNumber rows id n = IsNumberIn rows id n × (n < 2 ^ 64)
+
+-- a flag is given, or is not
+abbrev pub GivesFlag : List Row → Text → Bool → Type 0
+GivesFlag rows id b = one_of id rows ≡ Some (if b then codes "true" else codes "false")
+
+-- What clap found is a whole audit: evidence or `--make`, and not both, and no early alerts where evidence is made.
+pub record IsAuditFound (rows : List Row) (t : Text) (e : Option Text) (workers slice : ℕ) (early : Bool)
+    : Type 0 where
+  pub trace : first_of (codes "TRACE") rows ≡ Some t
+  pub evidence : first_of (codes "EVIDENCE") rows ≡ e
+  pub make : GivesFlag rows (codes "make") (not (is_some e))
+  pub workers_given : GivesNumber rows (codes "workers") workers
+  pub slice_given : GivesNumber rows (codes "slice") slice
+  pub early_given : GivesFlag rows (codes "early") early
+  pub fits : early ≡ true → is_some e ≡ true
+
+pub record IsMakeFound (rows : List Row) (t : Text) (list : Bool) : Type 0 where
+  pub trace : first_of (codes "TRACE") rows ≡ Some t
+  pub list_given : GivesFlag rows (codes "list") list
+
+pub record IsHistoryFound (rows : List Row) (t u : Text) : Type 0 where
+  pub trace : first_of (codes "TRACE") rows ≡ Some t
+  pub tuple : first_of (codes "TUPLE") rows ≡ Some u
 
 -- the text of a flag does not say the other thing
 abbrev pub IsFlagIn : List Row → Text → Bool → Type 0
@@ -72,7 +84,8 @@ abbrev pub IsFoundIn : List Row → Asked → Type 0
 IsFoundIn rows joined = ⊥
 IsFoundIn rows (audits t e workers slice early) =
     (first_of (codes "TRACE") rows ≡ Some t) × (first_of (codes "EVIDENCE") rows ≡ e)
-    × IsNumberIn rows (codes "workers") workers × IsNumberIn rows (codes "slice") slice × IsFlagIn rows (codes "early") early
+    × IsNumberIn rows (codes "workers") workers × IsNumberIn rows (codes "slice") slice
+    × IsFlagIn rows (codes "early") early
 IsFoundIn rows (makes t list) = (first_of (codes "TRACE") rows ≡ Some t) × IsFlagIn rows (codes "list") list
 IsFoundIn rows (tells t u) = (first_of (codes "TRACE") rows ≡ Some t) × (first_of (codes "TUPLE") rows ≡ Some u)
 
@@ -85,3 +98,30 @@ IsFoundBehind (Some found) asked = IsFoundIn found.1 asked
 abbrev pub IsAskedBy : List Text → Asked → Type 0
 IsAskedBy words joined = words ≡ []
 IsAskedBy words asked = IsFoundBehind (subcommand_of program words) asked
+
+-- ---- words that clap takes
+
+-- clap finds no fault in the words
+abbrev pub AreTaken : List Text → Type 0
+AreTaken words = fault_of program words ≡ []
+
+-- what clap found behind the command's name is just this request, whole
+abbrev pub IsWholeIn : Option (Text × List Row) → Asked → Type 0
+IsWholeIn found joined = ⊥
+IsWholeIn found (audits t e workers slice early) =
+    (rows : List Row) × (found ≡ Some (codes "audit", rows)) × IsAuditFound rows t e workers slice early
+IsWholeIn found (makes t list) = (rows : List Row) × (found ≡ Some (codes "make", rows)) × IsMakeFound rows t list
+IsWholeIn found (tells t u) = (rows : List Row) × (found ≡ Some (codes "history", rows)) × IsHistoryFound rows t u
+
+-- the words write a whole request
+abbrev pub Write : List Text → Asked → Type 0
+Write words asked = IsWholeIn (subcommand_of program words) asked
+
+-- the words ask for help or for the version
+abbrev pub AskForHelp : List Text → Type 0
+AskForHelp words = IsAmong DisplayHelp (fault_of program words) ⊎ IsAmong DisplayVersion (fault_of program words)
+
+-- a text is to be shown in place of an answer
+abbrev pub is_to_show : Answer → Bool
+is_to_show (answer.Shows text) = true
+is_to_show _ = false

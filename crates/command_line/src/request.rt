@@ -1,9 +1,9 @@
 //! Requests, and the words that ask for them.
 
-ghost use Rattle.std.specs.Prelude.{◌≡◌, ℕ, [], ◌∷◌, Ok, Some, None, true, false, not, is_some, List, Option, IfOk, IfErr, IfSome, codes, map, slice_get, string_bytes, option_map};
+ghost use Rattle.std.specs.Prelude.{◌≡◌, ◌⊎◌, ℕ, [], ◌∷◌, Ok, Some, None, true, false, not, is_some, Bool, List, Option, IfOk, IfErr, IfSome, codes, map, slice_get, string_bytes, option_map};
 ghost use Rattle.clap.specs.Words.{Row, Text, rows_of, found_of, first_of, one_of, subcommand_of, subcommand_rows_of, takes, kind_of, FailsBy, fault_of};
 ghost use Rattle.command_line.specs.Commands as spec;
-ghost use Rattle.command_line.specs.Asked.{IsAskedBy, IsAuditFound, IsFlagIn, IsFoundBehind, IsFoundIn, IsHistoryFound, IsMakeFound, IsNumberIn, asked_by, asked_in, command_of, is_plain_word, audits, makes, tells};
+ghost use Rattle.command_line.specs.Asked.{AreTaken, AskForHelp, Asked, GivesFlag, GivesNumber, IsAskedBy, IsAuditFound, IsFlagIn, IsFoundBehind, IsFoundIn, IsHistoryFound, IsMakeFound, IsNumberIn, IsWholeIn, Write, asked_by, asked_in, command_of, is_plain_word, is_to_show, audits, makes, tells};
 ghost use Rattle.command_line.specs.declared.request.Answer.TheVariants.{Asks};
 ghost use Rattle.command_line.specs.declared.request.Request.TheVariants.{Joined};
 
@@ -26,7 +26,8 @@ pub enum Request<'a> {
         slice: u64,
         early: bool,
     },
-    /// Evidence for the trace of a file; the lines of the entries that have none go to standard error where they are asked for.
+    /// Evidence for the trace of a file; the lines of the entries that have none go to standard error where they are
+    /// asked for.
     Make {
         trace: &'a str,
         list: bool,
@@ -50,8 +51,10 @@ pub enum Answer<'a> {
 
 /// The matches of the words, by the commands without rules between their arguments.
 fn parse<'a>(alloc: Global, words: &'a [String]) -> Result<ArgMatches<'a>, Error>
-    ensures matches { IfOk result (λ m. subcommand_rows_of m ≡ subcommand_of spec.program (map string_bytes words.entry.now)) }
-    ensures passes { IfErr result (λ e. takes spec.program (map string_bytes words.entry.now) ≡ true → kind_of e ≡ ErrorKind.OutOfMemory) }
+    ensures matches { IfOk result
+        (λ m. subcommand_rows_of m ≡ subcommand_of spec.program (map string_bytes words.entry.now)) }
+    ensures passes { IfErr result (λ e. takes spec.program (map string_bytes words.entry.now) ≡ true
+        → kind_of e ≡ ErrorKind.OutOfMemory) }
     ensures kinds { FailsBy (fault_of spec.program (map string_bytes words.entry.now)) result }
 {
     program(alloc)?.try_get_matches_from(words)
@@ -66,8 +69,7 @@ fn text<'a>(matches: &ArgMatches<'a>, id: &str) -> Option<&'a str>
 
 /// The number of an argument.
 fn number(matches: &ArgMatches, id: &str) -> Option<u64>
-    ensures one { one_of id.now (rows_of (found_of matches.now)) ≡ Some (codes "1") → result ≡ Some 1 }
-    ensures slice { one_of id.now (rows_of (found_of matches.now)) ≡ Some (codes "64") → result ≡ Some 64 }
+    ensures whole { (n : ℕ) → GivesNumber (rows_of (found_of matches.now)) id.now n → result ≡ Some n }
     ensures given { IfSome result (IsNumberIn (rows_of (found_of matches.now)) id.now) }
 {
     matches.get_one::<u64>(id)
@@ -75,14 +77,14 @@ fn number(matches: &ArgMatches, id: &str) -> Option<u64>
 
 /// Whether a flag was given.
 fn has(matches: &ArgMatches, id: &str) -> bool
-    ensures yes { one_of id.now (rows_of (found_of matches.now)) ≡ Some (codes "true") → result ≡ true }
-    ensures no { one_of id.now (rows_of (found_of matches.now)) ≡ Some (codes "false") → result ≡ false }
+    ensures whole { (b : Bool) → GivesFlag (rows_of (found_of matches.now)) id.now b → result ≡ b }
     ensures given { IsFlagIn (rows_of (found_of matches.now)) id.now result }
 {
     matches.get_flag(id)
 }
 
-/// The request of what was found for `audit`, where evidence or `--make` is there, and not both, and not `--make` with `--early`.
+/// The request of what was found for `audit`, where evidence or `--make` is there, and not both, and not `--make` with
+/// `--early`.
 fn ask_for_audit<'a>(
     trace: Option<&'a str>,
     evidence: Option<&'a str>,
@@ -91,11 +93,14 @@ fn ask_for_audit<'a>(
     slice: Option<u64>,
     early: bool,
 ) -> Option<Request<'a>>
-    ensures asked { (t : Text) → option_map (λ s. s.now) trace.entry ≡ Some t → make ≡ not (is_some evidence.entry) → workers ≡ Some 1 → slice ≡ Some 64 → early ≡ false
-        → option_map asked_by result ≡ Some (audits t (option_map (λ s. s.now) evidence.entry) 1 64 false) }
+    ensures asked { (t : Text) (w n : ℕ) → option_map (λ s. s.now) trace.entry ≡ Some t
+        → make ≡ not (is_some evidence.entry) → workers ≡ Some w → slice ≡ Some n
+        → (early ≡ true → is_some evidence.entry ≡ true)
+        → option_map asked_by result ≡ Some (audits t (option_map (λ s. s.now) evidence.entry) w n early) }
     ensures named { IfSome result (λ r. command_of (asked_by r) ≡ Some (codes "audit")) }
-    ensures given { IfSome result (λ r. (t : Text) × (w : ℕ) × (n : ℕ) × (option_map (λ s. s.now) trace.entry ≡ Some t)
-        × (workers ≡ Some w) × (slice ≡ Some n) × (asked_by r ≡ audits t (option_map (λ s. s.now) evidence.entry) w n early)) }
+    ensures given { IfSome result (λ r. (t : Text) × (w : ℕ) × (n : ℕ)
+        × (option_map (λ s. s.now) trace.entry ≡ Some t) × (workers ≡ Some w) × (slice ≡ Some n)
+        × (asked_by r ≡ audits t (option_map (λ s. s.now) evidence.entry) w n early)) }
 {
     if evidence.is_some() == make {
         return None;
@@ -118,8 +123,9 @@ fn ask_for_audit<'a>(
 }
 
 fn audit_of<'a>(matches: &ArgMatches<'a>) -> Option<Request<'a>>
-    ensures asked { (t : Text) (e : Option Text) → IsAuditFound (rows_of (found_of matches.now)) t e
-        → option_map asked_by result ≡ Some (audits t e 1 64 false) }
+    ensures asked { (t : Text) (e : Option Text) (w n : ℕ) (early : Bool)
+        → IsAuditFound (rows_of (found_of matches.now)) t e w n early
+        → option_map asked_by result ≡ Some (audits t e w n early) }
     ensures named { IfSome result (λ r. command_of (asked_by r) ≡ Some (codes "audit")) }
     ensures given { IfSome result (λ r. IsFoundIn (rows_of (found_of matches.now)) (asked_by r)) }
 {
@@ -133,8 +139,8 @@ fn audit_of<'a>(matches: &ArgMatches<'a>) -> Option<Request<'a>>
 }
 
 fn make_of<'a>(matches: &ArgMatches<'a>) -> Option<Request<'a>>
-    ensures asked { (t : Text) → IsMakeFound (rows_of (found_of matches.now)) t
-        → option_map asked_by result ≡ Some (makes t false) }
+    ensures asked { (t : Text) (list : Bool) → IsMakeFound (rows_of (found_of matches.now)) t list
+        → option_map asked_by result ≡ Some (makes t list) }
     ensures named { IfSome result (λ r. command_of (asked_by r) ≡ Some (codes "make")) }
     ensures given { IfSome result (λ r. IsFoundIn (rows_of (found_of matches.now)) (asked_by r)) }
 {
@@ -160,13 +166,17 @@ fn history_of<'a>(matches: &ArgMatches<'a>) -> Option<Request<'a>>
 }
 
 fn request_of<'a>(matches: &ArgMatches<'a>) -> Option<Request<'a>>
-    ensures audit { (rows : List Row) (t : Text) (e : Option Text) → subcommand_rows_of matches.now ≡ Some (codes "audit", rows) → IsAuditFound rows t e
-        → option_map asked_by result ≡ Some (audits t e 1 64 false) }
-    ensures make { (rows : List Row) (t : Text) → subcommand_rows_of matches.now ≡ Some (codes "make", rows) → IsMakeFound rows t
-        → option_map asked_by result ≡ Some (makes t false) }
-    ensures history { (rows : List Row) (t u : Text) → subcommand_rows_of matches.now ≡ Some (codes "history", rows) → IsHistoryFound rows t u
+    ensures audit { (rows : List Row) (t : Text) (e : Option Text) (w n : ℕ) (early : Bool)
+        → subcommand_rows_of matches.now ≡ Some (codes "audit", rows) → IsAuditFound rows t e w n early
+        → option_map asked_by result ≡ Some (audits t e w n early) }
+    ensures make { (rows : List Row) (t : Text) (list : Bool)
+        → subcommand_rows_of matches.now ≡ Some (codes "make", rows) → IsMakeFound rows t list
+        → option_map asked_by result ≡ Some (makes t list) }
+    ensures history { (rows : List Row) (t u : Text)
+        → subcommand_rows_of matches.now ≡ Some (codes "history", rows) → IsHistoryFound rows t u
         → option_map asked_by result ≡ Some (tells t u) }
-    ensures named { IfSome result (λ r. option_map (λ p. p.0) (subcommand_rows_of matches.now) ≡ command_of (asked_by r)) }
+    ensures named { IfSome result
+        (λ r. option_map (λ p. p.0) (subcommand_rows_of matches.now) ≡ command_of (asked_by r)) }
     ensures some { IfSome result (λ r. is_some (command_of (asked_by r)) ≡ true) }
     ensures given { IfSome result (λ r. IsFoundBehind (subcommand_rows_of matches.now) (asked_by r)) }
 {
@@ -192,49 +202,56 @@ fn told(alloc: Global, words: &[String], error: &Error) -> Result<String, AllocE
     format!(in alloc; "{error}")
 }
 
-/// What is shown for an error, unless memory ran out.
-fn answer_of<'a>(alloc: Global, words: &[String], error: &Error) -> Result<Answer<'a>, AllocError>
-    ensures { IfOk result (λ a. asked_in a ≡ None) }
-{
-    if error.kind() == ErrorKind::OutOfMemory {
-        return Err(AllocError);
+/// What the commands with their rules say of words that ask for nothing.
+fn text_for(alloc: Global, words: &[String]) -> Result<String, AllocError> {
+    match strict(alloc)?.try_get_matches_from(words) {
+        Ok(_matches) => format!(in alloc; "usage"),
+        Err(error) if error.kind() == ErrorKind::OutOfMemory => Err(AllocError),
+        Err(error) => told(alloc, words, &error),
     }
-    let text = told(alloc, words, error)?;
+}
+
+/// What is shown for an error: help and the version as such, and any other as a refusal.
+fn answer_to<'a>(alloc: Global, words: &[String], error: &Error) -> Result<Answer<'a>, AllocError>
+    ensures nothing { IfOk result (λ a. asked_in a ≡ None) }
+    ensures shown { IfOk result (λ a. is_to_show a ≡ true
+        → (kind_of error.now ≡ ErrorKind.DisplayHelp) ⊎ (kind_of error.now ≡ ErrorKind.DisplayVersion)) }
+{
+    let text = text_for(alloc, words)?;
     if error.use_stderr() {
         return Ok(Answer::Refuses(text));
     }
     Ok(Answer::Shows(text))
 }
 
-/// What is shown for words that ask for nothing, by the commands with their rules.
-fn refusal_of<'a>(alloc: Global, words: &'a [String]) -> Result<Answer<'a>, AllocError>
-    ensures { IfOk result (λ a. asked_in a ≡ None) }
-{
-    match strict(alloc)?.try_get_matches_from(words) {
-        Ok(_matches) => Ok(Answer::Refuses(format!(in alloc; "usage")?)),
-        Err(error) => answer_of(alloc, words, &error),
-    }
-}
-
 /// Reads the words behind the program's name.
 ///
 /// Without words joined input is asked for. Words that name no command, lack one of its words, have one too many,
-/// repeat an option or give it no number below 2^64 are refused, and so is an audit with both evidence and `--make`, or with
-/// neither, or of `--make` with `--early`.
+/// repeat an option or give it no number below 2^64 are refused, and so is an audit with both evidence and `--make`, or
+/// with neither, or of `--make` with `--early`. Help and the version are shown where they are asked for.
 pub fn read_words<'a>(alloc: Global, words: &'a [String]) -> Result<Answer<'a>, AllocError>
     ensures joined { IfOk result (λ a. a ≡ Asks Joined → words.now ≡ []) }
     ensures none { words.now ≡ [] → result ≡ Ok (Asks Joined) }
     // What is asked for is what the first word names, and the audit of joined input where there is none.
-    ensures first { IfOk result (λ a. IfSome (asked_in a) (λ r. slice_get (map string_bytes words.now) 0 ≡ command_of r)) }
+    ensures first { IfOk result
+        (λ a. IfSome (asked_in a) (λ r. slice_get (map string_bytes words.now) 0 ≡ command_of r)) }
     // It is what clap finds in the words: their paths, tuple and numbers.
     ensures asked { IfOk result (λ a. IfSome (asked_in a) (IsAskedBy (map string_bytes words.now))) }
-    ensures audit { (t e : Text) → map string_bytes words.now ≡ codes "audit" ∷ t ∷ e ∷ [] → is_plain_word t ≡ true → is_plain_word e ≡ true
+    // Words that clap takes, and that write a whole request, ask for it, whatever their number.
+    ensures taken { AreTaken (map string_bytes words.now) → (a : Asked) → Write (map string_bytes words.now) a
+        → IfOk result (λ r. asked_in r ≡ Some a) }
+    // Nothing is shown in place of an answer but what was asked for.
+    ensures shown { IfOk result (λ a. is_to_show a ≡ true → AskForHelp (map string_bytes words.now)) }
+    ensures audit { (t e : Text) → map string_bytes words.now ≡ codes "audit" ∷ t ∷ e ∷ []
+        → is_plain_word t ≡ true → is_plain_word e ≡ true
         → IfOk result (λ a. asked_in a ≡ Some (audits t (Some e) 1 64 false)) }
-    ensures audit_made { (t : Text) → map string_bytes words.now ≡ codes "audit" ∷ t ∷ codes "--make" ∷ [] → is_plain_word t ≡ true
+    ensures audit_made { (t : Text) → map string_bytes words.now ≡ codes "audit" ∷ t ∷ codes "--make" ∷ []
+        → is_plain_word t ≡ true
         → IfOk result (λ a. asked_in a ≡ Some (audits t None 1 64 false)) }
     ensures make { (t : Text) → map string_bytes words.now ≡ codes "make" ∷ t ∷ [] → is_plain_word t ≡ true
         → IfOk result (λ a. asked_in a ≡ Some (makes t false)) }
-    ensures history { (t u : Text) → map string_bytes words.now ≡ codes "history" ∷ t ∷ u ∷ [] → is_plain_word t ≡ true → is_plain_word u ≡ true
+    ensures history { (t u : Text) → map string_bytes words.now ≡ codes "history" ∷ t ∷ u ∷ []
+        → is_plain_word t ≡ true → is_plain_word u ≡ true
         → IfOk result (λ a. asked_in a ≡ Some (tells t u)) }
 {
     if words.is_empty() {
@@ -243,9 +260,9 @@ pub fn read_words<'a>(alloc: Global, words: &'a [String]) -> Result<Answer<'a>, 
     match parse(alloc, words) {
         Ok(matches) => match request_of(&matches) {
             Some(request) => Ok(Answer::Asks(request)),
-            None => refusal_of(alloc, words),
+            None => Ok(Answer::Refuses(text_for(alloc, words)?)),
         },
         Err(error) if error.kind() == ErrorKind::OutOfMemory => Err(AllocError),
-        Err(_error) => refusal_of(alloc, words),
+        Err(error) => answer_to(alloc, words, &error),
     }
 }

@@ -11,18 +11,16 @@ use Rattle.audit.specs.declared.plain.AuditFault.{AuditFault}
 use Rattle.audit.specs.declared.plain.Verdict.{Verdict}
 use Rattle.audit.proofs.Readers.{behind_at_rest, unwritten_without_device}
 use Rattle.new_enemy.specs.Files.{OfFiles, file_failures}
+use Rattle.new_enemy.specs.Opened.{IsUnused, file_of}
 use Rattle.new_enemy.specs.Outcomes.{SaysOfDevices}
 use Rattle.new_enemy.specs.Run.{IsStatus}
+use Rattle.new_enemy.specs.declared.opened.Opened.{Opened}
 use Rattle.new_enemy.specs.declared.run.Ran.{Ran}
 use Rattle.new_enemy.specs.declared.run.Ran.TheVariants as ran
 use Rattle.new_enemy.proofs.Statuses.{Ends, failed_by, of_no_device}
 
 pub unwritten_by : (e : AuditFault) (s : ℕ) → IsStatus e s → s ≤ 4 → IsNotWrite e
 unwritten_by e s is few = unwritten_without_device e (of_no_device e s is (λ five. omega (arith, five, few)))
-
--- a file that has given nothing yet
-abbrev pub IsUnused : {F : Type 0} → Counted F → Type 0
-IsUnused file = (moved_by file ≡ []) × (stops_of file ≡ 0) × (failures_of file ≡ 0)
 
 module _ {F : Type 0} (left : Counted F → Option (List ℕ)) where
   -- what a file gave in all
@@ -63,20 +61,20 @@ module _ {F : Type 0} (left : Counted F → Option (List ℕ)) where
         }
 
   -- of one that reads evidence too
-  pub devices_of_audit : (a0 a1 b0 b1 : Counted F) (out : Writing) (s : ℕ) (answer : Result Verdict AuditFault)
+  pub devices_of_audit : (a0 b0 : Counted F) (x y : Opened F) (out : Writing) (s : ℕ) (answer : Result Verdict AuditFault)
       → IsUnused a0 → IsUnused b0 → Ends answer s
-      → Audited (reads moved_by stops_of failures_of left a0 a1) (reads moved_by stops_of failures_of left b0 b1) out
-      answer → SaysOfDevices s (ran.Audited a1 b1) out
-  devices_of_audit a0 a1 b0 b1 out s (Ok v) unused unused_yet ends h =
+      → Audited (reads moved_by stops_of failures_of left a0 (file_of x)) (reads moved_by stops_of failures_of left b0 (file_of y)) out
+      answer → SaysOfDevices s (ran.Audited x y) out
+  devices_of_audit a0 b0 x y out s (Ok v) unused unused_yet ends h =
       record {
         flushed = λ _. h.flushed;
         device = λ five. absurd (omega (arith, five, ends));
         kept = λ _. (omega (arith, h.kept.0, h.kept.1, unused.2, unused_yet.2), h.kept.2);
         unwritten = λ two. absurd (omega (arith, two, ends));
-        most = (few_in_all a0 a1 unused.0 h.most.0, few_in_all b0 b1 unused_yet.0 h.most.1);
+        most = (few_in_all a0 (file_of x) unused.0 h.most.0, few_in_all b0 (file_of y) unused_yet.0 h.most.1);
         held = h.held;
       }
-  devices_of_audit a0 a1 b0 b1 out s (Err e) unused unused_yet ends h =
+  devices_of_audit a0 b0 x y out s (Err e) unused unused_yet ends h =
       record {
         flushed = λ one. absurd (omega (arith, one, ends.0));
         device = λ five _. failed_by e s _ _ _ _ ends.1 five h.devices (λ none. absurd none)
@@ -85,7 +83,7 @@ module _ {F : Type 0} (left : Counted F → Option (List ℕ)) where
             let none = h.unfailed (of_no_device e s ends.1 other) in
             (omega (arith, none.0, none.1, unused.2, unused_yet.2), none.2);
         unwritten = λ two four. h.unwritten (unwritten_by e s ends.1 four);
-        most = (few_in_all a0 a1 unused.0 h.most.0, few_in_all b0 b1 unused_yet.0 h.most.1);
+        most = (few_in_all a0 (file_of x) unused.0 h.most.0, few_in_all b0 (file_of y) unused_yet.0 h.most.1);
         held = h.held;
       }
 

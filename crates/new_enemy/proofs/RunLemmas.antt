@@ -1,16 +1,17 @@
 -- What a run says, from what its command does.
-use Rattle.std.proofs.Common.{◌≡◌, ◌≢◌, ◌⊎◌, inl, inr, ℕ, ◌+◌, ◌<◌, ◌≤◌, true, List, [], ◌∷◌, Option, Some, None, codes, refl, sym, subst, map, ◌∙◌, arith, Bool, Bor, option_map, false}
-use Rattle.std.specs.Prelude.{IfSome, slice_get}
+use Rattle.std.proofs.Common.{◌≡◌, ◌≢◌, ◌⊎◌, inl, inr, ℕ, ◌+◌, ◌<◌, ◌≤◌, true, List, [], ◌∷◌, Option, Some, None, codes, refl, sym, subst, map, ◌∙◌, arith, Bool, Bor, option_map, false, Global}
+use Rattle.std.specs.Prelude.{IfSome, slice_get, String, string_bytes, ◌++◌}
 use Rattle.audit.specs.Devices.{Reader, Reading, Writer, Writing, ReaderFailed, WriterFailed, WriterNeverFailed, StandsBehind}
 use Rattle.audit.proofs.Readers.{few_at_rest, next_at_rest}
-use Rattle.command_line.specs.Asked.{Asked, IsAskedBy, command_of, is_plain_word}
+use Rattle.command_line.specs.Asked.{AreTaken, AskForHelp, Asked, IsAskedBy, Write, command_of, is_plain_word}
 use Rattle.command_line.specs.Asked as asked
 use Rattle.new_enemy.specs.Outcomes.{HasSucceeded, HasFoundDirty, HasRefused}
 use Rattle.new_enemy.specs.Runs.{RunsJoined, RunsFiles, SaysOfRun}
-use Rattle.new_enemy.specs.Words.{IsAsked, IsOfCommand, RanAsked, RanAudit, RanAuditAlone}
+use Rattle.new_enemy.specs.Words.{HasRead, is_shown, IsAsked, IsOfCommand, RanAsked, RanAudit, RanAuditAlone}
+use Rattle.new_enemy.specs.declared.run.Done.{Done}
 use Rattle.new_enemy.specs.declared.run.Ran.{Ran}
 use Rattle.new_enemy.specs.declared.run.Ran.TheVariants as ran
-use Rattle.new_enemy.proofs.FileRuns.{runs_nothing}
+use Rattle.new_enemy.proofs.FileRuns.{runs_done}
 
 -- what a status says where joined input is told of otherwise
 module _ {F : Type 0} {J J' : Type 0} (old new : List ℕ) where
@@ -20,6 +21,7 @@ module _ {F : Type 0} {J J' : Type 0} (old new : List ℕ) where
   of_joined (ran.AuditedAlone t) joined h = h
   of_joined (ran.Made t) joined h = h
   of_joined (ran.Told t) joined h = h
+  of_joined (ran.Shown text) joined h = h
   of_joined ran.Nothing joined h = h
 
   dirty_joined : (r : Ran F) → (J → J') → HasFoundDirty J old new r → HasFoundDirty J' old new r
@@ -34,6 +36,7 @@ module _ {F : Type 0} {J J' : Type 0} (old new : List ℕ) where
   refused_joined (ran.AuditedAlone t) joined h = h
   refused_joined (ran.Made t) joined h = h
   refused_joined (ran.Told t) joined h = h
+  refused_joined (ran.Shown text) joined h = h
   refused_joined ran.Nothing joined h = h
 
 pub says_of_joined : {F : Type 0} (input : Reading) (out : Writing) (s : ℕ) → RunsJoined input out s
@@ -84,45 +87,53 @@ module _ {F : Type 0} (r : Reader) where
       of_device (inr failed) = inr failed
 
   -- nothing was read and nothing written
-  pub says_of_nothing : (s : ℕ) (w : Writer) → 2 ≤ s → s ≤ 5
-      → SaysOfRun {F = F} (record { before = r; after = r }) (record { before = w; after = w }) s ran.Nothing
-  says_of_nothing s w two few =
-      says_of_files [] (record { before = w; after = w }) s ran.Nothing (runs_nothing [] s w two few)
+  pub says_of_nothing : (d : Done F) (s : ℕ) (w : Writer) → d ≡ record { status = s; read = ran.Nothing } → 2 ≤ s → s ≤ 5
+      → SaysOfRun (record { before = r; after = r }) (record { before = w; after = w }) d.status d.read
+  says_of_nothing d s w is two few =
+      says_of_files [] (record { before = w; after = w }) d.status d.read (runs_done [] d s w is two few)
 
-  -- help went out, or the writer stopped it
-  pub says_of_help : (out : Writing) (s : ℕ) → (s ≡ 0) ⊎ (s ≡ 5)
-      → (s ≡ 0 → (out.after.flushes ≡ out.before.flushes + 1) × WriterNeverFailed out) → StandsBehind out
-      → SaysOfRun {F = F} (record { before = r; after = r }) out s ran.Nothing
-  says_of_help out s (inl zero) sent held =
+  -- the text of help went out
+  pub says_of_help : (out : Writing) (text : String Global) → out.after.taken ≡ out.before.taken ++ string_bytes text
+      → out.after.flushes ≡ out.before.flushes + 1 → WriterNeverFailed out → StandsBehind out
+      → SaysOfRun {F = F} (record { before = r; after = r }) out 0 (ran.Shown text)
+  says_of_help out text all flushed sent held =
       record {
-        clean = λ _. tt;
-        dirty = λ one. absurd (omega (arith, one, zero));
-        flushed = λ _. (sent zero).0;
-        refused = λ _. tt;
-        used = λ _. tt;
-        device = λ five opened. absurd (opened refl);
-        kept = λ other. (refl, refl, (sent zero).1);
-        unwritten = λ two. absurd (omega (arith, two, zero));
+        clean = λ _. all;
+        dirty = λ one. absurd (omega (arith, one));
+        flushed = λ _. flushed;
+        refused = λ two. absurd (omega (arith, two));
+        used = λ three. absurd (omega (arith, three));
+        device = λ five opened. absurd (omega (arith, five));
+        kept = λ other. (refl, refl, sent);
+        unwritten = λ two. absurd (omega (arith, two));
         most = (few_at_rest r, tt);
         known = next_at_rest r;
         held = held;
-        statuses = omega (arith, zero);
+        statuses = omega arith;
       }
-  says_of_help out s (inr five) sent held =
+
+  -- or the writer stopped it
+  stopped : (out : Writing) → StandsBehind out → SaysOfRun {F = F} (record { before = r; after = r }) out 5 ran.Nothing
+  stopped out held =
       record {
-        clean = λ _. tt;
-        dirty = λ one. absurd (omega (arith, one, five));
-        flushed = λ one. absurd (omega (arith, one, five));
+        clean = λ zero. absurd (omega (arith, zero));
+        dirty = λ one. absurd (omega (arith, one));
+        flushed = λ one. absurd (omega (arith, one));
         refused = λ _. tt;
         used = λ _. tt;
         device = λ is opened. absurd (opened refl);
-        kept = λ other. absurd (other five);
-        unwritten = λ two four. absurd (omega (arith, four, five));
+        kept = λ other. absurd (other refl);
+        unwritten = λ two four. absurd (omega (arith, four));
         most = (few_at_rest r, tt);
         known = next_at_rest r;
         held = held;
-        statuses = omega (arith, five);
+        statuses = omega arith;
       }
+
+  pub says_of_stopped : (d : Done F) (out : Writing) → d ≡ record { status = 5; read = ran.Nothing } → StandsBehind out
+      → SaysOfRun (record { before = r; after = r }) out d.status d.read
+  says_of_stopped d out is held =
+      subst (λ (x : Done F). SaysOfRun (record { before = r; after = r }) out x.status x.read) (sym is) (stopped out held)
 
 -- ---- what was asked for
 
@@ -133,32 +144,41 @@ joined_is_asked asked.joined old new s run h is = refl
 joined_is_asked (asked.audits t (Some e) w n early) old new s ran.Joined h is = absurd h
 joined_is_asked (asked.audits t None w n early) old new s ran.Joined h is = absurd h
 joined_is_asked (asked.makes t list) old new s ran.Joined h is = absurd h
-joined_is_asked (asked.tells t u) old new s ran.Joined h is = absurd h
+joined_is_asked (asked.tells t u) old new s ran.Joined h is = absurd h.2
 joined_is_asked _ old new s run h is = absurd (cc (is))
 
 module _ {F : Type 0} (old new : List ℕ) (s : ℕ) (run : Ran F) where
   joined_run : (word : Option (List ℕ)) (o : Option Asked) → IfSome o (λ a. word ≡ command_of a)
-      → IfSome o (λ a. RanAsked a old new s run) → (o ≡ None → run ≡ ran.Nothing) → run ≡ ran.Joined → word ≡ None
+      → IfSome o (λ a. RanAsked a old new s run) → (o ≡ None → ¬ HasRead run) → run ≡ ran.Joined → word ≡ None
   joined_run word (Some a) names by none is = names ∙ joined_is_asked a old new s run by is
-  joined_run word None names by none is = absurd (cc (none refl, is))
+  joined_run word None names by none is = absurd (none refl (subst HasRead (sym is) tt))
 
   named_run : (word : Option (List ℕ)) (o : Option Asked) → IfSome o (λ a. word ≡ command_of a)
-      → IfSome o (λ a. IsOfCommand (command_of a) run) → (o ≡ None → run ≡ ran.Nothing) → IsOfCommand word run
+      → IfSome o (λ a. IsOfCommand (command_of a) run) → (o ≡ None → ¬ HasRead run) → IsOfCommand word run
   named_run word (Some a) names by none = subst (λ (w : Option (List ℕ)). IsOfCommand w run) (sym names) by
-  named_run word None names by none = subst (λ (r : Ran F). IsOfCommand word r) (sym (none refl)) tt
+  named_run word None names by none = of_none run (none refl)
+    where
+      of_none : (r : Ran F) → ¬ HasRead r → IsOfCommand word r
+      of_none (ran.Shown text) unread = tt
+      of_none ran.Nothing unread = tt
+      of_none ran.Joined unread = absurd (unread tt)
+      of_none (ran.Audited t e) unread = absurd (unread tt)
+      of_none (ran.AuditedAlone t) unread = absurd (unread tt)
+      of_none (ran.Made t) unread = absurd (unread tt)
+      of_none (ran.Told t) unread = absurd (unread tt)
 
   -- where something was read, words that ask for it are found
   found_asked : (words : List (List ℕ)) (o : Option Asked) → IfSome o (IsAskedBy words)
-      → IfSome o (λ a. RanAsked a old new s run) → (o ≡ None → run ≡ ran.Nothing) → run ≢ ran.Nothing
+      → IfSome o (λ a. RanAsked a old new s run) → (o ≡ None → ¬ HasRead run) → HasRead run
       → (a : Asked) × IsAskedBy words a × RanAsked a old new s run
   found_asked words (Some a) asks by none read = (a, asks, by)
-  found_asked words None asks by none read = absurd (read (none refl))
+  found_asked words None asks by none read = absurd (none refl read)
 
   -- what holds of what is asked for
   asked_is : (o : Option Asked) (a : Asked) (P : Asked → Type 0) → o ≡ Some a → IfSome o P → P a
   asked_is o a P is h = subst (λ (x : Option Asked). IfSome x P) is h
 
-  module _ (o : Option Asked) (by : IfSome o (λ a. RanAsked a old new s run)) (none : o ≡ None → run ≡ ran.Nothing)
+  module _ (o : Option Asked) (by : IfSome o (λ a. RanAsked a old new s run)) (none : o ≡ None → ¬ HasRead run)
     where
       -- a run of joined input has no words
       pub joined_has_no_words : {A : Type 0} (f : A → List ℕ) (ws : List A)
@@ -180,16 +200,20 @@ module _ {F : Type 0} (old new : List ℕ) (s : ℕ) (run : Ran F) where
           → ((t : List ℕ) → words ≡ codes "make" ∷ t ∷ [] → is_plain_word t ≡ true → o ≡ Some (asked.makes t false))
           → ((t u : List ℕ) → words ≡ codes "history" ∷ t ∷ u ∷ [] → is_plain_word t ≡ true → is_plain_word u ≡ true
           → o ≡ Some (asked.tells t u))
+          → (AreTaken words → (a : Asked) → Write words a → o ≡ Some a)
+          → (is_shown run ≡ true → AskForHelp words)
           → IfSome o (λ a. slice_get words 0 ≡ command_of a)
           → IfSome o (IsAskedBy words) → IfSome o (λ a. IsOfCommand (command_of a) run)
           → IsAsked words old new s run
-      words_asked words audit audit_made make history first asks command =
+      words_asked words audit audit_made make history taken shown first asks command =
           let P = λ (a : Asked). RanAsked a old new s run in
           record {
             audit = λ t e is p q. asked_is o (asked.audits t (Some e) 1 64 false) P (audit t e is p q) by;
             audit_made = λ t is p. asked_is o (asked.audits t None 1 64 false) P (audit_made t is p) by;
             make = λ t is p. asked_is o (asked.makes t false) P (make t is p) by;
             history = λ t u is p q. asked_is o (asked.tells t u) P (history t u is p q) by;
+            taken = λ takes a writes. asked_is o a P (taken takes a writes) by;
+            shown = shown;
             first = named_run (slice_get words 0) o first command none;
             found = found_asked words o asks by none;
           }

@@ -4,22 +4,25 @@ use Rattle.devices.specs.Devices.{moved_by, failures_of, stops_of}
 use Rattle.devices.specs.declared.counted.Counted.{Counted}
 use Rattle.tuple_text.specs.Tuples.{TupleValue}
 use Rattle.audit.specs.Audit.{Audits}
+use Rattle.findings.specs.EachEntry.{SpeaksOfEachEntry, TellsOfEachEntry}
 use Rattle.findings.specs.Headline.{IsTraceRightAndFresh}
 use Rattle.audit.specs.History.{TellsHistory}
 use Rattle.audit.specs.Made.{MakesRecords}
-use Rattle.audit.specs.MadeAudit.{AuditsMade}
+use Rattle.audit.specs.MadeAudit.{AuditsMade, WhateverIsMade}
 use Rattle.audit.specs.declared.plain.Verdict.{Verdict}
 use Rattle.audit.specs.declared.plain.Verdict.TheVariants.{Clean, Dirty}
+use Rattle.new_enemy.specs.Opened.{file_of}
 use Rattle.new_enemy.specs.Run.{SayNoTrace, SayNoAudit, OfEveryInput}
 use Rattle.new_enemy.specs.declared.run.Ran.{Ran}
 use Rattle.new_enemy.specs.declared.run.Ran.TheVariants as ran
 
 -- All that the two files gave, to their ends, is a trace and evidence for it, and what a writer took is the report on
--- them, with this verdict.
+-- them, with this verdict; and of each entry by itself, what is wrong with it is told on its line.
 abbrev pub IsAudit : {F : Type 0} → Verdict → (List ℕ → Type 0) → Counted F → Counted F → List ℕ → List ℕ → Type 0
 IsAudit v OfTrace trace evidence old new =
     (stops_of trace ≡ 1) × (stops_of evidence ≡ 1)
-    × Audits (moved_by trace) (moved_by evidence) old new v × OfTrace (moved_by trace)
+    × Audits (moved_by trace) (moved_by evidence) old new v × TellsOfEachEntry (moved_by trace) (moved_by evidence)
+    × OfTrace (moved_by trace)
 
 -- and the trace is right and fresh
 abbrev pub IsCleanAudit : {F : Type 0} → Counted F → Counted F → List ℕ → List ℕ → Type 0
@@ -29,10 +32,11 @@ abbrev pub IsDirtyAudit : {F : Type 0} → Counted F → Counted F → List ℕ 
 IsDirtyAudit trace evidence old new = IsAudit Dirty (λ a. ⊤) trace evidence old new
 
 -- All that the file gave, to its end, is a trace, and what a writer took is the report on it and on evidence that was
--- made for it, with this verdict.
+-- made for it, with this verdict; and of each entry by itself, what is wrong with it is told on its line.
 abbrev pub IsAuditMade : {F : Type 0} → Verdict → (List ℕ → Type 0) → Counted F → List ℕ → List ℕ → Type 0
 IsAuditMade v OfTrace trace old new =
-    (stops_of trace ≡ 1) × AuditsMade (moved_by trace) old new v × OfTrace (moved_by trace)
+    (stops_of trace ≡ 1) × AuditsMade (moved_by trace) old new v
+    × WhateverIsMade SpeaksOfEachEntry (moved_by trace) × OfTrace (moved_by trace)
 
 -- and the trace is right and fresh
 abbrev pub IsCleanAuditMade : {F : Type 0} → Counted F → List ℕ → List ℕ → Type 0
@@ -59,18 +63,20 @@ IsNoAudit trace evidence = OfEveryInput trace (λ a. OfEveryInput evidence (λ b
 
 -- how often the files of a run failed
 abbrev pub file_failures : {F : Type 0} → Ran F → ℕ
+file_failures (ran.Audited trace evidence) = failures_of (file_of trace) + failures_of (file_of evidence)
+file_failures (ran.AuditedAlone trace) = failures_of (file_of trace)
+file_failures (ran.Made trace) = failures_of (file_of trace)
+file_failures (ran.Told trace) = failures_of (file_of trace)
 file_failures ran.Joined = 0
-file_failures (ran.Audited trace evidence) = failures_of trace + failures_of evidence
-file_failures (ran.AuditedAlone trace) = failures_of trace
-file_failures (ran.Made trace) = failures_of trace
-file_failures (ran.Told trace) = failures_of trace
+file_failures (ran.Shown text) = 0
 file_failures ran.Nothing = 0
 
 -- what holds of each file of a run
 abbrev pub OfFiles : {F : Type 0} → Ran F → (Counted F → Type 0) → Type 0
+OfFiles (ran.Audited trace evidence) P = P (file_of trace) × P (file_of evidence)
+OfFiles (ran.AuditedAlone trace) P = P (file_of trace)
+OfFiles (ran.Made trace) P = P (file_of trace)
+OfFiles (ran.Told trace) P = P (file_of trace)
 OfFiles ran.Joined P = ⊤
-OfFiles (ran.Audited trace evidence) P = P trace × P evidence
-OfFiles (ran.AuditedAlone trace) P = P trace
-OfFiles (ran.Made trace) P = P trace
-OfFiles (ran.Told trace) P = P trace
+OfFiles (ran.Shown text) P = ⊤
 OfFiles ran.Nothing P = ⊤

@@ -1,4 +1,5 @@
 pub mod Files
+pub mod Opened
 pub mod Outcomes
 pub mod Run
 pub mod Runs

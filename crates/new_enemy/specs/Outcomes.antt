@@ -1,44 +1,47 @@
 -- What an exit status says of a run, by what it read. A writer took `new` in all, of which it had `old` before; what
 -- the status says of joined input is handed in.
-use Rattle.std.specs.Prelude.{◌≡◌, ◌≢◌, ◌⊎◌, List, [], length, ℕ, ◌+◌, ◌<◌, ◌≤◌, ⊤}
+use Rattle.std.specs.Prelude.{◌≡◌, ◌≢◌, ◌⊎◌, List, [], ◌++◌, length, string_bytes, ℕ, ◌+◌, ◌<◌, ◌≤◌, ⊤}
 use Rattle.devices.specs.Devices.{moved_by}
 use Rattle.json_lines.specs.declared.lines.TheConstants.{CHUNK}
 use Rattle.json_lines.specs.declared.reading.TheConstants.{MAX_INPUT}
 use Rattle.tuple_text.specs.Tuples.{TupleValue}
 use Rattle.audit.specs.Devices.{Writing, WriterFailed, WriterNeverFailed, TookNothing, StandsBehind}
 use Rattle.new_enemy.specs.Files.{OfFiles, file_failures, IsCleanAudit, IsDirtyAudit, IsCleanAuditMade, IsDirtyAuditMade, IsMadeEvidence, IsToldHistory, IsNoTrace, IsNoAudit}
+use Rattle.new_enemy.specs.Opened.{file_of}
 use Rattle.new_enemy.specs.declared.run.Ran.{Ran}
 use Rattle.new_enemy.specs.declared.run.Ran.TheVariants as ran
 
--- status 0: a clean report went out, evidence, or the history of a tuple; where no file was read, help did
+-- status 0: a clean report went out, evidence, or the history of a tuple; or the text of help or of the version did
 abbrev pub HasSucceeded : {F : Type 0} → Type 0 → (old new : List ℕ) → Ran F → Type 0
 HasSucceeded joined old new ran.Joined = joined
-HasSucceeded joined old new (ran.Audited trace evidence) = IsCleanAudit trace evidence old new
-HasSucceeded joined old new (ran.AuditedAlone trace) = IsCleanAuditMade trace old new
-HasSucceeded joined old new (ran.Made trace) = IsMadeEvidence trace old new
-HasSucceeded joined old new (ran.Told trace) = (tuple : TupleValue) × IsToldHistory tuple trace old new
-HasSucceeded joined old new ran.Nothing = ⊤
+HasSucceeded joined old new (ran.Audited trace evidence) = IsCleanAudit (file_of trace) (file_of evidence) old new
+HasSucceeded joined old new (ran.AuditedAlone trace) = IsCleanAuditMade (file_of trace) old new
+HasSucceeded joined old new (ran.Made trace) = IsMadeEvidence (file_of trace) old new
+HasSucceeded joined old new (ran.Told trace) = (tuple : TupleValue) × IsToldHistory tuple (file_of trace) old new
+HasSucceeded joined old new (ran.Shown text) = new ≡ old ++ string_bytes text
+HasSucceeded joined old new ran.Nothing = ⊥
 
 -- status 1: a dirty report went out
 abbrev pub HasFoundDirty : {F : Type 0} → Type 0 → (old new : List ℕ) → Ran F → Type 0
 HasFoundDirty joined old new ran.Joined = joined
-HasFoundDirty joined old new (ran.Audited trace evidence) = IsDirtyAudit trace evidence old new
-HasFoundDirty joined old new (ran.AuditedAlone trace) = IsDirtyAuditMade trace old new
+HasFoundDirty joined old new (ran.Audited trace evidence) = IsDirtyAudit (file_of trace) (file_of evidence) old new
+HasFoundDirty joined old new (ran.AuditedAlone trace) = IsDirtyAuditMade (file_of trace) old new
 HasFoundDirty joined old new _ = ⊥
 
 -- status 2: what was read is refused; or no file was read, and a word is
 abbrev pub HasRefused : {F : Type 0} → Type 0 → Ran F → Type 0
 HasRefused joined ran.Joined = joined
-HasRefused joined (ran.Audited trace evidence) = IsNoAudit trace evidence
-HasRefused joined (ran.AuditedAlone trace) = IsNoTrace trace
-HasRefused joined (ran.Made trace) = IsNoTrace trace
-HasRefused joined (ran.Told trace) = IsNoTrace trace
+HasRefused joined (ran.Audited trace evidence) = IsNoAudit (file_of trace) (file_of evidence)
+HasRefused joined (ran.AuditedAlone trace) = IsNoTrace (file_of trace)
+HasRefused joined (ran.Made trace) = IsNoTrace (file_of trace)
+HasRefused joined (ran.Told trace) = IsNoTrace (file_of trace)
+HasRefused joined (ran.Shown text) = ⊥
 HasRefused joined ran.Nothing = ⊤
 
 -- status 3: no file was read
 abbrev pub HasReadNothing : {F : Type 0} → Ran F → Type 0
-HasReadNothing (ran.Audited trace evidence) = (moved_by trace ≡ []) × (moved_by evidence ≡ [])
-HasReadNothing (ran.AuditedAlone trace) = moved_by trace ≡ []
+HasReadNothing (ran.Audited trace evidence) = (moved_by (file_of trace) ≡ []) × (moved_by (file_of evidence) ≡ [])
+HasReadNothing (ran.AuditedAlone trace) = moved_by (file_of trace) ≡ []
 HasReadNothing ran.Nothing = ⊤
 HasReadNothing _ = ⊥
 

@@ -7,14 +7,16 @@ ghost use Rattle.audit.specs.Kinds.{IsOneOf};
 ghost use Rattle.audit.specs.Kinds as kind;
 ghost use Rattle.audit.specs.Shared.{are_within_limits};
 ghost use Rattle.audit.specs.declared.plain.AuditFault.TheVariants as faults;
-ghost use Rattle.new_enemy.specs.Files.{IsToldHistory};
+ghost use Rattle.new_enemy.specs.Opened.{IsUnread, path_of};
 ghost use Rattle.new_enemy.specs.Run.{IsStatusDone};
 ghost use Rattle.new_enemy.specs.Runs.{RunsFiles};
-ghost use Rattle.new_enemy.specs.declared.run.Ran.TheVariants as ran;
+ghost use Rattle.new_enemy.specs.Words.{RanAudit, RanAuditAlone, RanHistoryOf, RanMake};
 
+use crate::opened::Opened;
+use crate::run::{Done, Ran};
 use crate::status::{fail, status_with, tell_given_up};
 use audit::{AuditFault, Verdict, audit, audit_early, audit_made, history, make_records_listing};
-use devices::{Counted, Sink, Source};
+use devices::{Sink, Source};
 use std::alloc::Global;
 use std::io::Read;
 use std::sync::Wait;
@@ -63,23 +65,33 @@ fn audit_sharing<A: Source, B: Source, W: Sink, E: Sink, P: Threads + Wait + Syn
 pub fn run_audit<F: Read, W: Sink, E: Sink, P: Threads + Wait + Sync>(
     rt: &P,
     alloc: Global,
-    trace: F,
-    evidence: F,
+    mut trace: Opened<F>,
+    mut evidence: Opened<F>,
     sharing: Sharing,
     out: &mut W,
     err: &mut E,
-) -> (u8, Counted<F>, Counted<F>)
+) -> Done<F>
+    requires trace { IsUnread trace }
+    requires evidence { IsUnread evidence }
     // Status 0 says that all that the trace's file gave, to its end, is a trace that is right and fresh, all that the
     // evidence's gave is evidence for it, and the report on them went out whole.
     ensures runs { RunsFiles (codes "audit")
-        (writes W.taken W.flushes W.failures W.idle W.contents out.old out.new)
-        result.0 (ran.Audited result.1 result.2) }
-    ensures limits { result.0 ≡ 3 ↔ (are_within_limits sharing.workers sharing.slice ≡ false) }
+        (writes W.taken W.flushes W.failures W.idle W.contents out.old out.new) result.status result.read }
+    ensures ran { RanAudit (path_of trace) (path_of evidence) sharing.workers sharing.slice result.status result.read }
 {
-    let mut trace = Counted::new(trace);
-    let mut evidence = Counted::new(evidence);
-    let answer = audit_sharing(rt, alloc, &mut trace, &mut evidence, sharing, out, err);
-    (status_with(answer, err), trace, evidence)
+    let answer = audit_sharing(
+        rt,
+        alloc,
+        &mut trace.file,
+        &mut evidence.file,
+        sharing,
+        out,
+        err,
+    );
+    Done {
+        status: status_with(answer, err),
+        read: Ran::Audited(trace, evidence),
+    }
 }
 
 /// Audits a trace by evidence that is made for it, writes the report to `out`, and hands the trace's file back with
@@ -87,20 +99,30 @@ pub fn run_audit<F: Read, W: Sink, E: Sink, P: Threads + Wait + Sync>(
 pub fn run_audit_made<F: Read, W: Sink, E: Sink, P: Threads + Wait + Sync>(
     rt: &P,
     alloc: Global,
-    trace: F,
+    mut trace: Opened<F>,
     sharing: Sharing,
     out: &mut W,
     err: &mut E,
-) -> (u8, Counted<F>)
+) -> Done<F>
+    requires { IsUnread trace }
     // Status 0 says that all that the trace's file gave, to its end, is a trace that is right and fresh, and the report
     // on it and on evidence that was made for it went out whole.
     ensures runs { RunsFiles (codes "audit")
-        (writes W.taken W.flushes W.failures W.idle W.contents out.old out.new) result.0 (ran.AuditedAlone result.1) }
-    ensures limits { result.0 ≡ 3 ↔ (are_within_limits sharing.workers sharing.slice ≡ false) }
+        (writes W.taken W.flushes W.failures W.idle W.contents out.old out.new) result.status result.read }
+    ensures ran { RanAuditAlone (path_of trace) sharing.workers sharing.slice result.status result.read }
 {
-    let mut trace = Counted::new(trace);
-    let answer = audit_made(rt, alloc, &mut trace, out, sharing.workers, sharing.slice);
-    (status_with(answer, err), trace)
+    let answer = audit_made(
+        rt,
+        alloc,
+        &mut trace.file,
+        out,
+        sharing.workers,
+        sharing.slice,
+    );
+    Done {
+        status: status_with(answer, err),
+        read: Ran::AuditedAlone(trace),
+    }
 }
 
 /// The status of the answer of `make`. How many entries have no evidence is told to `err`, and with `list` before it
@@ -121,19 +143,23 @@ fn status_made<E: Sink>(answer: Result<Vec<u64>, AuditFault>, list: bool, err: &
 /// none is told to `err`, and with `list` before it the line of each; a fault is told there in one line.
 pub fn run_make<F: Read, W: Sink, E: Sink>(
     alloc: Global,
-    trace: F,
+    mut trace: Opened<F>,
     list: bool,
     out: &mut W,
     err: &mut E,
-) -> (u8, Counted<F>)
+) -> Done<F>
+    requires { IsUnread trace }
     // Status 0 says that all that the file gave, to its end, is a trace, and the records that are made for it went out
     // whole.
-    ensures { RunsFiles (codes "make")
-        (writes W.taken W.flushes W.failures W.idle W.contents out.old out.new) result.0 (ran.Made result.1) }
+    ensures runs { RunsFiles (codes "make")
+        (writes W.taken W.flushes W.failures W.idle W.contents out.old out.new) result.status result.read }
+    ensures ran { RanMake (path_of trace) result.status result.read }
 {
-    let mut trace = Counted::new(trace);
-    let answer = make_records_listing(alloc, &mut trace, out);
-    (status_made(answer, list, err), trace)
+    let answer = make_records_listing(alloc, &mut trace.file, out);
+    Done {
+        status: status_made(answer, list, err),
+        read: Ran::Made(trace),
+    }
 }
 
 /// The status of the answer of `history`. A fault is told to `err` in one line.
@@ -150,17 +176,20 @@ fn status_told<E: Sink>(answer: Result<u64, AuditFault>, err: &mut E) -> u8
 /// to `err` in one line.
 pub fn run_history<F: Read, W: Sink, E: Sink>(
     alloc: Global,
-    trace: F,
+    mut trace: Opened<F>,
     tuple: &Tuple,
     out: &mut W,
     err: &mut E,
-) -> (u8, Counted<F>)
+) -> Done<F>
+    requires { IsUnread trace }
     ensures runs { RunsFiles (codes "history")
-        (writes W.taken W.flushes W.failures W.idle W.contents out.old out.new) result.0 (ran.Told result.1) }
+        (writes W.taken W.flushes W.failures W.idle W.contents out.old out.new) result.status result.read }
     // All that the file gave, to its end, is a trace, and the tuple's history in it went out whole.
-    ensures told { result.0 ≡ 0 → IsToldHistory tuple.now result.1 (W.taken out.old) (W.taken out.new) }
+    ensures ran { RanHistoryOf (path_of trace) tuple.now (W.taken out.old) (W.taken out.new) result.status result.read }
 {
-    let mut trace = Counted::new(trace);
-    let answer = history(alloc, &mut trace, tuple, out);
-    (status_told(answer, err), trace)
+    let answer = history(alloc, &mut trace.file, tuple, out);
+    Done {
+        status: status_told(answer, err),
+        read: Ran::Told(trace),
+    }
 }

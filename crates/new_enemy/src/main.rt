@@ -11,6 +11,7 @@
 
 mod files;
 mod joined;
+mod opened;
 mod run;
 mod status;
 
@@ -36,7 +37,7 @@ fn main(rt: HostRuntime) -> ExitCode {
             return ExitCode::from(refuse_words(error.kind(), &mut err));
         }
     };
-    let (status, _, _) = run_on(
+    let ended = run_on(
         &rt,
         rt.alloc(),
         &words,
@@ -44,5 +45,5 @@ fn main(rt: HostRuntime) -> ExitCode {
         io::writer(&rt),
         rt.stderr(),
     );
-    ExitCode::from(status)
+    ExitCode::from(ended.status)
 }

@@ -1,21 +1,23 @@
 //! The program, over any runtime, reader and writers.
 
-ghost use Rattle.std.specs.Prelude.{◌≡◌, ◌≢◌, ◌↔◌, ◌+◌, ◌<◌, ◌≤◌, [], length, map, None, Some, false, codes, IfSome, string_bytes, option_map};
+ghost use Rattle.std.specs.Prelude.{◌≡◌, ◌≢◌, ◌↔◌, ◌+◌, ◌<◌, ◌≤◌, [], length, map, None, Some, false, true, codes, IfSome, string_bytes, option_map};
 ghost use Rattle.devices.specs.Devices.{moved_by, failures_of, stops_of};
 ghost use Rattle.json_lines.specs.declared.lines.TheConstants.{CHUNK};
 ghost use Rattle.json_lines.specs.declared.reading.TheConstants.{MAX_INPUT};
-ghost use Rattle.command_line.specs.Asked.{asked_by, asked_in, command_of};
+ghost use Rattle.command_line.specs.Asked.{asked_by, asked_in, command_of, is_to_show};
 ghost use Rattle.audit.specs.Devices.{reads, writes};
 ghost use Rattle.audit.specs.Shared.{are_within_limits};
 ghost use Rattle.new_enemy.specs.Files.{OfFiles, file_failures};
+ghost use Rattle.new_enemy.specs.Opened.{IsUnread, file_of, path_of};
 ghost use Rattle.new_enemy.specs.Outcomes.{HasSucceeded, HasFoundDirty, HasRefused, HasReadNothing};
 ghost use Rattle.new_enemy.specs.Run.{IsRefused, OfEveryInput, IsCleanRun, IsDirtyRun};
 ghost use Rattle.new_enemy.specs.Runs.{RunsFiles, SaysOfRun};
-ghost use Rattle.new_enemy.specs.Words.{IsAsked, IsOfCommand, RanAsked, RanAudit, RanAuditAlone, RanMake, RanHistory};
+ghost use Rattle.new_enemy.specs.Words.{HasRead, IsAsked, IsOfCommand, is_shown, RanAsked, RanAudit, RanAuditAlone, RanMake, RanHistory};
 ghost use Rattle.new_enemy.specs.declared.run.Ran.TheVariants as ran;
 
 use crate::files::{Sharing, run_audit, run_audit_made, run_history, run_make};
 use crate::joined::run_joined;
+use crate::opened::{Opened, open};
 use crate::status::{tell, tell_path, tell_tuple};
 use audit::AuditFault;
 use command_line::{Answer, Request, read_words};
@@ -25,7 +27,6 @@ use std::fs::Files;
 use std::io::{Read, Write};
 use std::sync::Wait;
 use std::thread::Threads;
-use std::{fs, io};
 use tuple_text::{TupleFault, parse_tuple};
 
 /// What a run read.
@@ -34,20 +35,53 @@ pub enum Ran<F> {
     /// Joined input.
     Joined,
     /// The trace and the evidence of an audit.
-    Audited(Counted<F>, Counted<F>),
+    Audited(Opened<F>, Opened<F>),
     /// The trace of an audit by evidence that was made for it.
-    AuditedAlone(Counted<F>),
+    AuditedAlone(Opened<F>),
     /// The trace that evidence was made for.
-    Made(Counted<F>),
+    Made(Opened<F>),
     /// The trace of a tuple's history.
-    Told(Counted<F>),
+    Told(Opened<F>),
+    /// Nothing: this text of help or of the version went out.
+    Shown(String),
     /// No file, or not all that the command names.
     Nothing,
 }
 
+/// How a run ended: its exit status, and what it read.
+#[derive(Drop)]
+pub struct Done<F> {
+    pub status: u8,
+    pub read: Ran<F>,
+}
+
+impl<F> Done<F> {
+    fn nothing(status: u8) -> Done<F>
+        ensures { result ≡ record { status = status; read = ran.Nothing } }
+    {
+        Done {
+            status,
+            read: Ran::Nothing,
+        }
+    }
+}
+
+/// How a run on devices ended, with these and what they gave and took.
+#[derive(Drop)]
+pub struct Ended<F, R, W, E> {
+    pub status: u8,
+    pub read: Ran<F>,
+    pub input: Counted<R>,
+    pub out: Counted<W>,
+    pub err: Counted<E>,
+}
+
 /// The file of a path, or a line on `err`.
-fn open<P: Files, E: Sink>(rt: &P, path: &str, err: &mut E) -> Option<P::File> {
-    match fs::open(rt, path) {
+fn open_or_tell<P: Files, E: Sink>(rt: &P, path: &str, err: &mut E) -> Option<Opened<P::File>>
+    ensures path { IfSome result (λ o. path_of o ≡ path.now) }
+    ensures unread { IfSome result IsUnread }
+{
+    match open(rt, path) {
         Ok(file) => Some(file),
         Err(_) => {
             tell_path(err, path);
@@ -64,26 +98,25 @@ fn audit_paths<W: Sink, E: Sink, P: Files + Threads + Wait + Sync>(
     sharing: Sharing,
     out: &mut W,
     err: &mut E,
-) -> (u8, Ran<P::File>)
+) -> Done<P::File>
     ensures runs { RunsFiles (codes "audit")
-        (writes W.taken W.flushes W.failures W.idle W.contents out.old out.new) result.0 result.1 }
-    ensures ran { IfSome paths.entry.1 (λ _. RanAudit sharing.workers sharing.slice result.0 result.1) }
-    ensures ran_alone { paths.entry.1 ≡ None → RanAuditAlone sharing.workers sharing.slice result.0 result.1 }
-    ensures limits { result.0 ≡ 3 → are_within_limits sharing.workers sharing.slice ≡ false }
+        (writes W.taken W.flushes W.failures W.idle W.contents out.old out.new) result.status result.read }
+    ensures ran { IfSome paths.entry.1
+        (λ e. RanAudit paths.entry.0.now e.now sharing.workers sharing.slice result.status result.read) }
+    ensures ran_alone { paths.entry.1 ≡ None
+        → RanAuditAlone paths.entry.0.now sharing.workers sharing.slice result.status result.read }
 {
     let (trace, evidence) = paths;
-    let Some(trace) = open(rt, trace, err) else {
-        return (5, Ran::Nothing);
+    let Some(trace) = open_or_tell(rt, trace, err) else {
+        return Done::nothing(5);
     };
     let Some(evidence) = evidence else {
-        let (status, trace) = run_audit_made(rt, alloc, trace, sharing, out, err);
-        return (status, Ran::AuditedAlone(trace));
+        return run_audit_made(rt, alloc, trace, sharing, out, err);
     };
-    let Some(evidence) = open(rt, evidence, err) else {
-        return (5, Ran::Nothing);
+    let Some(evidence) = open_or_tell(rt, evidence, err) else {
+        return Done::nothing(5);
     };
-    let (status, trace, evidence) = run_audit(rt, alloc, trace, evidence, sharing, out, err);
-    (status, Ran::Audited(trace, evidence))
+    run_audit(rt, alloc, trace, evidence, sharing, out, err)
 }
 
 /// Evidence for the trace of a path.
@@ -94,16 +127,15 @@ fn make_for_path<W: Sink, E: Sink, P: Files>(
     list: bool,
     out: &mut W,
     err: &mut E,
-) -> (u8, Ran<P::File>)
+) -> Done<P::File>
     ensures runs { RunsFiles (codes "make")
-        (writes W.taken W.flushes W.failures W.idle W.contents out.old out.new) result.0 result.1 }
-    ensures ran { RanMake result.0 result.1 }
+        (writes W.taken W.flushes W.failures W.idle W.contents out.old out.new) result.status result.read }
+    ensures ran { RanMake trace.now result.status result.read }
 {
-    let Some(trace) = open(rt, trace, err) else {
-        return (5, Ran::Nothing);
+    let Some(trace) = open_or_tell(rt, trace, err) else {
+        return Done::nothing(5);
     };
-    let (status, trace) = run_make(alloc, trace, list, out, err);
-    (status, Ran::Made(trace))
+    run_make(alloc, trace, list, out, err)
 }
 
 /// The history of a tuple's text in the trace of a path.
@@ -114,27 +146,26 @@ fn history_in_path<W: Sink, E: Sink, P: Files>(
     tuple: &str,
     out: &mut W,
     err: &mut E,
-) -> (u8, Ran<P::File>)
+) -> Done<P::File>
     ensures runs { RunsFiles (codes "history")
-        (writes W.taken W.flushes W.failures W.idle W.contents out.old out.new) result.0 result.1 }
-    ensures ran { RanHistory tuple.now (W.taken out.old) (W.taken out.new) result.0 result.1 }
+        (writes W.taken W.flushes W.failures W.idle W.contents out.old out.new) result.status result.read }
+    ensures ran { RanHistory trace.now tuple.now (W.taken out.old) (W.taken out.new) result.status result.read }
 {
     let tuple = match parse_tuple(alloc, tuple) {
         Ok(tuple) => tuple,
         Err(TupleFault::OutOfMemory) => {
             tell(err, &AuditFault::OutOfMemory);
-            return (4, Ran::Nothing);
+            return Done::nothing(4);
         }
         Err(fault) => {
             tell_tuple(err, &fault);
-            return (2, Ran::Nothing);
+            return Done::nothing(2);
         }
     };
-    let Some(trace) = open(rt, trace, err) else {
-        return (5, Ran::Nothing);
+    let Some(trace) = open_or_tell(rt, trace, err) else {
+        return Done::nothing(5);
     };
-    let (status, trace) = run_history(alloc, trace, &tuple, out, err);
-    (status, Ran::Told(trace))
+    run_history(alloc, trace, &tuple, out, err)
 }
 
 /// Runs what is asked for.
@@ -145,15 +176,18 @@ fn run_request<R: Source, W: Sink, E: Sink, P: Files + Threads + Wait + Sync>(
     input: &mut R,
     out: &mut W,
     err: &mut E,
-) -> (u8, Ran<P::File>)
+) -> Done<P::File>
     ensures says { SaysOfRun (reads R.given R.ends R.failures R.remaining input.old input.new)
-        (writes W.taken W.flushes W.failures W.idle W.contents out.old out.new) result.0 result.1 }
-    ensures asked { RanAsked (asked_by request.entry) (W.taken out.old) (W.taken out.new) result.0 result.1 }
-    ensures command { IsOfCommand (command_of (asked_by request.entry)) result.1 }
-    ensures unread { result.1 ≢ ran.Joined → input.new ≡ input.old }
+        (writes W.taken W.flushes W.failures W.idle W.contents out.old out.new) result.status result.read }
+    ensures asked { RanAsked (asked_by request.entry) (W.taken out.old) (W.taken out.new) result.status result.read }
+    ensures command { IsOfCommand (command_of (asked_by request.entry)) result.read }
+    ensures unread { result.read ≢ ran.Joined → input.new ≡ input.old }
 {
     match request {
-        Request::Joined => (run_joined(alloc, input, out, err), Ran::Joined),
+        Request::Joined => Done {
+            status: run_joined(alloc, input, out, err),
+            read: Ran::Joined,
+        },
         Request::Audit {
             trace,
             evidence,
@@ -181,30 +215,35 @@ fn run_answer<R: Source, W: Sink, E: Sink, P: Files + Threads + Wait + Sync>(
     input: &mut R,
     out: &mut W,
     err: &mut E,
-) -> (u8, Ran<P::File>)
+) -> Done<P::File>
     ensures says { SaysOfRun (reads R.given R.ends R.failures R.remaining input.old input.new)
-        (writes W.taken W.flushes W.failures W.idle W.contents out.old out.new) result.0 result.1 }
+        (writes W.taken W.flushes W.failures W.idle W.contents out.old out.new) result.status result.read }
     ensures asked { IfSome (asked_in answer.entry)
-        (λ a. RanAsked a (W.taken out.old) (W.taken out.new) result.0 result.1) }
-    ensures command { IfSome (asked_in answer.entry) (λ a. IsOfCommand (command_of a) result.1) }
-    ensures none { asked_in answer.entry ≡ None → result.1 ≡ ran.Nothing }
-    ensures unread { result.1 ≢ ran.Joined → input.new ≡ input.old }
+        (λ a. RanAsked a (W.taken out.old) (W.taken out.new) result.status result.read) }
+    ensures command { IfSome (asked_in answer.entry) (λ a. IsOfCommand (command_of a) result.read) }
+    // Nothing is read where nothing is asked for, and a text goes out only where it is to be shown.
+    ensures none { asked_in answer.entry ≡ None → ¬ HasRead result.read }
+    ensures shown { is_shown result.read ≡ true → is_to_show answer.entry ≡ true }
+    ensures unread { result.read ≢ ran.Joined → input.new ≡ input.old }
 {
     match answer {
         Answer::Asks(request) => run_request(rt, alloc, request, input, out, err),
         Answer::Shows(text) => match send(out, text.as_bytes()) {
-            Ok(()) => (0, Ran::Nothing),
+            Ok(()) => Done {
+                status: 0,
+                read: Ran::Shown(text),
+            },
             Err(unsent) => {
                 let fault = AuditFault::Write {
                     written: unsent.written,
                 };
                 tell(err, &fault);
-                (5, Ran::Nothing)
+                Done::nothing(5)
             }
         },
         Answer::Refuses(text) => {
             let _ = send(err, text.as_bytes());
-            (3, Ran::Nothing)
+            Done::nothing(3)
         }
     }
 }
@@ -222,22 +261,22 @@ pub fn run_words<R: Source, W: Sink, E: Sink, P: Files + Threads + Wait + Sync>(
     input: &mut R,
     out: &mut W,
     err: &mut E,
-) -> (u8, Ran<P::File>)
-    ensures joined { result.1 ≡ ran.Joined ↔ words.now ≡ [] }
-    // Words without further options that name an audit are run as one, and so on: of these status 0 where nothing was
-    // read is help alone.
-    ensures asked { IsAsked (map string_bytes words.now) (W.taken out.old) (W.taken out.new) result.0 result.1 }
+) -> Done<P::File>
+    ensures joined { result.read ≡ ran.Joined ↔ words.now ≡ [] }
+    // Words that clap takes, and that write a whole request, are run as what they ask for, over the files of their
+    // paths. A text is shown in place of an answer only where help or the version is asked for.
+    ensures asked { IsAsked (map string_bytes words.now) (W.taken out.old) (W.taken out.new) result.status result.read }
     // What the status says of what was read and written.
     ensures says { SaysOfRun (reads R.given R.ends R.failures R.remaining input.old input.new)
-        (writes W.taken W.flushes W.failures W.idle W.contents out.old out.new) result.0 result.1 }
+        (writes W.taken W.flushes W.failures W.idle W.contents out.old out.new) result.status result.read }
     // A command reads its files alone.
-    ensures unread { result.1 ≢ ran.Joined → input.new ≡ input.old }
+    ensures unread { result.read ≢ ran.Joined → input.new ≡ input.old }
 {
     match read_words(alloc, words) {
         Ok(answer) => run_answer(rt, alloc, answer, input, out, err),
         Err(_) => {
             tell(err, &AuditFault::OutOfMemory);
-            (4, Ran::Nothing)
+            Done::nothing(4)
         }
     }
 }
@@ -250,30 +289,38 @@ pub fn run_on<R: Read, W: Write, E: Write, P: Files + Threads + Wait + Sync>(
     input: R,
     out: W,
     err: E,
-) -> (u8, Ran<P::File>, (Counted<R>, Counted<W>, Counted<E>))
-    ensures joined { result.1 ≡ ran.Joined ↔ words.now ≡ [] }
-    // Words without further options that name an audit are run as one, and so on: of these status 0 where nothing was
-    // read is help alone.
-    ensures asked { IsAsked (map string_bytes words.now) [] (moved_by result.2.1) result.0 result.1 }
+) -> Ended<P::File, R, W, E>
+    ensures joined { result.read ≡ ran.Joined ↔ words.now ≡ [] }
+    // Words that clap takes, and that write a whole request, are run as what they ask for, over the files of their
+    // paths. A text is shown in place of an answer only where help or the version is asked for.
+    ensures asked { IsAsked (map string_bytes words.now) [] (moved_by result.out) result.status result.read }
     // All that was read, to its end, is a trace and evidence for it, all that was written is the report on them, and
     // the trace is right and fresh.
-    ensures clean { result.0 ≡ 0 → HasSucceeded (IsCleanRun result.2.0 result.2.1) [] (moved_by result.2.1) result.1 }
-    ensures dirty { result.0 ≡ 1 → HasFoundDirty (IsDirtyRun result.2.0 result.2.1) [] (moved_by result.2.1) result.1 }
-    ensures refused { result.0 ≡ 2 → HasRefused (OfEveryInput result.2.0 IsRefused) result.1 }
-    ensures used { result.0 ≡ 3 → HasReadNothing result.1 }
-    ensures device { result.0 ≡ 5 → result.1 ≢ ran.Nothing
-        → 0 < (failures_of result.2.0 + file_failures result.1) + (failures_of result.2.1 + stops_of result.2.1) }
-    ensures kept { result.0 ≢ 5 → (failures_of result.2.0 ≡ 0) × (file_failures result.1 ≡ 0)
-        × (failures_of result.2.1 ≡ 0) × (stops_of result.2.1 ≡ 0) }
-    ensures unread { result.1 ≢ ran.Joined → (moved_by result.2.0 ≡ []) × (failures_of result.2.0 ≡ 0) }
-    ensures unwritten { 2 ≤ result.0 → result.0 ≤ 4 → moved_by result.2.1 ≡ [] }
-    ensures most { (length (moved_by result.2.0) ≤ MAX_INPUT + CHUNK)
-        × OfFiles result.1 (λ file. length (moved_by file) ≤ MAX_INPUT + CHUNK) }
-    ensures statuses { result.0 ≤ 5 }
+    ensures clean { result.status ≡ 0
+        → HasSucceeded (IsCleanRun result.input result.out) [] (moved_by result.out) result.read }
+    ensures dirty { result.status ≡ 1
+        → HasFoundDirty (IsDirtyRun result.input result.out) [] (moved_by result.out) result.read }
+    ensures refused { result.status ≡ 2 → HasRefused (OfEveryInput result.input IsRefused) result.read }
+    ensures used { result.status ≡ 3 → HasReadNothing result.read }
+    ensures device { result.status ≡ 5 → result.read ≢ ran.Nothing
+        → 0 < (failures_of result.input + file_failures result.read) + (failures_of result.out + stops_of result.out) }
+    ensures kept { result.status ≢ 5 → (failures_of result.input ≡ 0) × (file_failures result.read ≡ 0)
+        × (failures_of result.out ≡ 0) × (stops_of result.out ≡ 0) }
+    ensures unread { result.read ≢ ran.Joined → (moved_by result.input ≡ []) × (failures_of result.input ≡ 0) }
+    ensures unwritten { 2 ≤ result.status → result.status ≤ 4 → moved_by result.out ≡ [] }
+    ensures most { (length (moved_by result.input) ≤ MAX_INPUT + CHUNK)
+        × OfFiles result.read (λ file. length (moved_by file) ≤ MAX_INPUT + CHUNK) }
+    ensures statuses { result.status ≤ 5 }
 {
     let mut input = Counted::new(input);
     let mut out = Counted::new(out);
     let mut err = Counted::new(err);
-    let (status, read) = run_words(rt, alloc, words, &mut input, &mut out, &mut err);
-    (status, read, (input, out, err))
+    let Done { status, read } = run_words(rt, alloc, words, &mut input, &mut out, &mut err);
+    Ended {
+        status,
+        read,
+        input,
+        out,
+        err,
+    }
 }

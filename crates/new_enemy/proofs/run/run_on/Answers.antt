@@ -10,6 +10,6 @@ returns-clause-clean g c = λ zero.
     let run = c.run_words-status in
     subst
     (λ (old : List ℕ). HasSucceeded (IsCleanRun run.new.input run.new.out) old (moved_by run.new.out)
-    run.result.1) c.new-out.ensures.moved
-    (of_joined (moved_by c.new-out.result) (moved_by run.new.out) run.result.1 (λ is h. search rules)
+    run.result.read) c.new-out.ensures.moved
+    (of_joined (moved_by c.new-out.result) (moved_by run.new.out) run.result.read (λ is h. search rules)
     (run.ensures.says.clean zero))

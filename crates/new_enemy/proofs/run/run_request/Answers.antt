@@ -7,13 +7,13 @@ returns-in-Joined-clause-says g c = says_of_joined _ _ c.run_joined.result c.run
 
 pub returns-in-Audit-clause-says : goal.returns-in-Audit-clause-says
 returns-in-Audit-clause-says g c =
-    says_of_files _ (codes "audit") _ c.audit_paths.result.0 c.audit_paths.result.1 c.audit_paths.ensures.runs
+    says_of_files _ (codes "audit") _ c.audit_paths.result.status c.audit_paths.result.read c.audit_paths.ensures.runs
 
 pub returns-in-Make-clause-says : goal.returns-in-Make-clause-says
 returns-in-Make-clause-says g c =
-    says_of_files _ (codes "make") _ c.make_for_path.result.0 c.make_for_path.result.1 c.make_for_path.ensures.runs
+    says_of_files _ (codes "make") _ c.make_for_path.result.status c.make_for_path.result.read c.make_for_path.ensures.runs
 
 pub returns-in-History-clause-says : goal.returns-in-History-clause-says
 returns-in-History-clause-says g c =
-    says_of_files _ (codes "history") _ c.history_in_path.result.0 c.history_in_path.result.1
+    says_of_files _ (codes "history") _ c.history_in_path.result.status c.history_in_path.result.read
     c.history_in_path.ensures.runs
