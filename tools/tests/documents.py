@@ -41,6 +41,16 @@ def imported(*modules: Tuple[str, str]) -> Set[str]:
     return found
 
 
+def modules_of_clauses(crate: str, file: str, function: str, clauses: List[str]) -> Set[Tuple[str, str]]:
+    """The modules of definitions that some clauses of a function name, each by its crate and its name."""
+    text = read("crates", crate, "src", file)
+    modules = {word: (owner, module) for owner, module, words in re.findall(r"^ghost use Rattle\.(\w+)\.specs\.(\w+)\.\{([^}]*)\};", text, re.MULTILINE)
+               for word in words.split(", ")}
+    contract = text.split("fn %s<" % function)[1].split("\n{\n")[0]
+    named = [word for clause in clauses for word in re.findall(r"\w+", contract.split("ensures %s {" % clause)[1].split("ensures")[0])]
+    return {modules[word] for word in named if word in modules and modules[word][0] != "std"}
+
+
 def transcripts(text: str) -> List[Tuple[str, List[str]]]:
     """The commands that a document shows, in order, each with the lines that it prints.
 

@@ -3,7 +3,7 @@ import glob
 import os
 import re
 
-from tests.documents import DOCUMENTS, PAGES, Shown, behind_dollars, imported, in_blocks, read, transcripts
+from tests.documents import DOCUMENTS, PAGES, Shown, behind_dollars, imported, in_blocks, modules_of_clauses, read, transcripts
 from tests.support import TOP, Case
 
 
@@ -123,11 +123,12 @@ class Names(Case):
                     self.assertTrue(set(word.split(".")) <= named)
 
     def test_the_length_of_the_reading_path(self):
-        """Its modules are counted, and their lines to a tenth; README says the same of the whole."""
+        """Counted from the clauses down, and so are lines, to a tenth; README says the same of the whole."""
         path = read("docs", "MEANING.md").split("## The words")[0]
         named = [(words_of(line)[0], word) for line in re.findall(r"^\d+\. .*", path, re.MULTILINE) for word in words_of(line.split(":")[0])[1:]]
         shown = {os.path.join(TOP, "crates", crate, "specs", name + ".antt") for crate, name in named}
-        counted = [shown, imported(*named), imported(("findings", "Headline"))]
+        below = imported(*modules_of_clauses("new_enemy", "run.rt", "run_on", ["clean", "asked"]))
+        counted = [shown, below, imported(("findings", "Headline"))]
         said = re.findall(r"(\d+) modules of some ([\d,]+)\s+lines", path)
         self.assertEqual([int(modules) for modules, _ in said], [len(paths) for paths in counted])
         for (_, lines), paths in zip(said, counted):
