@@ -26,3 +26,10 @@ def _of_text(text: str) -> Optional[int]:
 def nanoseconds(text: object) -> Optional[int]:
     """Nanoseconds since 1970, or None where the text is no time."""
     return _of_text(text) if isinstance(text, str) else None
+
+
+def text_of_time(at: int) -> str:
+    """Nanoseconds since 1970 as a time of RFC 3339 in UTC, to microseconds where there are any."""
+    seconds, rest = divmod(at, 1_000_000_000)
+    fraction = ".%06d" % (rest // 1000) if rest >= 1000 else ""
+    return (EPOCH + seconds * SECOND).strftime("%Y-%m-%dT%H:%M:%S") + fraction + "Z"

@@ -1,0 +1,219 @@
+"""The sum of what was looked at, the same in every form: checks audited whole, in part and not at all, those lost in gaps, and from when to
+when.
+
+The checks of a trace are its entries, but for those that say `again`: a check that may have looked at any of several states has an entry at
+each where its reply is right at none, and is one check. Of a check that is audited in part its line says `part`, the cause. The last line
+that an import writes has the key `coverage`, with what stands in no line of the trace. The program passes these keys over.
+"""
+import json
+import re
+from collections import Counter
+from typing import Any, Iterator, Mapping, NamedTuple, Optional
+
+from new_enemy_tools.importing.causes import not_looked_for
+from new_enemy_tools.importing.times import nanoseconds, text_of_time
+from new_enemy_tools.shown import plain
+
+# Nothing was found, and not everything was looked at.
+INCOMPLETE = 6
+KEY = "coverage"
+CONTENT = re.compile(rb'"kind"\s*:\s*"(?:check|content)"')
+AGAIN = re.compile(rb'[,{]"again"\s*:\s*true')
+PART = re.compile(rb'[,{]"part"\s*:\s*"([^"\\]*)"')
+MARK = re.compile(rb'[,{]"coverage":(\{[^\\\n]*\})\}\r?$', re.MULTILINE)
+IDS = re.compile(rb'[,{]"ids"\s*:\s*\{')
+# A text of a stranger in the sum: without letters that JSON escapes, and so long at most.
+ODD = re.compile(r'["\\\x00-\x1f\x7f]')
+LONGEST = 80
+# So many causes are told apart; a sum stands on one line.
+MOST = 40
+OTHERS = "other causes"
+
+
+class Coverage(NamedTuple):
+    """What of the checks of a log was looked at. Times are nanoseconds since 1970."""
+
+    # audited, whole or in part
+    checks: int = 0
+    in_part: Mapping[str, int] = {}
+    not_audited: Mapping[str, int] = {}
+    # in gaps, as the recorder counted them, by its reasons
+    lost: Mapping[str, int] = {}
+    # gaps in which nobody counted, and how long they were together
+    uncounted: int = 0
+    dark: int = 0
+    since: Optional[int] = None
+    until: Optional[int] = None
+    # the files of the log whose last one is not closed
+    open: int = 0
+    # why it is not known what was left out, if so
+    unknown: Optional[str] = None
+
+    @property
+    def whole(self) -> int:
+        return self.checks - sum(self.in_part.values())
+
+    @property
+    def unaudited(self) -> int:
+        """How many checks were not looked at whole, as far as they were counted."""
+        return sum(map(_count, (self.in_part, self.not_audited, self.lost)))
+
+    @property
+    def is_whole(self) -> bool:
+        """Whether there are checks, and all that is known to have been asked was looked at."""
+        return self.checks > 0 and not self.unaudited and not self.uncounted and self.unknown is None
+
+    @property
+    def percent(self) -> float:
+        """How much was not looked at: of the checks that were counted, and of the time in which nobody counted."""
+        asked = self.checks + _count(self.not_audited) + _count(self.lost)
+        if not asked or self.unknown is not None:
+            return 100.0
+        counted = 100 * self.unaudited / asked
+        if not self.uncounted:
+            return counted
+        if self.since is None or self.until is None or self.until <= self.since or not self.dark:
+            return 100.0
+        return min(100.0, counted + 100 * self.dark / (self.until - self.since))
+
+    def status(self, allowed: float = 0) -> int:
+        """0 where all was looked at, or all but so many percent; else 6."""
+        return 0 if self.is_whole or self.checks and self.percent <= allowed else INCOMPLETE
+
+    def plus(self, other: "Coverage") -> "Coverage":
+        """Of two stretches of a log."""
+        times = [one for one in (self.since, self.until, other.since, other.until) if one is not None]
+        return Coverage(self.checks + other.checks, *(_sum(one, more) for one, more in zip(self[1:4], other[1:4])),  # type: ignore[arg-type]
+                        self.uncounted + other.uncounted, self.dark + other.dark, min(times, default=None), max(times, default=None),
+                        self.open + other.open, self.unknown or other.unknown)
+
+    def row(self) -> dict[str, Any]:
+        """As an object of JSON; a key stands there where it has a value."""
+        found: dict[str, Any] = {"checks": self.checks, "whole": self.whole, **{
+            name: dict(value) for name, value in zip(("in_part", "not_audited", "lost"), self[1:4]) if value}}
+        found.update({name: value for name, value in (("uncounted_gaps", self.uncounted), ("uncounted_ns", self.dark), ("open", self.open),
+                                                      ("unknown", self.unknown)) if value})
+        found.update({name: text_of_time(value) for name, value in (("from", self.since), ("to", self.until)) if value is not None})
+        return found
+
+    def lines(self) -> Iterator[str]:
+        """As sentences, one a line: what was audited, and what was not."""
+        yield self.said
+        for cause, count in sorted(self.in_part.items()):
+            yield "audited in part %d: %s; not looked for: %s" % (count, plain(cause), ", ".join(not_looked_for(cause)))
+        for words, counts in (("not audited", self.not_audited), ("lost in gaps", self.lost)):
+            for cause, count in sorted(counts.items()):
+                yield "%s %d: %s" % (words, count, plain(cause))
+        if self.uncounted:
+            yield "gaps in which nobody counted what was asked: %d%s" % (self.uncounted, " (%s s)" % format(self.dark / 1e9, ".3g") if self.dark else "")
+        if self.open:
+            yield "the log is open: its last file is not closed, so more may follow"
+        if self.unknown is not None:
+            yield "not known what was left out: %s" % self.unknown
+
+    @property
+    def said(self) -> str:
+        """The sum in one sentence."""
+        counts = [("%d in part", self.in_part), ("%d not audited", self.not_audited), ("%d lost in gaps", self.lost)]
+        said = ["%d whole" % self.whole] + [words % _count(counted) for words, counted in counts if counted]
+        if self.uncounted:
+            said.append("and what was asked in %s" % ("1 gap" if self.uncounted == 1 else "%d gaps" % self.uncounted))
+        when = "" if self.since is None or self.until is None else ", from %s to %s" % (text_of_time(self.since), text_of_time(self.until))
+        return "checks: %s%s" % (", ".join(said), when)
+
+    @property
+    def state(self) -> str:
+        """`whole`, `incomplete`, or `empty` where there was no check to look at."""
+        return "whole" if self.is_whole else "incomplete" if self.checks or self.unaudited or self.uncounted or self.unknown else "empty"
+
+
+def _count(counts: Mapping[str, int]) -> int:
+    return sum(counts.values())
+
+
+def _sum(one: Mapping[str, int], other: Mapping[str, int]) -> dict[str, int]:
+    return counted(Counter(one) + Counter(other))
+
+
+def counted(counts: Mapping[str, int]) -> dict[str, int]:
+    """Counts by causes that a line can have: texts that need no escape, and so many at most."""
+    found: Counter[str] = Counter()
+    for cause, count in counts.items():
+        found[ODD.sub("?", cause)[:LONGEST]] += count
+    listed = sorted(found.items(), key=lambda one: (-one[1], one[0]))
+    kept = dict(sorted(listed[:MOST]))
+    rest = sum(count for _, count in listed[MOST:])
+    return {**kept, OTHERS: kept.get(OTHERS, 0) + rest} if rest else kept
+
+
+def of_row(value: object) -> Coverage:
+    """The sum that `row` gave; raises ValueError of anything else."""
+    if not isinstance(value, dict):
+        raise ValueError
+    counts = []
+    for name in ("in_part", "not_audited", "lost"):
+        given = value.get(name, {})
+        if not isinstance(given, dict) or not all(type(one) is int and one >= 0 for one in given.values()):
+            raise ValueError
+        counts.append(counted(given))
+    numbers = [value.get(name, 0) for name in ("checks", "uncounted_gaps", "uncounted_ns", "open")]
+    if not all(type(one) is int and one >= 0 for one in numbers):
+        raise ValueError
+    unknown = value.get("unknown")
+    return Coverage(numbers[0], *counts, numbers[1], numbers[2], nanoseconds(value.get("from")), nanoseconds(value.get("to")), numbers[3],
+                    None if unknown is None else str(unknown))
+
+
+def mark_of(coverage: Coverage) -> str:
+    """What the last line of a trace says: all but what its lines say themselves."""
+    return ',"%s":%s' % (KEY, json.dumps(coverage._replace(in_part={}).row(), separators=(",", ":"), ensure_ascii=False))
+
+
+class Lines(NamedTuple):
+    """What lines of a trace say of themselves: how many checks, and those in part by cause."""
+
+    checks: int
+    in_part: Counter[str]
+
+    def plus(self, other: "Lines", times: int = 1) -> "Lines":
+        in_part = Counter(self.in_part)
+        for cause, count in other.in_part.items():
+            in_part[cause] += times * count
+        return Lines(self.checks + times * other.checks, +in_part)
+
+
+NO_LINES = Lines(0, Counter())
+
+
+def lines_in(data: bytes) -> Lines:
+    """Of lines of a trace that the program takes."""
+    return Lines(len(CONTENT.findall(data)) - len(AGAIN.findall(data)), Counter(cause.decode("utf-8", "replace") for cause in PART.findall(data)))
+
+
+def marks_in(data: bytes) -> list[Coverage]:
+    """What imports said in lines of a trace, one for each."""
+    found = []
+    for mark in MARK.findall(data):
+        try:
+            found.append(of_row(json.loads(mark)))
+        except ValueError:
+            found.append(Coverage(unknown="the trace has a sum that cannot be read"))
+    return found
+
+
+def coverage_of(lines: Lines, marks: list[Coverage], is_imported: bool) -> Coverage:
+    """The sum for lines of a trace, with the sums that imports left in them."""
+    said = Coverage()
+    for mark in marks:
+        said = said.plus(mark)
+    unknown = said.unknown
+    if is_imported and not marks:
+        unknown = "the trace does not say what its import left out; import the logs again"
+    elif marks and said.checks != lines.checks:
+        unknown = "the trace has %d checks, and its import left %d in it" % (lines.checks, said.checks)
+    return said._replace(checks=lines.checks, in_part=dict(lines.in_part), unknown=unknown)
+
+
+def coverage_in(data: bytes) -> Coverage:
+    """The sum of a trace. One that no import wrote has what stands in its lines."""
+    return coverage_of(lines_in(data), marks_in(data), bool(IDS.search(data, 0, data.find(b"\n") + 1 or len(data))))
