@@ -17,11 +17,12 @@ from new_enemy_tools.shown import plain
 # Nothing was found, and not everything was looked at.
 INCOMPLETE = 6
 KEY = "coverage"
-CONTENT = re.compile(rb'"kind"\s*:\s*"(?:check|content)"')
-AGAIN = re.compile(rb'[,{]"again"\s*:\s*true')
-PART = re.compile(rb'[,{]"part"\s*:\s*"([^"\\]*)"')
-MARK = re.compile(rb'[,{]"coverage":(\{[^\\\n]*\})\}\r?$', re.MULTILINE)
-IDS = re.compile(rb'[,{]"ids"\s*:\s*\{')
+# In a text of JSON no quotation mark stands before a colon, so what is found are keys.
+ENTRY = re.compile(rb'"kind"\s*:\s*"(?:check|content)"')
+AGAIN = re.compile(rb'"again"\s*:\s*true')
+PART = re.compile(rb'"part"\s*:\s*"([^"\\]*)"')
+MARK = re.compile(rb'"coverage":(\{[^\\\n]*\})\}\r?$', re.MULTILINE)
+IDS = re.compile(rb'"ids"\s*:\s*\{')
 # A text of a stranger in the sum: without letters that JSON escapes, and so long at most.
 ODD = re.compile(r'["\\\x00-\x1f\x7f]')
 LONGEST = 80
@@ -64,6 +65,16 @@ class Coverage(NamedTuple):
         return self.checks > 0 and not self.unaudited and not self.uncounted and self.unknown is None
 
     @property
+    def is_empty(self) -> bool:
+        """Whether nothing is known to have been asked."""
+        return not (self.checks or self.unaudited or self.uncounted or self.unknown)
+
+    @property
+    def is_plain(self) -> bool:
+        """Whether there is nothing to say beside the count of entries."""
+        return (self.is_whole or self.is_empty) and not self.open
+
+    @property
     def percent(self) -> float:
         """How much was not looked at: of the checks that were counted, and of the time in which nobody counted."""
         asked = self.checks + _count(self.not_audited) + _count(self.lost)
@@ -77,8 +88,12 @@ class Coverage(NamedTuple):
         return min(100.0, counted + 100 * self.dark / (self.until - self.since))
 
     def status(self, allowed: float = 0) -> int:
-        """0 where all was looked at, or all but so many percent; else 6."""
-        return 0 if self.is_whole or self.checks and self.percent <= allowed else INCOMPLETE
+        """0 where all was looked at, or all but so many percent, and also where nothing was asked; else 6."""
+        return 0 if self.is_whole or self.is_empty or self.checks and self.percent <= allowed else INCOMPLETE
+
+    def without(self, struck: Counter[str]) -> "Coverage":
+        """With some of its checks that an audit did not look at after all, by cause."""
+        return self._replace(checks=self.checks - _count(struck), not_audited=_sum(self.not_audited, struck))
 
     def plus(self, other: "Coverage") -> "Coverage":
         """Of two stretches of a log."""
@@ -124,7 +139,7 @@ class Coverage(NamedTuple):
     @property
     def state(self) -> str:
         """`whole`, `incomplete`, or `empty` where there was no check to look at."""
-        return "whole" if self.is_whole else "incomplete" if self.checks or self.unaudited or self.uncounted or self.unknown else "empty"
+        return "whole" if self.is_whole else "empty" if self.is_empty else "incomplete"
 
 
 def _count(counts: Mapping[str, int]) -> int:
@@ -187,7 +202,7 @@ NO_LINES = Lines(0, Counter())
 
 def lines_in(data: bytes) -> Lines:
     """Of lines of a trace that the program takes."""
-    return Lines(len(CONTENT.findall(data)) - len(AGAIN.findall(data)), Counter(cause.decode("utf-8", "replace") for cause in PART.findall(data)))
+    return Lines(len(ENTRY.findall(data)) - len(AGAIN.findall(data)), Counter(cause.decode("utf-8", "replace") for cause in PART.findall(data)))
 
 
 def marks_in(data: bytes) -> list[Coverage]:
@@ -199,6 +214,11 @@ def marks_in(data: bytes) -> list[Coverage]:
         except ValueError:
             found.append(Coverage(unknown="the trace has a sum that cannot be read"))
     return found
+
+
+def is_imported(data: bytes) -> bool:
+    """Whether the first line of a trace says that an import wrote it."""
+    return IDS.search(data, 0, data.find(b"\n") + 1 or len(data)) is not None
 
 
 def coverage_of(lines: Lines, marks: list[Coverage], is_imported: bool) -> Coverage:
@@ -215,5 +235,10 @@ def coverage_of(lines: Lines, marks: list[Coverage], is_imported: bool) -> Cover
 
 
 def coverage_in(data: bytes) -> Coverage:
-    """The sum of a trace. One that no import wrote has what stands in its lines."""
-    return coverage_of(lines_in(data), marks_in(data), bool(IDS.search(data, 0, data.find(b"\n") + 1 or len(data))))
+    """The sum of a trace. One that no import wrote has what stands in its lines; of a part of a cut, whose other lines are blank, it is not
+    known how many checks its import left in it."""
+    lines, marks = lines_in(data), marks_in(data)
+    if data.startswith(b"\n") or b"\n\n" in data:
+        marks = [mark._replace(checks=lines.checks if not number else 0) for number, mark in enumerate(marks)]
+        return coverage_of(lines, marks, False)
+    return coverage_of(lines, marks, is_imported(data))

@@ -61,7 +61,7 @@ def sums_row(telling: Telling) -> Row:
     return _present({"sums": {**telling.sums._asdict(), "text": telling.said}, "entries": report.entries,
                      "findings": len(report.findings), "told": len(telling.told), "ignored": len(telling.ignored),
                      "known": len(telling.known), "verdict": report.verdict, "named": telling.names.ids is not None,
-                     **telling.looked._asdict(), "note": telling.looked.note})
+                     **telling.looked._asdict(), "note": telling.looked.note, "coverage": {"state": telling.coverage.state, **telling.coverage.row()}})
 
 
 _json = json.JSONEncoder(ensure_ascii=False, separators=(",", ":")).encode
@@ -137,8 +137,7 @@ def sentence(row: Row) -> str:
 
 def text(telling: Telling) -> Iterator[str]:
     yield telling.said
-    if telling.looked.note:
-        yield telling.looked.note
+    yield from telling.notes
     for told in telling.told:
         yield plain("line %d: %s" % (told.finding.line, sentence(row_of(telling, told))))
 
@@ -151,9 +150,14 @@ def junit(telling: Telling) -> Iterator[str]:
     skipped += [(told, "known from the baseline") for told in telling.known]
     yield '<?xml version="1.0" encoding="UTF-8"?>'
     yield '<testsuites><testsuite name="new_enemy" tests="%d" failures="%d" errors="0" skipped="%d">' % (
-        len(telling.report.findings) + len(trace.entries) - len(found), len(telling.told), len(skipped))
-    note = "" if telling.looked.note is None else '<property name="note" value=%s/>' % _attribute(telling.looked.note)
-    yield '<properties><property name="sums" value=%s/>%s</properties>' % (_attribute(telling.said), note)
+        len(telling.report.findings) + len(trace.entries) - len(found) + (not telling.coverage.is_whole), len(telling.told),
+        len(skipped) + (not telling.coverage.is_whole))
+    note = "".join('<property name="note" value=%s/>' % _attribute(_xml(one)) for one in telling.notes)
+    yield '<properties><property name="sums" value=%s/><property name="coverage" value=%s/>%s</properties>' % (
+        _attribute(telling.said), _attribute(telling.coverage.said), note)
+    if not telling.coverage.is_whole:
+        yield '<testcase classname=%s name="what was not looked at"><skipped message=%s/></testcase>' % (
+            _attribute(_xml(telling.path)), _attribute(_xml(telling.notes[0])))
     for told in telling.told:
         row = row_of(telling, told)
         yield "%s><failure type=%s message=%s>%s</failure></testcase>" % (
@@ -192,8 +196,9 @@ def _xml(text: str) -> str:
 
 def annotations(telling: Telling) -> Iterator[str]:
     """Workflow commands, as GitHub's and Gitea's runners read them."""
-    for said in filter(None, (telling.said, telling.looked.note)):
-        yield "::notice title=new_enemy::%s" % _data(said)
+    level = "notice" if telling.coverage.is_whole else "warning"
+    for number, said in enumerate([telling.said, *telling.notes]):
+        yield "::%s title=new_enemy::%s" % (level if number else "notice", _data(said))
     for told in telling.told:
         row, place = row_of(telling, told), place_of(telling, told.entry)
         title = "%s %s, effect %s" % (row["finding"], row["text"], row["effect"])

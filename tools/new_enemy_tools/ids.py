@@ -45,21 +45,13 @@ def is_kept(id_text: str) -> bool:
 
 def mark_in(trace: bytes) -> object:
     """What the first line of a trace says of its table; None where it says nothing."""
-    return _first_of(trace).get("ids")
-
-
-def gaps_in(trace: bytes) -> int:
-    """How many gaps the log of a trace had, as the first line says."""
-    gaps = _first_of(trace).get("gaps")
-    return gaps if isinstance(gaps, int) else 0
-
-
-def _first_of(trace: bytes) -> dict[str, object]:
     try:
         first = json.loads(trace[:trace.find(b"\n") + 1] or trace)
     except ValueError:
-        return {}
-    return first if isinstance(first, dict) else {}
+        return None
+    return first.get("ids") if isinstance(first, dict) else None
+
+
 
 
 class Ids:

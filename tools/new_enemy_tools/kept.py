@@ -16,6 +16,7 @@ class Commit(NamedTuple):
     source: Optional[str]
     revision: Optional[str]
     changes: Optional[str]
+    time: Optional[str] = None
 
 
 class Entry(NamedTuple):
@@ -29,6 +30,12 @@ class Entry(NamedTuple):
     issued_on: Optional[int]
     source: Optional[str]
     revision: Optional[str]
+    # when it was asked, as the log has it
+    time: Optional[str] = None
+    # why it is audited in part
+    part: Optional[str] = None
+    # whether it is a check that stands before, at another state
+    again: bool = False
 
 
 class Commits(Sequence[Commit]):

@@ -10,8 +10,8 @@ from new_enemy_tools.texts import Tuple, Userset
 from new_enemy_tools.trace import Trace, read_trace
 
 # Importers write these beside the keys that are read.
-WRITTEN = frozenset(("from", "revision", "ids", "gaps"))
-ENTRY = WRITTEN | {"kind", "goal", "snapshot", "reply", "zookie", "version"}
+WRITTEN = frozenset(("from", "revision", "time", "ids", "coverage", "strata"))
+ENTRY = WRITTEN | {"part", "named", "again", "kind", "goal", "snapshot", "reply", "zookie", "version"}
 KEYS = {"namespace": WRITTEN | {"kind", "at", "name", "relations"}, "commit": WRITTEN | {"kind", "at", "add", "remove"},
         "check": ENTRY, "content": ENTRY}
 RELATION = frozenset(("name", "stratum", "rewrite"))

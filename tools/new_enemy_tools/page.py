@@ -17,6 +17,8 @@ from new_enemy_tools.stories import Event, Story, Teller
 from new_enemy_tools.telling import Telling
 
 PAGE = 1_000
+VERDICTS = {"clean": "clean", "dirty": "dirty", "incomplete": "incomplete: nothing was found, and not everything was looked at",
+            "empty": "empty: nothing was audited"}
 # So many stories are open from the start.
 OPEN = 10
 HERE = os.path.dirname(os.path.abspath(__file__))
@@ -90,9 +92,13 @@ class Writer:
     def _sums(self, page: Page) -> Iterator[str]:
         report, sums = self.telling.report, self.telling.sums
         yield "<header><h1>What the audit found</h1>"
+        verdict, coverage = self.telling.verdict, self.telling.coverage
         yield '<p>Verdict <span class="verdict %s">%s</span> of %s in <code>%s</code>, with %s.</p>' % (
-            report.verdict, report.verdict, _counted(report.entries, "entry", "entries"), markup(self.telling.path),
+            verdict, VERDICTS[verdict], _counted(coverage.checks, "check", "checks"), markup(self.telling.path),
             _counted(len(report.findings), "finding", "findings"))
+        yield '<p id="coverage">%s.</p>' % markup(coverage.said[0].upper() + coverage.said[1:])
+        if not coverage.is_whole:
+            yield '<ul id="unaudited">%s</ul>' % "".join("<li>%s</li>" % markup(one) for one in self.telling.notes if one != self.telling.looked.note)
         yield '<p id="said">%s.</p>' % markup(self.telling.said)
         if self.telling.looked.note:
             yield '<p id="note">%s</p>' % markup(self.telling.looked.note)

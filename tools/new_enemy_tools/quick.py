@@ -14,7 +14,9 @@ ID = rb'[^\x00-\x20"#@\\\x7f]{1,%d}' % limits.OBJECT_ID_BYTES
 NUMBER = rb"(?:0|[1-9][0-9]{0,18})"
 PLAIN = rb'[^"\\\x00-\x1f]'
 SET = NAME + b":" + ID + b"#" + NAME
-TOLD = rb'(?:,"revision":"%s*")?(?:,"from":"%s*")?\}\r?\Z' % (PLAIN, PLAIN)
+# What an import says beside what the program reads, the sum of the whole behind the last line.
+SUM = rb'(?:,"coverage":\{[^\\\x00-\x1f]*\})?\}\r?\Z'
+TOLD = rb'(?:,"revision":"%s*")?(?:,"from":"%s*")?(?:,"time":"%s*")?(?:,"part":"%s*")?(?:,"named":"%s*")?(?:,"again":true)?' % ((PLAIN,) * 5) + SUM
 LIST = rb"\[([^\]]*)\]"
 ENTRY = re.compile(rb'\{"kind":"(check|content)","goal":"((%s:%s)#%s)@%s","snapshot":%s,"reply":(true|false)'
                    rb'(?:,"zookie":"z(?:1-|2-[wcr])[0-9a-f]{16}")?(?:,"version":"(%s{1,%d})")?'
@@ -22,8 +24,8 @@ ENTRY = re.compile(rb'\{"kind":"(check|content)","goal":"((%s:%s)#%s)@%s","snaps
 # The same with each field apart.
 FIELDS = re.compile(rb'\{"kind":"(check|content)","goal":"(%s):(%s)#(%s)@(%s)","snapshot":(%s),"reply":(true|false)'
                     rb'(?:,"zookie":"(z(?:1-|2-[wcr])[0-9a-f]{16})")?(?:,"version":"(%s{1,%d})")?'
-                    rb'(?:,"revision":"(%s*)")?(?:,"from":"(%s*)")?\}\r?\Z'
-                    % (NAME, ID, NAME, NUMBER, NUMBER, PLAIN, limits.VERSION_BYTES, PLAIN, PLAIN))
+                    rb'(?:,"revision":"(%s*)")?(?:,"from":"(%s*)")?(?:,"time":"(%s*)")?(?:,"part":"(%s*)")?(?:,"named":"%s*")?(,"again":true)?'
+                    % (NAME, ID, NAME, NUMBER, NUMBER, PLAIN, limits.VERSION_BYTES, *(PLAIN,) * 5) + SUM)
 COMMIT = re.compile(rb'\{"kind":"commit","at":(%s)(?:,"add":%s)?(?:,"remove":%s)?' % (NUMBER, LIST, LIST) + TOLD)
 USER = rb"%s|%s:%s#(?:%s|\.\.\.)" % (NUMBER, NAME, ID, NAME)
 PAIR = re.compile(rb'"(%s)@(%s)"(?:,|\Z)' % (SET, USER))
@@ -65,8 +67,8 @@ def quick_entry(raw: bytes) -> Optional[tuple[bytes, ...]]:
 
 
 def quick_fields(raw: bytes) -> Optional[tuple[bytes, ...]]:
-    """Of an entry the kind, the goal's namespace, id, relation and user, the snapshot and the reply; the token, the version, the revision
-    and the source, or None."""
+    """Of an entry the kind, the goal's namespace, id, relation and user, the snapshot and the reply; the token, the version, the revision,
+    the source, the time, why it is audited in part, and the mark of one that stands before, or None."""
     found = FIELDS.match(raw)
     if not found or found[1] == b"content" and (found[9] is not None) != (found[7] == b"true"):
         return None

@@ -70,8 +70,10 @@ def sarif(telling: Telling) -> Iterator[str]:
     """What is ignored stands there as suppressed; what is known from a baseline does not."""
     driver = {"name": "new_enemy", "rules": _rules()}
     yield '{"$schema":%s,"version":"2.1.0","runs":[{"tool":{"driver":%s},' % (_json(SCHEMA), _json(driver))
-    notes = [{"level": "note", "message": {"text": said}} for said in (telling.said, telling.looked.note) if said]
-    yield '"invocations":[{"executionSuccessful":true,"toolExecutionNotifications":%s}],' % _json(notes)
+    level = "note" if telling.coverage.is_whole else "warning"
+    notes = [{"level": level if number else "note", "message": {"text": said}} for number, said in enumerate([telling.said, *telling.notes])]
+    yield '"invocations":[{"executionSuccessful":true,"toolExecutionNotifications":%s%s}],' % (
+        _json(notes), ',"properties":%s' % _json({"coverage": telling.coverage.row()}))
     yield '"properties":%s,"results":[' % _json(sums_row(telling))
     listed: list[tuple[Told, Optional[Ignored]]] = [(told, None) for told in telling.told] + list(telling.ignored)
     for number, (told, ignored) in enumerate(listed, 1):

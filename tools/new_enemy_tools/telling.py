@@ -4,6 +4,7 @@ from datetime import date
 from typing import Callable, NamedTuple, Optional
 
 from new_enemy_tools.baseline import key_of
+from new_enemy_tools.coverage import INCOMPLETE, Coverage
 from new_enemy_tools.effects import Effects, Sums, Told, by_effect, sums_of
 from new_enemy_tools.findings import ON_TOKENS, Finding, Report, ReportFault
 from new_enemy_tools.ignoring import Row
@@ -31,6 +32,7 @@ class Telling(NamedTuple):
     report: Report
     sums: Sums
     looked: Looked
+    coverage: Coverage
 
     @property
     def said(self) -> str:
@@ -38,6 +40,22 @@ class Telling(NamedTuple):
         left = [("%d ignored", len(self.ignored)), ("%d known from the baseline", len(self.known))]
         not_told = ", ".join(words % count for words, count in left if count)
         return self.sums.said(self.looked) + ("; not told: " + not_told if not_told else "")
+
+    @property
+    def notes(self) -> list[str]:
+        """What was not looked at, and what to do about it."""
+        covered = ["nothing was audited: the trace has no check"] if self.coverage.is_empty else [] if self.coverage.is_plain else list(self.coverage.lines())
+        return covered + ([] if self.looked.note is None else [self.looked.note])
+
+    @property
+    def verdict(self) -> str:
+        """That of the report; of a clean one `incomplete` where not everything was looked at, and `empty` where nothing was asked."""
+        is_clean = self.report.verdict == "clean"
+        return self.report.verdict if not is_clean or self.coverage.is_whole else self.coverage.state
+
+    def status(self, allowed: float) -> int:
+        """6 where nothing was found, and more than so many percent of the checks were not looked at whole; else 0."""
+        return 0 if self.report.findings or self.coverage.status(allowed) == 0 and not self.coverage.is_empty else INCOMPLETE
 
 
 def _entry_of(number: int, finding: Finding, trace: Trace) -> Entry:
@@ -90,13 +108,13 @@ def parts_of(told: Told, names: Names) -> dict[str, str]:
             **names.question(told.entry.goal)._asdict()}
 
 
-def telling_of(told: list[Told], trace: Trace, names: Names, path: str, report: Report, looked: Looked,
+def telling_of(told: list[Told], trace: Trace, names: Names, path: str, report: Report, looked: Looked, coverage: Coverage,
                out: Optional[LeftOut] = None) -> Telling:
     """Each finding is told, ignored, or known from the baseline; a key that stands there once is known once."""
     rows = [] if out is None else [row for row in out.rows if row.until >= out.today]
     left = Counter() if out is None else Counter(out.baseline)
     if not rows and not left:
-        return Telling(told, [], [], trace, names, path, report, sums_of(told), looked)
+        return Telling(told, [], [], trace, names, path, report, sums_of(told), looked, coverage)
     said: list[Told] = []
     ignored: list[tuple[Told, Row]] = []
     known: list[Told] = []
@@ -110,7 +128,7 @@ def telling_of(told: list[Told], trace: Trace, names: Names, path: str, report: 
             known.append(one)
         else:
             said.append(one)
-    return Telling(said, ignored, known, trace, names, path, report, sums_of(said), looked)
+    return Telling(said, ignored, known, trace, names, path, report, sums_of(said), looked, coverage)
 
 
 def warnings_of(telling: Telling, out: LeftOut) -> list[str]:

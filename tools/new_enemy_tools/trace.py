@@ -53,6 +53,11 @@ def is_u64(value: object) -> bool:
     return isinstance(value, int) and not isinstance(value, bool) and 0 <= value <= limits.NUMBER
 
 
+def _said(value: Object) -> tuple[Optional[str], Optional[str]]:
+    """Where a line comes from, and its revision in the service."""
+    return _text_or_none(value.get("from")), _text_or_none(value.get("revision"))
+
+
 def _text_or_none(value: object) -> Optional[str]:
     return value if isinstance(value, str) else None
 
@@ -179,8 +184,7 @@ class Trace:
         for given in self._edges.first.values():
             broken = first_broken(self._edges.of(given), self.rules.stratum)
             self._refuse_broken(broken, "tuple %s gives this edge under the rules of this line" % (given,))
-        self.commits.keep(line, declaration.at, Commit(line, declaration.at, [], [], _text_or_none(value.get("from")),
-                                                       _text_or_none(value.get("revision")), declaration.name))
+        self.commits.keep(line, declaration.at, Commit(line, declaration.at, [], [], *_said(value), declaration.name, _text_or_none(value.get("time"))))
 
     def _refuse_broken(self, broken: Optional[Edge], why: str) -> None:
         if broken is None:
@@ -230,7 +234,7 @@ class Trace:
     @staticmethod
     def _commit_of(line: int, value: Object, sides: list[list[Tuple]]) -> Commit:
         add, remove = sides
-        return Commit(line, value["at"], add, remove, _text_or_none(value.get("from")), _text_or_none(value.get("revision")), None)
+        return Commit(line, value["at"], add, remove, *_said(value), None, _text_or_none(value.get("time")))
 
     def _commit_again(self, line: int, raw: bytes) -> Commit:
         """A commit that was taken quickly."""
@@ -296,7 +300,8 @@ class Trace:
     def _entry_of(self, line: int, kind: str, value: Object, goal: Tuple) -> Entry:
         version = value.get("version")
         return Entry(kind, line, goal, value["snapshot"], value["reply"], value.get("zookie"), version,
-                     self._issued_before(line, kind, goal.set, version), _text_or_none(value.get("from")), _text_or_none(value.get("revision")))
+                     self._issued_before(line, kind, goal.set, version), *_said(value), _text_or_none(value.get("time")),
+                     _text_or_none(value.get("part")), value.get("again") is True)
 
     def _issued_before(self, line: int, kind: str, of: Userset, version: Optional[str]) -> Optional[int]:
         """The line before a check that issues its version."""
@@ -308,10 +313,11 @@ class Trace:
         read = quick_fields(raw)
         if read is None:
             raise OtherForm
-        kind, namespace, id_text, relation, user, snapshot, reply, zookie, version, revision, source = read
+        kind, namespace, id_text, relation, user, snapshot, reply, zookie, version, revision, source, time, part, again = read
         of, label = Userset(namespace.decode(), id_text.decode(), relation.decode()), _decoded(version)
         return Entry(kind.decode(), line, Tuple(of, int(user)), int(snapshot), reply == b"true", _decoded(zookie), label,
-                     None if label is None else self._issued_before(line, kind.decode(), of, label), _decoded(source), _decoded(revision))
+                     None if label is None else self._issued_before(line, kind.decode(), of, label), _decoded(source), _decoded(revision),
+                     _decoded(time), _decoded(part), again is not None)
 
     @staticmethod
     def _refuse_shape(kind: str, value: Object) -> None:

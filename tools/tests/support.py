@@ -11,7 +11,7 @@ from typing import NamedTuple
 from unittest import mock
 
 from new_enemy_tools.commands import ne
-from new_enemy_tools.importing.refusals import HINT
+from new_enemy_tools.importing.refusals import HINT, Refusals
 from new_enemy_tools.maker import record
 from hostile.loading import loaded_file
 from new_enemy_tools.trace import read_trace
@@ -101,8 +101,24 @@ class Case(unittest.TestCase):
     def imported(self, *words):
         """What an import says that has to work."""
         status, said = self.run_import(*words)
-        self.assertEqual(status, 0, said)
+        self.assertEqual(status, 6 if "\nchecks: " in "\n" + said and not said.endswith("may follow\n") else 0, said)
         return said
+
+    def unaudited(self, *words):
+        """Of an import that has to work the lines on checks that are not audited whole, with the first of each cause that is not at all."""
+        said = self.imported(*words).splitlines()
+        return [line for line in said if line.startswith(("not audited", "audited in part", "lost in gaps"))]
+
+    def struck(self, *words):
+        """Of an import that has to work each check that is not audited, with its line and cause, in order."""
+        found, count = [], Refusals.unread_check
+
+        def note(refusals, file, line, cause, detail=""):
+            found.append((line, "%s:%d: %s%s" % (file, line, cause, ": " + detail if detail else "")))
+            count(refusals, file, line, cause, detail)
+        with mock.patch.object(Refusals, "unread_check", note):
+            self.imported(*words, "--jobs", "1")
+        return [told for _, told in sorted(found, key=lambda one: one[0])]
 
     def refused(self, *words):
         """The refusals of an import, which writes nothing."""
@@ -110,7 +126,7 @@ class Case(unittest.TestCase):
         self.assertEqual(status, 2, said)
         self.assertFalse(os.path.exists(self.path("trace.jsonl")))
         self.assertFalse(os.path.exists(self.path("ids.jsonl")))
-        lines = [line for line in said.splitlines() if not line.startswith("passed over") and " is read as " not in line]
+        lines = [line for line in said.splitlines() if not line.startswith(("passed over", "not audited")) and " is read as " not in line]
         self.assertEqual(lines[-1], "refused %d" % (len(lines) - 1))
         self.hinted = [line for line in lines if line.endswith(HINT)]
         return [line[:-len(HINT)] if line.endswith(HINT) else line for line in lines[:-1]]

@@ -1,6 +1,7 @@
 """What services and their tools print: calls that answer many questions, store files, and lines of other tools."""
 import json
 
+from new_enemy_tools.importing import causes
 from new_enemy_tools.importing.located import Malformed
 from new_enemy_tools.importing.simple_yaml import parse_yaml
 from tests.support import Case
@@ -36,14 +37,15 @@ class OpenFga(CallsCase):
         results = {"a": {"allowed": True}, "b": {"allowed": True}, "c": {"allowed": False}, "d": {"allowed": True},
                    "x": {"error": {"input_error": "validation_error", "message": "no such relation"}}}
         words = self.words({"request": {"checks": checks}, "response": {"result": results}, "snapshot": 2})
-        self.assertEqual(self.refused(*words), ["log:3: context of conditions: doc:1#viewer@user:d"])
-        said = self.imported(*words, "--skip-unmapped").splitlines()
-        self.assertEqual(said[0], "passed over 1: failed request (no such relation)")
+        said = self.imported(*words).splitlines()
+        self.assertEqual(said[:2], ["passed over 1: failed request (no such relation)",
+                                    "not audited: context of conditions, first at log:3: doc:1#viewer@user:d"])
         self.assertEqual(self.goals(), ["doc:1#viewer@a true", "doc:1#viewer@b true", "doc:1#viewer@c false"])
         self.assertIn("verdict clean", self.audited())
         del results["a"]
         words = self.words({"request": {"checks": checks[:1]}, "response": {"result": results}, "snapshot": 2})
-        self.assertEqual(self.run_import(*words), (2, "log:3: the response has no `allowed` (--skip-unmapped leaves it out)\nrefused 1\n"))
+        self.assertEqual(self.unaudited(*words), ["not audited: %s, first at log:3: the response has no `allowed`" % causes.UNREADABLE,
+                                                  "not audited 1: %s" % causes.UNREADABLE])
 
     def test_lists(self):
         objects = {"request": {"type": "doc", "relation": "viewer", "user": "user:a"}, "response": {"objects": ["doc:1", "doc:2"]},
@@ -61,16 +63,18 @@ class OpenFga(CallsCase):
             {"wildcard": {"type": "user"}}, {"userset": {"type": "group", "id": "g", "relation": "member"}}]}, "snapshot": 1}
         contextual = users | {"request": users["request"] | {"contextual_tuples": [{}]},
                               "response": {"users": [{"object": {"type": "user", "id": "b"}}]}}
-        self.assertEqual(self.run_import(*self.words(users, contextual, users | {"response": {"users": 7}}))[1].splitlines(), [
-            line + " (--skip-unmapped leaves it out)" for line in (
-                "log:3: check of a typed wildcard as the user: doc:1#viewer@user:*",
-                "log:3: check of a userset as the user: doc:1#viewer@group:g#member",
-                "log:4: contextual tuples: doc:1#viewer@user:b", "log:5: `users` is no list")] + ["refused 4"])
+        said = self.unaudited(*self.words(users, contextual, users | {"response": {"users": 7}}))
+        self.assertEqual(said[:4], ["not audited: %s" % one for one in (
+            "check of a typed wildcard as the user, first at log:3: doc:1#viewer@user:*",
+            "check of a userset as the user, first at log:3: doc:1#viewer@group:g#member",
+            "check that can't be read, first at log:5: `users` is no list", "contextual tuples, first at log:4: doc:1#viewer@user:b")])
+        self.assertEqual(len(said), 8)
 
     def test_a_content_check_asks_one_question(self):
         line = {"request": {"checks": [key("user:a") | {"correlation_id": "1"}, key("user:b") | {"correlation_id": "2"}]},
                 "response": {"result": {"1": {"allowed": True}, "2": {"allowed": True}}}, "snapshot": 2, "content": {"version": "v"}}
-        self.assertEqual(self.refused(*self.words(line)), ["log:3: a content check asks one question, and this line 2"])
+        self.assertEqual(self.unaudited(*self.words(line))[0],
+                         "not audited: content check that can't be read, first at log:3: a content check asks one question, and this line 2")
 
     def test_changes_within_a_call(self):
         page = {"request": {"type": "doc"}, "response": {"changes": [change("user:c", at="2024-01-01T00:00:03Z")]}}
@@ -123,8 +127,8 @@ class SpiceDb(CallsCase):
             "lookedUpAt": at, "subject": {"subjectObjectId": "b", "permissionship": "LOOKUP_PERMISSIONSHIP_HAS_PERMISSION"}}}}
         nothing = resources | {"response": []}
         maybe = resources | {"response": [resources["response"][0] | {"permissionship": "LOOKUP_PERMISSIONSHIP_CONDITIONAL_PERMISSION"}]}
-        said = self.imported(*self.words(resources, subjects, nothing, maybe), "--skip-unmapped").splitlines()
-        self.assertEqual(said[:2], ["passed over 1: call that found nothing", "left out 1: conditional permission"])
+        said = self.imported(*self.words(resources, subjects, nothing, maybe)).splitlines()
+        self.assertEqual(said[:2], ["passed over 1: call that found nothing", "not audited: conditional permission, first at log:5: doc:1#view@user:a"])
         self.assertEqual(self.goals(), ["doc:1#view@a true", "doc:2#view@a true", "doc:1#view@b true"])
         self.assertEqual(self.audited().splitlines()[0], "line 5: F10 wrong reply")
 

@@ -5,6 +5,7 @@ from unittest import mock
 
 from new_enemy_tools import limits
 from new_enemy_tools.ids import Ids
+from new_enemy_tools.importing import causes
 from new_enemy_tools.texts import Tuple, Userset, parse_tuple
 from tests.support import Case
 
@@ -162,27 +163,28 @@ class Order(CoreCase):
                          ["commit", "check", "commit", "check", "commit", "content"])
         os.remove(self.path("trace.jsonl"))
         os.remove(self.path("ids.jsonl"))
-        self.assertEqual(self.refused(*self.two("--skew", "500", first=first, second=second)), [
-            "two:1: which came first, this check or the write at one:2, is not known: they are 500 ms apart, and the skew is 500 ms",
-            "two:3: which came first, this content or the write at one:4, is not known: they are 20 ms apart, and the skew is 500 ms"])
+        self.assertEqual(self.unaudited(*self.two("--skew", "500", first=first, second=second)), [
+            "not audited: %s, first at two:1: which came first, this check or the write at one:2, is not known: they are 500 ms apart, and the "
+            "skew is 500 ms" % causes.ORDER_UNKNOWN, "not audited 2: %s" % causes.ORDER_UNKNOWN])
+        self.assertEqual([row["kind"] for row in self.rows("trace.jsonl")][1:], ["commit", "commit", "check", "commit"])
 
     def test_skew_of_a_version_and_of_rules(self):
         second = [content(1, "v", time="2024-01-01T00:00:02Z", clock="b")]
         first = [write(1, rel(), time="2024-01-01T00:00:01Z", clock="a"),
                  check(1, version="v", time="2024-01-01T00:00:02Z", clock="a"),
                  check(1, time="2024-01-01T00:00:02Z", clock="a"), check(1, time="2024-01-01T00:00:02Z", clock="c")]
-        self.assertEqual(self.refused(*self.two("--skew", "0", first=first, second=second)), [
-            "two:1: which came first, this content or the check at one:3, is not known: they are 0 ms apart, and the skew is 0 ms"])
+        self.assertEqual(self.unaudited(*self.two("--skew", "0", first=first, second=second)), [
+            "not audited: %s, first at two:1: which came first, this content or the check at one:3, is not known: they are 0 ms apart, and the "
+            "skew is 0 ms" % causes.ORDER_UNKNOWN, "audited in part 1: %s; not looked for: F2, F6" % causes.VERSION_LEFT_OUT,
+            "not audited 1: %s" % causes.ORDER_UNKNOWN])
 
     def test_times(self):
         self.assertEqual(self.refusals(RULES, write(1), check(1, time="noon"), write(2, time="2024-01-01T00:00:02+01:00"),
                                        check(2, time="2024-01-01T00:00:01+01:00"), check(1, sequence=-1), check(1, clock=4),
                                        words=("--from-empty", "--skew", "0")), [
             "log:2: the line has no `time`, which --skew orders by", "log:3: `time` is no time of RFC 3339",
-            "log:3: the line has no `time`, which --skew orders by",
             "log:5: its time is before that of log:4, of the same clock",
-            "log:6: `sequence` is no whole number", "log:6: the line has no `time`, which --skew orders by",
-            "log:7: `clock` is no text", "log:7: the line has no `time`, which --skew orders by"])
+            "log:6: `sequence` is no whole number", "log:7: `clock` is no text"])
 
     def test_revisions_rise(self):
         self.assertEqual(self.refusals(RULES, write(2, rel()), check(2), write(2), write(1), write(3)), [
@@ -191,9 +193,6 @@ class Order(CoreCase):
     def test_a_base_state_comes_first(self):
         events = [RULES, check(5), write(5, rel(), base=True), check(4), content(6, "v"), write(6, rel(), base=True)]
         self.assertEqual(self.refusals(*events, words=()), [
-            "log:2: check before the base state: log:6 gives base state behind it",
-            "log:4: check before the base state: log:6 gives base state behind it",
-            "log:5: check before the base state: log:6 gives base state behind it",
             "log:6: a base state has one revision, and log:3 has 5",
             "log:6: doc:1#viewer@user:a is touched twice in one commit, at log:3 too"])
         for words in ((), ("--from-empty",)):
@@ -205,13 +204,36 @@ class Order(CoreCase):
 class Refusals(CoreCase):
     def test_tuples_and_versions(self):
         self.assertEqual(self.refusals(
-            RULES, write(1, rel(), rel()), write(2, rel(), remove=[rel()]), write(3, rel(relation="x")), content(3, "v"),
-            content(4, "v"), content(3, None) | {"version": "w"}), [
+            RULES, write(1, rel(), rel()), write(2, rel(), remove=[rel()]), write(3, rel(relation="x"))), [
             "log:2: doc:1#viewer@user:a is touched twice in one commit, at log:2 too",
             "log:3: doc:1#viewer@user:a is touched twice in one commit, at log:3 too",
-            "log:4: tuple of a relation that the rules do not have: doc:1#x@user:a",
-            "log:6: version v of doc:1 was issued at log:5 already",
-            "log:7: a content check has a version exactly where its reply is true"])
+            "log:4: tuple of a relation that the rules do not have: doc:1#x@user:a"])
+
+    def test_content_checks_whose_versions_cannot_be_taken_are_audited_as_checks(self):
+        rows = self.lines(RULES, write(1, rel()), content(1, "v", token=1), check(1, token=1, version="v"), write(2, remove=[rel()]),
+                          content(2, "v", token=2), check(2, False, version="v"), content(2, None) | {"version": "w"},
+                          content(2, None) | {"reply": True}, check(2, False, version=""), content(2, "") | {"reply": True})
+        self.assertEqual([(row["kind"], row.get("version"), row.get("named"), row.get("part")) for row in rows if "goal" in row], [
+            ("content", "v", None, None), ("check", "v", None, None), ("check", None, "v", causes.LABEL_AGAIN), ("check", "v", None, causes.LABEL_TWICE),
+            ("check", None, "w", causes.CONTENT_ODD), ("check", None, None, causes.CONTENT_ODD), ("check", None, None, causes.LABEL_EMPTY),
+            ("check", None, "", causes.CONTENT_ODD)])
+        self.assertEqual(self.audited().splitlines(), [
+            "line 6: F10 wrong reply", "line 7: F2 old token, see line 3", "line 9: F10 wrong reply", "line 11: F10 wrong reply", "entries 8",
+            "findings 4", "verdict dirty"])
+
+    def test_versions_from_before_the_log_are_audited_without_them(self):
+        """A right reply is no finding, and a wrong one is; what is not looked for is counted."""
+        events = [RULES, write(5, rel(), base=True), check(5, version="old"), check(5, False, version="old"), content(5, "new", token=5),
+                  check(5, token=5, version="new")]
+        rows = self.lines(*events, words=())
+        self.assertEqual([(row.get("version"), row.get("named"), row.get("part")) for row in rows[1:]], [
+            (None, "old", causes.VERSION_UNKNOWN), (None, "old", causes.VERSION_UNKNOWN), ("new", None, None), ("new", None, None)])
+        self.assertIn("checks: 2 whole, 2 in part\naudited in part 2: %s; not looked for: F2, F6\n" % causes.VERSION_UNKNOWN, self.said)
+        self.assertEqual(self.audited(), "line 4: F10 wrong reply\nentries 4\nfindings 1\nverdict dirty\n")
+
+    def test_a_version_that_nobody_saved_is_a_finding_where_the_log_has_all(self):
+        self.lines(RULES, write(1, rel()), check(1, version="never"))
+        self.assertEqual(self.audited(), "line 3: F6 unknown version\nentries 1\nfindings 1\nverdict dirty\n")
 
     def test_shapes_of_events(self):
         bad = [{"event": "no"}, [], write("1"), write(1, ["doc"]), write(1, base=True, remove=[rel()]), write(1) | {"add": 7},
@@ -283,8 +305,9 @@ class LeftOut(CoreCase):
         self.assertEqual([row["goal"] for row in rows if row["kind"] == "check"],
                          ["doc:1#viewer@3", "doc:1#reader@3", "doc:2#viewer@3", "doc:3#viewer@3", "doc:3#reader@3", "doc:4#reader@3"])
         self.assertEqual(self.said.splitlines()[:2], [
-            "left out 2: check that hangs on a tuple or rule that was left out",
-            "left out 1: tuple of a relation that the rules do not have"])
+            "left out 1: tuple of a relation that the rules do not have",
+            "not audited: %s, first at log:7: doc:2#reader@user:a" % causes.HANGS_ON_LEFT_OUT])
+        self.assertIn("\nnot audited 2: %s\n" % causes.HANGS_ON_LEFT_OUT, self.said)
 
     def test_checks_that_hang_on_a_rule(self):
         self.put("schema", "definition user {}\ndefinition doc {\n relation up: doc\n relation own: user | doc#open\n"
@@ -295,15 +318,17 @@ class LeftOut(CoreCase):
                          for name in ("lost", "open", "far", "own", "up")])
         self.put("base", "doc:1#up@doc:2\n")
         words = ["spicedb", "--schema", "schema", "--base", "base", "--base-at", "5", "--skip-unmapped", "log"]
-        self.assertIn("left out 3: check that hangs on a tuple or rule that was left out\nleft out 1: self\n", self.imported(*words))
+        said = self.imported(*words)
+        self.assertIn("left out 1: self\n", said)
+        self.assertIn("not audited 3: %s\n" % causes.HANGS_ON_LEFT_OUT, said)
         self.assertEqual([row["goal"] for row in self.rows("trace.jsonl") if row["kind"] == "check"],
                          ["doc:1#own@2", "doc:1#up@2"])
 
     def test_versions_go_with_their_content_check(self):
         rows = self.lines(RULES, write(1, rel()), content(1, "v", goal=rel(relation="gone")), check(1, version="v"),
                           check(1, version="w"), words=self.WORDS)
-        self.assertEqual([row.get("version") for row in rows[1:]], ["w"])
-        self.assertIn("left out 1: check of a content version whose content check was left out\n", self.said)
+        self.assertEqual([(row.get("version"), row.get("part")) for row in rows[1:]], [(None, causes.VERSION_LEFT_OUT), ("w", None)])
+        self.assertIn("not audited 1: %s\n" % causes.UNKNOWN_RELATION, self.said)
 
     def test_faults_are_refused_all_the_same(self):
         status, said = self.run_import("events", *self.WORDS, self.given(

@@ -20,7 +20,7 @@ class Sums(unittest.TestCase):
 
     def test_nothing_is_whole_where_no_check_was_asked(self):
         self.assertEqual([(one.is_whole, one.status(), one.state) for one in (Coverage(), Coverage(1), Coverage(0, uncounted=1))],
-                         [(False, 6, "empty"), (True, 0, "whole"), (False, 6, "incomplete")])
+                         [(False, 0, "empty"), (True, 0, "whole"), (False, 6, "incomplete")])
 
     def test_a_bound_lets_a_share_of_the_checks_be_unaudited(self):
         sum_ = Coverage(98, {}, {causes.CONTEXTUAL: 2})
@@ -36,7 +36,7 @@ class Sums(unittest.TestCase):
         part = b',"part":"%s"' % causes.VERSION_UNKNOWN.encode()
         lines = CHECK % b"" + CHECK % part + CHECK % b',"again":true'
         left = Coverage(2, {causes.VERSION_UNKNOWN: 1}, {causes.CONTEXTUAL: 1}, {}, 0, 0, nanoseconds("2026-01-01T00:00:00Z"),
-                        nanoseconds("2026-01-02T00:00:00.5Z"))
+                        nanoseconds("2026-01-02T00:00:00.5+00:00"))
         data = lines[:-2] + mark_of(left).encode() + b"}\n"
         self.assertEqual(coverage_in(data), left)
         self.assertEqual(coverage_in(data + data), left.plus(left))

@@ -12,6 +12,7 @@ import sys
 import time
 from random import Random
 
+from new_enemy_tools.importing import causes
 from tests.documents import Shown, read
 from tests.support import EXAMPLES, NE, TOP, Case
 from tests.test_core import check, content, rel, write
@@ -74,7 +75,7 @@ class Days(DayCase):
         self.assertEqual(rows[1]["named"], "doc:1#reader@user:anne")
         self.assertEqual(json.loads(self.get("days/day000002/summary.json")), {
             "logs": ["two"], "digest": json.loads(self.get("days/day000002/summary.json"))["digest"], "status": 1, "entries": 3, "findings": 4,
-            "not_audited": 0, "held_over": 0})
+            "not_audited": 0, "held_over": 0, "verdict": "dirty", "coverage": {"checks": 3, "whole": 3}})
 
     def assert_could_be_shown(self, run, low, high):
         """No line of the day's log, whose lines of the whole log are those above LOW up to HIGH, has a finding that this log cannot show."""
@@ -128,17 +129,21 @@ class Days(DayCase):
         self.assertEqual([row[0][2] for row in left["issued"]], ["v2", "v3", "v4"])
         self.assertEqual(self.get("days/day000004/state").count("\nv "), 2)
         self.put("log", [write(50), check(50, goal=goal, version="v2", token=50)])
-        self.assertIn("line 17: not audited, its version is not known", self.day("log", "--keep-versions", "2").stdout)
+        self.assertIn("line 17: audited in part, its version is not known", self.day("log", "--keep-versions", "2").stdout)
 
     def test_gaps_are_said(self):
         self.put("log", [*LOG, {"event": "gap", "from": "2024-01-01T00:00:00Z", "to": "2024-01-01T00:00:01Z", "reason": "why"}])
-        self.assertIn("the log has gaps: a verdict says nothing of what was asked in them\n", self.day("log").stderr)
+        run = self.day("log")
+        self.assertIn("the log has gaps: a verdict says nothing of what was asked in them\n", run.stderr)
+        self.assertEqual((run.returncode, run.stdout.splitlines()[2:4]), (6, [
+            "checks: 2 whole, and what was asked in 1 gap", "gaps in which nobody counted what was asked: 1 (1 s)"]))
         # A version may have been issued in the gap, on this day and on later ones.
         self.put("log", [write(3), check(3, goal=rel("1", "reader", "anne"), version="other", token=3), check(3, goal=rel("1", "reader", "anne"))])
         run = self.day("log")
-        self.assertEqual((run.returncode, run.stdout.splitlines()[:1]), (0, ["entries 1"]))
-        self.assertEqual(run.stderr, "passed over 1: check of a content version that may have been issued in a gap\n" + cannot_show(
-            NO_TOKEN, "F2 old token: there is no content check", NO_CONTENT, NO_COMMIT, NO_ISSUE, NO_NAME[1]))
+        self.assertEqual((run.returncode, run.stdout.splitlines()), (6, [
+            "entries 2", "held over 1", "checks: 1 whole, 1 in part", "audited in part 1: %s; not looked for: F2, F6" % causes.VERSION_UNKNOWN, "findings 0",
+            "verdict incomplete"]))
+        self.assertEqual(run.stderr, cannot_show("F2 old token: there is no content check", NO_CONTENT, NO_COMMIT, NO_ISSUE))
 
     def test_what_a_day_cannot_show(self):
         """It is said beside the verdict, whose status it does not change, and again where the report is told again."""
@@ -249,17 +254,17 @@ class Refused(DayCase):
             self.refused("^%s\n$" % told, "--program", program, "days", "events", "two")
         self.refused("^cannot run none: No such file or directory\n$", "--program", "none", "days", "events", "two", status=5)
 
-    def test_what_is_refused_while_the_program_runs(self):
+    def test_what_is_not_audited_is_seen_while_the_program_runs(self):
         """A check between states of which one is not kept any more is seen when the lines before it are audited already."""
         for name, at in (("two", 12), ("three", 20), ("four", 30)):
             if at > 12:
                 self.put(name, [write(at, rel(str(at), "viewer", "anne"))])
             self.assertIn(self.day(name, "--at-least", "0").returncode, (0, 1))
-        self.before = self.files("days")
         self.put("five", [write(40), *[check(40, False, goal=rel("3", "reader", "u%d" % one)) for one in range(9)],
                           between(check(0, False, goal=rel("1", "reader", "anne")), 1, 12, False)])
-        self.refused("^five:11: it was evaluated at a state of the days before that is not kept any more\nrefused 1\nday: the import refused the logs\n$",
-                     "days", "events", "five")
+        run = self.day("five")
+        self.assertEqual((run.returncode, run.stdout.splitlines()[1:3]), (6, [
+            "checks: 9 whole, 1 not audited", "not audited 1: %s" % causes.STATE_NOT_KEPT]))
 
     def test_two_at_once(self):
         """Another process has the lock."""

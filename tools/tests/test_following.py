@@ -57,7 +57,7 @@ class Followed(WindowCase):
         try:
             own, how = Own(self.path("window"), old, False), self.how(parts)
             if following is not None:
-                return audited_so_far(following, own, how, Keep(0), lambda count: None)
+                return audited_so_far(following, own, None, how, Keep(0), lambda count: None)
             return audited(own, old, None, how, Keep(0), False, lambda count: None)
         except Refused as fault:
             return fault.answer
@@ -95,7 +95,7 @@ class Followed(WindowCase):
                 parts = random.choice([1, 1, 3])
                 wanted, found = self.audited(old, parts), self.followed(random, old, data, parts)
                 self.assertEqual((found.told, found.carry, found.carried), (wanted.told, wanted.carry, wanted.carried))
-                statuses.add(found.told.status)
+                statuses.add(found.told.status())
                 quick += self.compare_effects(found, Own(self.path("window"), old, False))
                 old = State(found.carry.head, found.carry.rows, "0")
         self.assertEqual(statuses, {0, 1})

@@ -1,6 +1,8 @@
 """Content checks that are logged behind their evaluation, and say that they were evaluated at the newest state."""
+import os
 from random import Random
 
+from new_enemy_tools.importing import causes
 from tests.test_core import RULES, CoreCase, check, content, rel, write
 from tests.test_openfga import MODEL, THIS, change
 from tests.test_openfga import check as fga_check
@@ -31,31 +33,34 @@ class Newest(CoreCase):
                          ["commit 1", "check 1", "content 1", "commit 2"])
 
     def test_a_later_commit_that_was_seen_before(self):
-        told = ("content check that is said to be newest, and is not: a later commit was visible before; %s. Give both lines the "
-                "`time` of their evaluation, or leave out `newest`")
-        late = [RULES, write(1, rel()), write(2), check(2), content(1, "v", token=1, newest=True)]
-        self.assertEqual(self.refusals(*late), ["log:5: " + told % "it was seen at log:4"])
+        told = ("log:5: a content check is said to be newest, and a later commit was visible before; %s. Give both lines the "
+                "`time` of their evaluation, or leave out `newest`\n")
+        late = [RULES, write(1, rel()), write(2), check(2), content(1, "v", token=1, newest=True), check(2, version="v")]
+        self.assertEqual([row.get("part") for row in self.lines(*late)], [None, None, None, causes.NOT_NEWEST, causes.VERSION_LEFT_OUT])
+        self.assertIn(told % "it was seen at log:4", self.said)
+        late.pop()
         timed = [late[0], late[1], late[2], late[3] | {"time": second(5)}, late[4] | {"time": second(4)}]
         self.lines(*timed)
         self.assertEqual(self.audited(), "entries 2\nfindings 0\nverdict clean\n")
-        self.lines(*late, words=("--from-empty", "--skip-unmapped"))
-        self.assertIn("left out 1: content check that is said to be newest, and is not\n", self.said)
 
     def test_times_that_the_skew_compares(self):
         def log(at, clock):
             return [RULES, write(1, rel(), time=second(1)), write(2, time=second(2)), content(1, "v", newest=True, time=second(at), clock=clock)]
-        self.lines(*log(2.04, "b"), words=("--from-empty", "--skew", "50", "--skip-unmapped"))
-        self.assertIn("left out 1: check that may have come before a line", self.said)
-        self.lines(*log(2.5, "b"), words=("--from-empty", "--skew", "50", "--skip-unmapped"))
-        self.assertIn("left out 1: content check that is said to be newest, and is not\n", self.said)
+        self.lines(*log(2.04, "b"), words=("--from-empty", "--skew", "50"))
+        self.assertIn("not audited 1: check that may have come before a line", self.said)
+        self.lines(*log(2.5, "b"), words=("--from-empty", "--skew", "50"))
+        self.assertIn("audited in part 1: %s; not looked for: F3, F5\n" % causes.NOT_NEWEST, self.said)
 
     def test_where_it_can_stand(self):
         self.put("model.json", MODEL % THIS)
         self.put("log", [change("user:a"), fga_check(newest=True), fga_check(newest="yes", content={}),
                          fga_check(at=None, snapshot_between=[0, 1], newest=True, content={"version": "v", "token": 1})])
-        self.assertEqual(self.refused("openfga", "--model", "model.json", "--from-empty", "log"), [
-            "log:2: `newest` is said of a content check", "log:3: `newest` is neither true nor false",
-            "log:4: `newest` goes with one `snapshot`, and not with `snapshot_between`"])
+        self.assertEqual(self.unaudited("openfga", "--model", "model.json", "--from-empty", "log"), [
+            "not audited: %s, first at log:2: `newest` is said of a content check" % causes.UNREADABLE,
+            "not audited: %s, first at log:3: `newest` is neither true nor false" % causes.UNREADABLE_CONTENT,
+            "not audited 1: %s" % causes.UNREADABLE, "not audited 2: %s" % causes.UNREADABLE_CONTENT])
+        os.remove(self.path("trace.jsonl"))
+        os.remove(self.path("ids.jsonl"))
         self.assertEqual(self.refusals(RULES, check(1, newest=True)), ['log:2: unknown key "newest"'])
 
 

@@ -1,4 +1,5 @@
 """One odd line is one odd line: what records no decision is counted, what can be left out is, and what strikes all is said once."""
+from new_enemy_tools.importing import causes
 from new_enemy_tools.importing.refusals import HINT
 from tests.test_core import RULES, CoreCase, check, content, rel, write
 from tests.test_openfga import MODEL, THIS, change
@@ -48,8 +49,8 @@ class PassedOver(CoreCase):
     def test_a_content_check_that_was_logged_before(self):
         lines = [RULES, write(1, rel()), content(1, "v", token=1), content(1, "v", token=1)]
         self.lines(*lines)
-        self.assertIn("passed over 1: content check that was logged before\n", self.said)
-        self.assertEqual(self.audited(), "entries 1\nfindings 0\nverdict clean\n")
+        self.assertIn("audited in part 1: %s; not looked for: F3, F5\n" % causes.LABEL_AGAIN, self.said)
+        self.assertEqual(self.audited(), "entries 2\nfindings 0\nverdict clean\n")
 
 
 class LeftOut(CoreCase):
@@ -58,33 +59,34 @@ class LeftOut(CoreCase):
         log = [change("user:a"), fga_check(allowed="yes"), fga_check("anne"), fga_check(at=None), fga_check(token="soon"), fga_check()]
         self.put("log", log)
         words = ("openfga", "--model", "model.json", "--from-empty", "log")
-        self.assertEqual(len(self.refused(*words)), 4)
-        self.assertEqual(len(self.hinted), 4)
-        self.assertIn("left out 4: check that can't be read\n", self.imported(*words, "--skip-unmapped"))
+        self.assertEqual(len(self.struck(*words)), 4)
+        self.assertIn("not audited 4: check that can't be read\n", self.imported(*words))
         self.assertEqual(self.audited(), "entries 1\nfindings 0\nverdict clean\n")
 
     def test_what_cannot_be_left_out(self):
-        """A content check that can't be read, a line of no kind, a line that is no JSON, and a mistyped key."""
+        """A line of no kind, and a mistyped key."""
         self.put("model.json", MODEL % THIS)
         good = [change("user:a"), fga_check()]
-        for line in (fga_check(content={"version": 7}), {"hello": 1}, fga_check(verison="v")):
+        for line in ({"hello": 1}, fga_check(verison="v"), fga_check(content={"verison": "v"})):
             self.put("log", good + [line])
             status, said = self.run_import("openfga", "--model", "model.json", "--from-empty", "--skip-unmapped", "log")
             self.assertEqual((status, said.splitlines()[-1]), (2, "refused 1"))
             self.assertNotIn(HINT, said)
 
     def test_checks_whose_order_is_not_known(self):
-        words = ("--from-empty", "--skew", "50", "--skip-unmapped")
+        words = ("--from-empty", "--skew", "50")
         second = [check(1, time="2024-01-01T00:00:01.01Z", clock="b"), content(2, "v", time="2024-01-01T00:00:02.99Z", clock="b"),
                   check(2, version="v", time="2024-01-01T00:00:05Z", clock="b"), check(2)]
         lines = [RULES, write(1, rel(), time="2024-01-01T00:00:01Z"), write(2, time="2024-01-01T00:00:02Z"),
                  write(3, rel(user="x"), time="2024-01-01T00:00:03Z")]
         self.imported("events", *words, self.given(*lines, name="one"), self.given(*second, name="two"))
-        self.assertEqual([row["kind"] for row in self.rows("trace.jsonl")], ["namespace", "commit", "commit", "commit"])
+        self.assertEqual([row["kind"] for row in self.rows("trace.jsonl")], ["namespace", "commit", "commit", "commit", "check"])
         self.put("two", [check(1), *second[:1], write(4, time="2024-01-01T00:00:03.04Z", clock="b")])
         status, said = self.run_import("events", *words, "one", "two")
         self.assertEqual((status, said.splitlines()), (2, [
-            "left out 1: check that may have come before a line or behind it", "left out 1: line without a `time`",
+            "not audited: %s, first at two:2: which came first, this check or the write at one:2, is not known: they are 10 ms apart, and the skew "
+            "is 50 ms" % causes.ORDER_UNKNOWN,
+            "not audited: %s, first at two:1: the line has no `time`, which --skew orders by" % causes.WITHOUT_TIME,
             "two:3: which came first, this write or the write at one:4, is not known: they are 40 ms apart, and the skew is 50 ms",
             "refused 1"]))
 
@@ -96,5 +98,6 @@ class Once(CoreCase):
         status, said = self.run_import("spicedb", "--schema", "schema", "--from-empty", "log")
         older = "is of SpiceDB on PostgreSQL in the older form xid.xmin, which does not say what it sees"
         self.assertEqual((status, said.splitlines()), (2, [
+            "not audited: %s, first at log:41: `checkedAt` of the response %s" % (causes.UNREADABLE, older),
             "log:1: `changesThrough` %s; so have 39 lines more" % older,
-            *["log:%d: `checkedAt` of the response %s%s" % (line, older, HINT) for line in (41, 42, 43)], "refused 43"]))
+            "refused 40"]))

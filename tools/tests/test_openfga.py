@@ -2,6 +2,7 @@
 import json
 import os
 
+from new_enemy_tools.importing import causes
 from tests.support import EXAMPLES, Case
 
 MODEL = """{
@@ -36,9 +37,12 @@ def check(user="user:a", relation="viewer", thing="doc:1", allowed=True, at="202
 
 
 class Refusals(Case):
-    def refusals(self, log=(), model=MODEL % THIS, *more):
-        return self.refused("openfga", "--model", self.name("model.json", model), "--from-empty", *more,
-                            self.name("log", log if isinstance(log, (bytes, str)) else list(log)))
+    def words(self, log=(), model=MODEL % THIS, *more):
+        return ("openfga", "--model", self.name("model.json", model), "--from-empty", *more,
+                self.name("log", log if isinstance(log, (bytes, str)) else list(log)))
+
+    def refusals(self, *given):
+        return self.refused(*self.words(*given))
 
     def name(self, name, content):
         self.put(name, content)
@@ -74,21 +78,19 @@ class Refusals(Case):
                check(request={"context": {"hour": 7}}), check(request={"authorization_model_id": "N"}),
                check(allowed="yes"), check(at=None), check(token="soon"), check(version=7), check(content=1),
                check(content={"version": "v"}, allowed=False), check(content={}), check(version="")]
-        self.assertEqual(self.refusals(log), [
+        self.assertEqual(self.struck(*self.words(log)), [
             "log:2: check of a userset as the user: doc:1#viewer@group:g#member",
             "log:3: check of a typed wildcard as the user: doc:1#viewer@user:*",
             "log:4: check of a relation that the rules do not have: doc:1#writer@user:a",
             "log:5: contextual tuples: doc:1#viewer@user:a",
             "log:6: context of conditions: doc:1#viewer@user:a",
             "log:7: check with another model: doc:1#viewer@user:a",
-            "log:8: the response has no `allowed`",
-            "log:9: the check has none of `snapshot` and `snapshot_between`; give one",
-            "log:10: `token` is no place in the changes feed and no timestamp",
-            "log:11: `version` is no text",
-            "log:12: `content` is no object",
-            "log:13: a content check has a version exactly where its reply is true",
-            "log:14: a content check has a version exactly where its reply is true",
-            "log:15: the label of a version is empty"])
+            "log:8: check that can't be read: the response has no `allowed`",
+            "log:9: check that can't be read: the check has none of `snapshot` and `snapshot_between`; give one",
+            "log:10: check that can't be read: `token` is no place in the changes feed and no timestamp",
+            "log:11: check that can't be read: `version` is no text",
+            "log:12: content check that can't be read: `content` is no object"])
+        self.assertEqual([row.get("part") for row in self.rows("trace.jsonl")[-3:]], [causes.CONTENT_ODD, causes.CONTENT_ODD, causes.LABEL_EMPTY])
 
     def test_rewrites_by_line(self):
         cases = {
@@ -171,7 +173,6 @@ class Refusals(Case):
         words = ("openfga", "--model", "model.json", "--base", "base.json", "--base-at", "2024-01-01T00:00:00Z", "log")
         self.assertEqual(self.refused(*words), [
             "base.json:3: tuple that the model does not take: doc:1#viewer@user:*", "base.json:4: a tuple key has no `relation`",
-            "log:1: check before the base state: its snapshot is 2023-01-01T00:00:00Z",
             "log:2: its revision 2023-01-01T00:00:00Z is not later than that of the base state"])
 
 
@@ -215,17 +216,17 @@ class Places(Case):
                check(at=self.at(1)), check(at=4), check(snapshot_between=[2, 1], at=None), check(snapshot_between=[1, 2]),
                check(snapshot_between=[1], at=None), check(snapshot_between=[1, "x"], at=None), check(token=9, at=3), check(at=-1),
                check(at=True)]
-        self.assertEqual(self.refusals(log), [
+        self.assertEqual(self.struck(*self.words(log)), [
             "log:4: check without one snapshot: snapshot 2024-01-01T00:00:01Z is not one place: changes at or before it stand "
             "behind later ones; give the place in the feed",
             "log:5: check without one snapshot: place 4 is beyond the feed, which ends at place 3",
             "log:6: check without one snapshot: `snapshot_between` is no range: place 2 stands behind place 1",
-            "log:7: the check has both of `snapshot` and `snapshot_between`; give one",
-            "log:8: `snapshot_between` is no list of two places or timestamps",
-            "log:9: `snapshot_between` is no place in the changes feed and no timestamp",
+            "log:7: check that can't be read: the check has both of `snapshot` and `snapshot_between`; give one",
+            "log:8: check that can't be read: `snapshot_between` is no list of two places or timestamps",
+            "log:9: check that can't be read: `snapshot_between` is no place in the changes feed and no timestamp",
             "log:10: check without one snapshot: place 9 is beyond the feed, which ends at place 3",
-            "log:11: `snapshot` is no place in the changes feed and no timestamp",
-            "log:12: `snapshot` is no place in the changes feed and no timestamp"])
+            "log:11: check that can't be read: `snapshot` is no place in the changes feed and no timestamp",
+            "log:12: check that can't be read: `snapshot` is no place in the changes feed and no timestamp"])
 
     def test_places_go_on_behind_a_base_state(self):
         self.put("base.json", {})
@@ -235,7 +236,7 @@ class Places(Case):
                                     *words)[-1], "verdict clean")
         os.remove(self.path("trace.jsonl"))
         os.remove(self.path("ids.jsonl"))
-        self.assertEqual(self.refusals([change("user:b"), check(at=6), check(at=9)], *words), [
+        self.assertEqual(self.struck(*self.words([change("user:b"), check(at=6), check(at=9)], *words)), [
             "log:2: check before the base state: its snapshot is place 6",
             "log:3: check without one snapshot: place 9 is beyond the feed, which ends at place 8"])
 
@@ -258,8 +259,9 @@ class Places(Case):
 
     def test_more_states_than_are_looked_at(self):
         log = [change("user:u%d" % number, at=self.at(number % 60)) for number in range(1200)]
-        self.assertEqual(self.refusals(log + [check(snapshot_between=[1, 1200], at=None)]), [
-            "log:1201: `snapshot_between` takes in 1200 commits, and 1000 states at most are looked at"])
+        self.assertEqual(self.struck(*self.words(log + [check(snapshot_between=[1, 1200], at=None), check("user:u0", at=1)])), [
+            "log:1201: %s: 1200 commits, and 1000 states at most are looked at" % causes.TOO_WIDE])
+        self.assertEqual(self.audited(), "entries 1\nfindings 0\nverdict clean\n")
 
 
 class Mapped(Case):

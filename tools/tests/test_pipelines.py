@@ -76,8 +76,9 @@ class Sarif(Pipelines):
             "artifactLocation": {"uri": "changes%20%C3%A9.jsonl"}, "region": {"startLine": 7}})
 
     def test_clean(self) -> None:
-        self.put("trace.jsonl", "")
-        self.put("report.txt", "entries 0\nfindings 0\nverdict clean\n")
+        self.put("trace.jsonl", '{"kind":"namespace","name":"doc","relations":[{"name":"viewer"}]}\n'
+                 '{"kind":"check","goal":"doc:a#viewer@1","snapshot":1,"reply":false}\n')
+        self.put("report.txt", "entries 1\nfindings 0\nverdict clean\n")
         self.assertEqual(json.loads(self.report("--form", "sarif"))["runs"][0]["results"], [])
 
 

@@ -4,6 +4,7 @@ import os
 from collections import Counter
 from random import Random
 
+from new_enemy_tools.importing import causes
 from new_enemy_tools.importing.visibility import History
 from new_enemy_tools.importing.zedtokens import Older, Revision, Snapshot, read_revision
 from tests.support import Case
@@ -159,12 +160,14 @@ class Imports(Case):
                      request={"consistency": {"atLeastAsFresh": {"token": token_text(revision(10, 10, own=11))}}}),
                check(revision(12, 12), request={"consistency": {"atLeastAsFresh": {"token": token_text(7)}}}),
                watch(odd, update("user:c")), check(revision(11, 11), reply="NO", content={})]
-        self.assertEqual(self.refused(*self.words(log)), [
-            "log:4: check at a snapshot that sees no beginning of the order of commits: 10:13:10",
-            "log:5: `checkedAt` of the response is of SpiceDB on PostgreSQL in the older form xid.xmin, which does not say what it sees",
-            "log:6: check by a token that sees no beginning of the order of commits, with a version: 10:10:+11",
-            "log:7: the token is of another datastore than `checkedAt`",
-            "log:8: the snapshot of `changesThrough` does not name the transaction that wrote"])
+        self.assertEqual(self.refused(*self.words(log)), ["log:8: the snapshot of `changesThrough` does not name the transaction that wrote"])
+        self.assertEqual(self.struck(*self.words(log[:7])), [
+            "log:4: %s: 10:13:10" % causes.NO_BEGINNING,
+            "log:5: check that can't be read: `checkedAt` of the response is of SpiceDB on PostgreSQL in the older form xid.xmin, which does not "
+            "say what it sees", "log:6: %s: 10:10:+11" % causes.TOKEN_NO_BEGINNING,
+            "log:7: check that can't be read: the token is of another datastore than `checkedAt`"])
+        for name in ("trace.jsonl", "ids.jsonl"):
+            os.remove(self.path(name))
         self.assertEqual(self.refused(*self.words([watch(revision(10, 10, own=10), update("user:a")), check(7)])), [
             "log:2: its revision 7 is a number, and that of log:1 a snapshot of PostgreSQL"])
 
@@ -178,8 +181,7 @@ class Imports(Case):
             os.remove(self.path(name))
         log += [check(revision(17, 17)), watch(revision(17, 17, own=17), update("user:z"))]
         self.assertEqual(self.refused(*self.words(log[:4] + log[5:] + log[4:5], *words)), [
-            "log:5: its revision 17:17:+17 is not later than that of the base state",
-            "log:6: check before the base state: its snapshot is 17:17:"])
+            "log:5: its revision 17:17:+17 is not later than that of the base state"])
 
 
 class Simulated(SpiceDb):
@@ -255,7 +257,7 @@ class RoundTrips(Case):
                     right["log:%d" % len(log)] = reply == answer
             self.put("rules", service.rules)
             self.put("log", log)
-            self.imported(*service.words[:-1], "--skip-unmapped", "--ids", "ids%d" % number, "log")
+            self.imported(*service.words[:-1], "--ids", "ids%d" % number, "log")
             rows = {line: row["from"] for line, row in enumerate(self.rows("trace.jsonl"), 1) if row["kind"] == "check"}
             wanted = ["line %d: F10 wrong reply" % line for line, source in rows.items() if not right[source]]
             self.assertEqual(self.audited().splitlines()[:-3], wanted, "model %d" % number)

@@ -1,4 +1,5 @@
 """What import_trace makes of the lines that only a recorder writes."""
+from new_enemy_tools.importing import causes
 from tests.test_core import RULES, CoreCase, check, content, rel, write
 
 GAP = {"event": "gap", "from": "2024-01-01T00:00:00Z", "to": "2024-01-01T00:00:01Z", "reason": "why", "lost": 2, "time": "2024-01-01T00:00:01Z"}
@@ -47,20 +48,18 @@ class Lines(CoreCase):
         self.assertIn("gap from 2024-01-01T00:00:00Z to 2024-01-01T00:00:01Z: why (2 lost)\n", self.said)
         self.assertIn("gap to 2024-01-01T00:00:01Z: why\n", self.said)
         self.assertEqual(self.said.count(SAID), 1)
-        self.assertIn("passed over 1: check of a content version that may have been issued in a gap\n", self.said)
+        self.assertIn("checks: 1 whole, 1 in part, 2 lost in gaps, and what was asked in 1 gap\naudited in part 1: %s; not looked for: F2, F6\n"
+                      "lost in gaps 2: why\n" % causes.VERSION_UNKNOWN, self.said)
         report = self.audited()
-        self.assertEqual(report, "line 3: F6 unknown version\nentries 1\nfindings 1\nverdict dirty\n")
-        self.put("report.txt", report)
-        self.assertEqual(self.run_tool("report", "trace.jsonl", "report.txt")[2],
-                         "the log of this trace has gaps (2): what was asked in them is not in this report\n")
+        self.assertEqual(report, "line 3: F6 unknown version\nentries 2\nfindings 1\nverdict dirty\n")
         self.assertEqual(self.run_tool("lint", "trace.jsonl")[1].count("gaps"), 0)
 
     def test_a_gap_reaches_back(self):
         """A version may have been issued in it by a check that was lost, also where a check of the version stands before it."""
         early, late = ("2023-12-31T23:59:59Z", "2024-01-01T00:00:00.5Z")
         self.kinds(write(1, rel()), check(1, version="before", time=early), check(1, version="within", time=late), GAP)
-        self.assertIn("passed over 1: check of a content version that may have been issued in a gap\n", self.said)
-        self.assertEqual(self.audited(), "line 3: F6 unknown version\nentries 1\nfindings 1\nverdict dirty\n")
+        self.assertIn("audited in part 1: %s; not looked for: F2, F6\n" % causes.VERSION_UNKNOWN, self.said)
+        self.assertEqual(self.audited(), "line 3: F6 unknown version\nentries 2\nfindings 1\nverdict dirty\n")
 
     def test_a_gap_without_its_times(self):
         self.assertEqual(self.refusals(RULES, {**GAP, "to": "soon"}),
@@ -72,7 +71,7 @@ class Lines(CoreCase):
         self.assertEqual(self.refusals(RULES, *odd), ["log:3: caveat: it"])
         self.kinds(*odd, words=("--from-empty", "--skip-unmapped"))
         self.assertIn("left out 1: caveat\n", self.said)
-        self.assertIn("left out 1: check that hangs on a tuple or rule that was left out\n", self.said)
+        self.assertIn("not audited 1: check that hangs on a tuple or rule that was left out\n", self.said)
 
     def test_lines_of_the_chain_are_passed_over(self):
         self.assertEqual(self.refusals(RULES, {"event": "place", "cursors": "c"}), ['log:2: unknown key "cursors"; is "cursor" meant?'])

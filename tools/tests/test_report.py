@@ -44,7 +44,8 @@ class Reports(Case):
         sums, *rows = [json.loads(line) for line in run.stdout.splitlines()]
         self.assertEqual(sums, {"sums": {"wrong": 1, "let_in": 2, "kept_out": 0, "undecided": 3, "harmless": 4, "text": SUMS},
                                 "entries": 11, "findings": 10, "told": 10, "ignored": 0, "known": 0, "verdict": "dirty",
-                                "named": False, "checks": 8, "with_version": 2, "with_token": 2, "note": NOTE})
+                                "named": False, "checks": 8, "with_version": 2, "with_token": 2, "note": NOTE,
+                                "coverage": {"state": "whole", "checks": 11, "whole": 11}})
         self.assertEqual([(row["finding"], row["effect"], row["severity"]) for row in rows], [
             ("F10", "wrong", "error"), ("F1", "changed", "error"), ("F3", "changed", "error"), ("F7", "undecided", "warning"),
             ("F8", "undecided", "warning"), ("F9", "undecided", "warning"), ("F2", "none", "note"), ("F4", "none", "note"),
@@ -69,7 +70,8 @@ class Reports(Case):
         run = self.report("--form", "junit")
         suite = xml.etree.ElementTree.fromstring(run.stdout)[0]
         self.assertEqual((suite.get("tests"), suite.get("failures"), len(suite)), ("11", "10", 12))
-        self.assertEqual([(one.get("name"), one.get("value")) for one in suite[0]], [("sums", SUMS), ("note", NOTE)])
+        self.assertEqual([(one.get("name"), one.get("value")) for one in suite[0]], [
+            ("sums", SUMS), ("coverage", "checks: 11 whole"), ("note", NOTE)])
         self.assertEqual(suite[2].get("name"), "line 5: doc:a#viewer@1")
         self.assertEqual((suite[2].get("file"), suite[2].get("line")), ("trace.jsonl", "5"))
         self.assertEqual(suite[2].find("failure").get("message"), "F1 stale, effect changed")
@@ -99,13 +101,14 @@ class Reports(Case):
         self.assertIn("@user:anne,%0A at", self.report("--ids", "ids.jsonl", "--form", "annotations").stdout)
         self.assertIn("@user:anne,? at", self.report("--ids", "ids.jsonl", "--form", "junit").stdout)
 
-    def test_clean(self):
+    def test_nothing_was_audited(self):
         self.put("trace.jsonl", "")
         run = self.report(text="entries 0\nfindings 0\nverdict clean\n")
         sums = json.loads(run.stdout)
         self.assertEqual((run.returncode, sums["sums"]["text"], sums["checks"]), (
-            0, "0 replies wrong, 0 stale answers that let someone in, 0 that kept someone out, 0 harmless", 0))
+            6, "0 replies wrong, 0 stale answers that let someone in, 0 that kept someone out, 0 harmless", 0))
         self.assertNotIn("note", sums)
+        self.assertEqual(sums["coverage"], {"state": "empty", "checks": 0, "whole": 0})
 
     def test_reports_that_are_not_whole(self):
         lines = FOUND.splitlines()

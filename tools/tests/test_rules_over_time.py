@@ -55,11 +55,10 @@ class OpenFga(Case):
         log = self.LOG + (fga_check("user:b", at=2, request=of("one")), fga_check("user:b", at=2, request=of("zero")),
                           fga_check("user:b", at=None, snapshot_between=[1, 2]), fga_check(at=None, snapshot_between=[0, 1], request=of("one")),
                           fga_check(at=None, snapshot_between=[0, 2], request=of("two"), token=2))
-        self.assertEqual(self.refused(*self.words(*log)), [
+        self.assertEqual(self.struck(*self.words(*log)), [
             "log:2: check without one snapshot: the model changes at its place, and the request does not say which it is of",
             "log:7: check without one snapshot: the model changes at its place, and the request does not say which it is of",
             "log:11: check with another model: doc:1#viewer@user:b", "log:12: check with another model: doc:1#viewer@user:b"])
-        self.imported(*self.words(*log), "--skip-unmapped")
         self.assertEqual(self.audited(), "line 11: F10 wrong reply\nline 12: F10 wrong reply\nentries 8\nfindings 2\nverdict dirty\n")
 
     def test_content_after_a_change_at_its_place(self):

@@ -138,7 +138,7 @@ class SameAnswers(BlockCase):
                     log.append(write(at, rel(user="z")))
             self.put_log(random, [self.dressed(random, one, number % 2) if one.get("event") == "check" else one for one in log], share)
             statuses.append(self.compare("events", "--from-empty", "log", *["--skip-unmapped"] * (number % 4 == 3)))
-        self.assertEqual(set(statuses), {0, 2})
+        self.assertEqual(set(statuses), {0, 2, 6})
 
     def test_services(self):
         statuses = []
@@ -161,4 +161,4 @@ class SameAnswers(BlockCase):
                 self.put("rules", service.rules)
                 self.put_log(random, log, number % 2 * 0.02)
                 statuses.append(self.compare(*service.words))
-        self.assertEqual(set(statuses), {0, 2})
+        self.assertEqual(set(statuses), {0, 2, 6})

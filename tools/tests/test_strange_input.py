@@ -33,10 +33,10 @@ def mutated(random, value):
 class StrangeInput(Case):
     def taken(self, *words):
         status, said = self.run_import(*words)
-        self.assertIn(status, (0, 2), said)
+        self.assertIn(status, (0, 2, 6), said)
         for name in ("trace.jsonl", "ids.jsonl"):
             if os.path.exists(self.path(name)):
-                self.assertEqual(status, 0)
+                self.assertIn(status, (0, 6))
                 os.remove(self.path(name))
         if status == 2:
             self.assertRegex(said, r"(?m)^\S+:[0-9]+: ")

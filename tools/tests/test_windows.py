@@ -13,6 +13,7 @@ from random import Random
 from typing import NamedTuple, Optional
 
 from hostile.inputs import worked_cases
+from new_enemy_tools.importing import causes
 from new_enemy_tools import limits
 from new_enemy_tools.commands import ne
 from new_enemy_tools.files import split_joined
@@ -54,7 +55,7 @@ class Told:
         lines = text.splitlines()
         for line in lines:
             if line.startswith("line "):
-                (self.not_audited if "not audited" in line else self.findings).append(line)
+                (self.not_audited if "not audited" in line or "audited in part" in line else self.findings).append(line)
         sums = dict(line.rsplit(" ", 1) for line in lines if not line.startswith("line "))
         self.entries += int(sums["entries"])
         self.counts.append(sums)
@@ -315,7 +316,8 @@ class NotAudited(WindowCase):
         told = self.told(DAYS)
         self.assertEqual(told[2], (1, ["line 10: F10 wrong reply", "entries 3", "findings 1", "verdict dirty"]))
         self.assertEqual(told[3][1][0], "line 14: not audited, its snapshot 1 is older than 3, where the state begins")
-        self.assertEqual(told[3][1][3:], ["entries 3", "not audited 1", "findings 2", "verdict dirty"])
+        self.assertEqual(told[3][1][3:], ["entries 3", "checks: 2 whole, 1 not audited", "not audited 1: " + causes.SNAPSHOT_TOO_OLD, "findings 2",
+                                          "verdict dirty"])
         # a snapshot at the beginning is audited, and one before is not
         self.assertEqual(self.told(DAYS[:3], "--keep-snapshots", 0)[2][1][:2], [
             "line 10: F10 wrong reply", "line 11: not audited, its snapshot 2 is older than 3, where the state begins"])
@@ -323,15 +325,16 @@ class NotAudited(WindowCase):
     def test_old_versions(self):
         days = [*DAYS[:3], [commit(5), check(5, version="none"), check(5, version="two")]]
         told = self.told(days, "--oldest-snapshot", 0, "--keep-versions", 1)
-        self.assertEqual(told[2][1], ["line 10: F10 wrong reply", "line 12: not audited, its version is not known, and old versions were let go",
-                                      "entries 3", "not audited 1", "findings 1", "verdict dirty"])
-        self.assertEqual(told[3], (6, ["line 14: not audited, its version is not known, and old versions were let go",
-                                       "line 15: not audited, its version is not known, and old versions were let go",
-                                       "entries 2", "not audited 2", "findings 0", "verdict incomplete"]))
+        said = "audited in part %d: " + causes.VERSION_LET_GO + "; not looked for: F2, F6"
+        self.assertEqual(told[2][1], ["line 10: F10 wrong reply", "line 12: audited in part, its version is not known, and old versions were let go",
+                                      "entries 3", "checks: 2 whole, 1 in part", said % 1, "findings 1", "verdict dirty"])
+        self.assertEqual(told[3], (6, ["line 14: audited in part, its version is not known, and old versions were let go",
+                                       "line 15: audited in part, its version is not known, and old versions were let go",
+                                       "entries 2", "checks: 0 whole, 2 in part", said % 2, "findings 0", "verdict incomplete"]))
         # what is wrong with such an entry beside its version is told
         days[3] = [commit(5), check(5, reply=False, version="none")]
         self.assertEqual(self.told(days, "--oldest-snapshot", 0, "--keep-versions", 1)[3][1][:2], [
-            "line 14: F10 wrong reply", "line 14: not audited, its version is not known, and old versions were let go"])
+            "line 14: F10 wrong reply", "line 14: audited in part, its version is not known, and old versions were let go"])
 
     def test_held_over(self):
         """An entry is told when a commit has come to its snapshot, and is let go where none comes for too long."""
@@ -343,8 +346,8 @@ class NotAudited(WindowCase):
             ["entries 1", "held over 2", "findings 0", "verdict clean"]])
         self.assertEqual(told[3][1], ["line 4: F4 open snapshot, see line 7", "line 4: F10 wrong reply", "entries 2", "held over 1", "findings 2",
                                       "verdict dirty"])
-        self.assertEqual(told[4], (6, ["line 5: not audited, no commit has come to its snapshot 100", "entries 1", "not audited 1", "findings 0",
-                                       "verdict incomplete"]))
+        self.assertEqual(told[4], (6, ["line 5: not audited, no commit has come to its snapshot 100", "entries 1", "checks: 0 whole, 1 not audited",
+                                       "not audited 1: " + causes.NO_COMMIT_CAME, "findings 0", "verdict incomplete"]))
         self.assertEqual(told[5], (0, ["entries 0", "findings 0", "verdict clean"]))
 
 

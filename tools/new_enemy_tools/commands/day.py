@@ -7,7 +7,7 @@
 FOLDER keeps the days: of each its report, and of the last what the next one goes on from. The words behind FOLDER are those of `ne import`,
 each day the same; a base state is taken on the first day alone. `trace` takes a trace in place of logs.
 
-The status is 0 where nothing was found, 1 where something was, 6 where nothing was found and not every entry was audited, and 2 where
+The status is 0 where nothing was found, 1 where something was, 6 where nothing was found and not everything was looked at, and 2 where
 something is refused; then no day was kept, and the same words can be tried again. A day that a killed run had kept and not told is told
 by the next run.
 """
@@ -20,11 +20,12 @@ import os
 import shutil
 import sys
 from argparse import Namespace
-from typing import Optional
+from typing import NamedTuple, Optional
 
 from new_enemy_tools.commands import import_logs
 from new_enemy_tools.commands.running import Parser
 from new_enemy_tools.commands.window import add_auditing, add_keeping, keep_of, places, refuse_usage
+from new_enemy_tools.coverage import Coverage
 from new_enemy_tools.files import write_whole
 from new_enemy_tools.ids import Ids
 from new_enemy_tools.importing.chained import end_of, head_of
@@ -97,32 +98,46 @@ def go_on(days: Days, given: Namespace) -> import_logs.Before:
     return import_logs.Before(left, state, Ids(days.work("ids.jsonl")), Following(state, How(given.program, given.jobs, given.parts or 1)))
 
 
-def traced(days: Days, given: Namespace, before: import_logs.Before) -> str:
-    """The day's trace; raises WindowFault where the import refuses the logs."""
+class Traced(NamedTuple):
+    """The day's trace, and what its import says was looked at, if there was one."""
+
+    path: str
+    coverage: Optional[Coverage]
+
+
+def traced(days: Days, given: Namespace, before: import_logs.Before) -> Traced:
+    """Raises WindowFault where the import refuses the logs."""
     if given.service == "trace":
         if before.left is not None:
             write_left(days.work("left"), before.left)
-        return str(given.words[0])
+        return Traced(str(given.words[0]), None)
     said = io.StringIO()
-    with contextlib.redirect_stderr(said):
-        status = import_logs.main([given.service, "--trace", days.work("trace"), "--ids", days.work("ids.jsonl"), "--go-on", days.work("left"),
-                                   "--jobs", str(given.jobs), *given.words], before)
-    if status:
+    try:
+        with contextlib.redirect_stderr(said):
+            # One odd tuple or rule takes the audit from what hangs on it, and not from the day.
+            made = import_logs.run([given.service, "--trace", days.work("trace"), "--ids", days.work("ids.jsonl"), "--go-on", days.work("left"),
+                                    "--skip-unmapped", "--jobs", str(given.jobs), *given.words], before)
+    except BaseException:
+        sys.stderr.write(said.getvalue())
+        raise
+    if made.coverage is None:
         sys.stderr.write(said.getvalue())
         raise WindowFault("the import refused the logs")
     lines = said.getvalue().splitlines()
     write_whole(days.work("import.txt"), lines)
-    # What the day's log cannot show is told with the report.
-    sys.stderr.writelines(line + "\n" for line in lines if not line.startswith(("commits ", CANNOT)))
-    return days.work("trace")
+    # What was looked at, and what the day's log cannot show, is told with the report.
+    with_report = {*made.coverage.lines()}
+    sys.stderr.writelines(line + "\n" for line in lines if line not in with_report and not line.startswith(("commits ", CANNOT)))
+    return Traced(days.work("trace"), made.coverage)
 
 
 def audited_day(days: Days, given: Namespace, before: import_logs.Before, progress: Progress) -> tuple[Own, Audited]:
-    own = Own(traced(days, given, before), before.state, False)
+    trace = traced(days, given, before)
+    own = Own(trace.path, before.state, False)
     how, step = How(given.program, given.jobs, parts_needed(own, before.state, given.parts)), progress.steps("read %s bytes")
-    if given.service == "trace":
+    if trace.coverage is None:
         return own, audited(own, before.state, None, how, keep_of(given), False, step)
-    return own, audited_so_far(before.following, own, how, keep_of(given), step)
+    return own, audited_so_far(before.following, own, trace.coverage, how, keep_of(given), step)
 
 
 def made(days: Days, given: Namespace, digest: str, progress: Progress) -> int:
@@ -141,8 +156,9 @@ def made(days: Days, given: Namespace, digest: str, progress: Progress) -> int:
     write_next(days.work("state"), found.window, found.carry)
     write_reports(days, found, own, before.ids if given.service != "trace" else None)
     told = found.told
-    write_whole(days.work("summary.json"), [json.dumps(Summary([os.path.basename(log) for log in given.logs], digest, told.status, told.entries,
-                                                               len(told.findings), len(told.not_audited), told.held)._asdict())])
+    write_whole(days.work("summary.json"), [json.dumps(Summary(
+        [os.path.basename(log) for log in given.logs], digest, told.status(given.allow_unaudited), told.entries, len(told.findings),
+        sum(told.coverage.not_audited.values()), told.held, told.verdict, told.coverage.row())._asdict())])
     if os.path.exists(days.work("trace")):
         os.remove(days.work("trace"))
     number = days.keep()

@@ -4,8 +4,8 @@
     ne import spicedb --schema SCHEMA (--base FILE .. --base-at TOKEN | --from-empty) LOG ..
     ne import events (--from-empty | base writes in the log) LOG ..
 
-It writes the trace and adds to the table of ids; where anything is refused it writes neither, lists all refusals on
-standard error, and ends with status 2. A trace with more bytes than one program takes is written in pieces, which
+It writes the trace and adds to the table of ids, and ends with status 0, or 6 where a check of the log is not audited whole: the sum on
+standard error says which, and why. Where anything is refused it writes neither, lists all refusals, and ends with status 2. A trace with more bytes than one program takes is written in pieces, which
 `ne parts cut` takes as the one trace that they are (docs/SCALE.md).
 """
 import gc
@@ -14,10 +14,11 @@ import sys
 from argparse import Namespace
 from functools import partial
 from itertools import chain
-from typing import Any, Iterable, NamedTuple, Optional
+from typing import Any, Iterable, Iterator, NamedTuple, Optional
 
 from new_enemy_tools import limits
-from new_enemy_tools.commands.running import Parser
+from new_enemy_tools.commands.running import Parser, add_allowing
+from new_enemy_tools.coverage import Coverage, mark_of
 from new_enemy_tools.faults import DeviceFault
 from new_enemy_tools.ids import Ids
 from new_enemy_tools.importing import openfga, spicedb, spicedb_schema
@@ -28,7 +29,7 @@ from new_enemy_tools.importing.neutral import gather_events
 from new_enemy_tools.importing.refusals import Refusals
 from new_enemy_tools.importing.service import ServiceRules
 from new_enemy_tools.importing.spool import Lines
-from new_enemy_tools.importing.writing import Piece
+from new_enemy_tools.importing.writing import Piece, Written
 from new_enemy_tools.parting.faults import PartsFault
 from new_enemy_tools.pieces import LEAST_BYTES, PiecesWriter
 from new_enemy_tools.progress import Progress
@@ -61,7 +62,8 @@ def given_of(words: list[str]) -> tuple[Parser, Namespace]:
             service.add_argument("--base-at", metavar="REVISION", help="the revision of the base state")
         service.add_argument("--from-empty", action="store_true", help="the store was empty before the first write")
         service.add_argument("--skew", type=int, metavar="MS", help="order events by time, and refuse two of different clocks within MS milliseconds if their order could change a finding")
-        service.add_argument("--skip-unmapped", action="store_true", help="count and leave out what a trace cannot say")
+        service.add_argument("--skip-unmapped", action="store_true", help="leave out tuples and rules that a trace cannot say, and each check that hangs on them")
+        add_allowing(service)
         service.add_argument("--trace", default="trace.jsonl", metavar="FILE", help="the trace to write (trace.jsonl)")
         service.add_argument("--ids", default="ids.jsonl", metavar="FILE", help="the table of ids to add to (ids.jsonl)")
         service.add_argument("--jobs", type=int, default=os.cpu_count(), metavar="N", help="how many processes read the logs (one a core)")
@@ -82,8 +84,6 @@ def given_of(words: list[str]) -> tuple[Parser, Namespace]:
         parser.error("--state goes with --go-on")
     if given.go_on is not None and given.service == "openfga":
         parser.error("--go-on takes no logs of OpenFGA, whose revisions are places in one feed: import all of them at once")
-    if given.go_on is not None and given.skip_unmapped:
-        parser.error("--go-on takes no --skip-unmapped: what hangs on what was left out would not be known the next day")
     if given.service != "events" and bool(given.base) != (given.base_at is not None):
         parser.error("--base and --base-at go together")
     if given.service != "events" and given.from_empty == bool(given.base):
@@ -153,6 +153,17 @@ def take_chain(goes_on: GoesOn, chained: Optional[list[str]], refusals: Refusals
         refusals.refuse(chained[-1], 1, "the file is not closed: give it when it is, and then the next day's files can go on from it")
 
 
+def marked(made: Written, refusals: Refusals) -> Iterator[Piece]:
+    """The lines of a trace, of which the last one says what was left out."""
+    last: Optional[Piece] = None
+    for piece in made.chunks:
+        if last is not None and piece.lines:
+            yield last
+        last = piece if piece.lines else last
+    if last is not None:
+        yield Piece(b"%s%s}\n" % (last.lines.rstrip(b"\n")[:-1], mark_of(made.coverage(refusals)).encode()))
+
+
 def write(given: Namespace, pieces: Iterable[Piece], ids: Ids, refusals: Refusals, following: Optional[Following]) -> PiecesWriter:
     """The trace, in pieces where it is too long for a file, and the new rows of the table; or neither where something is refused meanwhile."""
     writer = PiecesWriter(given.trace, given.piece_bytes)
@@ -179,6 +190,8 @@ def told_left_out(refusals: Refusals) -> None:
     for verb, counts in (("passed over", refusals.passed), ("left out", refusals.left_out)):
         for reason, count in sorted(counts.items()):
             say("%s %d: %s" % (verb, count, reason))
+    for cause, first in sorted(refusals.firsts.items()):
+        say("not audited: %s, first at %s" % (cause, first))
 
 
 def told_refused(refusals: Refusals) -> int:
@@ -188,7 +201,19 @@ def told_refused(refusals: Refusals) -> int:
     return 2
 
 
-def main(words: list[str], before: Optional[Before] = None) -> int:
+class Imported(NamedTuple):
+    """The status, and where a trace was written, what of the log stands in it."""
+
+    status: int
+    coverage: Optional[Coverage] = None
+
+
+def main(words: list[str]) -> int:
+    return run(words).status
+
+
+def run(words: list[str], before: Optional[Before] = None) -> Imported:
+    """An import; of a day what is known of those before it is given. Raises DeviceFault."""
     parser, given = given_of(words)
     base = base_at(parser, given)
     is_on = gc.isenabled()
@@ -219,7 +244,7 @@ def goes_on_of(given: Namespace, service: str, before: Optional[Before]) -> Opti
     return GoesOn(service, given.logs[0], left, state)
 
 
-def imported(given: Namespace, base: Any, before: Optional[Before]) -> int:
+def imported(given: Namespace, base: Any, before: Optional[Before]) -> Imported:
     refusals = Refusals(given.skip_unmapped)
     with Progress() as progress:
         service = given.service if given.name is None else "%s %s" % (given.service, given.name)
@@ -229,16 +254,18 @@ def imported(given: Namespace, base: Any, before: Optional[Before]) -> int:
         following = None if before is None else before.following
         core = Core(ids, given.skew, refusals, progress, goes_on, None if following is None else following.look)
         made = core.trace(gathered(given, base, refusals, progress, goes_on, ids), given.jobs)
-        written = write(given, made.chunks, ids, refusals, following) if made else None
-        if goes_on is not None and goes_on.left is not None and not refusals.refused:
-            write_left(given.go_on, goes_on.left)
+        written = write(given, marked(made, refusals), ids, refusals, following) if made else None
+        left = core.left()
+        if left is not None and not refusals.refused:
+            write_left(given.go_on, left)
     told_left_out(refusals)
     if made is None or written is None or refusals.refused:
-        return told_refused(refusals)
-    for line in made.told():
+        return Imported(told_refused(refusals))
+    coverage = made.coverage(refusals)
+    for line in made.told(coverage):
         say(line)
     if len(written.pieces) > 1:
         say("the trace has %d bytes, and stands in %d pieces, %s to %s: audit it in parts, by tools/ne parts cut %d %s FOLDER"
             % (written.size, len(written.pieces), written.pieces[0].path, written.pieces[-1].path,
                written.size // given.piece_bytes + 2, given.trace))
-    return 0
+    return Imported(coverage.status(given.allow_unaudited), coverage)

@@ -4,7 +4,8 @@ Each finding has its effect, whether it mattered; the sums come first, and then 
 --baseline FILE tells only what an earlier report, in JSON lines or SARIF, did not tell; --ignore FILE hides findings for a reason and
 until a day (docs/REPORTS.md). --form html writes a page, and of more than a thousand findings the others in files beside that of --out.
 
-The status is 0 where it was written, whatever the verdict; 1 by --fail-on; 2 where a file is refused, and then nothing is written.
+The status is 0 where it was written, whatever was found; 1 by --fail-on; 6 where nothing was found, and not everything was looked at, as
+the sum says; 2 where a file is refused, and then nothing is written.
 """
 import argparse
 import gc
@@ -15,13 +16,13 @@ from typing import Callable, Iterable, Iterator, NamedTuple, Optional
 
 from new_enemy_tools.audited import read_audited
 from new_enemy_tools.baseline import read_baseline
-from new_enemy_tools.commands.running import Parser
+from new_enemy_tools.commands.running import Parser, add_allowing
+from new_enemy_tools.coverage import coverage_in
 from new_enemy_tools.effects import EFFECTS
 from new_enemy_tools.faults import ToolFault
 from new_enemy_tools.files import read_bytes, read_ids, read_joined, read_trace_of, split_joined, write_whole
 from new_enemy_tools.findings import read_report
 from new_enemy_tools.forms import FORMS
-from new_enemy_tools.ids import gaps_in
 from new_enemy_tools.ignoring import read_rows
 from new_enemy_tools.looked import looked_in
 from new_enemy_tools.names import Names
@@ -41,6 +42,7 @@ def parser_of_words() -> Parser:
     parser.add_argument("--ignore", metavar="FILE", help="rows of findings that are not told, with reasons and days that end it")
     parser.add_argument("--fail-on", choices=EFFECTS, metavar="EFFECT", help="status 1 where a finding that is told has this "
                         "effect or a worse one: %s" % ", ".join(EFFECTS))
+    add_allowing(parser)
     parser.add_argument("trace", metavar="TRACE", help="the trace, or joined input")
     parser.add_argument("report", metavar="REPORT", help="what the audit wrote, or the report of a part")
     return parser
@@ -103,10 +105,8 @@ class Teller:
             self.report = report_text(given.report)
         report = read_report(self.report)
         told = told_of(trace, report, self.progress.steps("looked at %s findings"))
-        telling = telling_of(told, trace, Names(ids), given.trace, report, looked_in(self.data), out)
-        gaps = gaps_in(self.data)
-        warnings = ["the log of this trace has gaps (%d): what was asked in them is not in this report" % gaps] if gaps else []
-        return Told(telling, warnings + warnings_of(telling, out), [] if given.form == "html" else list(form_of(given.form)(telling)))
+        telling = telling_of(told, trace, Names(ids), given.trace, report, looked_in(self.data), coverage_in(self.data), out)
+        return Told(telling, warnings_of(telling, out), [] if given.form == "html" else list(form_of(given.form)(telling)))
 
 
 def told_quickly(given: argparse.Namespace, progress: Progress) -> Told:
@@ -153,4 +153,4 @@ def main(words: list[str]) -> int:
         else:
             write(told.lines, given.out)
     worst = told.telling.told[0].effect.rank if told.telling.told else len(EFFECTS)
-    return 1 if given.fail_on is not None and worst <= EFFECTS.index(given.fail_on) else 0
+    return 1 if given.fail_on is not None and worst <= EFFECTS.index(given.fail_on) else told.telling.status(given.allow_unaudited)

@@ -2,9 +2,13 @@
 import argparse
 import os
 import sys
+import traceback
 from typing import Any, Callable, NoReturn, TextIO
 
 from new_enemy_tools.faults import ToolFault
+
+# A fault of the tool itself, which a traceback tells.
+BROKEN = 7
 
 
 class Parser(argparse.ArgumentParser):
@@ -17,6 +21,22 @@ class Parser(argparse.ArgumentParser):
     def error(self, message: str) -> NoReturn:
         self.print_usage(sys.stderr)
         self.exit(3, "%s: %s\n" % (self.prog, message))
+
+
+def percent(text: str) -> float:
+    """A share from 0 to 100; raises ArgumentTypeError of anything else."""
+    try:
+        value = float(text)
+    except ValueError:
+        value = -1
+    if not 0 <= value <= 100:
+        raise argparse.ArgumentTypeError("%r is no number from 0 to 100" % text)
+    return value
+
+
+def add_allowing(parser: argparse.ArgumentParser) -> None:
+    parser.add_argument("--allow-unaudited", type=percent, default=0, metavar="PERCENT", help="status 0 in place of 6 where at most so many "
+                        "percent of the checks, and of the time in gaps, were not looked at whole (0)")
 
 
 def say(fault: ToolFault, stream: TextIO) -> None:
@@ -43,6 +63,10 @@ def run(main: Callable[[], int]) -> NoReturn:
         if not isinstance(fault, BrokenPipeError):
             sys.stderr.write("cannot %s: %s\n" % ("use %s" % fault.filename if fault.filename else "write", fault.strerror))
         status = 5
+    except Exception:
+        # Python would end with the status of a finding.
+        traceback.print_exc()
+        status = BROKEN
     sys.stderr.flush()
     # All is written, and to free what was read would take a tenth of the time.
     os._exit(status)

@@ -7,7 +7,7 @@
 TRACE has the lines of a window alone; with --whole it is the whole log, which has to begin with the lines that OLD stands for.
 Without OLD the window is the beginning of the log. EVIDENCE names the lines of the whole log; without it the program makes evidence.
 
-The status is 0 where nothing was found, 1 where something was, 6 where nothing was found and not every entry was audited, and 2 where
+The status is 0 where nothing was found, 1 where something was, 6 where nothing was found and not everything was looked at, and 2 where
 a file is refused; a fault of usage has 3, out of memory 4, and a file that cannot be read or written 5. A state is written where the
 status is 0, 1 or 6.
 """
@@ -18,7 +18,7 @@ from argparse import ArgumentParser, Namespace
 from typing import Iterable
 
 from new_enemy_tools import limits, strictjson
-from new_enemy_tools.commands.running import Parser
+from new_enemy_tools.commands.running import Parser, add_allowing
 from new_enemy_tools.parting.faults import PartsFault
 from new_enemy_tools.parting.manifest import MOST_PARTS
 from new_enemy_tools.progress import Progress
@@ -43,6 +43,7 @@ def add_keeping(parser: ArgumentParser) -> None:
 
 def add_auditing(parser: ArgumentParser) -> None:
     parser.add_argument("--program", default=PROGRAM, metavar="PROGRAM", help="the auditor (new_enemy in the folder above tools)")
+    add_allowing(parser)
     parser.add_argument("--parts", type=int, metavar="N", help="audit in so many parts (as few as the program can take)")
 
 
@@ -94,12 +95,12 @@ def audit_command(given: Namespace, progress: Progress) -> int:
         write_next(given.out, found.window, found.carry)
     progress.end()
     write(found.told.lines(places(found, own).__getitem__) if given.where else found.told.lines())
-    return found.told.status
+    return found.told.status(given.allow_unaudited)
 
 
 def places(found: Audited, own: Own) -> dict[int, str]:
     """What is told of where each line that is told comes from."""
-    lines = {one.line for one in found.told.findings} | set(found.told.not_audited)
+    lines = {one.line for one in found.told.findings} | {*found.told.not_audited, *found.told.in_part}
     raws = lines_of(own, found.window.old, lines)
     said = {line: strictjson.object_of(raw).get("from") for line, raw in raws.items()}
     return {line: " (%s)" % source if isinstance(source, str) else "" for line, source in said.items()}

@@ -209,7 +209,7 @@ class Reader:
         reply, snapshot, shown, token, version, asked = look
         goal = (*(text.decode() for text in found.group(*shape.goal)), None)
         return ("content", self.path, number, goal, reply, snapshot, shown, token, version, None, False, asked, None,
-                nanoseconds(found[shape.time].decode()) if shape.time else None, self.path)
+                nanoseconds(found[shape.time].decode()) if shape.time else None, self.path, None, None)
 
     def _write(self, number: int, shape: Shape, found: re.Match[bytes]) -> Optional[Row]:
         """The row of a write; None where it has to be read in full."""

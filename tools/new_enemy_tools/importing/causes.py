@@ -12,6 +12,7 @@ LABEL_TWICE = "the label of the version was saved more than once"
 LABEL_AGAIN = "a content check saves a label again"
 LABEL_EMPTY = "the label of the version is empty"
 CONTENT_ODD = "a content check has a version and the reply false, or none and the reply true"
+NOT_NEWEST = "a content check is said to be newest, and is not"
 VERSION_LET_GO = "the version is not known, and old versions were let go"
 IN_PART: dict[str, tuple[str, ...]] = {
     VERSION_UNKNOWN: ("F2", "F6"),
@@ -20,6 +21,7 @@ IN_PART: dict[str, tuple[str, ...]] = {
     LABEL_AGAIN: ("F3", "F5"),
     LABEL_EMPTY: ("F2", "F6"),
     CONTENT_ODD: ("F3", "F5"),
+    NOT_NEWEST: ("F3", "F5"),
     VERSION_LET_GO: ("F2", "F6"),
 }
 
@@ -42,13 +44,14 @@ TOO_WIDE = "check between more states than are looked at"
 STATE_NOT_KEPT = "check at a state of the days before that is not kept any more"
 ORDER_UNKNOWN = "check that may have come before a line or behind it"
 WITHOUT_TIME = "line without a `time`"
-NOT_NEWEST = "content check that is said to be newest, and is not"
+NO_BEGINNING = "check at a snapshot that sees no beginning of the order of commits"
+TOKEN_NO_BEGINNING = "check by a token that sees no beginning of the order, with a version"
 SNAPSHOT_TOO_OLD = "check at a snapshot older than where the state begins"
 NO_COMMIT_CAME = "check at a snapshot to which no commit came"
 NOT_AUDITED = (
     CONTEXTUAL, CONTEXT_OF_CONDITIONS, CONTEXT_OF_CAVEATS, CONDITIONAL, USER_WILDCARD, USER_TYPED_WILDCARD, USER_USERSET, UNKNOWN_RELATION,
     BEFORE_BASE, OTHER_MODEL, NO_ONE_SNAPSHOT, UNREADABLE, UNREADABLE_CONTENT, HANGS_ON_LEFT_OUT, TOO_WIDE, STATE_NOT_KEPT, ORDER_UNKNOWN,
-    WITHOUT_TIME, NOT_NEWEST, SNAPSHOT_TOO_OLD, NO_COMMIT_CAME)
+    WITHOUT_TIME, NO_BEGINNING, TOKEN_NO_BEGINNING, SNAPSHOT_TOO_OLD, NO_COMMIT_CAME)
 
 EVERY_FINDING = tuple("F%d" % number for number in range(1, 11))
 

@@ -63,7 +63,7 @@ class Checks(NamedTuple):
             of, relation = self.pairs[pair]
             reply, snapshot, shown, token, version, asked = self.looks[look]
             yield ("check", self.file, line, (of, thing, relation, *self.users[user], None), reply, snapshot, shown, token, version,
-                   None, False, asked, None, nanoseconds(time) if time else None, self.file)
+                   None, False, asked, None, nanoseconds(time) if time else None, self.file, None, None)
 
     def rows(self) -> Iterator[Row]:
         """All lines as rows, in order."""

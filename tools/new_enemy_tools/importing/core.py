@@ -10,7 +10,7 @@ from typing import Any, Callable, Iterable, Iterator, NamedTuple, Optional, Unio
 
 from new_enemy_tools.edges import Name
 from new_enemy_tools.ids import Ids
-from new_enemy_tools.importing import going_on
+from new_enemy_tools.importing import causes, going_on
 from new_enemy_tools.importing.ahead import Ahead
 from new_enemy_tools.importing.between import STATES, Asked, Spans
 from new_enemy_tools.importing.checks import Checks
@@ -79,6 +79,7 @@ class Core:
         wildcards = Wildcards(lines)
         if ahead is not None and ahead.stands(lines):
             self.refusals.merge(ahead.refusals)
+            self.taken.refusals = self.refusals
         else:
             self._take_all(given, lines, wildcards)
         strata = choose([(name, relation) for name in self.declared.rules.current
@@ -87,7 +88,7 @@ class Core:
             return None
         shown, before = Shown(self.declared, self.ids, strata, self._times(strata)), self._before
         if before is None:
-            shown.begin(self.refusals.gaps())
+            shown.begin()
         else:
             shown.go_on(going_on.has_other_strata(before, strata))
         return Written(self._chunks(shown, jobs), self.counts, lambda: chain(wildcards.told(), self.taken.states.told()))
@@ -108,8 +109,11 @@ class Core:
             going_on.add_edges(before, self.edges)
         self.declared = Declared(rules, self.edges, refusals)
         self.writer = Writer(self.declared, wildcards, self.ids, self.edges, refusals)
+        if before is not None:
+            going_on.take_left_out(before, refusals)
         commit = self._base(lines)
-        self.taken = Taken(self.declared, self.writer, self.ids, refusals, self.progress, self._base_revision(commit, base), lines.facts.has_between)
+        self.taken = Taken(self.declared, self.writer, self.ids, refusals, self.progress, self._base_revision(commit, base),
+                           bool(commit and commit.touched), lines.facts.has_between)
         if before is not None:
             going_on.take_up(before, self.taken)
         return commit
@@ -187,45 +191,61 @@ class Core:
                 if place > last:
                     yield line
                 else:
-                    self.refusals.unmapped_check(Entry._make(line), "check before the base state",
-                                                 "%s:%d gives base state behind it" % facts.base_source)
+                    self.refusals.unmapped_check(Entry._make(line), causes.BEFORE_BASE, "%s:%d gives base state behind it" % facts.base_source)
             elif not line.base and not (line.kind == "rules" and line.revision is None):
                 yield line
 
     # The second time
 
     def _kept(self) -> Iterator[bytes]:
-        """The batches of the spool, without checks that hang on what was left out."""
-        if not self.refusals.skip:
+        """The batches of the spool, without checks that hang on what was left out, and versions that are not known by all lines."""
+        refusals = self.refusals
+        if not (refusals.doubts or refusals.versions or refusals.has_lost_version or refusals.gap_since is not None):
             yield from self.taken.items.batches()
             return
-        doubts = Doubts(self.refusals.doubts, self.declared.rules, self.edges)
-        doubts.spread(self.writer.stored)
-        labels = {label for _, _, label in self.refusals.versions}
+        doubts = self._doubts()
+        doubts.spread(self._stored())
         for batch in self.taken.items.batches():
             found = checks_of(batch)
+            labels = {label for _, _, label in refusals.versions}
             if isinstance(found, Checks) and labels.isdisjoint(look[4] for look in found.looks) and not doubts.has_any(found):
-                others = [one for one in found.others if self._is_kept(one[2], doubts)]
-                yield batch if len(others) == len(found.others) else marshal.dumps(tuple(found._replace(others=others)))
+                others = [(at, users, row) for at, users, row in ((*one[:2], self._kept_row(one[2], doubts)) for one in found.others) if row]
+                yield batch if others == found.others else marshal.dumps(tuple(found._replace(others=others)))
                 continue
             if isinstance(found, Checks):
                 rows = found._replace(users=[self.ids.rows[number - 1][1:] for number in found.users]).rows()
             else:
                 rows = iter(found)
-            yield marshal.dumps([row for row in rows if self._is_kept(row, doubts)])
+            yield marshal.dumps([row for row in (self._kept_row(one, doubts) for one in rows) if row])
 
-    def _is_kept(self, row: tuple[Any, ...], doubts: Doubts) -> bool:
+    def _stored(self) -> Iterable[Tuple]:
+        """The tuples of usersets ever, by the names of the service; of the days before those of the state."""
+        before = () if self.goes_on is None or self.goes_on.state is None else going_on.stored_in(self.goes_on.state, self.ids)
+        return chain(self.writer.stored, before)
+
+    def _doubts(self) -> Doubts:
+        """What is in doubt; where the tuples of the days before are not known, whole relations are."""
+        doubts = self.refusals.doubts
+        if self._before is not None and self.goes_on is not None and self.goes_on.state is None:
+            doubts = [(of, None, relation) for of, _, relation in doubts]
+        return Doubts(doubts, self.declared.rules, self.edges)
+
+    def left(self) -> Optional[Left]:
+        """What the import of the next day goes on from, when all lines are written."""
+        left = None if self.goes_on is None else self.goes_on.left
+        return None if left is None else going_on.with_left_out(left, self.refusals, self.taken)
+
+    def _kept_row(self, row: tuple[Any, ...], doubts: Doubts) -> Optional[tuple[Any, ...]]:
+        """A row as it is kept; None of a check that is not audited."""
         if row[0] not in CHECKS:
-            return True
+            return row
         entry = Entry._make(row)
-        key = (*entry.goal[:2], entry.version)
         if doubts.has(Userset(*entry.goal[:3])):
-            self.refusals.unmapped_check(entry, "check that hangs on a tuple or rule that was left out", entry.told)
-        elif entry.kind == "check" and key in self.refusals.versions and key not in self.taken.issued:
-            self.refusals.unmapped_check(entry, "check of a content version whose content check was left out", entry.told)
-        else:
-            return self.taken.has_good_version(entry)
-        return False
+            self.refusals.unmapped_check(entry, causes.HANGS_ON_LEFT_OUT, entry.told)
+            if entry.kind == "content" and entry.version is not None:
+                self.taken.issued.pop((*entry.goal[:2], entry.version), None)
+            return None
+        return row if entry.kind != "check" or entry.version is None else tuple(self.taken.known(entry, True))
 
     def _chunks(self, shown: Shown, jobs: int) -> Iterator[Piece]:
         """The lines of the trace. Where none hangs on others, batches of them are made by many processes."""
@@ -266,6 +286,7 @@ class Core:
         snapshots: list[int] = []
         for place, _, row in (*checks.others, (len(made), 0, None)):
             counts.checks += place - at
+            counts.take_times(checks.times)
             texts += made[at:place]
             snapshots += ats[at:place]
             at = place
@@ -278,7 +299,7 @@ class Core:
     def _lines(row: tuple[Any, ...], shown: Shown, counts: Counts) -> Iterable[str]:
         """The lines of a row that hangs on no other."""
         if row[0] in CHECKS:
-            counts.take_entry(row[0], row[4], row[7] is not None, row[8] is not None)
+            counts.take_entry(Entry._make(row), row[7] is not None)
             return (shown.entry(row),)
         if row[0] == "commit":
             counts.take_commit(len(row[-1]))
@@ -292,7 +313,6 @@ class Core:
         waiting: dict[int, list[str]] = {}
         for row in rows:
             if row[0] in CHECKS and row[9] is not None:
-                counts.take_entry(row[0], row[4], row[7] is not None or row[10], row[8] is not None)
                 yield from self._between(Entry._make(row), place, shown, waiting)
                 continue
             yield from self._lines(row, shown, counts)
@@ -306,24 +326,25 @@ class Core:
         Where the newest state was asked for, the token is that state, and the entry waits until the trace has come to it.
         """
         if self.oldest is not None and entry.lowest is not None and entry.lowest < self.oldest:
-            self.refusals.refuse(entry.file, entry.line, "it was evaluated at a state of the days before that is not kept any more")
+            self.refusals.unmapped_check(entry, causes.STATE_NOT_KEPT)
             return
         assert entry.lowest is not None and entry.snapshot is not None
         count = self.taken.states.count(entry.lowest, entry.snapshot)
         if count >= STATES:
-            self.refusals.refuse(entry.file, entry.line, "`snapshot_between` takes in %d commits, and %d states at most are looked at"
-                                 % (count, STATES))
+            self.refusals.unmapped_check(entry, causes.TOO_WIDE, "%d commits, and %d states at most are looked at" % (count, STATES))
             return
+        self.counts.take_entry(entry, entry.token is not None or entry.newest)
         goal = Tuple(self.writer.named_set(*entry.goal[:3]), self.ids.number("user", *entry.goal[3:5]))
         asked = Asked(entry.kind, goal, entry.reply, entry.lowest, entry.snapshot, entry.token, entry.newest)
         first, *others = self.taken.states.chosen(asked, place)
         has_token = entry.newest and entry.token is None and (entry.kind == "check" or entry.reply)
         token = first if has_token else entry.token
         made = [entry._replace(snapshot=first, token=token)]
-        made += [entry._replace(kind="check", snapshot=at, token=None, version=None) for at in others]
-        for one in made:
+        made += [entry._replace(kind="check", snapshot=at, token=None, version=None, part=None, named=None) for at in others]
+        for number, one in enumerate(made):
             behind = self.taken.states.place(one.snapshot or 0) if entry.newest else place
+            line = shown.entry(one, number > 0)
             if behind > place:
-                waiting.setdefault(behind, []).append(shown.entry(one))
+                waiting.setdefault(behind, []).append(line)
             else:
-                yield shown.entry(one)
+                yield line

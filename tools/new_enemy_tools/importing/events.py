@@ -9,6 +9,8 @@ from new_enemy_tools.keys import unread, unread_in_expression
 from new_enemy_tools.rules import RulesFault, places, shape_of_expression
 
 
+# The reason of a gap at the beginning of a recorder's log.
+BEGINS = "the log begins"
 # In place of the relation of a userset: every user of a type.
 EVERY = "*"
 STAMP = frozenset(("sequence", "time", "clock"))
@@ -75,6 +77,9 @@ class Entry(NamedTuple):
     sequence: Optional[tuple[int, int]] = None
     time: Optional[int] = None
     clock: str = ""
+    # why it is audited in part, and the label of the version that it names and the trace does not
+    part: Optional[str] = None
+    named: Optional[str] = None
 
     @property
     def told(self) -> str:
@@ -283,9 +288,15 @@ def _gap(event: Event, value: dict[str, Any], refusals: Refusals) -> None:
     since = nanoseconds(start)
     if nanoseconds(end) is None or start is not None and since is None or not isinstance(value.get("reason"), str):
         raise _Fault("a gap has no `reason`, or its `from` and `to` are no times of RFC 3339")
+    if lost is not None and not is_whole(lost):
+        raise _Fault("`lost` of a gap is no whole number")
     count = " (%d lost)" % lost if is_whole(lost) and lost else ""
     refusals.gap("%s:%d" % (event.file, event.line),
                  "gap %sto %s: %s%s" % ("" if start is None else "from %s " % start, end, value["reason"], count), since)
+    # What was asked before a log begins is no part of it.
+    if lost or value["reason"] != BEGINS:
+        until = nanoseconds(end)
+        refusals.lose(value["reason"], lost or None, None if since is None or until is None else max(0, until - since))
 
 
 def _unmapped(value: dict[str, Any], file: str, line: int, refusals: Refusals) -> None:
@@ -296,9 +307,12 @@ def _unmapped(value: dict[str, Any], file: str, line: int, refusals: Refusals) -
             raise _Fault("`userset` or `version` is no list of three texts")
     if not isinstance(reason, str):
         raise _Fault("`reason` is no text")
-    refusals.unmapped(file, line, reason, str(value.get("detail") or ""))
+    detail = str(value.get("detail") or "")
     if userset:
+        refusals.unmapped(file, line, reason, detail)
         refusals.doubt(*userset)
+    else:
+        refusals.unread_check(file, line, reason, detail)
     if version:
         refusals.versions.add((version[0], version[1], version[2]))
 

@@ -3,6 +3,7 @@ from bisect import bisect_right
 from itertools import accumulate
 from typing import Any, Iterable, Iterator, NamedTuple, Optional, Union, cast
 
+from new_enemy_tools.importing import causes
 from new_enemy_tools.importing.checks import Checks
 from new_enemy_tools.importing.events import Entry, Event, Line, is_whole
 from new_enemy_tools.importing.order import ordered
@@ -253,7 +254,7 @@ def _place(entry: Entry, feed: Feed, models: Models, refusals: Refusals) -> Opti
         snapshot, lowest, token = _numbers(Asked(*entry.asked), feed, models)
         return entry._replace(snapshot=snapshot, lowest=lowest, token=token, asked=None)
     except OtherModel:
-        refusals.unmapped_check(entry, "check with another model", entry.told)
+        refusals.unmapped_check(entry, causes.OTHER_MODEL, entry.told)
     except Bad as fault:
-        refusals.unmapped_check(entry, "check without one snapshot", str(fault))
+        refusals.unmapped_check(entry, causes.NO_ONE_SNAPSHOT, str(fault))
     return None

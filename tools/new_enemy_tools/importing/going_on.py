@@ -6,12 +6,13 @@ The file is a line of JSON, and behind it the checksum of that line.
 import json
 from hashlib import blake2b
 from itertools import starmap
-from typing import Any, Iterable, NamedTuple, Optional
+from typing import Any, Iterable, Iterator, NamedTuple, Optional, Sequence
 
 from new_enemy_tools import limits
 from new_enemy_tools.edges import Edge, Name
 from new_enemy_tools.faults import ToolFault
 from new_enemy_tools.files import read_bytes, write_whole
+from new_enemy_tools.ids import Ids
 from new_enemy_tools.importing.between import States
 from new_enemy_tools.importing.declared import Declared
 from new_enemy_tools.importing.events import Event, RelationRule
@@ -19,6 +20,7 @@ from new_enemy_tools.importing.refusals import Refusals
 from new_enemy_tools.importing.spool import Facts, Lines
 from new_enemy_tools.importing.strata import Edges, Reason
 from new_enemy_tools.importing.taken import Taken
+from new_enemy_tools.texts import Tuple, Userset, parse_tuple
 from new_enemy_tools.windowing.replacing import touched_by
 from new_enemy_tools.windowing.state import State
 
@@ -59,6 +61,13 @@ class Left(NamedTuple):
     has_gap: bool
     # the number and the hash of the last file of tools/record
     chain: Optional[list[Any]]
+    # whether something was stored before the log; versions whose labels were saved twice, or whose content checks were left out; and
+    # what tuples and rules were left out of
+    is_older: bool = False
+    twice: Sequence[Sequence[str]] = ()
+    left_out: Sequence[Sequence[str]] = ()
+    has_lost_version: bool = False
+    doubts: Sequence[Sequence[Optional[str]]] = ()
 
 
 def read_left(path: str) -> Left:
@@ -173,7 +182,8 @@ def _pair_of(text: bytes) -> tuple[bytes, bytes]:
 
 def take_up(left: Left, taken: Taken) -> None:
     """Goes on behind the last line of the day before."""
-    taken.last, taken.has_gap = left.last, left.has_gap
+    taken.last, taken.has_gap, taken.may_be_older = left.last, left.has_gap, left.is_older
+    taken.twice = {(of, thing, label) for of, thing, label in left.twice}
     taken.last_place = None if left.last_place is None else (left.last_place[0], left.last_place[1], left.last_place[2])
     for key, file, line, short, _ in left.issued:
         goal, reply, snapshot, lowest, token = short
@@ -234,4 +244,32 @@ def left_by(service: str, before: Optional[Left], declared: Declared, strata: di
     issued = [[list(key), file, line, list(short), one] for (key, (short, file, line)), one in zip(taken.issued.items(), days)]
     return Left(service, day, rules, [(*name, stratum) for name, stratum in strata.items()],
                 [[list(edge.reader), list(edge.read), edge.strict] for edge in edges.reasons], named, taken.last,
-                None if taken.last_place is None else list(taken.last_place), taken.base_revision, issued, taken.has_gap, chain)
+                None if taken.last_place is None else list(taken.last_place), taken.base_revision, issued, taken.has_gap, chain,
+                taken.may_be_older, sorted(taken.twice))
+
+
+def with_left_out(left: Left, refusals: Refusals, taken: Taken) -> Left:
+    """The same when all lines are written, with what was left out of them."""
+    return left._replace(issued=[row for row in left.issued if (row[0][0], row[0][1], row[0][2]) in taken.issued],
+                         left_out=sorted(refusals.versions), has_lost_version=refusals.has_lost_version,
+                         doubts=sorted(set(refusals.doubts), key=lambda one: tuple(part or "" for part in one)))
+
+
+def take_left_out(left: Left, refusals: Refusals) -> None:
+    """Goes on with what was left out on the days before."""
+    refusals.versions |= {(of, thing, label) for of, thing, label in left.left_out}
+    refusals.has_lost_version |= left.has_lost_version
+    refusals.doubts += [(of or "", thing, relation or "") for of, thing, relation in left.doubts]
+
+
+def stored_in(state: State, ids: Ids) -> Iterator[Tuple]:
+    """The tuples of a state whose users are usersets, by the names of the service. As many as its lines have."""
+    for row in state.rows:
+        for text in (one for listed in touched_by(row.raw) for one in listed) if row.kind in "fc" else ():
+            given = parse_tuple(text.decode())
+            if isinstance(given.user, Userset):
+                yield Tuple(_of_service(given.set, ids), _of_service(given.user, ids))
+
+
+def _of_service(of: Userset, ids: Ids) -> Userset:
+    return Userset(ids.name_of("namespace", of.namespace), ids.id_of("object", of.id), ids.name_of("relation", of.relation))

@@ -5,6 +5,7 @@ A line that is logged a little behind its evaluation would else stand behind com
 from bisect import bisect_left, bisect_right
 from typing import Any, NamedTuple, Optional
 
+from new_enemy_tools.importing import causes
 from new_enemy_tools.importing.events import Entry, Event, Line
 from new_enemy_tools.importing.order import lowest_of
 from new_enemy_tools.importing.refusals import Refusals
@@ -80,7 +81,9 @@ def put_newest(stream: list[Line], skew: Optional[int], refusals: Refusals) -> l
             seen = witnesses.before(number, event)
             was_seen = seen.revision >= revisions[count]
             if was_seen or witnesses.is_surely_before(later, event):
-                _leave_out(event, seen.event if was_seen and seen.event else later, refusals)
+                event = _without_version(event, seen.event if was_seen and seen.event else later, refusals)
+                places.append((number, 0, number))
+                kept.append(event)
                 continue
             behind = writes[count - 1][0] if count else -1
             first = named.get((*event.goal[:2], event.version), number)
@@ -90,8 +93,9 @@ def put_newest(stream: list[Line], skew: Optional[int], refusals: Refusals) -> l
     return [event for _, event in sorted(zip(places, kept), key=lambda one: one[0])]
 
 
-def _leave_out(event: Entry, witness: Line, refusals: Refusals) -> None:
+def _without_version(event: Entry, witness: Line, refusals: Refusals) -> Entry:
+    """A check of the same question: where it stands among the commits is not known, and its version is left out."""
     said = "the commit came" if isinstance(witness, Event) else "it was seen"
-    refusals.unmapped_check(event, "content check that is said to be newest, and is not",
-                            "a later commit was visible before; %s at %s:%d. Give both lines the `time` of their evaluation, "
-                            "or leave out `newest`" % (said, witness.file, witness.line))
+    refusals.note(causes.NOT_NEWEST, "%s:%d: a content check is said to be newest, and a later commit was visible before; %s at %s:%d. Give both "
+                  "lines the `time` of their evaluation, or leave out `newest`" % (event.file, event.line, said, witness.file, witness.line))
+    return refusals.as_check(event, causes.NOT_NEWEST)

@@ -2,6 +2,7 @@
 import re
 from typing import Any, Iterator, Optional
 
+from new_enemy_tools.importing import causes
 from new_enemy_tools.importing.events import EVERY, Relationship
 from new_enemy_tools.importing.passing import failure_of
 from new_enemy_tools.importing.reading import Bad, get
@@ -61,13 +62,13 @@ def _mapped(goal: Relationship, reply: bool, *asked: object) -> Answer:
     """An answer, with what a trace has no form for in the request or the check."""
     unmapped = None
     if any(_contextual(one) for one in asked):
-        unmapped = "contextual tuples"
+        unmapped = causes.CONTEXTUAL
     elif any(get(one, "context") for one in asked):
-        unmapped = "context of conditions"
+        unmapped = causes.CONTEXT_OF_CONDITIONS
     elif goal.user_relation == EVERY:
-        unmapped = "check of a typed wildcard as the user"
+        unmapped = causes.USER_TYPED_WILDCARD
     elif goal.user_relation is not None:
-        unmapped = "check of a userset as the user"
+        unmapped = causes.USER_USERSET
     return Answer(goal, reply, unmapped)
 
 

@@ -1,6 +1,7 @@
 """The order of events: that of one sequencer, or that of clocks that may be apart by so many milliseconds."""
 from typing import Iterable, Optional, TypeVar
 
+from new_enemy_tools.importing import causes
 from new_enemy_tools.importing.events import Entry, Event, Line
 from new_enemy_tools.importing.refusals import Refusals
 from new_enemy_tools.importing.spool import Facts
@@ -58,7 +59,7 @@ def _by_time(events: list[Some], skew: int, refusals: Refusals) -> list[Some]:
     timed = [event for event in events if event.time is not None]
     for event in events:
         if event.time is None:
-            _leave_out(event, "line without a `time`", "the line has no `time`, which --skew orders by", refusals)
+            _leave_out(event, causes.WITHOUT_TIME, "the line has no `time`, which --skew orders by", refusals)
     last: dict[str, Line] = {}
     for event in timed:
         before = last.get(event.clock)
@@ -76,21 +77,19 @@ def _by_time(events: list[Some], skew: int, refusals: Refusals) -> list[Some]:
                 told = "which came first, this %s or the %s at %s:%d, is not known: they are %s ms apart, and the skew is %d ms" % (
                     event.kind, other.kind, other.file, other.line, format((_time(event) - _time(other)) / 1e6, "g"), skew // 1_000_000)
                 out: Line = event if isinstance(event, Entry) else other
-                _leave_out(out, "check that may have come before a line or behind it", told, refusals, event)
-                lost |= {id(out)} if refusals.skip else set()
+                _leave_out(out, causes.ORDER_UNKNOWN, told, refusals, event)
+                lost.add(id(out))
             place -= 1
     return [event for event in result if id(event) not in lost]
 
 
-def _leave_out(event: Line, reason: str, told: str, refusals: Refusals, at: Optional[Line] = None) -> None:
-    """Leaves a check out where that is allowed; a write or rules can't be. It is told at the line of another event, if one is given."""
+def _leave_out(event: Line, cause: str, told: str, refusals: Refusals, at: Optional[Line] = None) -> None:
+    """A check is not audited, and a write or rules are refused, at the line of another event, if one is given."""
     at = at or event
     if isinstance(event, Event):
         refusals.refuse(at.file, at.line, told)
-    elif refusals.skip:
-        refusals.unmapped_check(event, reason, "")
     else:
-        refusals.unmapped(at.file, at.line, reason, told=told)
+        refusals.unmapped_check(event, cause, told)
 
 
 def _matters(one: Line, other: Line) -> bool:

@@ -1,6 +1,9 @@
-"""What an import refuses, by file and line; what it leaves out where it is told to; and lines that record no decision."""
+"""What an import refuses, by file and line; what it leaves out where it is told to; checks that are not audited, and those that were lost,
+by cause; and lines that record no decision."""
 from collections import Counter
 from typing import TYPE_CHECKING, NamedTuple, Optional
+
+from new_enemy_tools.coverage import Coverage, counted
 
 if TYPE_CHECKING:
     from new_enemy_tools.importing.events import Entry
@@ -17,12 +20,23 @@ class Refused(NamedTuple):
 
 
 class Refusals:
-    """Collects all refusals; with `skip`, what has no form in a trace is counted and left out in place of being refused."""
+    """Collects all refusals; with `skip`, a tuple or rule that has no form in a trace is counted and left out in place of being refused.
+
+    A check that cannot be audited is counted by its cause, and refuses nothing.
+    """
 
     def __init__(self, skip: bool = False):
         self.skip = skip
         self.refused: dict[Refused, None] = {}
         self.left_out: Counter[str] = Counter()
+        # of each cause how many checks it struck, and the first
+        self.not_audited: Counter[str] = Counter()
+        self.firsts: dict[str, str] = {}
+        self.lost: Counter[str] = Counter()
+        # gaps in which nobody counted, and how long they were
+        self.uncounted = self.dark = 0
+        # files of a log that are not closed
+        self.open = 0
         self.passed: Counter[str] = Counter()
         self.notes: dict[str, str] = {}
         # the time from which on something may be in a gap that stands further behind
@@ -31,12 +45,20 @@ class Refusals:
         self.updated: list[tuple[Optional[int], str, int]] = []
         self.doubts: list[tuple[str, Optional[str], str]] = []
         self.versions: set[tuple[str, str, str]] = set()
+        # whether a content check was left out of which it is not known what it issued
+        self.has_lost_version = False
 
     def merge(self, other: "Refusals") -> None:
         """Takes what was collected from lines that stand behind."""
         self.refused.update(other.refused)
         self.left_out.update(other.left_out)
         self.passed.update(other.passed)
+        self.not_audited.update(other.not_audited)
+        self.firsts = {**other.firsts, **self.firsts}
+        self.lost.update(other.lost)
+        self.uncounted += other.uncounted
+        self.dark += other.dark
+        self.has_lost_version |= other.has_lost_version
         for kind, text in other.notes.items():
             self.note(kind, text)
         self._reach_back(other.gap_since)
@@ -54,11 +76,22 @@ class Refusals:
         else:
             self.refuse(file, line, (told or ("%s: %s" % (reason, detail) if detail else reason)) + HINT)
 
-    def unmapped_check(self, event: "Entry", reason: str, detail: str, told: Optional[str] = None) -> None:
-        """A check that is not mapped; a version that it issued is left out with it."""
-        self.unmapped(event.file, event.line, reason, detail, told)
+    def unmapped_check(self, event: "Entry", cause: str, detail: str = "") -> None:
+        """A check that is not audited, by a cause of `causes`; a version that it issued is left out with it."""
+        self.unread_check(event.file, event.line, cause, detail)
         if event.kind == "content" and event.version is not None:
             self.versions.add((event.goal[0], event.goal[1], event.version))
+
+    def as_check(self, event: "Entry", cause: str) -> "Entry":
+        """A content check without its version, which is left out: its reply is audited, and not what hangs on the version."""
+        if event.version:
+            self.versions.add((event.goal[0], event.goal[1], event.version))
+        return event._replace(kind="check", version=None, newest=event.newest and event.lowest is not None, part=cause, named=event.version)
+
+    def unread_check(self, file: str, line: int, cause: str, detail: str = "") -> None:
+        """A line with a check that is not audited."""
+        self.not_audited[cause] += 1
+        self.firsts.setdefault(cause, "%s:%d%s" % (file, line, ": " + detail if detail else ""))
 
     def pass_over(self, kind: str) -> None:
         """A line that records no decision."""
@@ -69,7 +102,7 @@ class Refusals:
         self.notes.setdefault(kind, text)
 
     def gap(self, place: str, text: str, since: Optional[int] = None) -> None:
-        """Says a gap of a recorder's log, which begins at a time where that is known."""
+        """Says a gap of a recorder's log, from a time on where that is known."""
         self._reach_back(since)
         self.note("gap " + place, text)
         self.note("gaps", "the log has gaps: a verdict says nothing of what was asked in them")
@@ -78,9 +111,18 @@ class Refusals:
         if since is not None:
             self.gap_since = since if self.gap_since is None else min(since, self.gap_since)
 
-    def gaps(self) -> int:
-        """How many gaps a recorder's log had."""
-        return sum(kind.startswith("gap ") for kind in self.notes)
+    def lose(self, reason: str, count: Optional[int], length: Optional[int]) -> None:
+        """Counts what was asked in a gap; where nobody counted, the gap and its length."""
+        if count is not None:
+            self.lost[reason] += count
+        else:
+            self.uncounted += 1
+            self.dark += length or 0
+
+    def coverage(self, checks: int, in_part: Counter[str], since: Optional[int], until: Optional[int]) -> Coverage:
+        """The sum of an import, by the checks of its trace, those in part, and the times of the first and the last check."""
+        return Coverage(checks, *(counted(one) for one in (in_part, self.not_audited, self.lost)), self.uncounted, self.dark, since, until,
+                        self.open)
 
     def doubt(self, of: str, id_text: Optional[str], relation: str) -> None:
         """A userset (without an id: a relation) whose tuples or rule are left out."""

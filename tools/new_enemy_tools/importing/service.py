@@ -5,7 +5,7 @@ from itertools import islice
 from typing import Any, Iterable, Iterator, NamedTuple, Optional
 
 from new_enemy_tools import limits
-from new_enemy_tools.importing import located, passing
+from new_enemy_tools.importing import causes, located, passing
 from new_enemy_tools.importing.block import Reader, Usual, When
 from new_enemy_tools.importing.checks import Look
 from new_enemy_tools.importing.events import EVERY, STAMP, Entry, Event, Line, Relationship, Stamp, newest_of, sequence_of, stamp_of
@@ -232,7 +232,7 @@ class Log:
                 self.refusals.refuse(path, line, str(fault))
 
     def _checks(self, value: dict[str, Any], stamp: Stamp, path: str, line: int) -> Iterator[Entry]:
-        """A check that can't be read is left out where that is allowed; a content check issues a version, and is not."""
+        """A check that can't be read is not audited. Of a content check it is then not known which version it issued."""
         try:
             answers = list(self.answers(value))
             if not answers:
@@ -246,9 +246,9 @@ class Log:
             if content is not None and len(answers) > 1:
                 raise Bad("a content check asks one question, and this line %d" % len(answers))
         except Bad as fault:
-            if get(value, "content") is not None:
-                raise
-            self.refusals.unmapped(path, line, "check that can't be read", told=str(fault))
+            is_content = get(value, "content") is not None
+            self.refusals.has_lost_version |= is_content
+            self.refusals.unread_check(path, line, causes.UNREADABLE_CONTENT if is_content else causes.UNREADABLE, str(fault))
             return
         snapshot, shown, token, version, asked = looked
         for place, (goal, reply, unmapped) in enumerate(answers):

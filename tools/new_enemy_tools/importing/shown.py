@@ -1,16 +1,22 @@
 """The texts of a trace's lines."""
 import json
 from json.encoder import encode_basestring  # type: ignore[attr-defined]
-from typing import Any, Iterable, Iterator
+from typing import Any, Iterable, Iterator, Optional
 
 from new_enemy_tools import texts
 from new_enemy_tools.edges import Name
 from new_enemy_tools.ids import Ids
 from new_enemy_tools.importing.checks import Checks, Look, column
 from new_enemy_tools.importing.declared import Declared
+from new_enemy_tools.importing.times import in_utc, text_of_time
 from new_enemy_tools.rules import Declaration, Relation, form_of
 
 encode = json.JSONEncoder(ensure_ascii=False, separators=(",", ":")).encode
+
+
+def _time(time: Optional[int]) -> str:
+    """The key of a time, where there is one."""
+    return "" if time is None else ',"time":"%s"' % text_of_time(time)
 
 
 class Shown:
@@ -24,9 +30,9 @@ class Shown:
         self.mark = ""
         self.files: dict[str, str] = {}
 
-    def begin(self, gaps: int) -> None:
-        """The first line says which table is the trace's, and how many gaps its log had."""
-        self.mark = encode({"ids": self.ids.mark(), **({"gaps": gaps} if gaps else {})})[1:-1]
+    def begin(self) -> None:
+        """The first line says which table is the trace's."""
+        self.mark = encode({"ids": self.ids.mark()})[1:-1]
 
     def go_on(self, has_other_strata: bool) -> None:
         """The rules stand in the days before. Where strata are others by now, the first line says all of them."""
@@ -51,16 +57,16 @@ class Shown:
         self.files[file] = known
         return known
 
-    def commit(self, revision: int, shown: str, file: str, line: int, parts: list[Any]) -> Iterator[str]:
-        source = ',"revision":%s,"from":%s:%d"}\n' % (encode_basestring(shown), self.files.get(file) or self._file(file), line)
+    def commit(self, revision: int, shown: str, file: str, line: int, time: Optional[int], parts: list[Any]) -> Iterator[str]:
+        source = ',"revision":%s,"from":%s:%d"%s}\n' % (encode_basestring(shown), self.files.get(file) or self._file(file), line, _time(time))
         for at, (add, remove) in enumerate(parts, self.times[revision] - len(parts) + 1):
             added = ',"add":[%s]' % ",".join(map(encode_basestring, add)) if add else ""
             removed = ',"remove":[%s]' % ",".join(map(encode_basestring, remove)) if remove else ""
             yield self._marked('{"kind":"commit","at":%d%s%s%s' % (at, added, removed, source))
 
-    def change(self, revision: int, shown: str, file: str, line: int) -> Iterator[str]:
+    def change(self, revision: int, shown: str, file: str, line: int, time: Optional[int]) -> Iterator[str]:
         changes = self.changes.get(revision, ())
-        told = {"revision": shown, "from": "%s:%d" % (file, line)}
+        told = {"revision": shown, "from": "%s:%d" % (file, line), **({} if time is None else {"time": text_of_time(time)})}
         for at, change in enumerate(changes, self.times[revision] - len(changes) + 1):
             yield self._marked(encode({**change, "at": at, **told}) + "\n")
 
@@ -71,8 +77,13 @@ class Shown:
         ends = ["#%s@" % ids.name("relation", relation) for _, relation in checks.pairs]
         users = list(map(str, checks.users))
         looks = self._looks(checks.looks, checks.file)
-        return [f'{begins[pair]}{thing}{ends[pair]}{users[user]}{looks[look]}{line}"}}\n' for pair, thing, user, look, line in zip(
-            column(checks.pair_of), checks.objects.split("\n"), column(checks.user_of), column(checks.look_of), column(checks.lines, "Q"))]
+        columns = (column(checks.pair_of), checks.objects.split("\n"), column(checks.user_of), column(checks.look_of), column(checks.lines, "Q"))
+        if not checks.times:
+            return [f'{begins[pair]}{thing}{ends[pair]}{users[user]}{looks[look]}{line}"}}\n' for pair, thing, user, look, line in zip(*columns)]
+        times = map(in_utc, checks.times.split("\n"))
+        return [f'{begins[pair]}{thing}{ends[pair]}{users[user]}{looks[look]}{line}","time":"{time}"}}\n' if time else
+                f'{begins[pair]}{thing}{ends[pair]}{users[user]}{looks[look]}{line}"}}\n'
+                for pair, thing, user, look, line, time in zip(*columns, times)]
 
     def snapshots(self, checks: Checks) -> list[int]:
         """The timestamps at which many checks looked."""
@@ -88,14 +99,17 @@ class Shown:
             "" if version is None else ',"version":' + encode_basestring(version), encode_basestring(shown), source)
             for reply, snapshot, shown, token, version, _ in looks]
 
-    def entry(self, row: tuple[Any, ...]) -> str:
-        """The line of an entry, by the first fields of its row."""
+    def entry(self, row: tuple[Any, ...], is_again: bool = False) -> str:
+        """The line of an entry, by the fields of its row; and whether it is one that stands before, at another state."""
         kind, file, line, goal, reply, snapshot, shown, token, version = row[:9]
         ids = self.ids
         text = "%s:%s#%s@%d" % (ids.name("namespace", goal[0]), ids.object(goal[0], goal[1]), ids.name("relation", goal[2]),
                                 ids.number("user", goal[3], goal[4]))
         look = Look(reply, snapshot, shown, token, None if version is None else ids.version(version), None)
-        made = '{"kind":"%s","goal":%s%s%d"}\n' % (kind, encode_basestring(text)[:-1], self._looks([look], file)[0], line)
+        part, named = row[15:17]
+        more = _time(row[13]) + ("" if part is None else ',"part":' + encode_basestring(part))
+        more += ("" if named is None else ',"named":' + encode_basestring(named)) + (',"again":true' if is_again else "")
+        made = '{"kind":"%s","goal":%s%s%d"%s}\n' % (kind, encode_basestring(text)[:-1], self._looks([look], file)[0], line, more)
         return self._marked(made) if self.mark else made
 
     def _namespace(self, declaration: Declaration) -> dict[str, Any]:

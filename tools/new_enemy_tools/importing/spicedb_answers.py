@@ -1,6 +1,7 @@
 """SpiceDB's relationships in JSON, and what the answers of its calls decide."""
 from typing import Any, Iterator, Optional
 
+from new_enemy_tools.importing import causes
 from new_enemy_tools.importing.events import EVERY, Relationship
 from new_enemy_tools.importing.passing import failure_of
 from new_enemy_tools.importing.reading import Bad, get
@@ -90,13 +91,13 @@ def _answer(request: object, resource: object, subject: object, found: object) -
         raise Bad("the response has no permissionship")
     unmapped = None
     if said == CONDITIONAL:
-        unmapped = "conditional permission"
+        unmapped = causes.CONDITIONAL
     elif get(request, "context"):
-        unmapped = "context of caveats"
+        unmapped = causes.CONTEXT_OF_CAVEATS
     elif goal.user_relation == EVERY:
-        unmapped = "check of a wildcard as the user"
+        unmapped = causes.USER_WILDCARD
     elif goal.user_relation is not None:
-        unmapped = "check of a userset as the user"
+        unmapped = causes.USER_USERSET
     return Answer(goal, one_of(REPLIES, said) or False, unmapped)
 
 

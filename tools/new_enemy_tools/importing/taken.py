@@ -7,14 +7,14 @@ from typing import Any, Iterable, Optional, Union
 
 from new_enemy_tools.edges import Name
 from new_enemy_tools.ids import Ids
+from new_enemy_tools.importing import causes
 from new_enemy_tools.importing.between import Spans, States
-from new_enemy_tools.importing.checks import NAMES, Checks, Other
+from new_enemy_tools.importing.checks import NAMES, Checks, Other, column
 from new_enemy_tools.importing.commits import Commit, Writer
 from new_enemy_tools.importing.declared import Declared
 from new_enemy_tools.importing.events import Entry, Event
 from new_enemy_tools.importing.refusals import Refusals
 from new_enemy_tools.importing.spool import Spool, line_of, row_of
-from new_enemy_tools.importing.times import nanoseconds
 from new_enemy_tools.progress import Progress
 
 Item = Union[Commit, Event]
@@ -24,16 +24,20 @@ class Taken:
     """What is known of the lines so far."""
 
     def __init__(self, declared: Declared, writer: Writer, ids: Ids, refusals: Refusals, progress: Progress,
-                 base_revision: Optional[int], has_between: bool):
+                 base_revision: Optional[int], may_be_older: bool, has_between: bool):
         self.declared, self.writer, self.ids, self.refusals, self.progress = declared, writer, ids, refusals, progress
         self.base_revision, self.has_between = base_revision, has_between
         # of each version its content check, in short, with its file and line
         self.issued: dict[tuple[str, str, str], tuple[tuple[Any, ...], str, int]] = {}
+        # the versions whose labels were saved again at another state
+        self.twice: set[tuple[str, str, str]] = set()
         # the revisions that are named, each with how many lines of the trace it takes
         self.wanted: dict[int, int] = {}
         self.states = States()
         self.items = Spool()
         self.has_gap = False
+        # whether something was stored before the log, and versions may have been saved
+        self.may_be_older = may_be_older
         # of the lines among many checks those that are kept, each with the number of checks before it
         self.among: Optional[list[Other]] = None
         self.at = 0
@@ -59,8 +63,9 @@ class Taken:
         self.count += 1
         if isinstance(line, tuple):
             self._close()
-            if self._is_known(line) or self._takes(line):
-                self._keep(row_of(line) if isinstance(line, Entry) else line)
+            kept = line if self._is_known(line) else self._taken(line)
+            if kept is not None:
+                self._keep(row_of(kept) if isinstance(kept, Entry) else kept)
             return
         self.progress.step("ordered %s events", self.count)
         if line.base or line.revision is None:
@@ -87,7 +92,7 @@ class Taken:
         if self.single:
             row, text = self.single
             self.wanted[row[3]] = 1
-            self._keep(("commit", row[3], row[4], row[1], row[2], [([text], []) if row[10] else ([], [text])]))
+            self._keep(("commit", row[3], row[4], row[1], row[2], row[8], [([text], []) if row[10] else ([], [text])]))
             self.single = None
         elif self.open:
             self.keep(self.open)
@@ -150,18 +155,24 @@ class Taken:
     def _are_plain(self, checks: Checks) -> bool:
         """Whether all checks are of declared relations and none before the base state, and each becomes one line of a trace with rules.
 
-        A check of a version may be left out behind a gap, or in one.
+        A check of a version that the log does not know is audited in part.
         """
-        if any(look[4] is not None for look in checks.looks) and self._may_be_in_gap(checks):
+        if any(look[4] is not None for look in checks.looks) and not self._are_issued(checks):
             return False
         return bool(self.declared.head) and not self.has_between and all(
             self.declared.rules.is_declared(*pair) for pair in checks.pairs) and (
             self.base_revision is None or all(look[1] >= self.base_revision for look in checks.looks))
 
-    def _may_be_in_gap(self, checks: Checks) -> bool:
-        times = [] if self.refusals.gap_since is None else checks.times.split("\n")
-        return self.has_gap or any(row[0] == "gap" for _, _, row in checks.others) or any(
-            self._is_in_gap(nanoseconds(time)) for time in times)
+    def _are_issued(self, checks: Checks) -> bool:
+        """Whether the versions that checks name were issued before, or are by the lines among them, and none was saved twice."""
+        issued = {(*row[3][:2], row[8]) for _, _, row in checks.others if row[0] == "content"}
+        labels = {place: look[4] for place, look in enumerate(checks.looks) if look[4] is not None}
+        for pair, thing, look in zip(column(checks.pair_of), checks.objects.split("\n"), column(checks.look_of)):
+            if look in labels:
+                key = (checks.pairs[pair][0], thing, labels[look])
+                if key in self.twice or key not in self.issued and key not in issued:
+                    return False
+        return issued.isdisjoint(self.issued)
 
     def _pass(self, place: int) -> None:
         """Goes behind so many of the checks."""
@@ -196,7 +207,7 @@ class Taken:
         revision = item.revision
         assert revision is not None
         self.states.revisions += [revision] * self.has_between
-        source = (revision, event.shown, event.file, event.line)
+        source = (revision, event.shown, event.file, event.line, event.time)
         if isinstance(item, Commit):
             self.wanted[revision] = len(item.lines())
             self._keep(("commit", *source, item.lines()))
@@ -213,15 +224,15 @@ class Taken:
             token is None or token in self.wanted) and (goal[0], goal[2]) in self.declared_names and self.ids.has(goal) and (
             self.base_revision is None or snapshot >= self.base_revision)
 
-    def _takes(self, row: tuple[Any, ...]) -> bool:
-        """Gives what an entry names its numbers and gathers its revisions; whether it is kept."""
+    def _taken(self, row: tuple[Any, ...]) -> Optional[tuple[Any, ...]]:
+        """Gives what an entry names its numbers and gathers its revisions; the entry as it is kept, if it is."""
         kind, _, _, goal, _, snapshot, shown, token, version, lowest = row[:10]
         if not self._is_declared(goal[0], goal[2]):
-            self.refusals.unmapped_check(Entry._make(row), "check of a relation that the rules do not have", Entry._make(row).told)
-            return False
+            self.refusals.unmapped_check(Entry._make(row), causes.UNKNOWN_RELATION, Entry._make(row).told)
+            return None
         if self.base_revision is not None and (snapshot if lowest is None else lowest) < self.base_revision:
-            self.refusals.unmapped_check(Entry._make(row), "check before the base state", "its snapshot is %s" % shown)
-            return False
+            self.refusals.unmapped_check(Entry._make(row), causes.BEFORE_BASE, "its snapshot is %s" % shown)
+            return None
         wanted = self.wanted
         if snapshot not in wanted:
             wanted[snapshot] = 1
@@ -231,11 +242,11 @@ class Taken:
             wanted[lowest] = 1
         self.ids.note(goal)
         if version is None and kind == "check":
-            return True
-        if version is not None:
-            self.ids.version(version)
-        # What was left out is known at the end alone, and with it which versions are issued.
-        return self.refusals.skip or self.has_good_version(Entry._make(row))
+            return row
+        entry = self._versioned(Entry._make(row))
+        if entry.version is not None:
+            self.ids.version(entry.version)
+        return entry
 
     def _is_declared(self, of: str, relation: str) -> bool:
         if (of, relation) in self.declared_names:
@@ -252,30 +263,39 @@ class Taken:
         since = self.refusals.gap_since
         return since is not None and time is not None and time >= since
 
-    def has_good_version(self, entry: Entry) -> bool:
+    def _versioned(self, entry: Entry) -> Entry:
+        """An entry with its version, where the log knows that, and else without; an entry without one is audited in part."""
         key = (entry.goal[0], entry.goal[1], entry.version or "")
-        short = (tuple(entry.goal), entry.reply, entry.snapshot, entry.lowest, entry.token)
-        before = self.issued.get(key) if entry.kind == "content" and entry.version is not None else None
-        is_in_gap = self.has_gap or self._is_in_gap(entry.time)
-        if is_in_gap and entry.kind == "check" and entry.version is not None and key not in self.issued:
-            self.refusals.pass_over("check of a content version that may have been issued in a gap")
-            return False
-        if entry.version == "":
-            self.refusals.refuse(entry.file, entry.line, "the label of a version is empty")
-        elif entry.kind == "content" and entry.reply != (entry.version is not None):
-            self.refusals.unmapped_check(entry, "content check with a version and the reply false, or without one and true", "",
-                                         "a content check has a version exactly where its reply is true")
-            return False
-        elif before is not None and before[0] == short:
-            self.refusals.pass_over("content check that was logged before")
-            return False
-        elif before is not None:
-            self.refusals.unmapped_check(entry, "content check of a version that was issued already", "",
-                                         "version %s of %s:%s was issued at %s:%d already" % (entry.version, *key[:2], *before[1:]))
-            return False
-        elif entry.kind == "content" and entry.version is not None:
+        if entry.version == "" and entry.kind == "check":
+            return entry._replace(version=None, part=causes.LABEL_EMPTY)
+        if entry.kind == "check":
+            return entry if entry.version is None else self.known(entry)
+        if entry.reply != bool(entry.version):
+            return self.refusals.as_check(entry, causes.CONTENT_ODD)
+        if entry.version is None:
+            return entry
+        short, before = (tuple(entry.goal), entry.reply, entry.snapshot, entry.lowest, entry.token), self.issued.get(key)
+        if before is None:
             self.issued[key] = (short, entry.file, entry.line)
-        return True
+            return entry
+        if before[0] != short:
+            self.twice.add(key)
+            self.refusals.note(causes.LABEL_AGAIN, "%s:%d: version %s of %s:%s was saved at %s:%d already; give each version a label of its own"
+                               % (entry.file, entry.line, entry.version, *key[:2], *before[1:]))
+        return entry._replace(kind="check", version=None, newest=entry.newest and entry.lowest is not None, part=causes.LABEL_AGAIN,
+                              named=entry.version)
+
+    def known(self, entry: Entry, is_late: bool = False) -> Entry:
+        """A check that names a version, without it where the log does not know it and does not have all that came before; once more when all
+        lines are known, by what stands behind it."""
+        key = (entry.goal[0], entry.goal[1], entry.version or "")
+        if key in self.issued:
+            return entry._replace(part=causes.LABEL_TWICE) if key in self.twice and not is_late else entry
+        if key in self.refusals.versions:
+            return entry._replace(version=None, part=causes.VERSION_LEFT_OUT, named=entry.version)
+        if self.may_be_older or self.has_gap and not is_late or self.refusals.has_lost_version or self._is_in_gap(entry.time):
+            return entry._replace(version=None, part=causes.VERSION_UNKNOWN, named=entry.version)
+        return entry
 
     def timestamps(self) -> dict[int, int]:
         """The last timestamp of each revision: dense, and as many for a commit as it has lines."""

@@ -7,6 +7,8 @@ from typing import Optional
 FORM = re.compile(r"(\d{4}-\d\d-\d\d)[Tt](\d\d:\d\d:\d\d)(?:\.(\d{1,9}))?([Zz]|[+-]\d\d:\d\d)")
 EPOCH = datetime(1970, 1, 1, tzinfo=timezone.utc)
 SECOND = timedelta(seconds=1)
+# Of a time to seconds so many letters.
+SECONDS = len("2024-05-06T07:08:09")
 
 
 @lru_cache(1 << 16)
@@ -29,7 +31,15 @@ def nanoseconds(text: object) -> Optional[int]:
 
 
 def text_of_time(at: int) -> str:
-    """Nanoseconds since 1970 as a time of RFC 3339 in UTC, to microseconds where there are any."""
+    """Nanoseconds since 1970 as a time of RFC 3339 in UTC, without zeros at the end of a fraction."""
     seconds, rest = divmod(at, 1_000_000_000)
-    fraction = ".%06d" % (rest // 1000) if rest >= 1000 else ""
-    return (EPOCH + seconds * SECOND).strftime("%Y-%m-%dT%H:%M:%S") + fraction + "Z"
+    fraction = (".%09d" % rest).rstrip("0") if rest else ""
+    return (EPOCH + seconds * SECOND).isoformat()[:SECONDS] + fraction + "Z"
+
+
+def in_utc(text: str) -> str:
+    """A time of RFC 3339 as `text_of_time` gives it; an empty text for any other."""
+    if len(text) > SECONDS and text[-1] == "Z" and text[SECONDS - 9] == "T":
+        return text[:-1].rstrip("0").rstrip(".") + "Z" if text[SECONDS] == "." else text
+    time = nanoseconds(text)
+    return "" if time is None else text_of_time(time)

@@ -9,6 +9,7 @@ from bisect import bisect_left
 from collections import Counter
 from typing import Any, Callable, NamedTuple, Optional
 
+from new_enemy_tools.importing import causes
 from new_enemy_tools.importing.events import Entry, Event, Line, Stamp, put_stamp
 from new_enemy_tools.importing.order import ordered
 from new_enemy_tools.importing.refusals import Refusals
@@ -172,13 +173,12 @@ def _place(entry: Entry, asked: tuple[Any, ...], history: History, base: Optiona
     snapshot, token = asked
     number = -1 if base is not None and not snapshot.contains(base) else history.number(snapshot)
     if number is None:
-        refusals.unmapped_check(entry, "check at a snapshot that sees no beginning of the order of commits", entry.shown)
+        refusals.unmapped_check(entry, causes.NO_BEGINNING, entry.shown)
         return None
     demanded = None if token is None else history.number(token)
     if token is not None and demanded is None:
         if entry.version is not None:
-            refusals.unmapped_check(entry, "check by a token that sees no beginning of the order of commits, with a version",
-                                    str(token))
+            refusals.unmapped_check(entry, causes.TOKEN_NO_BEGINNING, str(token))
             return None
         demanded = history.least_with(token)
     return entry._replace(snapshot=number, token=demanded, asked=None)

@@ -1,5 +1,11 @@
 """What is told of a trace that was written."""
-from typing import Any, Callable, Iterator, NamedTuple
+from collections import Counter
+from typing import Any, Callable, Iterator, NamedTuple, Optional
+
+from new_enemy_tools.coverage import Coverage
+from new_enemy_tools.importing.events import Entry
+from new_enemy_tools.importing.refusals import Refusals
+from new_enemy_tools.importing.times import nanoseconds
 
 
 class Counts:
@@ -7,6 +13,10 @@ class Counts:
 
     def __init__(self) -> None:
         self.commits = self.checks = self.contents = 0
+        # of checks in part by cause; and the times of the first and the last
+        self.in_part: Counter[str] = Counter()
+        self.since: Optional[int] = None
+        self.until: Optional[int] = None
         self.has_token = self.has_named = self.has_issued = self.has_change = self.has_commit_behind = False
 
     @property
@@ -20,6 +30,9 @@ class Counts:
             setattr(self, name, getattr(self, name) + getattr(other, name))
         for name in ("has_token", "has_named", "has_issued", "has_change"):
             setattr(self, name, getattr(self, name) or getattr(other, name))
+        self.in_part.update(other.in_part)
+        self._take_time(other.since)
+        self._take_time(other.until)
 
     def take_commit(self, lines: int) -> None:
         self.commits += lines
@@ -29,14 +42,28 @@ class Counts:
         self.has_change = True
         self.has_commit_behind |= bool(self.checks or self.contents)
 
-    def take_entry(self, kind: str, reply: bool, has_token: bool, has_version: bool) -> None:
-        if kind == "check":
+    def take_entry(self, entry: Entry, has_token: bool) -> None:
+        if entry.kind == "check":
             self.checks += 1
             self.has_token |= has_token
-            self.has_named |= has_version
+            self.has_named |= entry.version is not None or entry.part is not None
         else:
             self.contents += 1
-            self.has_issued |= reply
+            self.has_issued |= entry.reply
+        if entry.part is not None:
+            self.in_part[entry.part] += 1
+        self._take_time(entry.time)
+
+    def take_times(self, times: str) -> None:
+        """The times of many checks, one a line."""
+        listed = [one for one in times.split("\n") if one]
+        for one in (min(listed), max(listed)) if listed else ():
+            self._take_time(nanoseconds(one))
+
+    def _take_time(self, time: Optional[int]) -> None:
+        if time is not None:
+            self.since = time if self.since is None else min(self.since, time)
+            self.until = time if self.until is None else max(self.until, time)
 
     def cannot_show(self) -> Iterator[str]:
         """The findings that no audit can have, each with the reason."""
@@ -70,7 +97,13 @@ class Written:
     def __init__(self, chunks: Iterator[Piece], counts: Counts, notes: Callable[[], Iterator[str]]):
         self.chunks, self.counts, self.notes = chunks, counts, notes
 
-    def told(self) -> Iterator[str]:
+    def coverage(self, refusals: Refusals) -> Coverage:
+        """What of the log's checks stands in the trace, when all lines were taken."""
+        counts = self.counts
+        return refusals.coverage(counts.checks + counts.contents, counts.in_part, counts.since, counts.until)
+
+    def told(self, coverage: Coverage) -> Iterator[str]:
         yield "commits %d, checks %d, content checks %d" % (self.counts.commits, self.counts.checks, self.counts.contents)
+        yield from () if coverage.is_plain else coverage.lines()
         yield from self.notes()
         yield from self.counts.cannot_show()

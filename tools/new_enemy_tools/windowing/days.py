@@ -9,7 +9,7 @@ import os
 import re
 import shutil
 from hashlib import blake2b
-from typing import BinaryIO, NamedTuple, Optional
+from typing import Any, BinaryIO, NamedTuple, Optional
 
 from new_enemy_tools.windowing.faults import WindowFault
 from new_enemy_tools.windowing.state import Head, read_sum
@@ -33,6 +33,9 @@ class Summary(NamedTuple):
     findings: int
     not_audited: int
     held_over: int
+    verdict: str = ""
+    # what was looked at
+    coverage: dict[str, Any] = {}
 
 
 class Days:

@@ -83,5 +83,5 @@ def json_rows(found: Audited, own: Own, ids: Optional[Ids]) -> list[str]:
 def _rows(trace: Trace, found: Audited, own: Own, ids: Optional[Ids]) -> list[str]:
     told = found.told
     report = Report(told.findings, len(trace.entries), told.verdict)
-    telling = telling_of(told_of(trace, report), trace, Names(ids), own.path, report, looked_at(found, own))
+    telling = telling_of(told_of(trace, report), trace, Names(ids), own.path, report, looked_at(found, own), told.coverage)
     return list(FORMS["jsonl"](telling._replace(report=report._replace(entries=told.entries))))

@@ -5,6 +5,8 @@ from functools import partial
 from typing import Callable, NamedTuple, Optional
 
 from new_enemy_tools import limits
+from new_enemy_tools.coverage import NO_LINES, Coverage, coverage_of, is_imported, lines_in, marks_in
+from new_enemy_tools.parting.blocks import Blocks
 from new_enemy_tools.parting.merging import Answer
 from new_enemy_tools.windowing.auditing import FileFeeder, How, Running, answer_in_parts
 from new_enemy_tools.windowing.carrying import Carry, Keep, Window, carried
@@ -32,6 +34,18 @@ class Audited(NamedTuple):
     window: Window
     carry: Carry
     carried: list[Row]
+
+    def covered(self, own: Own, said: Optional[Coverage] = None) -> "Audited":
+        """With the sum of what was looked at: of the window's own lines, as their import says or said, and of entries that waited."""
+        lines, marks, is_first = NO_LINES, [], True
+        with own.open() as file:
+            for block in Blocks(file):
+                lines, marks = lines.plus(lines_in(block)), marks + marks_in(block)
+                is_first = is_first and is_imported(block)
+        found = coverage_of(lines, marks if said is None else [said], is_first and lines.checks > 0)
+        waiting = [lines_in(b"\n".join([row.raw for row in rows if row.kind == "h"])) for rows in (self.carried, self.carry.rows)]
+        lines = lines.plus(waiting[0]).plus(waiting[1], -1)
+        return self._replace(told=self.told.covered(found._replace(checks=lines.checks, in_part=dict(lines.in_part))))
 
 
 def state_before(path: Optional[str]) -> State:
@@ -81,7 +95,7 @@ def audited(own: Own, old: State, evidence: Optional[str], how: How, keep: Keep,
     own.refuse_changed()
     _refuse(answer, window, numbers, records)
     carry = carried(window, keep, kept, is_final)
-    return Audited(told_of(window, carry, numbers, answer), window, carry, lines)
+    return Audited(told_of(window, carry, numbers, answer), window, carry, lines).covered(own)
 
 
 def records_of(state: State) -> dict[int, bytes]:
@@ -89,8 +103,9 @@ def records_of(state: State) -> dict[int, bytes]:
     return {row.line: row.raw for row in state.rows if row.kind == "e"}
 
 
-def audited_so_far(following: Following, own: Own, how: How, keep: Keep, step: Step) -> Audited:
-    """As `audited`, of a window that was followed. One that turned out to be too long for one process is audited in parts."""
+def audited_so_far(following: Following, own: Own, said: Optional[Coverage], how: How, keep: Keep, step: Step) -> Audited:
+    """As `audited`, of a window that was followed, with what its import said was looked at, if that is known. One that turned out to be too long for one
+    process is audited in parts."""
     window = following.window()
     lines = carried_lines(window.old.rows)
     numbers = Numbers(lines, window.old.head.lines)
@@ -103,7 +118,7 @@ def audited_so_far(following: Following, own: Own, how: How, keep: Keep, step: S
     own.refuse_changed()
     _refuse(answer, window, numbers, 0)
     assert carry is not None
-    return Audited(told_of(window, carry, numbers, answer), window, carry, lines)
+    return Audited(told_of(window, carry, numbers, answer), window, carry, lines).covered(own, said)
 
 
 def _answer_made(own: Own, old: State, lines: list[Row], how: How, step: Step) -> tuple[Window, Answer]:

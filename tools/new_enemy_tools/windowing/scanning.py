@@ -11,7 +11,7 @@ from new_enemy_tools.trace import is_u64, is_utf8
 
 _NUMBER = rb"(?:0|[1-9][0-9]{0,18}+)"
 _GOAL = rb'"[a-z][a-z0-9_]*+:[^"\\#@\x00-\x20]++#[a-z][a-z0-9_]*+@' + _NUMBER + rb'"'
-_MEMBERS = rb'(?:, ?"(?:zookie|version|revision|from)": ?"[^"\\\x00-\x1f]*+")*+\}[ \t\r]*+\n'
+_MEMBERS = rb'(?:, ?(?:"(?:zookie|version|revision|from|time|part|named)": ?"[^"\\\x00-\x1f]*+"|"again": ?true))*+\}[ \t\r]*+\n'
 _ENTRY = rb'\{"kind": ?"%s", ?"goal": ?' + _GOAL + rb', ?"snapshot": ?(' + _NUMBER + rb'), ?"reply": ?%s' + _MEMBERS
 # Each match is a line: a check with its snapshot in the first group, or any other in the second.
 LINES = compiled(_ENTRY % (b"check", b"(?:true|false)") + rb"|([^\n]*+\n)")

@@ -1,44 +1,61 @@
 """What is told of a window: the findings on its entries, by the lines of the log."""
 import re
+from collections import Counter
 from typing import Callable, Iterator, NamedTuple
 
+from new_enemy_tools.coverage import INCOMPLETE, Coverage
 from new_enemy_tools.findings import Finding, read_report
+from new_enemy_tools.importing import causes
 from new_enemy_tools.parting.merging import Answer
 from new_enemy_tools.windowing.carrying import Carry, Window
 from new_enemy_tools.windowing.faults import WindowFault
 from new_enemy_tools.windowing.reading import Numbers
 
 REFUSED = re.compile(r"(trace|evidence) line ([1-9][0-9]*): (.+)\n")
-# Nothing was found, and not every entry was audited.
-INCOMPLETE = 6
+
+
+class Left(NamedTuple):
+    """Why an entry was not audited, or in part: its cause, and how it is told."""
+
+    cause: str
+    text: str
 
 
 class Told(NamedTuple):
-    """The report of a window, and of each entry that was not audited, why."""
+    """The report of a window, and of each entry that was not audited, or in part, why."""
 
     findings: list[Finding]
-    not_audited: dict[int, str]
+    not_audited: dict[int, Left]
+    in_part: dict[int, Left]
     entries: int
     held: int
+    # what of the log was looked at
+    coverage: Coverage = Coverage()
+
+    def covered(self, said: Coverage) -> "Told":
+        """With the sum of what was looked at, by what the lines of the window say."""
+        struck, in_part = (Counter(one.cause for one in given.values()) for given in (self.not_audited, self.in_part))
+        return self._replace(coverage=said.plus(Coverage(0, in_part)).without(struck))
 
     @property
     def verdict(self) -> str:
-        return "dirty" if self.findings else "incomplete" if self.not_audited else "clean"
+        return "dirty" if self.findings else "incomplete" if self.coverage.status() else "clean"
 
-    @property
-    def status(self) -> int:
-        return {"dirty": 1, "incomplete": INCOMPLETE, "clean": 0}[self.verdict]
+    def status(self, allowed: float = 0) -> int:
+        """1 where something was found, else 6 where more than so many percent of the checks were not looked at whole."""
+        return 1 if self.findings else self.coverage.status(allowed)
 
     def lines(self, behind: Callable[[int], str] = lambda line: "") -> Iterator[str]:
         """As the program's report, with what is told behind the text of a line."""
         told = [(one.line, text_of(one)) for one in self.findings]
-        told += [(line, "line %d: not audited, %s" % (line, why)) for line, why in self.not_audited.items()]
+        told += [(line, "line %d: not audited, %s" % (line, left.text)) for line, left in self.not_audited.items()]
+        told += [(line, "line %d: audited in part, %s" % (line, left.text)) for line, left in self.in_part.items()]
         for line, text in sorted(told, key=lambda one: one[0]):
             yield text + behind(line)
         yield "entries %d" % self.entries
-        for name, count in (("held over", self.held), ("not audited", len(self.not_audited))):
-            if count:
-                yield "%s %d" % (name, count)
+        if self.held:
+            yield "held over %d" % self.held
+        yield from () if self.coverage.is_plain else self.coverage.lines()
         yield "findings %d" % len(self.findings)
         yield "verdict %s" % self.verdict
 
@@ -56,20 +73,21 @@ def told_of(window: Window, carry: Carry, numbers: Numbers, answer: Answer) -> T
     report = read_report(answer.output, numbers.told())
     if report.entries != window.entries + len(carried):
         raise WindowFault("the program counted %d entries, and the window has %d" % (report.entries, window.entries + len(carried)))
-    not_audited = {line: "its snapshot %d is older than %d, where the state begins" % (snapshot, window.base or 0)
+    not_audited = {line: Left(causes.SNAPSHOT_TOO_OLD, "its snapshot %d is older than %d, where the state begins" % (snapshot, window.base or 0))
                    for line, snapshot in window.low.items()}
-    not_audited.update((line, "no commit has come to its snapshot %d" % snapshot) for line, snapshot in carry.given_up.items())
+    not_audited.update((line, Left(causes.NO_COMMIT_CAME, "no commit has come to its snapshot %d" % snapshot))
+                       for line, snapshot in carry.given_up.items())
     left, has_dropped = {*carry.held, *not_audited}, window.old.head.has_dropped
-    findings = []
+    findings, in_part = [], {}
     for found in report.findings:
         line = numbers.of(found.line)
         if line in left:
             continue
         if found.finding == "F6" and has_dropped:
-            not_audited[line] = "its version is not known, and old versions were let go"
+            in_part[line] = Left(causes.VERSION_LET_GO, "its version is not known, and old versions were let go")
             continue
         findings.append(found._replace(line=line, related=None if found.related is None else numbers.of(found.related)))
-    return Told(findings, not_audited, window.entries + len(waited) - len(carry.held), len(carry.held))
+    return Told(findings, not_audited, in_part, window.entries + len(waited) - len(carry.held), len(carry.held))
 
 
 def refused(answer: Answer, numbers: Numbers, records: int) -> str:

@@ -1,0 +1,131 @@
+"""What was not looked at is counted and told, and is never green: by the commands as they are documented, on logs of which something is lost."""
+import json
+import os
+import shutil
+import xml.etree.ElementTree
+
+from new_enemy_tools.importing import causes
+from tests.support import Case
+from tests.test_core import RULES, check, content, rel, write
+
+BEGUN = {"event": "gap", "from": None, "to": "2024-01-01T00:00:00Z", "reason": "the log begins", "time": "2024-01-01T00:00:00Z"}
+LOST = {"event": "gap", "from": "2024-01-01T00:00:02Z", "to": "2024-01-01T00:00:03Z", "reason": "the recorder did not follow", "lost": 40,
+        "time": "2024-01-01T00:00:03Z"}
+CONTEXTUAL = {"event": "unmapped", "reason": "contextual tuples"}
+
+
+class Unaudited(Case):
+    def audit(self, *words):
+        """A report of the program on the trace, in a file; what `ne report` then says in a form."""
+        self.put("report.txt", self.audited())
+        return self.run_tool("report", *words, "trace.jsonl", "report.txt")
+
+    def day(self, *words, log="log"):
+        run = self.run_tool("day", *words, "--program", os.path.abspath(os.environ["NEW_ENEMY"]), "--jobs", "1", "days", "events", "--from-empty", log)
+        return run
+
+    def summary(self, number):
+        return json.loads(self.get("days/day%06d/summary.json" % number))
+
+
+class Rows(Unaudited):
+    """What was seen of the tools before: each of these logs was clean, or was refused as a whole."""
+
+    def test_versions_from_before_the_log(self):
+        """500 checks name versions that were saved before the recorder came, and 50 of them are answered wrongly."""
+        log = [RULES, BEGUN, write(1, *[rel(str(one)) for one in range(500)], base=True)]
+        log += [check(1, one % 10 > 0, rel(str(one)), version="v%d" % one) for one in range(500)]
+        self.put("log", log)
+        said = self.imported("events", "log")
+        self.assertIn("checks: 0 whole, 500 in part\n", said)
+        self.assertEqual(self.audited().splitlines()[-3:], ["entries 500", "findings 50", "verdict dirty"])
+        self.assertEqual(self.audited().count("F10 wrong reply"), 50)
+
+    def test_a_day_whose_checks_were_lost(self):
+        self.put("log", [RULES, write(1, rel()), check(1), LOST])
+        run = self.day()
+        self.assertEqual((run.returncode, run.stdout.splitlines()), (6, [
+            "entries 1", "checks: 1 whole, 40 lost in gaps", "lost in gaps 40: the recorder did not follow", "findings 0", "verdict incomplete"]))
+        summary = self.summary(1)
+        self.assertEqual((summary["status"], summary["verdict"], summary["coverage"]["lost"]), (6, "incomplete", {"the recorder did not follow": 40}))
+
+    def test_a_day_whose_checks_all_were_lost_is_refused_by_its_least_count_and_else_incomplete(self):
+        self.put("log", [RULES, write(1, rel()), LOST])
+        self.assertEqual(self.day().returncode, 2)
+        self.assertEqual(self.day("--at-least", "0").returncode, 6)
+
+    def test_a_bound_on_what_is_lost(self):
+        self.put("log", [RULES, write(1, rel()), *[check(1)] * 99, {**LOST, "lost": 1}])
+        self.assertEqual(self.day("--allow-unaudited", "1").returncode, 0)
+        shutil.rmtree(self.path("days"))
+        self.assertEqual(self.day("--allow-unaudited", "0.9").returncode, 6)
+        self.assertEqual([self.run_import("events", "--from-empty", "--allow-unaudited", bound, "log")[0] for bound in ("0.9", "1", "101", "x")],
+                         [6, 0, 3, 3])
+
+    def test_the_page_of_a_log_without_checks_is_not_green(self):
+        self.put("log", [RULES, write(1, rel()), LOST])
+        self.imported("events", "--from-empty", "log")
+        run = self.audit("--form", "html", "--out", "page.html")
+        page = self.get("page.html")
+        self.assertEqual(run.returncode, 6)
+        self.assertNotIn('class="verdict clean"', page)
+        self.assertIn('<span class="verdict incomplete">', page)
+        self.assertIn("<li>lost in gaps 40: the recorder did not follow</li>", page)
+        self.put("log", [RULES, write(1, rel())])
+        self.imported("events", "--from-empty", "log")
+        self.audit("--form", "html", "--out", "page.html")
+        self.assertIn('<span class="verdict empty">empty: nothing was audited</span>', self.get("page.html"))
+
+    def test_every_form_says_what_was_lost(self):
+        self.put("log", [RULES, write(1, rel()), check(1), LOST])
+        self.imported("events", "--from-empty", "log")
+        lost = "lost in gaps 40: the recorder did not follow"
+        self.assertIn(lost, self.audit("--form", "text").stdout)
+        self.assertEqual(json.loads(self.audit().stdout)["coverage"], {
+            "state": "incomplete", "checks": 1, "whole": 1, "lost": {"the recorder did not follow": 40}})
+        ran = json.loads(self.audit("--form", "sarif").stdout)["runs"][0]["invocations"][0]
+        self.assertIn({"level": "warning", "message": {"text": lost}}, ran["toolExecutionNotifications"])
+        suite = xml.etree.ElementTree.fromstring(self.audit("--form", "junit").stdout)[0]
+        self.assertEqual((suite.get("skipped"), suite[1].find("skipped").get("message")), ("1", "checks: 1 whole, 40 lost in gaps"))
+        self.assertIn("::warning title=new_enemy::" + lost, self.audit("--form", "annotations").stdout)
+        self.assertEqual({self.audit("--form", form).returncode for form in ("text", "jsonl", "sarif", "junit", "annotations")}, {6})
+        self.assertEqual(self.audit("--allow-unaudited", "98").returncode, 0)
+        run = self.run_tool("lint", "trace.jsonl")
+        self.assertEqual((run.returncode, run.stdout), (6, "nothing odd\nchecks: 1 whole, 40 lost in gaps\n%s\n" % lost))
+
+    def test_one_odd_check_costs_no_day(self):
+        """Contextual tuples, and a label that is saved again behind another commit."""
+        self.put("log", [RULES, write(1, rel()), content(1, "v", token=1), CONTEXTUAL, write(2), content(2, "v", token=2),
+                         check(2, False, token=2, version="v")])
+        run = self.day()
+        self.assertEqual((run.returncode, run.stdout.splitlines()), (1, [
+            "line 6: F10 wrong reply (log:7)", "entries 3", "checks: 1 whole, 2 in part, 1 not audited",
+            "audited in part 1: %s; not looked for: F3, F5" % causes.LABEL_AGAIN, "audited in part 1: %s; not looked for: F2" % causes.LABEL_TWICE,
+            "not audited 1: contextual tuples", "findings 1", "verdict dirty"]))
+        self.put("log", [write(3), check(3, token=3)])
+        self.assertEqual(self.day().returncode, 0)
+
+    def test_a_tuple_that_has_no_form_costs_no_day(self):
+        """What hangs on it is not audited, on later days too; what does not is."""
+        unmapped = {"event": "unmapped", "reason": "caveat", "userset": ["doc", "1", "viewer"]}
+        self.put("log", [RULES, write(1, rel(), rel("2", "parent", "1", "doc"), rel("3")), unmapped, check(1), check(1, goal=rel("3"))])
+        run = self.day()
+        self.assertEqual((run.returncode, run.stdout.splitlines()[1]), (6, "checks: 1 whole, 1 not audited"))
+        self.put("log", [write(2), check(2, False, rel("2", "reader")), check(2, goal=rel("3", "reader")), check(2)])
+        run = self.day()
+        self.assertEqual((run.returncode, run.stdout.splitlines()[1]), (6, "checks: 1 whole, 2 not audited"))
+
+    def test_faults_of_usage_are_told_by_the_day(self):
+        self.put("log", [RULES, write(1, rel()), check(1)])
+        run = self.run_process("day", "days", "events", "--skew", "x", "log")
+        self.assertEqual(run.returncode, 3)
+        self.assertIn("usage: ne import", run.stderr)
+        run = self.run_tool("day", "--program", os.path.abspath(os.environ["NEW_ENEMY"]), "days", "events", "--from-empty", "--skip-unmapped", "log")
+        self.assertEqual((run.returncode, run.stdout.splitlines()[-1]), (0, "verdict clean"))
+
+    def test_a_window_of_too_many_changes_costs_one_check(self):
+        log = [RULES, *[write(at, rel(user="u%d" % at)) for at in range(1, 1202)]]
+        wide = check(0) | {"snapshot": None, "snapshot_between": [1, 1201]}
+        self.put("log", [*log, wide, check(1201, goal=rel(user="u1"))])
+        self.assertIn("not audited 1: %s\n" % causes.TOO_WIDE, self.imported("events", "--from-empty", "log"))
+        self.assertEqual(self.audited(), "entries 1\nfindings 0\nverdict clean\n")
