@@ -45,8 +45,9 @@ class Coverage(NamedTuple):
     dark: int = 0
     since: Optional[int] = None
     until: Optional[int] = None
-    # the files of the log whose last one is not closed
+    # how many logs have a last file that is not closed, and the number of the last file of a recorder's
     open: int = 0
+    last_file: Optional[int] = None
     # why it is not known what was left out, if so
     unknown: Optional[str] = None
 
@@ -100,14 +101,14 @@ class Coverage(NamedTuple):
         times = [one for one in (self.since, self.until, other.since, other.until) if one is not None]
         return Coverage(self.checks + other.checks, *(_sum(one, more) for one, more in zip(self[1:4], other[1:4])),  # type: ignore[arg-type]
                         self.uncounted + other.uncounted, self.dark + other.dark, min(times, default=None), max(times, default=None),
-                        self.open + other.open, self.unknown or other.unknown)
+                        self.open + other.open, self.last_file if other.last_file is None else other.last_file, self.unknown or other.unknown)
 
     def row(self) -> dict[str, Any]:
         """As an object of JSON; a key stands there where it has a value."""
         found: dict[str, Any] = {"checks": self.checks, "whole": self.whole, **{
             name: dict(value) for name, value in zip(("in_part", "not_audited", "lost"), self[1:4]) if value}}
         found.update({name: value for name, value in (("uncounted_gaps", self.uncounted), ("uncounted_ns", self.dark), ("open", self.open),
-                                                      ("unknown", self.unknown)) if value})
+                                                      ("last_file", self.last_file), ("unknown", self.unknown)) if value})
         found.update({name: text_of_time(value) for name, value in (("from", self.since), ("to", self.until)) if value is not None})
         return found
 
@@ -122,7 +123,7 @@ class Coverage(NamedTuple):
         if self.uncounted:
             yield "gaps in which nobody counted what was asked: %d%s" % (self.uncounted, " (%s s)" % format(self.dark / 1e9, ".3g") if self.dark else "")
         if self.open:
-            yield "the log is open: its last file is not closed, so more may follow"
+            yield "the log is open: its last file%s is not closed, so more may follow" % ("" if self.last_file is None else ", %d," % self.last_file)
         if self.unknown is not None:
             yield "not known what was left out: %s" % self.unknown
 
@@ -174,9 +175,9 @@ def of_row(value: object) -> Coverage:
     numbers = [value.get(name, 0) for name in ("checks", "uncounted_gaps", "uncounted_ns", "open")]
     if not all(type(one) is int and one >= 0 for one in numbers):
         raise ValueError
-    unknown = value.get("unknown")
+    last, unknown = value.get("last_file"), value.get("unknown")
     return Coverage(numbers[0], *counts, numbers[1], numbers[2], nanoseconds(value.get("from")), nanoseconds(value.get("to")), numbers[3],
-                    None if unknown is None else str(unknown))
+                    last if type(last) is int else None, None if unknown is None else ODD.sub("?", str(unknown)))
 
 
 def mark_of(coverage: Coverage) -> str:

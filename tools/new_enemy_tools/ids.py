@@ -4,10 +4,12 @@ A row is {"kind":K,"type":T,"id":ID,"number":N}, on line N; the first also says 
 end and never changed, so that what a number stands for can be read back from its line. A trace says on its first line how many rows
 its table had, and their checksum.
 """
+import fcntl
 import json
 import os
 import re
-from typing import BinaryIO, Optional
+from contextlib import contextmanager
+from typing import BinaryIO, Iterator, Optional, Sequence, Union
 
 from new_enemy_tools import limits, texts
 from new_enemy_tools.faults import ToolFault
@@ -15,6 +17,7 @@ from new_enemy_tools.keys import unread
 
 KEYS = frozenset(("kind", "type", "id", "number"))
 SERVICE = "service"
+BLOCK = 1 << 20
 KINDS = ("user", "namespace", "relation", "object", "version")
 NAME = re.compile(r"n_([1-9][0-9]*)")
 ID = re.compile(r"~([1-9][0-9]*)")
@@ -52,6 +55,59 @@ def mark_in(trace: bytes) -> object:
     return first.get("ids") if isinstance(first, dict) else None
 
 
+
+
+def _digest_of(path: str, size: int) -> Optional[str]:
+    """The checksum of so many bytes of a file; None where it has fewer, or is not there."""
+    from hashlib import blake2b
+    made, left = blake2b(digest_size=16), size
+    if not os.path.exists(path):
+        return made.hexdigest() if size == 0 else None
+    with open(path, "rb") as file:
+        while left and (data := file.read(min(left, BLOCK))):
+            made.update(data)
+            left -= len(data)
+    return None if left else made.hexdigest()
+
+
+def mark_of_file(path: str) -> list[Union[int, str]]:
+    """The length and the checksum of a table's file."""
+    size = os.path.getsize(path) if os.path.exists(path) else 0
+    return [size, _digest_of(path, size) or ""]
+
+
+def refuse_other_file(path: str, mark: Sequence[Union[int, str]], what: str) -> None:
+    """Raises TableFault where a table does not begin with the bytes of one that was marked."""
+    size = int(mark[0])
+    found = _digest_of(path, size)
+    if found is None:
+        raise TableFault("%s is not there or cut short: %s goes with a table of %d bytes; give that one with --ids" % (path, what, size))
+    if found != mark[1]:
+        raise TableFault("%s is another table than that of %s: its first %d bytes are others; give that one with --ids" % (path, what, size))
+
+
+@contextmanager
+def locked(path: str) -> Iterator[None]:
+    """For one import at a time that adds to a table; raises TableFault where another does. The lock goes with its process."""
+    lock = path + ".lock"
+    # As often as another run takes its lock away just now.
+    while True:
+        descriptor = os.open(lock, os.O_CREAT | os.O_RDWR, 0o600)
+        try:
+            fcntl.flock(descriptor, fcntl.LOCK_EX | fcntl.LOCK_NB)
+            if os.path.exists(lock) and os.path.samestat(os.stat(lock), os.fstat(descriptor)):
+                break
+        except BlockingIOError:
+            os.close(descriptor)
+            raise TableFault("another import adds to %s: wait until it ends, or give this one a table of its own with --ids" % path) from None
+        except FileNotFoundError:
+            pass
+        os.close(descriptor)
+    try:
+        yield
+    finally:
+        os.remove(lock)
+        os.close(descriptor)
 
 
 class Ids:

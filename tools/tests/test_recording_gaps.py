@@ -315,7 +315,7 @@ class Chain(Failing):
         """What an import refuses of a log with a gap at its beginning."""
         status, said = self.run_import("events", *files)
         self.assertEqual(status, 2, said)
-        return [line for line in said.splitlines()[:-1] if not line.startswith(("gap ", "the log has gaps", "passed over"))]
+        return [line for line in said.splitlines()[:-1] if not line.startswith(("gap ", "the log ", "not audited"))]
 
     def test_files_of_a_log(self):
         self.start_service()

@@ -1,9 +1,11 @@
 """What was not looked at is counted and told, and is never green: by the commands as they are documented, on logs of which something is lost."""
+import hashlib
 import json
 import os
 import shutil
 import xml.etree.ElementTree
 
+from new_enemy_tools.ids import locked
 from new_enemy_tools.importing import causes
 from tests.support import Case
 from tests.test_core import RULES, check, content, rel, write
@@ -129,3 +131,113 @@ class Rows(Unaudited):
         self.put("log", [*log, wide, check(1201, goal=rel(user="u1"))])
         self.assertIn("not audited 1: %s\n" % causes.TOO_WIDE, self.imported("events", "--from-empty", "log"))
         self.assertEqual(self.audited(), "entries 1\nfindings 0\nverdict clean\n")
+
+
+class Tables(Unaudited):
+    """The table of ids belongs to what the next day goes on from."""
+
+    def begin(self):
+        self.put("log", [RULES, write(1, rel(user="anne"), remove=[rel(user="bob")]), check(1, goal=rel(user="anne"))])
+        self.assertEqual(self.day().returncode, 0)
+        self.put("next", [write(2), check(2, goal=rel(user="bob")), check(2, goal=rel(user="anne"))])
+
+    def test_a_table_of_a_kept_day_that_is_gone(self):
+        self.begin()
+        table = self.path("days/day000001/ids.jsonl")
+        os.rename(table, self.path("kept"))
+        run = self.day(log="next")
+        self.assertEqual((run.returncode, run.stdout), (2, ""))
+        self.assertRegex(run.stderr, "work/ids.jsonl is not there or cut short: .*left goes with a table of [0-9]+ bytes")
+        self.assertFalse(os.path.exists(self.path("days/day000002")))
+        os.rename(self.path("kept"), table)
+        self.assertEqual(self.day(log="next").stdout.splitlines()[0], "line 5: F10 wrong reply (next:2)")
+
+    def test_a_table_of_a_kept_day_that_is_another(self):
+        self.begin()
+        table = "days/day000001/ids.jsonl"
+        rows = self.rows(table)
+        rows[0]["id"], rows[1]["id"] = rows[1]["id"], rows[0]["id"]
+        self.put(table, "".join(json.dumps(row, separators=(",", ":")) + "\n" for row in rows))
+        run = self.day(log="next")
+        self.assertEqual(run.returncode, 2)
+        self.assertIn("is another table than that of", run.stderr)
+
+    def test_what_a_day_goes_on_from_that_is_gone(self):
+        self.begin()
+        os.remove(self.path("days/day000001/left"))
+        run = self.day(log="next")
+        self.assertEqual((run.returncode, run.stderr), (2, "day: the file `left` of day 1 is not there, and without it nothing goes on from that day\n"))
+
+    def test_another_table_for_an_import_that_goes_on(self):
+        self.put("log", [RULES, write(1, rel(user="anne")), check(1, goal=rel(user="anne"))])
+        self.imported("events", "--from-empty", "--go-on", "left", "log")
+        self.put("next", [write(2), check(2, goal=rel(user="bob"))])
+        self.put("others", '{"kind":"user","type":"user","id":"bob","number":1,"service":"events"}\n')
+        before = self.get("left")
+        for table in ("others", "nothing"):
+            status, said = self.run_import("events", "--go-on", "left", "--ids", table, "--trace", "other", "next")
+            self.assertEqual(status, 2)
+            self.assertIn("with --ids", said)
+            self.assertEqual((os.path.exists(self.path("other")), self.get("left")), (False, before))
+        self.imported("events", "--go-on", "left", "--trace", "other", "next")
+
+    def test_two_imports_into_one_table(self):
+        self.put("log", [RULES, write(1, rel(user="anne")), check(1, goal=rel(user="anne"))])
+        with locked(self.path("ids.jsonl")):
+            status, said = self.run_import("events", "--from-empty", "log")
+            self.assertEqual((status, os.path.exists(self.path("trace.jsonl"))), (2, False))
+            self.assertIn("another import adds to ids.jsonl", said)
+        self.imported("events", "--from-empty", "log")
+        self.assertFalse(os.path.exists(self.path("ids.jsonl.lock")))
+
+
+class Chains(Unaudited):
+    """The files of a recorder, which are a chain of hashes."""
+
+    def chain(self, *files):
+        """Files of a chain, with their texts; the last is not closed where it is None behind its lines."""
+        before, names = None, []
+        for number, lines in enumerate(files, 1):
+            head = {"event": "log", "number": number, **({"before": before} if before else {}), "service": "openfga"}
+            text = "".join(json.dumps(line, separators=(",", ":")) + "\n" for line in [head, *[line for line in lines if line]])
+            before = hashlib.sha256(text.encode()).hexdigest()
+            if lines[-1] is not None:
+                text += json.dumps({"event": "closed", "count": text.count("\n"), "sha256": before}) + "\n"
+            self.put("%06d.jsonl" % number, text)
+            names.append("%06d.jsonl" % number)
+        return names
+
+    FIRST = [RULES, write(1, rel(), base=True), check(1)]
+
+    def test_where_a_log_ends(self):
+        names = self.chain(self.FIRST, [write(2), check(2)], [write(3), check(3)])
+        self.assertIn("the log ends with file 3, which is closed\n", self.imported("events", *names))
+        self.assertIn("the log ends with file 1, which is closed\n", self.imported("events", *names[:1]))
+        self.put("report.txt", self.audited())
+        self.assertEqual(json.loads(self.run_tool("report", "trace.jsonl", "report.txt").stdout)["coverage"]["last_file"], 1)
+        names = self.chain(self.FIRST, [write(2), check(2), None])
+        status, said = self.run_import("events", *names)
+        self.assertEqual(status, 0)
+        self.assertIn("the log is open: its last file, 2, is not closed, so more may follow\n", said)
+
+    def test_a_chain_cannot_be_stepped_round(self):
+        """What would make of a recorder's file a log of no chain, and an edited reply a clean one."""
+        names = self.chain(self.FIRST)
+        text = self.get(names[0]).replace('"reply":true', '"reply":false')
+        head, rest = text.split("\n", 1)
+        for made in (text, "\n" + text, " " + text, text.replace('"number":1', '"number":"1"'), rest, head.replace("log", "place") + "\n" + rest,
+                     text + json.dumps(check(1)) + "\n", text + "\n"):
+            self.put(names[0], made)
+            self.assertEqual(self.run_import("events", names[0])[0], 2, made)
+
+    def test_a_day_misses_files_that_vanish(self):
+        names = self.chain(self.FIRST, [write(2), check(2)], [write(3), check(3)])
+        run = self.run_tool("day", "--program", os.path.abspath(os.environ["NEW_ENEMY"]), "days", "events", names[0])
+        self.assertEqual(run.returncode, 0, run.stderr)
+        self.assertEqual(self.summary(1)["coverage"]["last_file"], 1)
+        self.assertEqual(json.loads(self.get("days/day000001/left").splitlines()[0])["chain"][::2], [1, 4])
+        run = self.run_tool("day", "--program", os.path.abspath(os.environ["NEW_ENEMY"]), "days", "events", names[0], names[2])
+        self.assertEqual(run.returncode, 2)
+        self.assertIn("file 2 of the log, between it and the last file of the day before, is missing", run.stderr)
+        run = self.run_tool("day", "--program", os.path.abspath(os.environ["NEW_ENEMY"]), "days", "events", names[0])
+        self.assertEqual((run.returncode, run.stderr), (2, "day: no file of the log is new and complete\n"))

@@ -94,6 +94,8 @@ def go_on(days: Days, given: Namespace) -> import_logs.Before:
     ids, path = days.before("ids.jsonl"), days.before("left")
     if ids is not None:
         shutil.copyfile(ids, days.work("ids.jsonl"))
+    if path is None and days.before("import.txt") is not None:
+        raise WindowFault("the file `left` of day %d is not there, and without it nothing goes on from that day" % (days.last or 0))
     left = None if path is None else cut(read_left(path), state.head.base, given.keep_versions)
     return import_logs.Before(left, state, Ids(days.work("ids.jsonl")), Following(state, How(given.program, given.jobs, given.parts or 1)))
 

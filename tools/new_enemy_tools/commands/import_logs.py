@@ -20,7 +20,7 @@ from new_enemy_tools import limits
 from new_enemy_tools.commands.running import Parser, add_allowing
 from new_enemy_tools.coverage import Coverage, mark_of
 from new_enemy_tools.faults import DeviceFault
-from new_enemy_tools.ids import Ids
+from new_enemy_tools.ids import Ids, locked, mark_of_file, refuse_other_file
 from new_enemy_tools.importing import openfga, spicedb, spicedb_schema
 from new_enemy_tools.importing.chained import in_chain, last_of
 from new_enemy_tools.importing.core import Core, Given, GoesOn
@@ -241,12 +241,14 @@ def goes_on_of(given: Namespace, service: str, before: Optional[Before]) -> Opti
         state = read_state(given.state) if given.state is not None and left is not None else None
     if left is not None:
         refuse_other(left, given.go_on, service)
+        if left.ids is not None:
+            refuse_other_file(given.ids, left.ids, given.go_on)
     return GoesOn(service, given.logs[0], left, state)
 
 
 def imported(given: Namespace, base: Any, before: Optional[Before]) -> Imported:
     refusals = Refusals(given.skip_unmapped)
-    with Progress() as progress:
+    with Progress() as progress, locked(given.ids):
         service = given.service if given.name is None else "%s %s" % (given.service, given.name)
         goes_on = goes_on_of(given, service, before)
         ids = Ids(given.ids) if before is None else before.ids
@@ -257,7 +259,7 @@ def imported(given: Namespace, base: Any, before: Optional[Before]) -> Imported:
         written = write(given, marked(made, refusals), ids, refusals, following) if made else None
         left = core.left()
         if left is not None and not refusals.refused:
-            write_left(given.go_on, left)
+            write_left(given.go_on, left._replace(ids=mark_of_file(given.ids)))
     told_left_out(refusals)
     if made is None or written is None or refusals.refused:
         return Imported(told_refused(refusals))

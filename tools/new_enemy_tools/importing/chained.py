@@ -84,8 +84,15 @@ def in_chain(paths: list[str], refusals: Refusals, after: Optional[list[Any]] = 
         elif end.said is None and path != ordered[-1]:
             refusals.refuse(path, 1, "the file is not closed, and others go on from it; give it as tools/record left it")
         elif end.said is None:
+            if is_closed_within(path):
+                refusals.refuse(path, 1, "lines stand behind the one that closes the file; give the file as tools/record wrote it")
+            refusals.open += 1
             refusals.gap(path, "gap at the end: %s is not closed, since it is still written or its recorder was killed" % path)
+        elif path == ordered[-1]:
+            refusals.note("end", "the log ends with file %d, which is closed" % heads[path].number)
         before = (path, heads[path].number, end.found if end.said else None)
+    refusals.last_file = heads[ordered[-1]].number
+    refusals.is_chained = True
     return ordered
 
 
@@ -103,7 +110,13 @@ def _refuse_unlinked(path: str, head: Head, before: Optional[tuple[str, int, Opt
         refusals.refuse(path, 1, "it goes on from another file than %s; give the files of one log, as tools/record wrote them" % before[0])
 
 
+def is_closed_within(path: str) -> bool:
+    """Whether some line of a file says that it closes it."""
+    with open(path, "rb") as file:
+        return any(b'"closed"' in raw and _line(raw, "closed") is not None for raw in file)
+
+
 def last_of(path: str) -> Optional[list[Any]]:
-    """The number and the hash of a file of a chain; None where it is not closed."""
+    """The number and the hash of a file of a chain, and how many lines it has before its last; None where it is not closed."""
     head, end = head_of(path), end_of(path)
-    return None if head is None or end.said is None else [head.number, end.found]
+    return None if head is None or end.said is None else [head.number, end.found, end.lines]

@@ -322,6 +322,9 @@ def _event(value: object, file: str, line: int, refusals: Refusals) -> Optional[
         raise _Fault("`event` is none of rules, write, check, content")
     _refuse_unread(value, KEYS[value["event"]])
     if value["event"] in RECORDER:
+        if not refusals.is_chained:
+            raise _Fault("a line `%s` stands in the files of tools/record alone, which are checked as a chain, and this is none that can be: "
+                         "give all of them, as tools/record wrote them" % value["event"])
         return None
     stamp = stamp_of(value, file, line, refusals)
     source, source_line = value.get("file", file), value.get("line", line)

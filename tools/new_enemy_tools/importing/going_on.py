@@ -6,7 +6,7 @@ The file is a line of JSON, and behind it the checksum of that line.
 import json
 from hashlib import blake2b
 from itertools import starmap
-from typing import Any, Iterable, Iterator, NamedTuple, Optional, Sequence
+from typing import Any, Iterable, Iterator, NamedTuple, Optional, Sequence, Union
 
 from new_enemy_tools import limits
 from new_enemy_tools.edges import Edge, Name
@@ -68,6 +68,8 @@ class Left(NamedTuple):
     left_out: Sequence[Sequence[str]] = ()
     has_lost_version: bool = False
     doubts: Sequence[Sequence[Optional[str]]] = ()
+    # the length and the checksum of the table of ids
+    ids: Optional[Sequence[Union[int, str]]] = None
 
 
 def read_left(path: str) -> Left:

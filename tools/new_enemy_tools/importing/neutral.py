@@ -50,7 +50,7 @@ class Events:
         """What a process makes of a block without rules."""
         if RULES in block.data:
             return block
-        refusals = Refusals(self.refusals.skip)
+        refusals = Refusals(self.refusals.skip, self.refusals.is_chained)
         read, = self.pieces(block, refusals)
         assert isinstance(read, Read)
         return read, refusals

@@ -25,8 +25,10 @@ class Refusals:
     A check that cannot be audited is counted by its cause, and refuses nothing.
     """
 
-    def __init__(self, skip: bool = False):
+    def __init__(self, skip: bool = False, is_chained: bool = False):
         self.skip = skip
+        # whether the lines are of files of tools/record whose chain was checked
+        self.is_chained = is_chained
         self.refused: dict[Refused, None] = {}
         self.left_out: Counter[str] = Counter()
         # of each cause how many checks it struck, and the first
@@ -35,8 +37,9 @@ class Refusals:
         self.lost: Counter[str] = Counter()
         # gaps in which nobody counted, and how long they were
         self.uncounted = self.dark = 0
-        # files of a log that are not closed
+        # files of a log that are not closed, and the number of the last file of a chain
         self.open = 0
+        self.last_file: Optional[int] = None
         self.passed: Counter[str] = Counter()
         self.notes: dict[str, str] = {}
         # the time from which on something may be in a gap that stands further behind
@@ -122,7 +125,7 @@ class Refusals:
     def coverage(self, checks: int, in_part: Counter[str], since: Optional[int], until: Optional[int]) -> Coverage:
         """The sum of an import, by the checks of its trace, those in part, and the times of the first and the last check."""
         return Coverage(checks, *(counted(one) for one in (in_part, self.not_audited, self.lost)), self.uncounted, self.dark, since, until,
-                        self.open)
+                        self.open, self.last_file)
 
     def doubt(self, of: str, id_text: Optional[str], relation: str) -> None:
         """A userset (without an id: a relation) whose tuples or rule are left out."""
