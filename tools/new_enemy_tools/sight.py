@@ -15,8 +15,9 @@ from new_enemy_tools.texts import Tuple
 MEMBER = re.compile(rb"@[a-z]")
 # A goal that leads to more usersets than this is looked at by another way.
 FEW = 1_000
-# So many usersets are gone through for one answer.
+# So many usersets are gone through for one answer, and so many expressions at most within one another, since Python has few frames.
 STEPS = 5_000
+DEEP = 120
 # Windows of so many commits are searched as they are.
 SHORT = 64
 # The last touch of a tuple is looked for in so many bytes, and so often in all of them, before all are listed.
@@ -70,7 +71,7 @@ NOBODY = Users({}, [])
 
 
 class Tangled(Exception):
-    """A rule that is no union hangs on itself, or such rules lead to the same usersets again and again."""
+    """A rule that is no union hangs on itself, or such rules lead to the same usersets again and again, or to many behind one another."""
 
 
 def _leaf(place: Place) -> Leaf:
@@ -280,7 +281,7 @@ class Asked:
         # usersets whose rules are no unions: those that are being asked for, and what was found
         self._asked: set[bytes] = set()
         self._known: dict[bytes, bool] = {}
-        self._left = STEPS
+        self._left, self._depth = STEPS, 0
 
     def holds(self, of: bytes) -> bool:
         """A union holds where something does that it leads to; that goes through each userset once, and below a rule that is no union anew."""
@@ -323,7 +324,15 @@ class Asked:
         return known
 
     def _of(self, node: bytes, thing: bytes, body: Body) -> bool:
-        """Whether an expression holds, as nested as rules are."""
+        """Whether an expression holds, as nested as rules are, and those that they lead to."""
+        if self._depth >= DEEP:
+            raise Tangled
+        self._depth += 1
+        answer = self._by_form(node, thing, body)
+        self._depth -= 1
+        return answer
+
+    def _by_form(self, node: bytes, thing: bytes, body: Body) -> bool:
         form = body.form
         if form == "exclusion":
             return self._of(node, thing, body.children[0]) and not self._of(node, thing, body.children[1])

@@ -94,6 +94,15 @@ class Looks(Case):
         with mock.patch("new_enemy_tools.sight.STEPS", 5):
             self.assertIsNone(self.look(values, "doc:0#asked@1", 1, 2))
 
+    def test_rules_that_are_no_unions_many_behind_one_another(self) -> None:
+        """Such a chain is looked at by another way, and ends with no fault of Python's."""
+        both = {"union": [THIS, {"tuple_to": {"tupleset": "parent", "computed": "asked"}}]}
+        for rewrite in ({"exclusion": {"base": both, "subtract": {"computed": "viewer"}}}, {"intersection": [both, {"union": [both, {"computed": "viewer"}]}]}):
+            values = [declared(viewer=THIS, parent=THIS, asked=rewrite), *commits(
+                ["doc:%d#parent@doc:%d#..." % (number, number + 1) for number in range(320)], ["doc:320#asked@1"])]
+            self.assertEqual(self.look(values, "doc:310#asked@1", 0, 2), Look(True, True))
+            self.assertIsNone(self.look(values, "doc:0#asked@1", 1, 2))
+
     def test_more_usersets_than_few(self) -> None:
         chain = ["doc:%d#viewer@doc:%d#viewer" % (number, number + 1) for number in range(1_002)]
         values = [declared(viewer=THIS), *commits(chain, ["doc:1000#viewer@1"])]

@@ -336,6 +336,13 @@ class NotAudited(WindowCase):
         self.assertEqual(self.told(days, "--oldest-snapshot", 0, "--keep-versions", 1)[3][1][:2], [
             "line 14: F10 wrong reply", "line 14: audited in part, its version is not known, and old versions were let go"])
 
+    def test_the_version_of_a_check_that_waits_is_kept(self):
+        """By the days that pass until a commit comes to its snapshot it would be let go."""
+        days = [[RULES, commit(1, A), content(1, "one"), commit(2), check(4, version="one")], [commit(3), content(3, "two"), check(3)], [commit(4), check(4)]]
+        for kept in (1, 2, 3):
+            told = self.told(days, "--oldest-snapshot", 0, "--keep-versions", kept)
+            self.assertEqual(told[2][1][:2], ["line 5: F2 old token, see line 3", "line 5: F4 open snapshot, see line 6"], kept)
+
     def test_held_over(self):
         """An entry is told when a commit has come to its snapshot, and is let go where none comes for too long."""
         days = [[RULES, commit(1, A), check(1), check(3), check(100)], [check(1)], [commit(2), check(2)], [commit(3, remove=[A]), check(3, reply=False)],
