@@ -121,7 +121,7 @@ class Coverage(NamedTuple):
             for cause, count in sorted(counts.items()):
                 yield "%s %d: %s" % (words, count, plain(cause))
         if self.uncounted:
-            yield "gaps in which nobody counted what was asked: %d%s" % (self.uncounted, " (%s s)" % format(self.dark / 1e9, ".3g") if self.dark else "")
+            yield "gaps in which nobody counted what was asked: %d" % self.uncounted
         if self.open:
             yield "the log is open: its last file%s is not closed, so more may follow" % ("" if self.last_file is None else ", %d," % self.last_file)
         if self.unknown is not None:
