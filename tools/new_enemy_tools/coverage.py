@@ -63,17 +63,17 @@ class Coverage(NamedTuple):
     @property
     def is_whole(self) -> bool:
         """Whether there are checks, and all that is known to have been asked was looked at."""
-        return self.checks > 0 and not self.unaudited and not self.uncounted and self.unknown is None
+        return self.checks > 0 and not self.unaudited and not self.uncounted and not self.open and self.unknown is None
 
     @property
     def is_empty(self) -> bool:
         """Whether nothing is known to have been asked."""
-        return not (self.checks or self.unaudited or self.uncounted or self.unknown)
+        return not (self.checks or self.unaudited or self.uncounted or self.open or self.unknown)
 
     @property
     def is_plain(self) -> bool:
         """Whether there is nothing to say beside the count of entries."""
-        return (self.is_whole or self.is_empty) and not self.open
+        return self.is_whole or self.is_empty
 
     @property
     def percent(self) -> float:
@@ -89,8 +89,10 @@ class Coverage(NamedTuple):
         return min(100.0, counted + 100 * self.dark / (self.until - self.since))
 
     def status(self, allowed: float = 0) -> int:
-        """0 where all was looked at, or all but so many percent, and also where nothing was asked; else 6."""
-        return 0 if self.is_whole or self.is_empty or self.checks and self.percent <= allowed else INCOMPLETE
+        """0 where all was looked at, or all but so many percent, and also where nothing was asked; else 6. What an open log may lack is not
+        known, and is taken for less than any percent."""
+        is_below = self.checks > 0 and self.percent <= allowed and (allowed > 0 or not self.open)
+        return 0 if self.is_whole or self.is_empty or is_below else INCOMPLETE
 
     def without(self, struck: Counter[str]) -> "Coverage":
         """With some of its checks that an audit did not look at after all, by cause."""

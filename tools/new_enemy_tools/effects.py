@@ -102,6 +102,12 @@ class Told(NamedTuple):
     effect: Effect
 
     @property
+    def reply(self) -> tuple[object, ...]:
+        """What the entries of one check have in common that stands in the trace at several states."""
+        entry = self.entry
+        return (entry.source, entry.goal, entry.reply) if entry.source is not None else (entry.line,)
+
+    @property
     def outcome(self) -> Optional[str]:
         """What a reply that was wrong, or is another by now, did to the user."""
         if self.effect.word not in ("wrong", "changed"):
@@ -110,7 +116,7 @@ class Told(NamedTuple):
 
 
 class Sums(NamedTuple):
-    """How many replies are of each kind; one with several findings counts once, by the worst."""
+    """How many replies are of each kind; one with several findings, or at several states, counts once, by the worst."""
 
     wrong: int
     let_in: int
@@ -132,11 +138,14 @@ class Sums(NamedTuple):
 
 
 def sums_of(told: Iterable[Told]) -> Sums:
-    worst: dict[int, Told] = {}
+    told = list(told)
+    again = {one.reply for one in told if one.entry.again}
+    worst: dict[object, Told] = {}
     for one in told:
-        known = worst.get(one.finding.line)
+        key = one.reply if one.reply in again else one.finding.line
+        known = worst.get(key)
         if known is None or RANKS[one.effect.word] < RANKS[known.effect.word]:
-            worst[one.finding.line] = one
+            worst[key] = one
     kinds = Counter("let in" if one.effect.word == "changed" and one.entry.reply else one.effect.word for one in worst.values())
     return Sums(kinds["wrong"], kinds["let in"], kinds["changed"], kinds["undecided"], kinds["possible"] + kinds["none"])
 

@@ -1,4 +1,5 @@
 """Reads evidence for a trace, or says what is wrong with the first record that the program refuses."""
+import re
 from typing import Callable, Iterator
 
 from new_enemy_tools import limits, strictjson, texts
@@ -6,6 +7,7 @@ from new_enemy_tools.strictjson import Object
 from new_enemy_tools.trace import Fault, Refusal, Trace, is_u64
 
 Step = Callable[[int], None]
+LINE = re.compile(rb'[ \t]*\{[ \t]*"line"[ \t]*:[ \t]*([0-9]{1,20})[ \t]*[,}]')
 
 
 def _shape(value: object) -> tuple[int, list[Object]]:
@@ -86,10 +88,9 @@ def check_evidence(data: bytes, trace: Trace, step: Step = lambda line: None) ->
 
 def records_of(data: bytes, trace: Trace, lines: set[int], step: Step = lambda line: None) -> dict[int, list[Object]]:
     """The steps of the records for some lines of a trace; raises Fault where one of these is refused."""
-    starts = tuple(b'{"line":%d,' % line for line in lines)
-
     def is_wanted(raw: bytes) -> bool:
-        """Most records begin so, and those for other lines need no look; an escape may hide another key."""
-        return raw.startswith(starts) or not raw.startswith(b'{"line":') or raw.count(b'"line"') != 1 or b"\\" in raw
+        """Most records begin with their line, and those for other lines need no look; an escape may hide another key."""
+        found = LINE.match(raw)
+        return found is None or int(found[1]) in lines or raw.count(b'"line"') != 1 or b"\\" in raw
 
     return {line: steps for line, steps in _records(data, trace, is_wanted, step) if line in lines}

@@ -32,6 +32,13 @@ def place_of(telling: Telling, entry: Entry) -> Place:
     return logged(entry.source) or Place(telling.path, entry.line)
 
 
+def ignored_since(telling: Telling, told: Told) -> Optional[str]:
+    """When the newest change was made that had to be seen and was not, where the log has times of its changes."""
+    seen, commits = told.effect.seen, telling.trace.commits
+    place = None if seen is None or seen <= told.entry.snapshot or told.finding.finding == "F4" else commits.place_at(seen)
+    return None if place is None else commits[place].time
+
+
 def row_of(telling: Telling, told: Told) -> Row:
     """A finding as an object; a key is there where it has a value."""
     finding, entry, effect = told.finding, told.entry, told.effect
@@ -43,7 +50,8 @@ def row_of(telling: Telling, told: Told) -> Row:
            "zookie_at": texts.parse_zookie(entry.zookie)[0] if entry.zookie is not None else None,
            "version": entry.version, "related": finding.related,
            "related_at": None if finding.related is None else telling.trace.at_of(finding.related), "step": finding.step,
-           "from": entry.source, "file": log and log.file, "file_line": log and log.line, "revision": entry.revision}
+           "from": entry.source, "file": log and log.file, "file_line": log and log.line, "revision": entry.revision, "time": entry.time,
+           "ignored_since": ignored_since(telling, told)}
     return _present(row)
 
 
@@ -102,8 +110,10 @@ class RowTexts:
         more = "" if finding.step is None else ',"step":%d' % finding.step
         if finding.related is not None:
             more = ',"related":%d,"related_at":%d%s' % (finding.related, self.telling.trace.at_of(finding.related) or 0, more)
-        return '{"line":%d,%s,%s%s%s%s,"key":"%s"}' % (entry.line, head, seen, texts.first, more, texts.last,
-                                                     key_with(finding.finding, effect.word, texts.asked))
+        since = ignored_since(self.telling, told)
+        return '{"line":%d,%s,%s%s%s%s%s,"key":"%s"}' % (entry.line, head, seen, texts.first, more, texts.last,
+                                                       "" if since is None else ',"ignored_since":"%s"' % since,
+                                                       key_with(finding.finding, effect.word, texts.asked))
 
     @staticmethod
     def _head(told: Told) -> str:
@@ -119,10 +129,11 @@ class RowTexts:
             first += ',"zookie":"%s","zookie_at":%d' % (entry.zookie, texts.parse_zookie(entry.zookie)[0])
         if entry.version is not None:
             first += ',"version":' + _json(entry.version)
-        if entry.source is None and entry.revision is None:
+        if entry.source is None and entry.revision is None and entry.time is None:
             return EntryTexts(first, "", asked_of(entry, names))
         log = logged(entry.source)
-        last = _json(_present({"from": entry.source, "file": log and log.file, "file_line": log and log.line, "revision": entry.revision}))
+        last = _json(_present({"from": entry.source, "file": log and log.file, "file_line": log and log.line, "revision": entry.revision,
+                               "time": entry.time}))
         return EntryTexts(first, "," + last[1:-1], asked_of(entry, names))
 
 
@@ -130,7 +141,8 @@ def sentence(row: Row) -> str:
     said = "%s %s: %s of %s at snapshot %s replied %s" % (
         row["finding"], row["text"], row["kind"], row.get("named", row["goal"]), row["snapshot"], str(row["reply"]).lower())
     for key, words in (("zookie_at", "token of %s"), ("version", "version %s"), ("related", "see line %s"),
-                       ("step", "step %s"), ("from", "from %s"), ("effect", "effect %s")):
+                       ("step", "step %s"), ("from", "from %s"), ("time", "asked %s"), ("ignored_since", "ignored a change of %s"),
+                       ("effect", "effect %s")):
         said += ", " + words % row[key] if key in row else ""
     return said + ": " + ("someone was %s" % row["outcome"] if "outcome" in row else MEANT[str(row["effect"])])
 
@@ -207,7 +219,7 @@ def annotations(telling: Telling) -> Iterator[str]:
 
 
 def _data(text: str) -> str:
-    return text.replace("%", "%25").replace("\r", "%0D").replace("\n", "%0A")
+    return plain(text).replace("%", "%25")
 
 
 def _property(text: str) -> str:

@@ -5,14 +5,16 @@ from new_enemy_tools import strictjson
 
 NAME_IT = ("The application has to name the version on each check that shows content: in the header X-Content-Version, where the recorder "
            "writes the log (docs/RECORDING.md), or as `version` in a log of your own (docs/IMPORTING.md).")
-KEYS = ("version", "zookie")
-CHECK, CONTENT = b'{"kind":"check"', b'{"kind":"content"'
+KEYS = ("version", "zookie", "named")
+CHECK = b'{"kind":"check"'
 
 
 class Looked(NamedTuple):
     checks: int
     with_version: int
     with_token: int
+    # those that name a version which the log does not know
+    with_unknown: int = 0
 
     @property
     def is_none(self) -> bool:
@@ -22,19 +24,20 @@ class Looked(NamedTuple):
     @property
     def counted(self) -> str:
         """Behind the sums; nothing where each check names a version."""
-        if self.with_version == self.checks:
+        if self.with_version + self.with_unknown == self.checks:
             return ""
-        return "of %s %s a content version, %s a token" % (
-            _checks(self.checks), _how_many(self.with_version, "names", "name"), _how_many(self.with_token, "carries", "carry"))
+        return "of %s %s a content version%s, %s a token" % (
+            _checks(self.checks), _how_many(self.with_version + self.with_unknown, "names", "name"),
+            " (%d one that the log does not know)" % self.with_unknown if self.with_unknown else "", _how_many(self.with_token, "carries", "carry"))
 
     @property
     def note(self) -> Optional[str]:
         """What was not looked for, and what to do about it; nothing where each check names a version."""
-        if self.with_version == self.checks:
+        if self.with_version + self.with_unknown == self.checks:
             return None
-        if self.is_none:
+        if self.is_none and not self.with_unknown:
             said = "Stale answers to checks were not looked for: no check names the content version that it shows, and none carries a token. "
-        elif not self.with_version:
+        elif not self.with_version and not self.with_unknown:
             said = ("Stale answers about new content were not looked for: no check names the content version that it shows. Answers older "
                     "than a token were, on checks that carry one. ")
         else:
@@ -73,8 +76,9 @@ def _by_bytes(lines: bytes) -> Optional[Looked]:
     # Where no text has a quotation mark and each line begins with the one key that says what it is, what is counted are keys.
     if b"\\" in lines or begun != lines.count(b'"kind"') or counts != _counts(lines, b'":"'):
         return None
-    if CONTENT in lines:
-        others = _counts(b"\n".join([line for line in lines.split(b"\n") if line.startswith(CONTENT)]), b'"')
+    if any(counts):
+        # Such a key says nothing on a line of another kind.
+        others = _counts(b"\n".join([line for line in lines.split(b"\n") if not line.startswith(CHECK)]), b'"')
         counts = [count - other for count, other in zip(counts, others)]
     return Looked(checks, *counts) if max(counts) <= checks else None
 

@@ -184,7 +184,8 @@ class Writer:
 
     def _where(self, told: Told) -> str:
         place = place_of(self.telling, told.entry)
-        return "%s:%d" % place if told.entry.source else "line %d" % told.finding.line
+        where = "%s:%d" % place if told.entry.source else "line %d" % told.finding.line
+        return where if told.entry.time is None else "%s, %s" % (where, told.entry.time)
 
     def _table(self, page: Page) -> Iterator[str]:
         yield '<h2 id="all">All findings</h2><p class="soft">%s.</p>' % markup("; ".join("%s: %s" % one for one in MEANT.items()))

@@ -33,11 +33,14 @@ class Telling(NamedTuple):
     sums: Sums
     looked: Looked
     coverage: Coverage
+    # how many findings are told once with those of their checks at other states
+    others: int
 
     @property
     def said(self) -> str:
         """The sums as a sentence, with what is not told."""
-        left = [("%d ignored", len(self.ignored)), ("%d known from the baseline", len(self.known))]
+        left = [("%d ignored", len(self.ignored)), ("%d known from the baseline", len(self.known)),
+                ("%d of the same checks at other states", self.others)]
         not_told = ", ".join(words % count for words, count in left if count)
         return self.sums.said(self.looked) + ("; not told: " + not_told if not_told else "")
 
@@ -102,6 +105,19 @@ class LeftOut(NamedTuple):
     today: date
 
 
+def once_a_reply(told: list[Told]) -> tuple[list[Told], int]:
+    """The findings without those that a check has at another state too, and how many those are."""
+    again = {one.reply for one in told if one.entry.again}
+    seen: set[tuple[object, ...]] = set()
+    kept = []
+    for one in told:
+        key = (*one.reply, one.finding.finding)
+        if one.reply not in again or key not in seen:
+            kept.append(one)
+        seen.add(key)
+    return kept, len(told) - len(kept)
+
+
 def parts_of(told: Told, names: Names) -> dict[str, str]:
     """What a finding is found by."""
     return {"finding": told.finding.finding, "effect": told.effect.word, "kind": told.entry.kind, "key": key_of(told, names),
@@ -110,11 +126,13 @@ def parts_of(told: Told, names: Names) -> dict[str, str]:
 
 def telling_of(told: list[Told], trace: Trace, names: Names, path: str, report: Report, looked: Looked, coverage: Coverage,
                out: Optional[LeftOut] = None) -> Telling:
-    """Each finding is told, ignored, or known from the baseline; a key that stands there once is known once."""
+    """Each finding is told, ignored, or known from the baseline; a key that stands there once is known once. Of a check that stands in the
+    trace at several states a finding of each kind is told once."""
+    told, others = once_a_reply(told)
     rows = [] if out is None else [row for row in out.rows if row.until >= out.today]
     left = Counter() if out is None else Counter(out.baseline)
     if not rows and not left:
-        return Telling(told, [], [], trace, names, path, report, sums_of(told), looked, coverage)
+        return Telling(told, [], [], trace, names, path, report, sums_of(told), looked, coverage, others)
     said: list[Told] = []
     ignored: list[tuple[Told, Row]] = []
     known: list[Told] = []
@@ -128,7 +146,7 @@ def telling_of(told: list[Told], trace: Trace, names: Names, path: str, report: 
             known.append(one)
         else:
             said.append(one)
-    return Telling(said, ignored, known, trace, names, path, report, sums_of(said), looked, coverage)
+    return Telling(said, ignored, known, trace, names, path, report, sums_of(said), looked, coverage, others)
 
 
 def warnings_of(telling: Telling, out: LeftOut) -> list[str]:

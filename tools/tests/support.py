@@ -101,7 +101,7 @@ class Case(unittest.TestCase):
     def imported(self, *words):
         """What an import says that has to work."""
         status, said = self.run_import(*words)
-        self.assertEqual(status, 6 if "\nchecks: " in "\n" + said and not said.endswith("may follow\n") else 0, said)
+        self.assertEqual(status, 6 if "\nchecks: " in "\n" + said else 0, said)
         return said
 
     def unaudited(self, *words):

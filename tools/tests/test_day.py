@@ -143,7 +143,7 @@ class Days(DayCase):
         self.assertEqual((run.returncode, run.stdout.splitlines()), (6, [
             "entries 2", "held over 1", "checks: 1 whole, 1 in part", "audited in part 1: %s; not looked for: F2, F6" % causes.VERSION_UNKNOWN, "findings 0",
             "verdict incomplete"]))
-        self.assertEqual(run.stderr, cannot_show("F2 old token: there is no content check", NO_CONTENT, NO_COMMIT, NO_ISSUE))
+        self.assertEqual(run.stderr, cannot_show(NO_CONTENT, NO_COMMIT, NO_ISSUE))
 
     def test_what_a_day_cannot_show(self):
         """It is said beside the verdict, whose status it does not change, and again where the report is told again."""

@@ -79,8 +79,7 @@ class Unread(Ending):
         self.assertIn("the log has gaps: a verdict says nothing of what was asked in them\n", said)
         self.assertEqual(self.found(), {}, self.said_of_audit)
         self.put("report.txt", "\n".join(self.said_of_audit) + "\n")
-        self.assertIn("the log of this trace has gaps (2): what was asked in them is not in this report\n",
-                      self.run_tool("report", "trace.jsonl", "report.txt").stderr)
+        self.assertIn("lost in gaps 1: %schecks\n" % CHANGES, self.run_tool("report", "--form", "text", "trace.jsonl", "report.txt").stdout)
 
     def test_after_the_service(self):
         for number in (signal.SIGTERM, signal.SIGINT):
@@ -193,7 +192,8 @@ class Killed(Ending):
         self.assertIn(told + "the log has gaps: a verdict says nothing of what was asked in them\n", self.import_log())
         self.found()
         self.put("report.txt", "\n".join(self.said_of_audit) + "\n")
-        self.assertIn("the log of this trace has gaps (2): ", self.run_tool("report", "trace.jsonl", "report.txt").stderr)
+        self.assertIn("the log is open: its last file, 1, is not closed, so more may follow\n",
+                      self.run_tool("report", "--form", "text", "trace.jsonl", "report.txt").stdout)
 
     def test_the_next_recorder_says_it(self):
         self.begin(*NEVER, "--hold", "7")

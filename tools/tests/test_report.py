@@ -44,7 +44,7 @@ class Reports(Case):
         sums, *rows = [json.loads(line) for line in run.stdout.splitlines()]
         self.assertEqual(sums, {"sums": {"wrong": 1, "let_in": 2, "kept_out": 0, "undecided": 3, "harmless": 4, "text": SUMS},
                                 "entries": 11, "findings": 10, "told": 10, "ignored": 0, "known": 0, "verdict": "dirty",
-                                "named": False, "checks": 8, "with_version": 2, "with_token": 2, "note": NOTE,
+                                "named": False, "checks": 8, "with_version": 2, "with_token": 2, "with_unknown": 0, "note": NOTE,
                                 "coverage": {"state": "whole", "checks": 11, "whole": 11}})
         self.assertEqual([(row["finding"], row["effect"], row["severity"]) for row in rows], [
             ("F10", "wrong", "error"), ("F1", "changed", "error"), ("F3", "changed", "error"), ("F7", "undecided", "warning"),
@@ -98,7 +98,7 @@ class Reports(Case):
         self.put("ids.jsonl", '{"kind":"user","type":"user","id":"anne,\\n","number":1}\n')
         self.assertEqual(json.loads(self.report("--ids", "ids.jsonl").stdout.splitlines()[2])["named"],
                          "doc:a#viewer@user:anne,\n")
-        self.assertIn("@user:anne,%0A at", self.report("--ids", "ids.jsonl", "--form", "annotations").stdout)
+        self.assertIn("@user:anne,\\u000a at", self.report("--ids", "ids.jsonl", "--form", "annotations").stdout)
         self.assertIn("@user:anne,? at", self.report("--ids", "ids.jsonl", "--form", "junit").stdout)
 
     def test_nothing_was_audited(self):
@@ -195,20 +195,20 @@ class WhatNobodyLookedFor(Case):
     def test_random_lines(self):
         """The same, of lines of which some have escapes, spaces, values that are names of keys, or are broken."""
         random, ways = Random("what nobody looked for"), Counter()
-        values = {"goal": ["doc:a#b@1", "version"], "zookie": ["z", None, "version"], "version": ["v", None, "zookie", "kind"],
+        values = {"goal": ["doc:a#b@1", "version"], "zookie": ["z", None, "version"], "version": ["v", None, "zookie", "kind"], "named": ["v", None],
                   "from": ["a", "\\", '"version":"', "kind"]}
         for _ in range(2000):
             rows, lines = [], []
             for _ in range(random.randrange(6)):
                 row = {"kind": random.choice(["check", "check", "content", "commit", "namespace"])}
-                named = [key for key in values if random.random() < 0.5 and (row["kind"] in ("check", "content") or key == "from")]
+                named = [key for key in values if random.random() < 0.5]
                 row.update((key, random.choice(values[key])) for key in named)
                 lines.append(json.dumps(row, separators=random.choice([(",", ":"), (",", ":"), (", ", ": ")])))
                 rows.append(row)
             if random.random() < 0.2:
                 lines.append(random.choice(["", "{", "[1]", '{"kind":1}']))
             checks = [row for row in rows if row["kind"] == "check"]
-            wanted = (len(checks), *(sum(row.get(key) is not None for row in checks) for key in ("version", "zookie")))
+            wanted = (len(checks), *(sum(row.get(key) is not None for row in checks) for key in ("version", "zookie", "named")))
             data = "\n".join(lines).encode() + random.choice([b"", b"\n"])
             self.assertEqual(looked_in(data), wanted, data)
             ways[_by_bytes(data) is None] += 1

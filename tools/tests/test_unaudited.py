@@ -3,11 +3,13 @@ import hashlib
 import json
 import os
 import shutil
+import subprocess
+import sys
 import xml.etree.ElementTree
 
 from new_enemy_tools.ids import locked
 from new_enemy_tools.importing import causes
-from tests.support import Case
+from tests.support import TOOLS, Case
 from tests.test_core import RULES, check, content, rel, write
 
 BEGUN = {"event": "gap", "from": None, "to": "2024-01-01T00:00:00Z", "reason": "the log begins", "time": "2024-01-01T00:00:00Z"}
@@ -217,7 +219,7 @@ class Chains(Unaudited):
         self.assertEqual(json.loads(self.run_tool("report", "trace.jsonl", "report.txt").stdout)["coverage"]["last_file"], 1)
         names = self.chain(self.FIRST, [write(2), check(2), None])
         status, said = self.run_import("events", *names)
-        self.assertEqual(status, 0)
+        self.assertEqual((status, self.run_import("events", "--allow-unaudited", "1", *names)[0]), (6, 0))
         self.assertIn("the log is open: its last file, 2, is not closed, so more may follow\n", said)
 
     def test_a_chain_cannot_be_stepped_round(self):
@@ -241,3 +243,70 @@ class Chains(Unaudited):
         self.assertIn("file 2 of the log, between it and the last file of the day before, is missing", run.stderr)
         run = self.run_tool("day", "--program", os.path.abspath(os.environ["NEW_ENEMY"]), "days", "events", names[0])
         self.assertEqual((run.returncode, run.stderr), (2, "day: no file of the log is new and complete\n"))
+
+
+class Told(Unaudited):
+    """What the forms tell of a finding."""
+
+    def test_one_story_a_reply(self):
+        """A check that was wrong at each of 31 states, in which it may have been answered, is one reply."""
+        log = [RULES, *[write(at, rel(user="u%d" % at)) for at in range(1, 61)]]
+        for user in ("x", "y"):
+            wide = check(0, goal=rel(user=user)) | {"snapshot_between": [10, 40]}
+            del wide["snapshot"]
+            log.append(wide)
+        self.put("log", [*log, check(60, goal=rel(user="z"))])
+        self.imported("events", "--from-empty", "log")
+        self.assertEqual(self.audited().splitlines()[-2], "findings 63")
+        sums, *rows = [json.loads(line) for line in self.audit().stdout.splitlines()]
+        self.assertEqual((sums["sums"]["wrong"], sums["coverage"]["checks"], sums["told"], len(rows)), (3, 3, 3, 3))
+        self.assertIn("not told: 60 of the same checks at other states", sums["sums"]["text"])
+        self.audit("--form", "html", "--out", "page.html")
+        self.assertEqual(self.get("page.html").count('<details class="story"'), 3)
+
+    def test_times_of_a_request_and_of_the_change_that_it_ignored(self):
+        at = "2024-05-06T09:%02d:00.5+01:00"
+        self.put("log", [RULES, write(1, rel(), time=at % 1), content(1, "one", token=1, time=at % 2), write(2, remove=[rel()], time=at % 3),
+                         content(2, "two", goal=rel(), token=2, time=at % 4) | {"reply": False, "version": None},
+                         content(2, "three", goal=rel(user="b"), token=2, time=at % 4) | {"reply": False, "version": None},
+                         check(1, token=2, time=at % 5)])
+        self.imported("events", "--from-empty", "log")
+        sums, row = [json.loads(line) for line in self.audit().stdout.splitlines()]
+        self.assertEqual((row["finding"], row["effect"], row["time"], row["ignored_since"]),
+                         ("F1", "changed", "2024-05-06T08:05:00.5Z", "2024-05-06T08:03:00.5Z"))
+        self.assertEqual((sums["coverage"]["from"], sums["coverage"]["to"]), ("2024-05-06T08:02:00.5Z", "2024-05-06T08:05:00.5Z"))
+        self.assertIn("asked 2024-05-06T08:05:00.5Z, ignored a change of 2024-05-06T08:03:00.5Z", self.audit("--form", "text").stdout)
+        self.audit("--form", "html", "--out", "page.html")
+        self.assertIn("log:7, 2024-05-06T08:05:00.5Z", self.get("page.html"))
+
+    def test_evidence_with_a_space_behind_its_colon_is_evidence(self):
+        self.put("log", [RULES, write(1, rel()), check(1)])
+        self.imported("events", "--from-empty", "log")
+        self.put("evidence", json.dumps({"line": 3, "steps": [{"yes": "doc:1#viewer@1"}]}) + "\n")
+        said = self.run_tool("explain", "--evidence", "evidence", "trace.jsonl", "3").stdout
+        self.assertNotIn("F7", said)
+
+    def test_keys_of_strangers_say_nothing_of_checks(self):
+        """A namespace line's `version` is no version that a check names."""
+        self.put("trace.jsonl", '{"kind":"namespace","name":"doc","relations":[{"name":"viewer"}],"version":"7"}\n'
+                 '{"kind":"check","goal":"doc:a#viewer@1","snapshot":1,"reply":false}\n')
+        sums = json.loads(self.audit().stdout)
+        self.assertEqual(sums["with_version"], 0)
+        self.assertIn("no check names the content version", sums["note"])
+
+    def test_a_carriage_return_within_a_line(self):
+        lines = [json.dumps(one, separators=(",", ":")) for one in [RULES, write(1, rel()), *[check(1, time="2024-01-01T00:00:0%dZ" % at) for at in range(9)]]]
+        self.put("log", "\n".join(lines[:-2] + [line.replace(',"time"', ',\r"time"') for line in lines[-2:]]) + "\n")
+        self.imported("events", "--from-empty", "log")
+        self.assertEqual(self.audited(), "entries 9\nfindings 0\nverdict clean\n")
+
+    def test_texts_of_strangers_reach_no_terminal(self):
+        self.put("log", [RULES, write(1, rel()), check(1, goal=rel("1", "gone\x1b[2J\u202e\x07"))])
+        run = self.run_tool("import", "events", "--from-empty", "log")
+        self.assertIn("gone\\u001b[2J\\u202e\\u0007", run.stderr)
+        self.assertNotIn("\x1b", run.stderr)
+
+    def test_a_fault_of_the_tool_itself_is_no_finding(self):
+        code = "import sys; sys.path.insert(0, %r)\nfrom new_enemy_tools.commands.running import run\nrun(lambda: 1 // 0)" % TOOLS
+        run = subprocess.run([sys.executable, "-c", code], capture_output=True, text=True, timeout=60)
+        self.assertEqual((run.returncode, run.stderr.splitlines()[-1]), (7, "ZeroDivisionError: integer division or modulo by zero"))

@@ -32,6 +32,7 @@ from new_enemy_tools.importing.chained import end_of, head_of
 from new_enemy_tools.importing.going_on import cut, read_left, write_left
 from new_enemy_tools.parting.faults import PartsFault
 from new_enemy_tools.progress import Progress
+from new_enemy_tools.shown import plain
 from new_enemy_tools.windowing.auditing import How
 from new_enemy_tools.windowing.days import Days, Summary, digest_of
 from new_enemy_tools.windowing.effects import json_rows
@@ -232,7 +233,7 @@ def main(words: list[str]) -> int:
         sys.stderr.write(fault.answer.error)
         return fault.answer.status
     except (WindowFault, PartsFault) as fault:
-        sys.stderr.write("day: %s\n" % fault)
+        sys.stderr.write(plain("day: %s" % fault) + "\n")
         return 2
     except OSError as fault:
         sys.stderr.write("day: %s\n" % ": ".join(str(said) for said in (fault.filename, fault.strerror) if said))

@@ -33,6 +33,7 @@ from new_enemy_tools.importing.writing import Piece, Written
 from new_enemy_tools.parting.faults import PartsFault
 from new_enemy_tools.pieces import LEAST_BYTES, PiecesWriter
 from new_enemy_tools.progress import Progress
+from new_enemy_tools.shown import plain
 from new_enemy_tools.windowing.following import Following
 from new_enemy_tools.windowing.state import State, read_state
 
@@ -181,7 +182,8 @@ def write(given: Namespace, pieces: Iterable[Piece], ids: Ids, refusals: Refusal
 
 
 def say(text: str) -> None:
-    sys.stderr.write(text + "\n")
+    """A line on standard error, in which no letter of a stranger's text would be another command to a terminal."""
+    sys.stderr.write(plain(text) + "\n")
 
 
 def told_left_out(refusals: Refusals) -> None:

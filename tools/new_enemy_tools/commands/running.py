@@ -6,6 +6,7 @@ import traceback
 from typing import Any, Callable, NoReturn, TextIO
 
 from new_enemy_tools.faults import ToolFault
+from new_enemy_tools.shown import plain
 
 # A fault of the tool itself, which a traceback tells.
 BROKEN = 7
@@ -41,7 +42,7 @@ def add_allowing(parser: argparse.ArgumentParser) -> None:
 
 def say(fault: ToolFault, stream: TextIO) -> None:
     """The fault's line, and what else is to be said of it."""
-    stream.write("%s\n%s" % (fault, "".join("  %s\n" % detail for detail in fault.details)))
+    stream.write("%s\n%s" % (plain(str(fault)), "".join("  %s\n" % plain(detail) for detail in fault.details)))
 
 
 def ended(main: Callable[[list[str]], int], words: list[str]) -> int:

@@ -22,6 +22,7 @@ from new_enemy_tools.commands.running import Parser, add_allowing
 from new_enemy_tools.parting.faults import PartsFault
 from new_enemy_tools.parting.manifest import MOST_PARTS
 from new_enemy_tools.progress import Progress
+from new_enemy_tools.shown import plain
 from new_enemy_tools.windowing.auditing import How
 from new_enemy_tools.windowing.carrying import Keep, carried
 from new_enemy_tools.windowing.faults import WindowFault
@@ -144,7 +145,7 @@ def main(words: list[str]) -> int:
         sys.stderr.write(fault.answer.error)
         return fault.answer.status
     except (WindowFault, PartsFault) as fault:
-        sys.stderr.write("window: %s\n" % fault)
+        sys.stderr.write(plain("window: %s" % fault) + "\n")
         return 2
     except OSError as fault:
         sys.stderr.write("window: %s\n" % ": ".join(str(said) for said in (fault.filename, fault.strerror) if said))

@@ -107,8 +107,8 @@ def _places(raw: bytes) -> Iterator[tuple[Path, int, int]]:
 
 
 def shape_of(raw: bytes, given: Form) -> Optional[Shape]:
-    """The shape of a line that was read; None where it has a key that is not known, or an unusual value."""
-    if b"\\" in raw:
+    """The shape of a line that was read; None where it has a key that is not known, an unusual value, or a carriage return within."""
+    if b"\\" in raw or b"\r" in raw:
         return None
     parts: list[bytes] = []
     names: list[str] = []

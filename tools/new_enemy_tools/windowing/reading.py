@@ -66,14 +66,19 @@ def strata_in(line: bytes) -> dict[tuple[str, str], int]:
         return {}
     try:
         given = strictjson.object_of(line).get("strata")
-        return {(name, relation): int(stratum) for name, relation, stratum in given or ()}
-    except (strictjson.NotJson, AssertionError, TypeError, ValueError):
+    except (strictjson.NotJson, AssertionError):
         return {}
+    if not isinstance(given, list) or not all(isinstance(one, list) and list(map(type, one)) == [str, str, int] for one in given):
+        return {}
+    return {(name, relation): stratum for name, relation, stratum in given}
 
 
 def with_strata(old: State, strata: dict[tuple[str, str], int]) -> State:
-    """A state whose rules have other strata, which say nothing of what rules mean."""
-    return old if not strata else old._replace(rows=[_restratified(row, strata) if row.kind == "r" else row for row in old.rows])
+    """A state whose rules have other strata, which say nothing of what rules mean. An import gives those of all relations; any other key
+    that is called so is a stranger's."""
+    declared = {(value["name"], one["name"]) for row in old.rows if row.kind == "r" for value in (strictjson.object_of(row.raw),)
+                for one in value["relations"]} if strata else set()
+    return old if not declared or not declared <= set(strata) else old._replace(rows=[_restratified(row, strata) if row.kind == "r" else row for row in old.rows])
 
 
 def _restratified(row: Row, strata: dict[tuple[str, str], int]) -> Row:
