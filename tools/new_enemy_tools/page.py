@@ -46,7 +46,7 @@ def path_of(path: str, number: int) -> str:
     return "%s.%d%s" % (stem, number, end)
 
 
-def _asset(name: str) -> str:
+def asset(name: str) -> str:
     with open(os.path.join(HERE, name), encoding="utf-8") as file:
         return file.read()
 
@@ -59,6 +59,16 @@ def _hash(text: str) -> str:
     return "'sha256-%s'" % base64.b64encode(hashlib.sha256(text.encode()).digest()).decode()
 
 
+def head(title: str, style: str, script: str) -> Iterator[str]:
+    """The head of a page that asks for nothing from elsewhere, and runs no other script."""
+    policy = "default-src 'none'; style-src %s; script-src %s" % (_hash(style), _hash(script))
+    yield '<!DOCTYPE html><html lang="en"><head><meta charset="utf-8">'
+    yield '<meta http-equiv="Content-Security-Policy" content="%s">' % policy
+    yield '<meta name="viewport" content="width=device-width, initial-scale=1">'
+    yield "<title>%s</title>" % title
+    yield "<style>%s</style></head>" % style
+
+
 class Writer:
     """Writes the pages of a telling; `path` is that of the first, for the links between them."""
 
@@ -66,7 +76,7 @@ class Writer:
         self.telling, self.path = telling, path
         self.pages = pages_of(telling)
         self.teller = Teller(telling.trace, telling.names)
-        self.style, self.script = _asset("page.css"), _asset("page.js")
+        self.style, self.script = asset("page.css"), asset("page.js")
 
     def lines(self, page: Page) -> Iterator[str]:
         yield from self._head(page)
@@ -82,12 +92,8 @@ class Writer:
         yield "</body></html>"
 
     def _head(self, page: Page) -> Iterator[str]:
-        policy = "default-src 'none'; style-src %s; script-src %s" % (_hash(self.style), _hash(self.script))
-        yield '<!DOCTYPE html><html lang="en"><head><meta charset="utf-8">'
-        yield '<meta http-equiv="Content-Security-Policy" content="%s">' % policy
-        yield '<meta name="viewport" content="width=device-width, initial-scale=1">'
-        yield "<title>new_enemy: what the audit found%s</title>" % ("" if page.number == 1 else ", page %d" % page.number)
-        yield "<style>%s</style></head>" % self.style
+        title = "new_enemy: what the audit found%s" % ("" if page.number == 1 else ", page %d" % page.number)
+        yield from head(title, self.style, self.script)
 
     def _sums(self, page: Page) -> Iterator[str]:
         report, sums = self.telling.report, self.telling.sums

@@ -75,7 +75,8 @@ class Days(DayCase):
         self.assertEqual(rows[1]["named"], "doc:1#reader@user:anne")
         self.assertEqual(json.loads(self.get("days/day000002/summary.json")), {
             "logs": ["two"], "digest": json.loads(self.get("days/day000002/summary.json"))["digest"], "status": 1, "entries": 3, "findings": 4,
-            "not_audited": 0, "held_over": 0, "verdict": "dirty", "coverage": {"checks": 3, "whole": 3}})
+            "not_audited": 0, "held_over": 0, "verdict": "dirty", "coverage": {"checks": 3, "whole": 3},
+            "looked": {"checks": 3, "with_version": 1, "with_token": 0, "with_unknown": 0}})
 
     def assert_could_be_shown(self, run, low, high):
         """No line of the day's log, whose lines of the whole log are those above LOW up to HIGH, has a finding that this log cannot show."""
@@ -188,10 +189,10 @@ class Days(DayCase):
             self.put(names[-1], text)
             if number == 2:
                 first = self.run_tool("day", *WORDS, "days", "events", "--from-empty", *names)
-                self.assertEqual(first, (0, "entries 3\nheld over 1\nfindings 0\nverdict clean\n", FIRST))
+                self.assertEqual(first, (0, "entries 3\nheld over 1\nfindings 0\nverdict clean\n", "the log ends with file 2, which is closed\n" + FIRST))
             before = found
         again = self.run_tool("day", *WORDS, "days", "events", "--from-empty", *names)
-        self.assertEqual(again, (2, "", "day: 3.jsonl is still written, and is audited with the next day\nday: no file of the log is new and complete\n"))
+        self.assertEqual(again, (8, "", "day: 3.jsonl is still written, and is audited with the next day\nday: no file of the log is new and complete\n"))
         self.put("3.jsonl", chained(3, json.loads(self.get("2.jsonl").splitlines()[-1])["sha256"], *NEXT)[0])
         second = self.run_tool("day", *WORDS, "days", "events", "--from-empty", *names)
         self.assertEqual((second.returncode, second.stdout.splitlines()[-3:]), (1, ["entries 3", "findings 4", "verdict dirty"]))
@@ -223,7 +224,7 @@ class Refused(DayCase):
         self.assertEqual(self.files("days"), self.before)
 
     def test_a_day_twice(self):
-        self.refused("^day: these logs were audited before, as day 1\n$", "days", "events", "--from-empty", "one")
+        self.refused("^day: these logs were audited before, as day 1\n$", "days", "events", "--from-empty", "one", status=8)
 
     def test_too_few(self):
         self.refused("^day: the day has 2 checks and content checks, and at least 3 are wanted", "--at-least", "3", "days", "events", "two")

@@ -59,7 +59,7 @@ class Tutorial(Walked):
         command, python = cron_line().split(" ", 5)[5], os.path.dirname(sys.executable)
         run = subprocess.run(["/bin/sh", "-c", command], env={"HOME": self.room, "PATH": python + ":/usr/bin:/bin"}, capture_output=True, text=True,
                              timeout=60)
-        self.assertEqual((run.returncode, run.stdout, run.stderr), (2, "", "day: no file of the log is new and complete\n"))
+        self.assertEqual((run.returncode, run.stdout, run.stderr), (8, "", "day: no file of the log is new and complete\n"))
 
     def test_the_line_for_cron_is_the_command_of_the_page(self) -> None:
         self.assertEqual(re.sub(" --at-least [0-9]+", "", cron_line().split(" && ")[1]), transcripts(read(*PAGE))[-2][0].splitlines()[-1])

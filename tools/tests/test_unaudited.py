@@ -242,7 +242,7 @@ class Chains(Unaudited):
         self.assertEqual(run.returncode, 2)
         self.assertIn("file 2 of the log, between it and the last file of the day before, is missing", run.stderr)
         run = self.run_tool("day", "--program", os.path.abspath(os.environ["NEW_ENEMY"]), "days", "events", names[0])
-        self.assertEqual((run.returncode, run.stderr), (2, "day: no file of the log is new and complete\n"))
+        self.assertEqual((run.returncode, run.stderr), (8, "day: no file of the log is new and complete\n"))
 
 
 class Told(Unaudited):
@@ -310,3 +310,24 @@ class Told(Unaudited):
         code = "import sys; sys.path.insert(0, %r)\nfrom new_enemy_tools.commands.running import run\nrun(lambda: 1 // 0)" % TOOLS
         run = subprocess.run([sys.executable, "-c", code], capture_output=True, text=True, timeout=60)
         self.assertEqual((run.returncode, run.stderr.splitlines()[-1]), (7, "ZeroDivisionError: integer division or modulo by zero"))
+
+    def test_a_page_a_day_and_one_over_all_days(self):
+        self.put("log", [RULES, write(1, rel(), time="2024-05-06T08:00:00Z"), content(1, "one", token=1, time="2024-05-06T08:01:00Z"),
+                         check(1, token=1, version="one", time="2024-05-06T08:02:00Z")])
+        self.assertEqual(self.day("--html").returncode, 0)
+        self.put("log", [write(2, remove=[rel()]), check(2, time="2024-05-07T08:02:00Z"), LOST])
+        self.assertEqual(self.day("--html").returncode, 1)
+        self.put("log", [write(3), check(3, False)])
+        self.assertEqual(self.day().returncode, 0)
+        self.put("log", [write(4), LOST])
+        self.assertEqual(self.day("--html", "--at-least", "0").returncode, 6)
+        page = self.get("days/day000002/report.html")
+        self.assertIn('<span class="verdict dirty">dirty</span> of 1 check in <code>day 2</code>', page)
+        self.assertEqual(page.count('<details class="story"'), 1)
+        self.assertIn("user:a was let in: F10 wrong reply", page)
+        listed = self.get("days/index.html")
+        self.assertEqual([part.split('"')[0] for part in listed.split('<a href="')[1:]],
+                         ["day000004/report.html", "day000002/report.html", "day000001/report.html"])
+        self.assertEqual([part.split('"')[0] for part in listed.split('<span class="verdict ')[1:]], ["incomplete", "clean", "dirty", "clean"])
+        self.assertIn("<td>2024-05-06T08:01:00Z</td>", listed)
+        self.assertEqual(self.summary(1)["looked"], {"checks": 1, "with_version": 1, "with_token": 1, "with_unknown": 0})

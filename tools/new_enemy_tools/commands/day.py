@@ -8,8 +8,8 @@ FOLDER keeps the days: of each its report, and of the last what the next one goe
 each day the same; a base state is taken on the first day alone. `trace` takes a trace in place of logs.
 
 The status is 0 where nothing was found, 1 where something was, 6 where nothing was found and not everything was looked at, and 2 where
-something is refused; then no day was kept, and the same words can be tried again. A day that a killed run had kept and not told is told
-by the next run.
+something is refused; then no day was kept, and the same words can be tried again. It is 8 where nothing is new. A day that a killed run had
+kept and not told is told by the next run.
 """
 import argparse
 import contextlib
@@ -34,8 +34,8 @@ from new_enemy_tools.parting.faults import PartsFault
 from new_enemy_tools.progress import Progress
 from new_enemy_tools.shown import plain
 from new_enemy_tools.windowing.auditing import How
-from new_enemy_tools.windowing.days import Days, Summary, digest_of
-from new_enemy_tools.windowing.effects import json_rows
+from new_enemy_tools.windowing.days import INDEX, PAGE, Days, Summary, digest_of
+from new_enemy_tools.windowing.effects import json_rows, looked_at
 from new_enemy_tools.windowing.faults import WindowFault
 from new_enemy_tools.windowing.following import Following
 from new_enemy_tools.windowing.reading import Own
@@ -43,6 +43,7 @@ from new_enemy_tools.windowing.run import Audited, Refused, audited, audited_so_
 
 # The worst of two runs first.
 STATUSES = (2, 1, 6, 0)
+NOTHING_NEW = 8
 OWN_WORDS = ("--trace", "--ids", "--go-on", "--state")
 CANNOT = "cannot show "
 
@@ -50,6 +51,7 @@ CANNOT = "cannot show "
 def given_of(words: list[str]) -> Namespace:
     parser = Parser(prog="ne day", description=__doc__)
     parser.add_argument("--at-least", type=int, default=1, metavar="N", help="refuse a day with fewer checks and content checks (1)")
+    parser.add_argument("--html", action="store_true", help="write a page of the day, report.html in its folder, and index.html over all days")
     add_auditing(parser)
     add_keeping(parser)
     parser.add_argument("folder", metavar="FOLDER", help="the folder of the days")
@@ -99,6 +101,10 @@ def go_on(days: Days, given: Namespace) -> import_logs.Before:
         raise WindowFault("the file `left` of day %d is not there, and without it nothing goes on from that day" % (days.last or 0))
     left = None if path is None else cut(read_left(path), state.head.base, given.keep_versions)
     return import_logs.Before(left, state, Ids(days.work("ids.jsonl")), Following(state, How(given.program, given.jobs, given.parts or 1)))
+
+
+class NothingNew(WindowFault):
+    """Logs of which all was audited before."""
 
 
 class Traced(NamedTuple):
@@ -157,15 +163,23 @@ def made(days: Days, given: Namespace, digest: str, progress: Progress) -> int:
         raise WindowFault("the day has %d checks and content checks, and at least %d are wanted (--at-least)"
                           % (found.window.entries, given.at_least))
     write_next(days.work("state"), found.window, found.carry)
-    write_reports(days, found, own, before.ids if given.service != "trace" else None)
+    ids = before.ids if given.service != "trace" else None
+    write_reports(days, found, own, ids)
+    if given.html:
+        # Days without pages need not wait until this is loaded.
+        from new_enemy_tools.windowing.pages import write_day
+        write_day(found, own, ids, 1 + (days.last or 0), days.work(PAGE))
     told = found.told
     write_whole(days.work("summary.json"), [json.dumps(Summary(
         [os.path.basename(log) for log in given.logs], digest, told.status(given.allow_unaudited), told.entries, len(told.findings),
-        sum(told.coverage.not_audited.values()), told.held, told.verdict, told.coverage.row())._asdict())])
+        sum(told.coverage.not_audited.values()), told.held, told.verdict, told.coverage.row(), looked_at(found, own)._asdict())._asdict())])
     if os.path.exists(days.work("trace")):
         os.remove(days.work("trace"))
     number = days.keep()
     days.tidy()
+    if given.html:
+        from new_enemy_tools.windowing.pages import index
+        write_whole(os.path.join(given.folder, INDEX), index(days))
     return number
 
 
@@ -210,10 +224,10 @@ def run(days: Days, given: Namespace, progress: Progress) -> int:
         if days.summary(last).digest == digest or not given.logs:
             return status
     if not given.logs:
-        raise WindowFault("no file of the log is new and complete")
+        raise NothingNew("no file of the log is new and complete")
     twice = days.day_of(digest)
     if twice is not None:
-        raise WindowFault("these logs were audited before, as day %d" % twice)
+        raise NothingNew("these logs were audited before, as day %d" % twice)
     try:
         number = made(days, given, digest, progress)
     finally:
@@ -234,7 +248,7 @@ def main(words: list[str]) -> int:
         return fault.answer.status
     except (WindowFault, PartsFault) as fault:
         sys.stderr.write(plain("day: %s" % fault) + "\n")
-        return 2
+        return NOTHING_NEW if isinstance(fault, NothingNew) else 2
     except OSError as fault:
         sys.stderr.write("day: %s\n" % ": ".join(str(said) for said in (fault.filename, fault.strerror) if said))
         return 5

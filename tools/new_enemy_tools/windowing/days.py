@@ -15,6 +15,7 @@ from new_enemy_tools.windowing.faults import WindowFault
 from new_enemy_tools.windowing.state import Head, read_sum
 
 WORK = "work"
+INDEX, PAGE = "index.html", "report.html"
 DAY = re.compile("day[0-9]{6,}")
 PIECE = 1 << 20
 # What a day goes on from; the last two days have it.
@@ -36,6 +37,8 @@ class Summary(NamedTuple):
     verdict: str = ""
     # what was looked at
     coverage: dict[str, Any] = {}
+    # how many checks name a content version and carry a token
+    looked: dict[str, int] = {}
 
 
 class Days:
@@ -44,7 +47,7 @@ class Days:
     def __init__(self, folder: str):
         self.folder = folder
         os.makedirs(folder, exist_ok=True)
-        others = [name for name in os.listdir(folder) if name not in ("lock", WORK) and not DAY.fullmatch(name)]
+        others = [name for name in os.listdir(folder) if name not in ("lock", WORK, INDEX) and not DAY.fullmatch(name)]
         if others or os.path.exists(self.work()) and not os.path.exists(os.path.join(folder, "lock")):
             raise WindowFault("%s has %s, and is no folder of days: give one that is empty or not there" % (folder, (others or [WORK])[0]))
         # A lock of this kind goes with its process, and not with those that it began.
@@ -107,6 +110,10 @@ class Days:
     def summary(self, number: int) -> Summary:
         with open(self.path(number, "summary.json"), encoding="utf-8") as file:
             return Summary(**json.load(file))
+
+    def page(self, number: int) -> str:
+        """The page of a day as the index links to it; an empty text where it has none."""
+        return "day%06d/%s" % (number, PAGE) if os.path.exists(self.path(number, PAGE)) else ""
 
     def is_told(self, number: int) -> bool:
         return os.path.exists(self.path(number, "told"))

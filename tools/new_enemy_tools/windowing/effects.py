@@ -10,7 +10,7 @@ from new_enemy_tools.looked import Looked, looked_in
 from new_enemy_tools.names import Names
 from new_enemy_tools.parting.blocks import Blocks
 from new_enemy_tools.quick import OtherForm
-from new_enemy_tools.telling import telling_of, told_of
+from new_enemy_tools.telling import Telling, telling_of, told_of
 from new_enemy_tools.trace import Trace
 from new_enemy_tools.windowing.reading import Own, lines_of
 from new_enemy_tools.windowing.run import Audited
@@ -46,13 +46,13 @@ class Lines(NamedTuple):
         return trace
 
 
-def lines_for(found: Audited, own: Own) -> Lines:
-    """Of a window that was audited. It keeps the entries that have findings and, where some of these are on tokens, the store, the commits
-    and the versions."""
+def lines_for(found: Audited, own: Own, has_stories: bool = False) -> Lines:
+    """Of a window that was audited. It keeps the entries that have findings and, where some of these are on tokens, or for stories, the
+    store, the commits and the versions."""
     carried, window, findings = found.carried, found.window, found.told.findings
     wanted = sorted(lines_of(own, window.old, {one.line for one in findings}).items())
     rules = _lines(carried, "r", window.rules)
-    if not any(one.finding in ON_TOKENS for one in findings):
+    if not has_stories and not any(one.finding in ON_TOKENS for one in findings):
         return Lines(rules, [], [], wanted)
     issued = _lines(carried, "v", window.issued) + [one for one in _lines(carried, "h", []) if b'"content"' in one[1] and b'"version"' in one[1]]
     return Lines(rules, _lines(carried, "fc", window.commits), sorted(issued), wanted)
@@ -80,8 +80,17 @@ def json_rows(found: Audited, own: Own, ids: Optional[Ids]) -> list[str]:
         return _rows(lines.in_full(), found, own, ids)
 
 
-def _rows(trace: Trace, found: Audited, own: Own, ids: Optional[Ids]) -> list[str]:
+def telling_in_full(found: Audited, own: Own, ids: Optional[Ids]) -> Telling:
+    """What is to be told of a window, for stories too."""
+    return _telling(lines_for(found, own, True).in_full(), found, own, ids)
+
+
+def _telling(trace: Trace, found: Audited, own: Own, ids: Optional[Ids]) -> Telling:
     told = found.told
     report = Report(told.findings, len(trace.entries), told.verdict)
     telling = telling_of(told_of(trace, report), trace, Names(ids), own.path, report, looked_at(found, own), told.coverage)
-    return list(FORMS["jsonl"](telling._replace(report=report._replace(entries=told.entries))))
+    return telling._replace(report=report._replace(entries=told.entries))
+
+
+def _rows(trace: Trace, found: Audited, own: Own, ids: Optional[Ids]) -> list[str]:
+    return list(FORMS["jsonl"](_telling(trace, found, own, ids)))

@@ -42,7 +42,10 @@ class Audited(NamedTuple):
             for block in Blocks(file):
                 lines, marks = lines.plus(lines_in(block)), marks + marks_in(block)
                 is_first = is_first and is_imported(block)
-        found = coverage_of(lines, marks if said is None else [said], is_first and lines.checks > 0)
+        if own.start and marks:
+            # The sum of the whole log says nothing of these lines alone; what it left out counts here again.
+            marks = [marks[-1]._replace(checks=lines.checks)]
+        found = coverage_of(lines, marks if said is None else [said], is_first and lines.checks > 0 and not own.start)
         waiting = [lines_in(b"\n".join([row.raw for row in rows if row.kind == "h"])) for rows in (self.carried, self.carry.rows)]
         lines = lines.plus(waiting[0]).plus(waiting[1], -1)
         return self._replace(told=self.told.covered(found._replace(checks=lines.checks, in_part=dict(lines.in_part))))
