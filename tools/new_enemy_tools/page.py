@@ -104,7 +104,8 @@ class Writer:
             _counted(len(report.findings), "finding", "findings"))
         yield '<p id="coverage">%s.</p>' % markup(coverage.said[0].upper() + coverage.said[1:])
         if not coverage.is_whole:
-            yield '<ul id="unaudited">%s</ul>' % "".join("<li>%s</li>" % markup(one) for one in self.telling.notes if one != self.telling.looked.note)
+            yield '<ul id="unaudited">%s</ul>' % "".join(
+                "<li>%s</li>" % markup(one) for one in self.telling.notes if one not in (self.telling.looked.note, coverage.said))
         yield '<p id="said">%s.</p>' % markup(self.telling.said)
         if self.telling.looked.note:
             yield '<p id="note">%s</p>' % markup(self.telling.looked.note)
