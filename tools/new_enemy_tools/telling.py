@@ -47,7 +47,9 @@ class Telling(NamedTuple):
     @property
     def notes(self) -> list[str]:
         """What was not looked at, and what to do about it."""
-        covered = ["nothing was audited: the trace has no check"] if self.coverage.is_empty else [] if self.coverage.is_plain else list(self.coverage.lines())
+        covered = [] if self.coverage.is_plain else list(self.coverage.lines())
+        if self.coverage.is_empty:
+            covered = ["nothing was audited: the trace has no check"]
         return covered + ([] if self.looked.note is None else [self.looked.note])
 
     @property
