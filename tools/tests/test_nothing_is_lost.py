@@ -1,10 +1,13 @@
 """Of random logs of which something is lost: all checks are in the sum, and each planted fault is a finding or in a counted cause."""
+import json
 import os
+import re
+import shutil
 import subprocess
 from collections import Counter
 from random import Random
 
-from new_enemy_tools.coverage import coverage_in
+from new_enemy_tools.coverage import coverage_in, of_row
 from new_enemy_tools.importing import causes
 from tests.support import Case
 from tests.test_core import RULES
@@ -119,6 +122,16 @@ class StandIn:
                 self.check(False)
         return [] if is_older else ["--from-empty"]
 
+    def wrong_places(self, cuts):
+        """The files and lines of wrong replies, in files that begin behind so many lines of the log and its rules."""
+        for place, is_wrong in self.wrong.items():
+            value = self.log[place - 1]
+            # A content check whose reply was turned round is wrong where it was right.
+            is_odd = value["event"] == "content" and value["reply"] != bool(value.get("version"))
+            if is_wrong != is_odd:
+                low = max(one for one in cuts if one <= place)
+                yield "log%d:%d" % (low, place - low + 1)
+
 
 class NothingIsLost(Case):
     def audit(self):
@@ -163,3 +176,28 @@ class NothingIsLost(Case):
                 is_found = bool(kinds & {"F2", "F6"})
                 self.assertTrue(is_found or "F2" in causes.not_looked_for(row.get("part")), (number, place, row))
                 planted.update(["old found" if is_found else "old in part"])
+
+    def test_days_say_the_sum_of_all(self):
+        """A log that is cut into days at random lines: their sums are that of all, no right reply is accused, and a wrong one is found or counted."""
+        for number in range(LOGS // 10):
+            random = Random("days %d" % number)
+            service = StandIn(random)
+            words, log = service.made(), [RULES, *service.log]
+            cuts = [0, *sorted(random.sample(range(2, len(log)), 2))]
+            asked, not_audited, found = 0, 0, set()
+            for day, (low, high) in enumerate(zip(cuts, [*cuts[1:], len(log)]), 1):
+                self.put("log%d" % low, log[low:high])
+                run = self.run_tool("day", "--at-least", "0", "--oldest-snapshot", "0", "--jobs", "1", "--program",
+                                    os.path.abspath(os.environ["NEW_ENEMY"]), "days", "events", *words, "log%d" % low)
+                self.assertIn(run.returncode, (0, 1, 6), run.stderr)
+                summary = json.loads(self.get("days/day%06d/summary.json" % day))
+                coverage = of_row(summary["coverage"])
+                self.assertIsNone(coverage.unknown)
+                not_audited += sum(coverage.not_audited.values())
+                asked += coverage.checks + sum(coverage.lost.values())
+                found |= set(re.findall(r"F10 wrong reply \((log[0-9]+:[0-9]+)\)", run.stdout))
+            self.assertEqual(asked + not_audited + summary["held_over"], service.answered, number)
+            wrong = set(service.wrong_places(cuts))
+            self.assertLessEqual(found, wrong, number)
+            self.assertLessEqual(len(wrong - found), not_audited + summary["held_over"], number)
+            shutil.rmtree(self.path("days"))
