@@ -167,12 +167,10 @@ class Taken:
         """Whether the versions that checks name were issued before, or are by the lines among them, and none was saved twice."""
         issued = {(*row[3][:2], row[8]) for _, _, row in checks.others if row[0] == "content"}
         labels = {place: look[4] for place, look in enumerate(checks.looks) if look[4] is not None}
-        for pair, thing, look in zip(column(checks.pair_of), checks.objects.split("\n"), column(checks.look_of)):
-            if look in labels:
-                key = (checks.pairs[pair][0], thing, labels[look])
-                if key in self.twice or key not in self.issued and key not in issued:
-                    return False
-        return issued.isdisjoint(self.issued)
+        types = [of for of, _ in checks.pairs]
+        named = {(types[pair], thing, labels[look]) for pair, thing, look in zip(
+            column(checks.pair_of), checks.objects.split("\n"), column(checks.look_of)) if look in labels}
+        return all(one in self.issued for one in named - issued) and named.isdisjoint(self.twice) and issued.isdisjoint(self.issued)
 
     def _pass(self, place: int) -> None:
         """Goes behind so many of the checks."""
