@@ -55,8 +55,6 @@ def mark_in(trace: bytes) -> object:
     return first.get("ids") if isinstance(first, dict) else None
 
 
-
-
 def _digest_of(path: str, size: int) -> Optional[str]:
     """The checksum of so many bytes of a file; None where it has fewer, or is not there."""
     from hashlib import blake2b
