@@ -172,7 +172,7 @@ class Refusals(Case):
         self.put("log", [check(at="2023-01-01T00:00:00Z"), change("user:b", at="2023-01-01T00:00:00Z")])
         words = ("openfga", "--model", "model.json", "--base", "base.json", "--base-at", "2024-01-01T00:00:00Z", "log")
         self.assertEqual(self.refused(*words), [
-            "base.json:3: tuple that the model does not take: doc:1#viewer@user:*", "base.json:4: a tuple key has no `relation`",
+            "base.json:4: a tuple key has no `relation`",
             "log:2: its revision 2023-01-01T00:00:00Z is not later than that of the base state"])
 
 

@@ -48,8 +48,10 @@ class OpenFga(Case):
         self.imported(*self.words(*log))
         self.assertEqual(self.audited(), "entries 4\nfindings 0\nverdict clean\n")
         rows = self.rows("trace.jsonl")
-        self.assertEqual([(row["kind"], row.get("revision")) for row in rows][-3:-1], [("namespace", "model three"), ("check", "place 2")])
-        self.assertEqual([one["name"] for one in rows[-3]["relations"]], ["viewer", "editor"])
+        declared, = (row for row in rows if row["kind"] == "namespace" and row["name"] == "doc")
+        self.assertEqual([one["name"] for one in declared["relations"]], ["viewer", "editor", "n_3"])
+        self.assertEqual(self.rows("ids.jsonl")[2]["id"], "viewer of model two")
+        self.assertEqual([row["goal"].split("#")[1] for row in rows if row["kind"] == "check"], ["n_3@1", "viewer@1", "viewer@2", "n_3@2"])
 
     def test_checks_of_no_model_or_another(self):
         log = self.LOG + (fga_check("user:b", at=2, request=of("one")), fga_check("user:b", at=2, request=of("zero")),
@@ -58,8 +60,10 @@ class OpenFga(Case):
         self.assertEqual(self.struck(*self.words(*log)), [
             "log:2: check without one snapshot: the model changes at its place, and the request does not say which it is of",
             "log:7: check without one snapshot: the model changes at its place, and the request does not say which it is of",
-            "log:11: check with another model: doc:1#viewer@user:b", "log:12: check with another model: doc:1#viewer@user:b"])
-        self.assertEqual(self.audited(), "line 11: F10 wrong reply\nline 12: F10 wrong reply\nentries 8\nfindings 2\nverdict dirty\n")
+            "log:12: check with another model: doc:1#viewer@user:b",
+            "log:13: check without one snapshot: the model changes between its places, and the request does not say which it is of"])
+        self.assertEqual(self.audited(), "line 8: F10 wrong reply\nline 9: F10 wrong reply\nline 10: F10 wrong reply\n"
+                         "entries 8\nfindings 3\nverdict dirty\n")
 
     def test_content_after_a_change_at_its_place(self):
         log = (*self.LOG[:1], self.LOG[2], fga_check(at=1, request=of("two"), content={"version": "v", "token": 1}),

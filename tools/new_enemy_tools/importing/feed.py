@@ -1,21 +1,21 @@
 """OpenFGA's changes feed: revisions are places in it, counted from 1 behind the base state, and timestamps are labels."""
 from bisect import bisect_right
-from itertools import accumulate
+from itertools import accumulate, count
 from typing import Any, Iterable, Iterator, NamedTuple, Optional, Union, cast
 
-from new_enemy_tools.importing import causes
-from new_enemy_tools.importing.checks import Checks
-from new_enemy_tools.importing.events import Entry, Event, Line, is_whole
+from new_enemy_tools.importing.checks import Checks, Row
+from new_enemy_tools.importing.events import Entry, Event, Relationship, is_whole
+from new_enemy_tools.importing.models import Models, OtherModel, TwoModels
 from new_enemy_tools.importing.order import ordered
 from new_enemy_tools.importing.reading import Bad
 from new_enemy_tools.importing.refusals import Refusals
-from new_enemy_tools.importing.spool import CHECKS, Lines, WriteRow, line_of, row_of
+from new_enemy_tools.importing.service import ServiceRules
+from new_enemy_tools.importing.spool import CHECKS, Lines, WriteRow, row_of
 from new_enemy_tools.importing.times import nanoseconds
 
-
-# So many numbers has a place, for changes of rules before the next.
-STRIDE = 1 << 20
-END = 1 << 80
+NOT_TAKEN = "tuple that the model does not take"
+# Below all places of the feed.
+BEFORE = -1
 
 
 class Moment(NamedTuple):
@@ -106,93 +106,97 @@ class Feed:
         return start, end
 
 
-class Models:
-    """The models of a log, each in force from a number to the next; those of two places are STRIDE apart."""
+class Placing:
+    """Puts numbers for the timestamps of changes and for what checks ask, and the relations of the trace for those of models."""
 
-    def __init__(self, first: Optional[str]):
-        self.ids = [first]
-        self.starts = [0]
+    def __init__(self, feed: Feed, models: Models, refusals: Refusals):
+        self.feed, self.models, self.refusals = feed, models, refusals
 
-    def add(self, model: Optional[str], number: int) -> None:
-        self.ids.append(model)
-        self.starts.append(number)
-
-    def _spans(self, model: Optional[str]) -> list[tuple[int, int]]:
-        """Where a model is in force; everywhere where a check names none. A first model without an id has those that no other has."""
-        if model is None or (len(self.ids) == 1 and self.ids[0] is None):
-            return [(0, END)]
-        wanted = model if model in self.ids else None
-        return [(start, end) for one, start, end in zip(self.ids, self.starts, self.starts[1:] + [END])
-                if one == wanted and (one is not None or start == 0)]
-
-    def top(self, place: int) -> int:
-        """The number behind all changes of rules at a place."""
-        return max(place * STRIDE, self.starts[bisect_right(self.starts, place * STRIDE + STRIDE - 1) - 1])
-
-    def number(self, place: int, model: Optional[str]) -> int:
-        if place < 0:
-            return place
-        if model is None and self.top(place) != place * STRIDE:
-            raise Bad("the model changes at its place, and the request does not say which it is of")
-        return self.range(place, place, model)[0]
-
-    def demanded(self, place: int, model: Optional[str]) -> int:
-        """The last number of a place that a check of a model can look at."""
+    def check(self, entry: Entry) -> Optional[Entry]:
+        """A check with its numbers; None where it is left out or refused."""
+        assert entry.asked is not None
         try:
-            return self.range(place, place, model)[1]
+            snapshot, lowest, token = _numbers(Asked(*entry.asked), self.feed)
+            name = self.models.name_at(entry.goal[2], entry.asked[2], snapshot if lowest is None else lowest, snapshot)
+            goal = (*entry.goal[:2], name, *entry.goal[3:])
+            return entry._replace(goal=goal, snapshot=snapshot, lowest=lowest, token=token, asked=None)
         except OtherModel:
-            return self.top(place)
+            self.refusals.unmapped_check(entry, "check with another model", entry.told)
+        except TwoModels as fault:
+            self.refusals.refuse(entry.file, entry.line, str(fault))
+        except Bad as fault:
+            self.refusals.unmapped_check(entry, "check without one snapshot", str(fault))
+        return None
 
-    def range(self, low: int, high: int, model: Optional[str]) -> tuple[int, int]:
-        if low == high >= 0 and len(self.ids) == 1 and (model is None or self.ids[0] in (None, model)):
-            return low * STRIDE, low * STRIDE
-        for start, end in self._spans(model):
-            first, last = max(low * STRIDE, start), min(self.top(high), end - 1)
-            if first <= last:
-                return (low if low < 0 else first), last
-        raise OtherModel
+    def write(self, row: WriteRow, revision: int) -> WriteRow:
+        """A write of the trace; those of one timestamp are a group."""
+        add, remove = self._tuples(row, row.add, not row.base), self._tuples(row, row.remove, False)
+        return row._replace(revision=revision, group=None if row.base else row.revision, add=add, remove=remove)
+
+    def _tuples(self, row: WriteRow, given: list[Row], is_added: bool) -> list[Row]:
+        """Each tuple once for each relation that has it. What no model takes no check sees; but such a write had a model, which the log lacks."""
+        found: list[Row] = []
+        for one in given:
+            key = (one[0], one[2], one[3], one[5])
+            names = self.models.takes(key)
+            if not names and not self.models.is_taken(key):
+                if is_added:
+                    self.refusals.unmapped(row.file, row.line, NOT_TAKEN, str(Relationship(*one)))
+                    self.refusals.doubt(*one[:3])
+                else:
+                    self.refusals.pass_over("stored tuple that no model takes, so that no check sees it")
+            found += [(*one[:2], name, *one[3:5], user_relation) for name, user_relation in names]
+        return found
+
+    def looks(self, checks: Checks) -> Optional[list[Row]]:
+        """The looks of checks with their numbers; None where each has to be looked at by itself."""
+        known: dict[Row, Row] = {}
+        if not self.models.is_plain:
+            return None
+        try:
+            for look in checks.looks:
+                asked = look[5]
+                if asked not in known:
+                    known[asked] = _numbers(Asked(*asked), self.feed)
+                    self.models.name_at("", asked[2], known[asked][0], known[asked][0])
+        except (OtherModel, TwoModels, Bad):
+            return None
+        return [(reply, known[asked][0], shown, known[asked][2], version, None) for reply, _, shown, _, version, asked in checks.looks]
+
+    def doubts(self) -> None:
+        """What is in doubt of a relation is so for each model."""
+        self.refusals.doubts = [(of, id_text, name) for of, id_text, relation in self.refusals.doubts
+                                for name in sorted({self.models.name(model, relation) for model in self.models.used})]
 
 
-class OtherModel(Exception):
-    """A check whose model is not in force at its snapshot."""
+def placed(lines: Lines, base: Moment, given: list[ServiceRules], skew: Optional[int], refusals: Refusals) -> Lines:
+    """The lines of a trace for those of a log with these models, the first in force from the beginning; those that have a place."""
+    feed, models, numbers = _changes(lines, base, given, skew, refusals)
+    placing, made = Placing(feed, models, refusals), Lines()
+    placing.doubts()
+    made.add(models.rules())
 
-
-def placed(lines: Lines, base: Moment, model: Optional[str], skew: Optional[int], refusals: Refusals) -> Lines:
-    """Puts numbers for the timestamps of changes, for changes of the model and for what checks ask; the lines that have one."""
-    feed, models, numbers = _changes(lines, base, model, skew, refusals)
-    made = Lines()
-
-    def numbered(line: Union[Event, tuple[Any, ...]]) -> Optional[Line]:
-        if not isinstance(line, Event):
-            return _place(Entry._make(line), feed, models, refusals)
-        if line.base:
-            line.revision = 0
-        elif line.revision is not None:
-            line.group = line.revision if line.kind == "write" else None
-            line.revision = next(numbers)
-        return line
-
-    def numbered_row(row: tuple[Any, ...]) -> Optional[tuple[Any, ...]]:
+    def numbered(row: Row) -> Optional[Row]:
         if row[0] in CHECKS:
-            kept = numbered(row)
+            kept = placing.check(Entry._make(row))
             return None if kept is None else row_of(kept)
-        return (*row[:3], 0, *row[4:]) if row[5] else (*row[:3], next(numbers), *row[4:6], row[3], *row[7:])
+        return tuple(placing.write(WriteRow._make(row), 0 if row[5] else next(numbers)))
 
     for found in lines.stream():
-        looks = _looks(found, feed, models) if isinstance(found, Checks) else None
+        looks = placing.looks(found) if isinstance(found, Checks) else None
         if isinstance(found, Checks) and looks is not None:
-            made.add_checks(found._replace(looks=looks), numbered_row)
+            made.add_checks(found._replace(looks=looks), numbered)
             continue
-        for line in map(line_of, found.rows()) if isinstance(found, Checks) else (found,):
-            kept = numbered(line)
-            if kept is not None:
-                made.add(kept)
+        for line in found.rows() if isinstance(found, Checks) else (found,):
+            row = None if isinstance(line, Event) and line.kind == "rules" else numbered(row_of(line) if isinstance(line, Event) else line)
+            if row is not None:
+                made.add_row(row)
     return made
 
 
-def _changes(lines: Lines, base: Moment, model: Optional[str], skew: Optional[int],
+def _changes(lines: Lines, base: Moment, given: list[ServiceRules], skew: Optional[int],
              refusals: Refusals) -> tuple[Feed, Models, Iterator[int]]:
-    """The feed and the models of a log, and the number of each change in the order of its lines."""
+    """The feed and the models of a log, and the place of each change in the order of its lines."""
     def changes() -> Iterator[Union[Event, WriteRow]]:
         return (event for event in lines.events() if event.revision is not None and not event.base)
 
@@ -201,60 +205,41 @@ def _changes(lines: Lines, base: Moment, model: Optional[str], skew: Optional[in
     # What is wrong with the order is refused once, where all lines are put into it.
     # Rows of writes have the fields that order them.
     in_order: Iterable[Any] = ordered(cast("list[Event]", as_read), skew, Refusals()) if are_sorted else changes()
-    models, last = Models(model), 0
+    starts = [(BEFORE, 0)]
     times: list[int] = []
-    numbers: list[int] = []
     by_event: dict[int, int] = {}
     for event in in_order:
         if event.kind == "rules":
-            last += 1
-            models.add(event.asked[0], last)
-        else:
-            if base.time is not None and event.revision <= base.time:
-                refusals.refuse(event.file, event.line, "its revision %s is not later than that of the base state" % event.shown)
-            times.append(event.revision)
-            last = len(times) * STRIDE
-        if are_sorted:
-            by_event[id(event)] = last
-        else:
-            numbers.append(last)
-    return Feed(base, times), models, iter([by_event.get(id(event), 0) for event in as_read] if are_sorted else numbers)
+            # By times of several clocks it is not known where a model begins.
+            starts.append((BEFORE if skew else len(times), event.asked[0]))
+            continue
+        if base.time is not None and event.revision <= base.time:
+            refusals.refuse(event.file, event.line, "its revision %s is not later than that of the base state" % event.shown)
+        times.append(event.revision)
+        by_event[id(event)] = len(times)
+    writes = (event for event in as_read if event.kind != "rules")
+    numbers = iter([by_event.get(id(event), 0) for event in writes]) if are_sorted else count(1)
+    return Feed(base, times), Models(given, starts, _asked(lines) if len(given) > 1 else ()), numbers
 
 
-def _looks(checks: Checks, feed: Feed, models: Models) -> Optional[list[tuple[Any, ...]]]:
-    """The looks of checks with their numbers; None where some look has none."""
-    known: dict[tuple[Any, ...], tuple[Any, ...]] = {}
-    try:
-        for look in checks.looks:
-            asked = look[5]
-            if asked not in known:
-                known[asked] = _numbers(Asked(*asked), feed, models)
-    except (OtherModel, Bad):
-        return None
-    return [(reply, known[asked][0], shown, known[asked][2], version, None) for reply, _, shown, _, version, asked in checks.looks]
+def _asked(lines: Lines) -> Iterator[Optional[str]]:
+    """The models that checks name; of many together once."""
+    for found in lines.stream():
+        rows: list[Any] = [found]
+        if isinstance(found, Checks):
+            yield from (look[5][2] for look in found.looks if look[5])
+            rows = [row for _, _, row in found.others]
+        for row in rows:
+            if isinstance(row, tuple) and row[0] in CHECKS and row[11]:
+                yield row[11][2]
 
 
-def _numbers(asked: Asked, feed: Feed, models: Models) -> tuple[int, Optional[int], Optional[int]]:
-    """The number of a check's snapshot, the lowest where it has several, and the number of its token; raises OtherModel and Bad."""
+def _numbers(asked: Asked, feed: Feed) -> tuple[int, Optional[int], Optional[int]]:
+    """The place of a check's snapshot, the lowest where it has several, and the place of its token; raises Bad."""
     moments = [Moment(*one) for one in asked.snapshot]
     lowest = None
     if len(moments) == 1:
-        snapshot = models.number(feed.place(moments[0], "snapshot"), asked.model)
+        snapshot = feed.place(moments[0], "snapshot")
     else:
-        lowest, snapshot = models.range(*feed.range(*moments), asked.model)
-    token = None
-    if asked.token is not None:
-        token = models.demanded(max(feed.place(Moment(*asked.token), "token"), 0), asked.model)
-    return snapshot, lowest, token
-
-
-def _place(entry: Entry, feed: Feed, models: Models, refusals: Refusals) -> Optional[Entry]:
-    assert entry.asked is not None
-    try:
-        snapshot, lowest, token = _numbers(Asked(*entry.asked), feed, models)
-        return entry._replace(snapshot=snapshot, lowest=lowest, token=token, asked=None)
-    except OtherModel:
-        refusals.unmapped_check(entry, causes.OTHER_MODEL, entry.told)
-    except Bad as fault:
-        refusals.unmapped_check(entry, causes.NO_ONE_SNAPSHOT, str(fault))
-    return None
+        lowest, snapshot = feed.range(*moments)
+    return snapshot, lowest, None if asked.token is None else max(feed.place(Moment(*asked.token), "token"), 0)

@@ -1,13 +1,15 @@
 """OpenFGA: an authorization model, tuple changes as ReadChanges gives them, and checks of a recorder's log."""
+import re
 from functools import lru_cache
 from typing import Any, Iterator, Optional
 
 from new_enemy_tools.importing import located, openfga_dsl
 from new_enemy_tools.importing.block import When
 from new_enemy_tools.importing.checks import Look
-from new_enemy_tools.importing.events import EVERY, Event, RelationRule, Stamp, put_stamp
+from new_enemy_tools.importing.events import EVERY, Event, Relationship, RelationRule, Stamp, put_stamp
 from new_enemy_tools.importing.feed import Moment, asked_of, moment_of, placed, shown_of
 from new_enemy_tools.importing.located import List, line_at, line_of
+from new_enemy_tools.importing.models import said_by
 from new_enemy_tools.importing.openfga_answers import answers_of, relationship_of
 from new_enemy_tools.importing.reading import Bad, get, spelled
 from new_enemy_tools.importing.refusals import Refusals
@@ -83,6 +85,9 @@ class ModelReader:
         if not isinstance(model, dict) or not isinstance(get(model, "type_definitions"), list):
             self.refusals.refuse(self.path, self.line, "no authorization model: it has no `type_definitions`")
             return None
+        if not isinstance(get(model, "id"), (str, type(None))):
+            self.refusals.refuse(self.path, line_at(model, "id", self.line), "the id of the model is no text")
+            return None
         if get(model, "schema_version") not in SCHEMAS:
             self.refusals.refuse(self.path, line_at(model, "schema_version", self.line), "schema version %r: only %s are mapped"
                                  % (get(model, "schema_version"), " and ".join(SCHEMAS)))
@@ -95,7 +100,7 @@ class ModelReader:
             self._type(given, event, takes)
         self._refuse_unknown_users(takes, event)
         refuse_wild_tuplesets(event, takes, self.refusals)
-        return ServiceRules(event, get(model, "id"), takes)
+        return ServiceRules(event, get(model, "id") or None, takes)
 
     def _type(self, given: Any, event: Event, takes: dict[tuple[str, str], set[tuple[str, Optional[str]]]]) -> None:
         line = line_of(given, self.line)
@@ -113,6 +118,8 @@ class ModelReader:
         for relation, rewrite in relations.items():
             where = "%s#%s" % (name, relation)
             line = line_at(relations, relation, line)
+            if re.search(r"\s", relation):
+                self.refusals.refuse(self.path, line, "the name of %s has a space, which the service takes in none" % where)
             try:
                 mapped = self._rewrite(rewrite, relations, where, line)
             except Unmapped as fault:
@@ -200,7 +207,6 @@ def _is_direct(rewrite: object) -> bool:
 
 
 class OpenFgaLog(Log):
-    NOT_TAKEN = "tuple that the model does not take"
     NO_LINE = "neither changes of ReadChanges nor a check with its `request`"
     DECIDES = ("allowed", "result", "objects", "users")
     OTHERS = {"Write": ("request.writes", "request.deletes"), "Expand": ("response.tree",), "Read": ("response.tuples",),
@@ -221,6 +227,11 @@ class OpenFgaLog(Log):
         "operation", "changes.0.operation", "continuation_token")
     BASE = "place in the changes feed or time of RFC 3339"
 
+    def __init__(self, rules: ServiceRules, base_at: Optional[Moment], refusals: Refusals):
+        super().__init__(rules._replace(takes={name: set(users) for name, users in rules.takes.items()}), base_at, refusals)
+        # the models of the log, each once
+        self.models = [rules]
+
     @staticmethod
     def read_base(text: str) -> Optional[Moment]:
         try:
@@ -232,7 +243,11 @@ class OpenFgaLog(Log):
         return None if self.base_at is None else 0
 
     def placed(self, lines: Lines, skew: Optional[int]) -> Lines:
-        return placed(lines, self.base_at or Moment(None, None, "the beginning"), self.rules.id, skew, self.refusals)
+        return placed(lines, self.base_at or Moment(None, None, "the beginning"), self.models, skew, self.refusals)
+
+    def may_store(self, given: Relationship) -> bool:
+        """Which tuples some model takes is known when all models are."""
+        return True
 
     def base(self, path: str) -> Iterator[Event]:
         """Tuples as Read gives them, pages with `tuples` or one tuple a line; or those of a store file."""
@@ -315,11 +330,23 @@ class OpenFgaLog(Log):
     def change(self, model: object, value: dict[str, Any], stamp: Stamp, path: str, line: int) -> Iterator[Event]:
         """A model that is in force from here on: that of WriteAuthorizationModel, or one that a recorder names."""
         rules = ModelReader(path, self.refusals, line).rules(model)
-        model_id = get(get(value, "response"), "authorization_model_id") or get(model, "id")
+        model_id = get(get(value, "response"), "authorization_model_id")
         if not isinstance(model_id, (str, type(None))):
             raise Bad("the id of the model is no text")
         if rules:
-            event = put_stamp(rules.event, stamp)
-            event.revision, event.shown, event.asked = 0, "model %s" % model_id, (model_id,)
+            model_id = model_id or rules.id
+            model = self._model(rules._replace(id=model_id), path, line)
             self.take(rules)
+            event = put_stamp(Event("rules", path, line, 0, "model %s" % model_id, asked=(model,)), stamp)
             yield event
+
+    def _model(self, rules: ServiceRules, path: str, line: int) -> int:
+        """The number of a model; one that the log has already is told by its id."""
+        for number, known in enumerate(self.models):
+            if rules.id is not None and known.id == rules.id:
+                if said_by(known) != said_by(rules):
+                    raise Bad("model %s stands at %s:%d with other rules" % (rules.id, known.event.file, known.event.line))
+                return number
+        rules.event.file, rules.event.line = path, line
+        self.models.append(rules)
+        return len(self.models) - 1

@@ -155,6 +155,10 @@ class Log:
     def _takes(self, of: str, relation: str, user_type: str, user_relation: Optional[str]) -> bool:
         return (user_type, user_relation) in self.rules.takes.get((of, relation), ())
 
+    def may_store(self, given: Relationship) -> bool:
+        """Whether some rules take a tuple."""
+        return self._takes(given.type, given.relation, given.user_type, given.user_relation)
+
     def moment(self, value: dict[str, Any], content: Optional[dict[str, Any]]) -> Looked:
         """What a check looked at, and what it demanded; raises Bad."""
         raise NotImplementedError
@@ -273,7 +277,7 @@ class Log:
 
     def put(self, event: Event, given: Relationship, live: bool, reason: Optional[str]) -> bool:
         """Adds a tuple to a write; one that is not mapped, for this reason or another, is left out or refused."""
-        if reason is None and not self._takes(given.type, given.relation, given.user_type, given.user_relation):
+        if reason is None and not self.may_store(given):
             reason = self.NOT_TAKEN
         if reason:
             self.refusals.unmapped(event.file, event.line, reason, str(given))

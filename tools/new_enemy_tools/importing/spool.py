@@ -174,6 +174,11 @@ class Lines:
         else:
             self.spool.add(row_of(line))
 
+    def add_row(self, row: Row) -> None:
+        """Adds a check or a write as the row that it is."""
+        self.facts.note(Entry._make(row) if row[0] in CHECKS else WriteRow._make(row))
+        self.spool.add(row)
+
     def add_piece(self, piece: Union[Read, Event]) -> None:
         """What was read of a block: rules, or lines that stand behind all before."""
         if isinstance(piece, Event):
