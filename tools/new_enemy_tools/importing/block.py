@@ -4,7 +4,7 @@ import re
 from array import array
 from typing import Callable, Iterable, Iterator, Mapping, NamedTuple, Optional, Union
 
-from new_enemy_tools.importing.checks import NAMES, Checks, Look, Other, Row
+from new_enemy_tools.importing.checks import NAMES, NEWEST, Checks, Look, Other, Row
 from new_enemy_tools.importing.events import EVERY, Event, Line
 from new_enemy_tools.importing.located import BLANK, Block
 from new_enemy_tools.importing.shapes import Form, Said, Shape, shape_of
@@ -207,6 +207,7 @@ class Reader:
         if look is None:
             return None
         reply, snapshot, shown, token, version, asked = look
+        token = None if token == NEWEST else token
         goal = (*(text.decode() for text in found.group(*shape.goal)), None)
         return ("content", self.path, number, goal, reply, snapshot, shown, token, version, None, False, asked, None,
                 nanoseconds(found[shape.time].decode()) if shape.time else None, self.path, None, None)

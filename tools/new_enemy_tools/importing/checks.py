@@ -13,6 +13,8 @@ from new_enemy_tools.importing.times import nanoseconds
 Row = tuple[Any, ...]
 # In place of a line: the checks behind it are the first of a type and relation.
 NAMES = "names"
+# In place of the token of a check that names a version: it asked for the newest state, and so for all that its version has to show.
+NEWEST = -2
 Other = tuple[int, int, Row]
 
 

@@ -86,7 +86,7 @@ class Core:
                          for relation in self.declared.rules.relations(name)], self.edges, self.refusals)
         if self.refusals.refused:
             return None
-        shown, before = Shown(self.declared, self.ids, strata, self._times(strata)), self._before
+        shown, before = Shown(self.declared, self.ids, strata, self._times(strata), self.taken.demanded), self._before
         if before is None:
             shown.begin()
         else:
@@ -338,7 +338,7 @@ class Core:
         asked = Asked(entry.kind, goal, entry.reply, entry.lowest, entry.snapshot, entry.token, entry.newest)
         first, *others = self.taken.states.chosen(asked, place)
         has_token = entry.newest and entry.token is None and (entry.kind == "check" or entry.reply)
-        token = first if has_token else entry.token
+        token = first if has_token else self.taken.demanded(entry.goal, entry.version, first, entry.token)
         made = [entry._replace(snapshot=first, token=token)]
         made += [entry._replace(kind="check", snapshot=at, token=None, version=None, part=None, named=None) for at in others]
         for number, one in enumerate(made):

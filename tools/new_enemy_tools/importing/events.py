@@ -3,6 +3,7 @@ import sys
 from dataclasses import dataclass, field
 from typing import Any, Iterable, Iterator, NamedTuple, Optional, Union
 
+from new_enemy_tools.importing.checks import NEWEST
 from new_enemy_tools.importing.refusals import Refusals
 from new_enemy_tools.importing.times import nanoseconds
 from new_enemy_tools.keys import unread, unread_in_expression
@@ -17,7 +18,7 @@ STAMP = frozenset(("sequence", "time", "clock"))
 EVERY_EVENT = STAMP | {"event", "file", "line"}
 ENTRY = EVERY_EVENT | {"goal", "snapshot", "snapshot_between", "newest_between", "reply", "token", "version"}
 KEYS = {"rules": EVERY_EVENT | {"revision", "namespaces"}, "write": EVERY_EVENT | {"revision", "base", "add", "remove"},
-        "check": ENTRY, "content": ENTRY | {"newest"},
+        "check": ENTRY | {"newest"}, "content": ENTRY | {"newest"},
         "gap": EVERY_EVENT | {"from", "to", "reason", "lost"}, "unmapped": EVERY_EVENT | {"reason", "detail", "userset", "version"},
         "log": EVERY_EVENT | {"number", "before", "service", "cursor", "revision", "rules_sha256", "behind"},
         "place": EVERY_EVENT | {"cursor", "revision", "rules_sha256", "behind"}, "closed": EVERY_EVENT | {"count", "sha256"}}
@@ -275,9 +276,12 @@ def _entry(kind: str, file: str, line: int, value: dict[str, Any], stamp: Stamp)
     token = _whole_or_none(value, "token")
     if not isinstance(value.get("reply"), bool):
         raise _Fault("`reply` is neither true nor false")
-    newest = newest_of(value, _Fault) or value.get("newest_between") is not None
+    newest = newest_of(value, _Fault)
     if not isinstance(value.get("version"), (str, type(None))):
         raise _Fault("`version` is no text")
+    if kind == "check" and newest:
+        newest, token = False, NEWEST if token is None and value.get("version") is not None else token
+    newest |= value.get("newest_between") is not None
     return Entry(kind, file, line, goal, value["reply"], snapshot, shown, token, value.get("version"), lowest, newest, None,
                  sequence_of(stamp), stamp.time, stamp.clock)
 

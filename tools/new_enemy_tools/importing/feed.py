@@ -117,6 +117,7 @@ class Placing:
         assert entry.asked is not None
         try:
             snapshot, lowest, token = _numbers(Asked(*entry.asked), self.feed)
+            token = entry.token if token is None else token
             name = self.models.name_at(entry.goal[2], entry.asked[2], snapshot if lowest is None else lowest, snapshot)
             goal = (*entry.goal[:2], name, *entry.goal[3:])
             return entry._replace(goal=goal, snapshot=snapshot, lowest=lowest, token=token, asked=None)
@@ -161,7 +162,8 @@ class Placing:
                     self.models.name_at("", asked[2], known[asked][0], known[asked][0])
         except (OtherModel, TwoModels, Bad):
             return None
-        return [(reply, known[asked][0], shown, known[asked][2], version, None) for reply, _, shown, _, version, asked in checks.looks]
+        return [(reply, known[asked][0], shown, token if known[asked][2] is None else known[asked][2], version, None)
+                for reply, _, shown, token, version, asked in checks.looks]
 
     def doubts(self) -> None:
         """What is in doubt of a relation is so for each model."""

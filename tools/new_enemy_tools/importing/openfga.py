@@ -1,4 +1,5 @@
 """OpenFGA: an authorization model, tuple changes as ReadChanges gives them, and checks of a recorder's log."""
+import json
 import re
 from functools import lru_cache
 from typing import Any, Iterator, Optional
@@ -13,7 +14,8 @@ from new_enemy_tools.importing.models import said_by
 from new_enemy_tools.importing.openfga_answers import answers_of, relationship_of
 from new_enemy_tools.importing.reading import Bad, get, spelled
 from new_enemy_tools.importing.refusals import Refusals
-from new_enemy_tools.importing.service import Answer, Log, Looked, ServiceRules, nested, one_of, refuse_wild_tuplesets, text_or_none
+from new_enemy_tools.importing.service import (Answer, Log, Looked, ServiceRules, demand_of, nested, one_of, refuse_wild_tuplesets,
+                                               text_or_none)
 from new_enemy_tools.importing.shapes import ID, LABEL, PART, REPLY, REST, TEXT, TIME, WHOLE, Field, Said, field, form, needed
 from new_enemy_tools.importing.simple_yaml import beside, is_yaml, read_yaml
 from new_enemy_tools.importing.spool import Lines
@@ -21,6 +23,8 @@ from new_enemy_tools.importing.times import nanoseconds
 
 SCHEMAS = ("1.1", "1.2")
 OPERATIONS = {"TUPLE_OPERATION_WRITE": True, "TUPLE_OPERATION_DELETE": False}
+# Whether the newest state is asked for: the names and the numbers that JSON of protobuf may have.
+CONSISTENCY = {None: False, "UNSPECIFIED": False, 0: False, "MINIMIZE_LATENCY": False, 100: False, "HIGHER_CONSISTENCY": True, 200: True}
 REWRITES = ("this", "computedUserset", "tupleToUserset", "union", "intersection", "difference")
 
 MOMENT = b'(?:%s|"(%s+)")' % (WHOLE, TEXT)
@@ -217,8 +221,9 @@ class OpenFgaLog(Log):
     KEYS = Log.KEYS | {"snapshot", "snapshot_between", "token"}
     RULES = (b'"type_definitions"', b'"typeDefinitions"', b'"authorization_model"', b'"authorizationModel"')
     ASKED = {**_goal("request.tuple_key.", ID), "request.authorization_model_id": field(b'"(%s*)"' % TEXT, "model"),
+             "request.consistency": field(b'("[A-Z_]+"|[0-9]{1,3})', "consistency"),
              "response.allowed": field(REPLY, "reply"), "snapshot": field(MOMENT, "place", "moment"), "time": field(TIME, "time")}
-    FIXED = ("request.consistency", "response.resolution")
+    FIXED = ("response.resolution",)
     CHECK = form({**ASKED, "token": field(MOMENT, "token_place", "token"), "version": field(LABEL, "version")}, *FIXED)
     CONTENT_CHECK = form({**ASKED, "content.token": field(MOMENT, "token_place", "token"), "content.version": field(LABEL, "version")},
                          *FIXED)
@@ -312,13 +317,19 @@ class OpenFgaLog(Log):
             return None
         if snapshot is None:
             return None
-        return Look(said["reply"] == b"true", None, snapshot[2], None, None if version is None else version.decode(),
+        demanded, label = json.loads(said.get("consistency") or b"null"), None if version is None else version.decode()
+        if demanded not in CONSISTENCY:
+            return None
+        return Look(said["reply"] == b"true", None, snapshot[2], demand_of(CONSISTENCY[demanded], label, token), label,
                     ((snapshot,), token, model.decode() if model else None))
 
     def moment(self, value: dict[str, Any], content: Optional[dict[str, Any]]) -> Looked:
         holder = value if content is None else content
         asked = asked_of(value, get(holder, "token"), get(get(value, "request"), "authorization_model_id"))
-        return Looked(None, shown_of(asked), None, text_or_none(get(holder, "version"), "version"), asked)
+        version, demanded = text_or_none(get(holder, "version"), "version"), get(get(value, "request"), "consistency")
+        if isinstance(demanded, bool) or not isinstance(demanded, (str, int, type(None))) or demanded not in CONSISTENCY:
+            raise Bad("unknown consistency %r" % (demanded,))
+        return Looked(None, shown_of(asked), demand_of(content is None and CONSISTENCY[demanded], version, asked.token), version, asked)
 
     def answers(self, value: dict[str, Any]) -> Iterator[Answer]:
         return answers_of(get(value, "request"), get(value, "response"), self.refusals)

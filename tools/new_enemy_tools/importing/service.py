@@ -7,7 +7,7 @@ from typing import Any, Iterable, Iterator, NamedTuple, Optional
 from new_enemy_tools import limits
 from new_enemy_tools.importing import causes, located, passing
 from new_enemy_tools.importing.block import Reader, Usual, When
-from new_enemy_tools.importing.checks import Look
+from new_enemy_tools.importing.checks import NEWEST, Look
 from new_enemy_tools.importing.events import EVERY, STAMP, Entry, Event, Line, Relationship, Stamp, newest_of, sequence_of, stamp_of
 from new_enemy_tools.importing.reading import Bad, get
 from new_enemy_tools.importing.refusals import Refusals
@@ -70,6 +70,11 @@ class Looked(NamedTuple):
     token: Optional[int]
     version: Optional[str]
     asked: Optional[tuple[Any, ...]]
+
+
+def demand_of(asked_for_newest: bool, version: Optional[str], token: object) -> Optional[int]:
+    """In place of a token, what a check with a version demanded that names none and asked for the newest state."""
+    return NEWEST if asked_for_newest and version is not None and token is None else None
 
 
 def content_of(value: object) -> Optional[dict[str, Any]]:

@@ -1,16 +1,17 @@
 """The texts of a trace's lines."""
 import json
 from json.encoder import encode_basestring  # type: ignore[attr-defined]
-from typing import Any, Iterable, Iterator, Optional
+from typing import Any, Callable, Iterable, Iterator, Optional
 
 from new_enemy_tools import texts
 from new_enemy_tools.edges import Name
 from new_enemy_tools.ids import Ids
-from new_enemy_tools.importing.checks import Checks, Look, column
+from new_enemy_tools.importing.checks import NEWEST, Checks, Look, column
 from new_enemy_tools.importing.declared import Declared
 from new_enemy_tools.importing.times import in_utc, text_of_time
 from new_enemy_tools.rules import Declaration, Relation, form_of
 
+Demanded = Callable[[tuple[Any, ...], Optional[str], int, Optional[int]], Optional[int]]
 encode = json.JSONEncoder(ensure_ascii=False, separators=(",", ":")).encode
 
 
@@ -22,8 +23,9 @@ def _time(time: Optional[int]) -> str:
 class Shown:
     """Lines by the timestamps of revisions; the names of rules are put into the table before all lines."""
 
-    def __init__(self, declared: Declared, ids: Ids, strata: dict[Name, int], times: dict[int, int]):
-        self.ids, self.strata, self.times = ids, strata, times
+    def __init__(self, declared: Declared, ids: Ids, strata: dict[Name, int], times: dict[int, int], demanded: Demanded):
+        """`demanded` says which revision a check demanded, by its goal, version, snapshot and token."""
+        self.ids, self.strata, self.times, self.demanded = ids, strata, times, demanded
         first = {one.name: one for one in declared.rules.declarations if one.at is None}
         self._head = [self._namespace(first[name]) for name in declared.head]
         self.changes = {revision: list(map(self._namespace, changes)) for revision, changes in declared.changes.items()}
@@ -76,14 +78,25 @@ class Shown:
         begins = ['{"kind":"check","goal":"%s:' % ids.name("namespace", of) for of, _ in checks.pairs]
         ends = ["#%s@" % ids.name("relation", relation) for _, relation in checks.pairs]
         users = list(map(str, checks.users))
-        looks = self._looks(checks.looks, checks.file)
+        looks = self._looks([(*look[:3], look[1], *look[4:]) if look[3] == NEWEST else look for look in checks.looks], checks.file)
         columns = (column(checks.pair_of), checks.objects.split("\n"), column(checks.user_of), column(checks.look_of), column(checks.lines, "Q"))
-        if not checks.times:
-            return [f'{begins[pair]}{thing}{ends[pair]}{users[user]}{looks[look]}{line}"}}\n' for pair, thing, user, look, line in zip(*columns)]
         times = map(in_utc, checks.times.split("\n"))
-        return [f'{begins[pair]}{thing}{ends[pair]}{users[user]}{looks[look]}{line}","time":"{time}"}}\n' if time else
+        made = [f'{begins[pair]}{thing}{ends[pair]}{users[user]}{looks[look]}{line}","time":"{time}"}}\n' if time else
                 f'{begins[pair]}{thing}{ends[pair]}{users[user]}{looks[look]}{line}"}}\n'
-                for pair, thing, user, look, line, time in zip(*columns, times)]
+                for pair, thing, user, look, line, time in zip(*columns, times)] if checks.times else [
+            f'{begins[pair]}{thing}{ends[pair]}{users[user]}{looks[look]}{line}"}}\n' for pair, thing, user, look, line in zip(*columns)]
+        if any(look[3] == NEWEST for look in checks.looks):
+            self._demand_versions(checks, looks, made)
+        return made
+
+    def _demand_versions(self, checks: Checks, looks: list[str], made: list[str]) -> None:
+        """Changes the lines of checks that asked for the newest state, and saw an older one than that of their version."""
+        for place, (pair, thing, look) in enumerate(zip(column(checks.pair_of), checks.objects.split("\n"), column(checks.look_of))):
+            reply, snapshot, shown, token, version, _ = checks.looks[look]
+            demanded = self.demanded((checks.pairs[pair][0], thing), version, snapshot, token)
+            if token == NEWEST and demanded != snapshot:
+                text, = self._looks([(reply, snapshot, shown, demanded, version, None)], checks.file)
+                made[place] = made[place].replace(looks[look], text, 1)
 
     def snapshots(self, checks: Checks) -> list[int]:
         """The timestamps at which many checks looked."""
@@ -105,6 +118,7 @@ class Shown:
         ids = self.ids
         text = "%s:%s#%s@%d" % (ids.name("namespace", goal[0]), ids.object(goal[0], goal[1]), ids.name("relation", goal[2]),
                                 ids.number("user", goal[3], goal[4]))
+        token = self.demanded(goal, version, snapshot, token)
         look = Look(reply, snapshot, shown, token, None if version is None else ids.version(version), None)
         part, named = row[15:17]
         more = _time(row[13]) + ("" if part is None else ',"part":' + encode_basestring(part))

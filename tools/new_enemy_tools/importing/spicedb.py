@@ -9,7 +9,7 @@ from new_enemy_tools.importing.events import EVERY, Event, Line, Relationship, S
 from new_enemy_tools.importing.located import line_of
 from new_enemy_tools.importing.reading import Bad, get
 from new_enemy_tools.importing.refusals import Refusals
-from new_enemy_tools.importing.service import Answer, Log, Looked, ServiceRules, one_of, text_or_none
+from new_enemy_tools.importing.service import Answer, Log, Looked, ServiceRules, demand_of, one_of, text_or_none
 from new_enemy_tools.importing.shapes import GOAL, ID, LABEL, TEXT, TIME, Field, Said, field, form, needed
 from new_enemy_tools.importing.simple_yaml import is_yaml, read_yaml
 from new_enemy_tools.importing.spicedb_answers import answers_of, relationship_of, revision_at, revision_in
@@ -47,8 +47,8 @@ class SpiceDbLog(Log):
     RULES = (b'"schema"',)
     DECIDES = ("permissionship", "pairs", "resourceObjectId", "subject", "subjectObjectId")
     ASKED = {**_goal("request.", "permission", ID), "response.checked_at.token": field(b'"(%s+)"' % TEXT, "snapshot"),
-             "response.permissionship": field(b'"PERMISSIONSHIP_(HAS|NO)_PERMISSION"', "reply"), "time": field(TIME, "time")}
-    FIXED = ("request.consistency.minimize_latency", "request.consistency.fully_consistent", "request.subject.optional_relation")
+             "request.consistency.fully_consistent": field(b"(true)", "newest"), "response.permissionship": field(b'"PERMISSIONSHIP_(HAS|NO)_PERMISSION"', "reply"), "time": field(TIME, "time")}
+    FIXED = ("request.consistency.minimize_latency", "request.subject.optional_relation")
     CHECK = form({**ASKED, "request.consistency.at_least_as_fresh.token": field(b'"(%s+)"' % TEXT, "token"),
                   "version": field(LABEL, "version")}, *FIXED)
     CONTENT_CHECK = form({**ASKED, "content.version": field(LABEL, "version"), "content.token": field(b'"(%s+)"' % TEXT, "token")}, *FIXED)
@@ -173,7 +173,7 @@ class SpiceDbLog(Log):
             token = None if demanded is None else read_revision(demanded.decode())
             if revision is None or token is None and demanded is not None:
                 return None
-            looked = self._looked(revision, token, None if version is None else version.decode())
+            looked = self._looked(revision, token, None if version is None else version.decode(), said.get("newest") is not None)
         except (Bad, Older):
             return None
         return Look(said["reply"] == b"HAS", looked.snapshot, looked.shown, looked.token, looked.version,
@@ -183,14 +183,16 @@ class SpiceDbLog(Log):
         revision = revision_at(get(value, "response"))
         token = self._token(get(value, "request"), content)
         version = text_or_none(get(value if content is None else content, "version"), "version")
-        return self._looked(revision, token, version)
+        asks = content is None and get(get(get(value, "request"), "consistency"), "fullyConsistent") is True
+        return self._looked(revision, token, version, asks)
 
     @staticmethod
-    def _looked(revision: Revision, token: Optional[Revision], version: Optional[str]) -> Looked:
+    def _looked(revision: Revision, token: Optional[Revision], version: Optional[str], asks_for_newest: bool) -> Looked:
         if token and bool(token.snapshot) != bool(revision.snapshot):
             raise Bad("the token is of another datastore than `checkedAt`")
         asked = (revision.snapshot, token and token.snapshot) if revision.snapshot else None
-        return Looked(revision.number, revision.shown, token and token.number, version, asked)
+        demanded = token.number if token else demand_of(asks_for_newest, version, token)
+        return Looked(revision.number, revision.shown, demanded, version, asked)
 
     @staticmethod
     def _token(request: object, content: object) -> Optional[Revision]:

@@ -4,7 +4,7 @@ import tempfile
 from typing import IO, Callable, Iterable, Iterator, NamedTuple, Optional, Union
 
 from new_enemy_tools.ids import Ids
-from new_enemy_tools.importing.checks import NAMES, Checks, Row
+from new_enemy_tools.importing.checks import NAMES, NEWEST, Checks, Row
 from new_enemy_tools.importing.events import EVERY, Entry, Event, Line, Relationship
 
 BATCH = 1 << 12
@@ -270,11 +270,11 @@ class Lines:
         """From where to where the checks looked, and what they demanded; of many together once."""
         for found in self.stream():
             if isinstance(found, Checks):
-                yield from ((look[1], look[1], look[3]) for look in found.looks)
+                yield from ((look[1], look[1], None if look[3] == NEWEST else look[3]) for look in found.looks)
             rows: list[Union[Event, Row]] = [row for _, _, row in found.others] if isinstance(found, Checks) else [found]
             for row in rows:
                 if isinstance(row, tuple) and row[0] in CHECKS:
-                    yield row[5] if row[9] is None else row[9], row[5], row[7]
+                    yield row[5] if row[9] is None else row[9], row[5], None if row[7] == NEWEST else row[7]
 
     def _line(self, row: Row) -> Union[Event, Row]:
         return self.rules[row[1]] if row[0] == "rules" else line_of(row)

@@ -9,7 +9,7 @@ from new_enemy_tools.edges import Name
 from new_enemy_tools.ids import Ids
 from new_enemy_tools.importing import causes
 from new_enemy_tools.importing.between import Spans, States
-from new_enemy_tools.importing.checks import NAMES, Checks, Other, column
+from new_enemy_tools.importing.checks import NAMES, NEWEST, Checks, Other, column
 from new_enemy_tools.importing.commits import Commit, Writer
 from new_enemy_tools.importing.declared import Declared
 from new_enemy_tools.importing.events import Entry, Event
@@ -129,7 +129,7 @@ class Taken:
                 self._take(line_of(row), spans)
             return
         for revision in {look[1] for look in checks.looks} | {look[3] for look in checks.looks}:
-            if revision is not None:
+            if revision not in (None, NEWEST):
                 self.wanted.setdefault(revision, 1)
         self.among, self.at = [], 0
         numbers = checks.numbers or self.ids.known_users(checks.users)
@@ -234,7 +234,7 @@ class Taken:
         wanted = self.wanted
         if snapshot not in wanted:
             wanted[snapshot] = 1
-        if token is not None and token not in wanted:
+        if token not in (None, NEWEST) and token not in wanted:
             wanted[token] = 1
         if lowest is not None and lowest not in wanted:
             wanted[lowest] = 1
@@ -294,6 +294,14 @@ class Taken:
         if self.may_be_older or self.has_gap and not is_late or self.refusals.has_lost_version or self._is_in_gap(entry.time):
             return entry._replace(version=None, part=causes.VERSION_UNKNOWN, named=entry.version)
         return entry
+
+    def demanded(self, goal: tuple[Any, ...], version: Optional[str], snapshot: int, token: Optional[int]) -> Optional[int]:
+        """The revision that a check demanded. Who asks for the newest state asks for that of the version, too."""
+        if token != NEWEST or version is None:
+            return None if token == NEWEST else token
+        before = self.issued.get((goal[0], goal[1], version or ""))
+        issued = before[0][4] if before else None
+        return max(snapshot, issued) if issued in self.wanted and issued is not None else snapshot
 
     def timestamps(self) -> dict[int, int]:
         """The last timestamp of each revision: dense, and as many for a commit as it has lines."""

@@ -175,7 +175,7 @@ def _place(entry: Entry, asked: tuple[Any, ...], history: History, base: Optiona
     if number is None:
         refusals.unmapped_check(entry, causes.NO_BEGINNING, entry.shown)
         return None
-    demanded = None if token is None else history.number(token)
+    demanded = entry.token if token is None else history.number(token)
     if token is not None and demanded is None:
         if entry.version is not None:
             refusals.unmapped_check(entry, causes.TOKEN_NO_BEGINNING, str(token))
