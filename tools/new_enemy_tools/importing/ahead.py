@@ -7,7 +7,7 @@ from new_enemy_tools.importing.refusals import Refusals
 from new_enemy_tools.importing.spool import Facts, Lines
 
 # What matters to lines that stand before the one that has it.
-LATE = ("is_sequenced", "has_newest", "has_between", "has_groups", "has_every", "has_asked")
+LATE = ("is_sequenced", "has_newest", "has_between", "has_groups", "has_every", "has_asked", "has_calls")
 
 
 class Ahead:

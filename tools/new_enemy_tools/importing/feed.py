@@ -1,8 +1,9 @@
 """OpenFGA's changes feed: revisions are places in it, counted from 1 behind the base state, and timestamps are labels."""
 from bisect import bisect_right
-from itertools import accumulate, count
+from itertools import accumulate
 from typing import Any, Iterable, Iterator, NamedTuple, Optional, Union, cast
 
+from new_enemy_tools.importing.causes import NO_ONE_SNAPSHOT, OTHER_MODEL
 from new_enemy_tools.importing.checks import Checks, Row
 from new_enemy_tools.importing.events import Entry, Event, Relationship, is_whole
 from new_enemy_tools.importing.models import Models, OtherModel, TwoModels
@@ -122,11 +123,11 @@ class Placing:
             goal = (*entry.goal[:2], name, *entry.goal[3:])
             return entry._replace(goal=goal, snapshot=snapshot, lowest=lowest, token=token, asked=None)
         except OtherModel:
-            self.refusals.unmapped_check(entry, "check with another model", entry.told)
+            self.refusals.unmapped_check(entry, OTHER_MODEL, entry.told)
         except TwoModels as fault:
             self.refusals.refuse(entry.file, entry.line, str(fault))
         except Bad as fault:
-            self.refusals.unmapped_check(entry, "check without one snapshot", str(fault))
+            self.refusals.unmapped_check(entry, NO_ONE_SNAPSHOT, str(fault))
         return None
 
     def write(self, row: WriteRow, revision: int) -> WriteRow:
@@ -182,7 +183,11 @@ def placed(lines: Lines, base: Moment, given: list[ServiceRules], skew: Optional
         if row[0] in CHECKS:
             kept = placing.check(Entry._make(row))
             return None if kept is None else row_of(kept)
-        return tuple(placing.write(WriteRow._make(row), 0 if row[5] else next(numbers)))
+        place = 0 if row[5] else next(numbers)
+        if place is None:
+            refusals.pass_over("change that was read twice")
+            return None
+        return tuple(placing.write(WriteRow._make(row), place))
 
     for found in lines.stream():
         looks = placing.looks(found) if isinstance(found, Checks) else None
@@ -197,8 +202,8 @@ def placed(lines: Lines, base: Moment, given: list[ServiceRules], skew: Optional
 
 
 def _changes(lines: Lines, base: Moment, given: list[ServiceRules], skew: Optional[int],
-             refusals: Refusals) -> tuple[Feed, Models, Iterator[int]]:
-    """The feed and the models of a log, and the place of each change in the order of its lines."""
+             refusals: Refusals) -> tuple[Feed, Models, Iterator[Optional[int]]]:
+    """The feed and the models of a log, and the place of each change in the order of its lines; none for one that was read twice."""
     def changes() -> Iterator[Union[Event, WriteRow]]:
         return (event for event in lines.events() if event.revision is not None and not event.base)
 
@@ -207,9 +212,11 @@ def _changes(lines: Lines, base: Moment, given: list[ServiceRules], skew: Option
     # What is wrong with the order is refused once, where all lines are put into it.
     # Rows of writes have the fields that order them.
     in_order: Iterable[Any] = ordered(cast("list[Event]", as_read), skew, Refusals()) if are_sorted else changes()
+    repeated = Repeated(event.revision for event in (in_order if are_sorted else changes()) if event.kind != "rules")
     starts = [(BEFORE, 0)]
     times: list[int] = []
-    by_event: dict[int, int] = {}
+    places: list[Optional[int]] = []
+    by_event: dict[int, Optional[int]] = {}
     for event in in_order:
         if event.kind == "rules":
             # By times of several clocks it is not known where a model begins.
@@ -217,11 +224,49 @@ def _changes(lines: Lines, base: Moment, given: list[ServiceRules], skew: Option
             continue
         if base.time is not None and event.revision <= base.time:
             refusals.refuse(event.file, event.line, "its revision %s is not later than that of the base state" % event.shown)
-        times.append(event.revision)
-        by_event[id(event)] = len(times)
-    writes = (event for event in as_read if event.kind != "rules")
-    numbers = iter([by_event.get(id(event), 0) for event in writes]) if are_sorted else count(1)
-    return Feed(base, times), Models(given, starts, _asked(lines) if len(given) > 1 else ()), numbers
+        is_again = repeated.has(event)
+        if not is_again:
+            times.append(event.revision)
+        if are_sorted:
+            by_event[id(event)] = None if is_again else len(times)
+        else:
+            places.append(None if is_again else len(times))
+    if are_sorted:
+        places = [by_event.get(id(event), 0) for event in as_read if event.kind != "rules"]
+    return Feed(base, times), Models(given, starts, _asked(lines) if len(given) > 1 else ()), iter(places)
+
+
+class Repeated:
+    """Which changes stand in the log a second time, as those of a page that was read twice do.
+
+    What is kept is of one timestamp, and of those whose changes do not stand together. No tuple is added twice with nothing between.
+    """
+
+    def __init__(self, times: Iterable[int]):
+        seen: set[int] = set()
+        self.apart: dict[int, set[tuple[bool, Row]]] = {}
+        last = None
+        for time in times:
+            if time != last and time in seen:
+                self.apart[time] = set()
+            seen.add(time)
+            last = time
+        self.time: Optional[int] = None
+        # of the changes that stand together, each tuple with whether it is stored
+        self.touched: dict[Row, bool] = {}
+
+    def has(self, event: Any) -> bool:
+        """Whether a change, the next in order, was there before."""
+        if event.revision != self.time:
+            if self.time in self.apart:
+                self.apart[self.time].update((live, given) for given, live in self.touched.items())
+            self.time, self.touched = event.revision, {}
+        is_again = False
+        for live, listed in ((True, event.add), (False, event.remove)):
+            for given in map(tuple, listed):
+                is_again = self.touched.get(given) == live or (live, given) in self.apart.get(event.revision, ())
+                self.touched[given] = live
+        return is_again
 
 
 def _asked(lines: Lines) -> Iterator[Optional[str]]:

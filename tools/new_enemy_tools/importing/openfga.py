@@ -18,7 +18,7 @@ from new_enemy_tools.importing.service import (Answer, Log, Looked, ServiceRules
                                                text_or_none)
 from new_enemy_tools.importing.shapes import ID, LABEL, PART, REPLY, REST, TEXT, TIME, WHOLE, Field, Said, field, form, needed
 from new_enemy_tools.importing.simple_yaml import beside, is_yaml, read_yaml
-from new_enemy_tools.importing.spool import Lines
+from new_enemy_tools.importing.spool import CALL, Lines
 from new_enemy_tools.importing.times import nanoseconds
 
 SCHEMAS = ("1.1", "1.2")
@@ -218,6 +218,9 @@ class OpenFgaLog(Log):
               "ReadAuthorizationModels": ("response.authorization_models",), "ReadAssertions": ("response.assertions",),
               "WriteAssertions": ("request.assertions",), "GetStore": (), "ListStores": ("response.stores",), "CreateStore": (),
               "UpdateStore": (), "DeleteStore": ()}
+    WRITES = ("Write",)
+    CALL_KNOWN = "other call (Write)"
+    GIVE_CHANGES = "give the changes as ReadChanges answers them, or each line of Write its `time`"
     KEYS = Log.KEYS | {"snapshot", "snapshot_between", "token"}
     RULES = (b'"type_definitions"', b'"typeDefinitions"', b'"authorization_model"', b'"authorizationModel"')
     ASKED = {**_goal("request.tuple_key.", ID), "request.authorization_model_id": field(b'"(%s*)"' % TEXT, "model"),
@@ -248,6 +251,8 @@ class OpenFgaLog(Log):
         return None if self.base_at is None else 0
 
     def placed(self, lines: Lines, skew: Optional[int]) -> Lines:
+        lines = self.with_calls(lines, any(True for _ in lines.writes()), lambda row: None)
+        self.refuse_unseen(lines)
         return placed(lines, self.base_at or Moment(None, None, "the beginning"), self.models, skew, self.refusals)
 
     def may_store(self, given: Relationship) -> bool:
@@ -294,6 +299,18 @@ class OpenFgaLog(Log):
             event = put_stamp(Event("write", path, here, revision, shown), stamp, place)
             event.time = revision if event.time is None else event.time
             self._put_key(event, get(change, "tuple_key"), live)
+            yield event
+
+    def calls(self, value: dict[str, Any], stamp: Stamp, path: str, line: int) -> Iterator[Event]:
+        """The tuples of a Write at the time of its line, each a change of its own: the deletes first, as the service's changes have them."""
+        request = get(value, "request")
+        sides = [("deletes", False), ("writes", True)]
+        keys = [(key, live) for side, live in sides for key in get(get(request, side), "tuple_keys") or ()]
+        if not keys or stamp.time is None:
+            return
+        for place, (key, live) in enumerate(keys):
+            event = put_stamp(Event(CALL, path, line_of(key, line), stamp.time, get(value, "time")), stamp, place)
+            self._put_key(event, key, live)
             yield event
 
     def _put_key(self, event: Event, key: object, live: bool) -> bool:

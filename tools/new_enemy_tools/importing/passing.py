@@ -4,6 +4,8 @@ from typing import Iterable, Optional
 from new_enemy_tools.importing.reading import Bad, get
 
 LONGEST = 60
+# What the status of a call that did not fail is called.
+FINE = ("OK", "Ok", "ok", "0", "200", "")
 # What a recorder may add to say so.
 KEYS = frozenset(("error", "status", "method"))
 
@@ -16,6 +18,8 @@ def failure_of(value: object, decides: Iterable[str]) -> Optional[str]:
     status = get(value, "status")
     if isinstance(status, int) and status >= 400:
         return "failed request (%d)" % status
+    if isinstance(status, str) and status not in FINE or get(status, "code") not in (None, 0, *FINE):
+        return _failed(status if isinstance(status, str) else get(status, "code"))
     for holder in (value, response):
         error = get(holder, "error")
         if error:
@@ -42,8 +46,8 @@ def other_call_of(value: object, calls: dict[str, tuple[str, ...]]) -> Optional[
     """The call of a line that records no decision: each call has keys of its request or response that no other has."""
     method = method_of(value)
     if method in calls:
-        return "other call (%s)" % method
+        return method
     for call, keys in calls.items() if method is None else ():
         if any(get(get(value, part), key) is not None for part, key in (one.split(".") for one in keys)):
-            return "other call (%s)" % call
+            return call
     return None

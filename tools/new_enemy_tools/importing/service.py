@@ -2,17 +2,17 @@
 from contextlib import closing
 from functools import partial
 from itertools import islice
-from typing import Any, Iterable, Iterator, NamedTuple, Optional
+from typing import Any, Callable, Iterable, Iterator, NamedTuple, Optional
 
 from new_enemy_tools import limits
 from new_enemy_tools.importing import causes, located, passing
 from new_enemy_tools.importing.block import Reader, Usual, When
-from new_enemy_tools.importing.checks import NEWEST, Look
+from new_enemy_tools.importing.checks import NEWEST, Look, Row
 from new_enemy_tools.importing.events import EVERY, STAMP, Entry, Event, Line, Relationship, Stamp, newest_of, sequence_of, stamp_of
 from new_enemy_tools.importing.reading import Bad, get
 from new_enemy_tools.importing.refusals import Refusals
 from new_enemy_tools.importing.shapes import Form, Said
-from new_enemy_tools.importing.spool import Lines, Read
+from new_enemy_tools.importing.spool import CALL, Lines, Read, row_of
 from new_enemy_tools.keys import near, unread
 from new_enemy_tools.parting.sharing import shared
 from new_enemy_tools.rules import places
@@ -103,6 +103,9 @@ class Log:
     # of a response, what a decision stands in, a single one first; and the calls that have none
     DECIDES: tuple[str, ...] = ()
     OTHERS: dict[str, tuple[str, ...]] = {}
+    # those of them that write; what is told of a call whose changes the log has; and what a log lacks that has no changes
+    WRITES: tuple[str, ...] = ()
+    CALL_KNOWN = GIVE_CHANGES = ""
     # what stands in each line that says of new rules
     RULES: tuple[bytes, ...] = ()
     CONTENT = frozenset(("version", "token"))
@@ -230,7 +233,14 @@ class Log:
                 if rules is not None:
                     yield from self.change(rules, value, stamp, path, line)
                     continue
-                passed = passing.failure_of(value, self.DECIDES) or is_check and passing.other_call_of(value, self.OTHERS)
+                passed = passing.failure_of(value, self.DECIDES)
+                if passed is None and is_check and get(value, "response") is not None:
+                    made = list(self.calls(value, stamp, path, line))
+                    if made:
+                        yield from made
+                        continue
+                if passed is None and (is_check or get(value, "method") is not None):
+                    passed = self._other_call(value, path, line)
                 if passed:
                     self.refusals.pass_over(passed)
                 elif is_check:
@@ -239,6 +249,42 @@ class Log:
                     raise Bad(self.NO_LINE)
             except Bad as fault:
                 self.refusals.refuse(path, line, str(fault))
+
+    def calls(self, value: dict[str, Any], stamp: Stamp, path: str, line: int) -> Iterator[Event]:
+        """The writes of a call that wrote, where its line says all of them; raises Bad."""
+        raise NotImplementedError
+
+    def _other_call(self, value: object, path: str, line: int) -> Optional[str]:
+        """What is told of a call that records no decision; one that wrote is kept in mind."""
+        call = passing.other_call_of(value, self.OTHERS)
+        if call in self.WRITES and get(get(value, "response"), "relationshipsDeletedCount") not in (0, "0"):
+            self.refusals.unseen.setdefault(call, (path, line))
+        return call and "other call (%s)" % call
+
+    def with_calls(self, lines: Lines, has_changes: bool, key_of: Callable[[Row], object]) -> Lines:
+        """The lines with the writes of calls as writes, but for those that the service's changes have, by what both have in common."""
+        if not lines.facts.has_calls:
+            return lines
+        known = {key_of(row) for row in lines.writes()}
+        made = Lines(ids=lines.ids)
+        for line in lines.rows():
+            row = row_of(line) if isinstance(line, Event) and line.kind != "rules" else line
+            if isinstance(row, Event):
+                made.add(row)
+            elif row[0] != CALL:
+                made.add_row(row)
+            elif has_changes or key_of(row) in known:
+                self.refusals.pass_over(self.CALL_KNOWN)
+            else:
+                made.add_row(("write", *row[1:]))
+        return made
+
+    def refuse_unseen(self, lines: Lines) -> None:
+        """Writes that no line tells would make each right reply behind them a wrong one."""
+        if any(True for _ in lines.writes()):
+            return
+        for call, (path, line) in self.refusals.unseen.items():
+            self.refusals.refuse(path, line, "this %s wrote, and no line of the log says all of what: %s" % (call, self.GIVE_CHANGES))
 
     def _checks(self, value: dict[str, Any], stamp: Stamp, path: str, line: int) -> Iterator[Entry]:
         """A check that can't be read is not audited. Of a content check it is then not known which version it issued."""

@@ -1,5 +1,6 @@
 """SpiceDB: relationships as text, the JSON of the watch stream, and checks of a recorder's log."""
 import re
+from dataclasses import replace
 from typing import Any, Iterator, Optional
 
 from new_enemy_tools.importing import located, visibility
@@ -14,7 +15,7 @@ from new_enemy_tools.importing.shapes import GOAL, ID, LABEL, TEXT, TIME, Field,
 from new_enemy_tools.importing.simple_yaml import is_yaml, read_yaml
 from new_enemy_tools.importing.spicedb_answers import answers_of, relationship_of, revision_at, revision_in
 from new_enemy_tools.importing.spicedb_schema import Parser
-from new_enemy_tools.importing.spool import Lines, plain
+from new_enemy_tools.importing.spool import CALL, Lines, plain
 from new_enemy_tools.importing.zedtokens import Older, Revision, read_revision
 
 RELATIONSHIP = re.compile(r"(?P<type>[a-z0-9_/]+):(?P<id>[A-Za-z0-9/_|\-=+]+)#(?P<relation>[a-z0-9_]+)"
@@ -45,6 +46,9 @@ class SpiceDbLog(Log):
 
     BASE = "token or revision"
     RULES = (b'"schema"',)
+    WRITES = ("WriteRelationships", "DeleteRelationships", "ImportBulkRelationships")
+    CALL_KNOWN = "other call (WriteRelationships)"
+    GIVE_CHANGES = "give the watch stream, which has each change with its revision"
     DECIDES = ("permissionship", "pairs", "resourceObjectId", "subject", "subjectObjectId")
     ASKED = {**_goal("request.", "permission", ID), "response.checked_at.token": field(b'"(%s+)"' % TEXT, "snapshot"),
              "request.consistency.fully_consistent": field(b"(true)", "newest"), "response.permissionship": field(b'"PERMISSIONSHIP_(HAS|NO)_PERMISSION"', "reply"), "time": field(TIME, "time")}
@@ -78,6 +82,8 @@ class SpiceDbLog(Log):
 
     def placed(self, lines: Lines, skew: Optional[int]) -> Lines:
         """Numbers for the snapshots of PostgreSQL; a log has either those or numbers."""
+        lines = self.with_calls(lines, False, lambda row: row[12][0][3] if row[12] else row[3])
+        self.refuse_unseen(lines)
         for key, path, line in self.refusals.updated:
             if key not in self.written:
                 self.refusals.refuse(path, line, "the schema changes here, and the log has no WriteSchema of this revision")
@@ -158,6 +164,14 @@ class SpiceDbLog(Log):
         event.line = line
         if updates:
             yield event
+
+    def calls(self, value: dict[str, Any], stamp: Stamp, path: str, line: int) -> Iterator[Event]:
+        """The updates of a WriteRelationships, at the revision of its response."""
+        updates = get(get(value, "request"), "updates")
+        if not isinstance(updates, list) or not updates or get(get(value, "response"), "writtenAt") is None:
+            return iter(())
+        written = {"updates": updates, "changesThrough": get(get(value, "response"), "writtenAt")}
+        return (replace(event, kind=CALL) for event in self.writes(written, stamp, path, line))
 
     def when_of(self, said: Said) -> Optional[When]:
         try:

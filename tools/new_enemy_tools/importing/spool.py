@@ -9,6 +9,8 @@ from new_enemy_tools.importing.events import EVERY, Entry, Event, Line, Relation
 
 BATCH = 1 << 12
 CHECKS = ("check", "content")
+# A write that the line of the call says that made it, and not the service's changes; such rows are writes, or are let go, before all else.
+CALL = "call"
 
 
 class Spool:
@@ -85,7 +87,7 @@ class Facts:
         self.files: dict[str, int] = {}
         self.is_sequenced = True
         self.is_chained = False
-        self.has_newest = self.has_between = self.has_groups = self.has_every = self.has_asked = False
+        self.has_newest = self.has_between = self.has_groups = self.has_every = self.has_asked = self.has_calls = False
 
     def note(self, line: Union[Line, WriteRow]) -> None:
         self.count += 1
@@ -96,6 +98,7 @@ class Facts:
         else:
             if line.base:
                 self.last_base, self.base_source = self.count - 1, (line.file, line.line)
+            self.has_calls |= line.kind == CALL
             self.has_groups |= line.group is not None
             self.has_every |= any(given[5] == EVERY for given in line.add) or any(given[5] == EVERY for given in line.remove)
             if line.base or line.revision is None and line.asked is None:
@@ -117,7 +120,7 @@ class Facts:
         for file, line in other.files.items():
             self.files.setdefault(file, line)
         self.is_sequenced &= other.is_sequenced
-        for name in ("has_newest", "has_between", "has_groups", "has_every", "has_asked"):
+        for name in ("has_newest", "has_between", "has_groups", "has_every", "has_asked", "has_calls"):
             setattr(self, name, getattr(self, name) or getattr(other, name))
 
 
@@ -251,6 +254,10 @@ class Lines:
                     yield WriteRow._make(row)
                 elif row[0] == "rules":
                     yield self.rules[row[1]]
+
+    def writes(self) -> Iterator[WriteRow]:
+        """The writes behind the base state."""
+        return (row for row in self.events() if isinstance(row, WriteRow) and not row.base)
 
     def users(self) -> Iterator[tuple[str, str]]:
         """The users that lines name, by type and id, in the order in which they are named first."""

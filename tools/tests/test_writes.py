@@ -1,0 +1,128 @@
+"""Writes that a log has in the calls that made them; changes that were read twice; and calls within events of CloudEvents."""
+from tests import test_openfga, test_postgres, test_spicedb
+from tests.support import Case
+from tests.test_openfga import MODEL, THIS, change
+from tests.test_round_trips import token_text
+from tests.test_spicedb import SCHEMA, VIEW, update, watch
+
+AT = "2024-01-01T00:00:%02dZ"
+
+
+def written(at, *updates):
+    return {"request": {"updates": list(updates)}, "response": {"writtenAt": {"token": token_text(at)}}}
+
+
+class SpiceDb(Case):
+    def words(self, *lines):
+        self.put("schema.zed", SCHEMA % VIEW)
+        self.put("log", list(lines))
+        return "spicedb", "--schema", "schema.zed", "--from-empty", "log"
+
+    def report(self, *lines):
+        self.said = self.imported(*self.words(*lines))
+        return self.audited()
+
+    check = staticmethod(test_spicedb.check)
+
+    def test_calls_that_wrote_are_changes(self):
+        log = (self.check(0, reply="NO"), written(1, update("user:a"), update("user:b")), self.check(1), self.check(1, "user:c", reply="NO"),
+               written(2, update("user:a", operation="DELETE")), self.check(2, reply="NO"), self.check(1))
+        self.assertEqual(self.report(*log), "entries 5\nfindings 0\nverdict clean\n")
+        self.assertIn("F10 wrong reply", self.report(*log, self.check(2)))
+
+    def test_a_write_that_the_watch_stream_has_too_is_one(self):
+        first, second = written(1, update("user:a")), watch(1, update("user:a"))
+        for log in ((first, self.check(1), second), (second, self.check(1), first), (first, second, self.check(1))):
+            if log[2] is second:
+                # The stream says when: what stands before it looked into the future.
+                self.assertIn("F4 open snapshot", self.report(*log))
+                self.assertIn("passed over 1: other call (WriteRelationships)\n", self.said)
+                continue
+            self.assertEqual(self.report(*log), "entries 1\nfindings 0\nverdict clean\n")
+            self.assertIn("passed over 1: other call (WriteRelationships)\n", self.said)
+
+    def test_on_postgres(self):
+        own, after = test_postgres.revision(10, 11, own=10), test_postgres.revision(12, 12)
+        log = written(own, update("user:a")), self.check(after)
+        self.assertEqual(self.report(*log), "entries 1\nfindings 0\nverdict clean\n")
+        self.assertEqual(self.report(watch(own, update("user:a")), *log), "entries 1\nfindings 0\nverdict clean\n")
+        self.assertIn("passed over 1: other call (WriteRelationships)\n", self.said)
+
+    def test_a_log_whose_writes_are_not_all_told_is_refused(self):
+        delete = {"request": {"relationshipFilter": {"resourceType": "doc"}}, "response": {"deletedAt": {"token": token_text(3)}}}
+        load = {"request": {}, "response": {}, "method": "/authzed.api.v1.PermissionsService/ImportBulkRelationships"}
+        said = "and no line of the log says all of what: give the watch stream, which has each change with its revision"
+        self.assertEqual(self.refused(*self.words(delete, self.check(3, reply="NO"), delete, load)), [
+            "log:1: this DeleteRelationships wrote, " + said, "log:4: this ImportBulkRelationships wrote, " + said])
+        self.assertEqual(self.report(watch(1, update("user:a")), delete, self.check(3)), "entries 1\nfindings 0\nverdict clean\n")
+        nothing = delete | {"response": {**delete["response"], "relationshipsDeletedCount": "0"}}
+        self.report(nothing, self.check(3, reply="NO"))
+
+    def test_a_tuple_of_a_call_that_has_no_form_is_left_out(self):
+        bad = written(1, update("user:a", optionalCaveat={"caveatName": "c"}))
+        self.assertEqual(self.refused(*self.words(bad)), ["log:1: caveat: doc:1#viewer@user:a"])
+
+    def event(self, call, **data):
+        return {"specversion": "1.0", "id": "1", "source": "/ps/one", "type": "/authzed.api.v1.PermissionsService/" + call,
+                "time": AT % 1, "data": data}
+
+    def test_calls_within_events_are_counted_as_others_are(self):
+        asked = self.check(1)
+        failed = {"request": asked["request"]}
+        events = [self.event("WriteRelationships", **written(1, update("user:a"))), self.event("CheckPermission", **asked),
+                  self.event("CheckPermission", **failed, error={"code": 7}), self.event("CheckPermission", **failed, status={"code": 8}),
+                  self.event("CheckPermission", **failed, status="UNAVAILABLE"), self.event("ReadSchema", response={}),
+                  self.event("ReadSchema"), self.event("ReadSchema", error="late")]
+        self.assertEqual(self.report(*events), "entries 1\nfindings 0\nverdict clean\n")
+        self.assertEqual([line for line in self.said.splitlines() if line.startswith("passed")], [
+            "passed over 1: failed request (7)", "passed over 1: failed request (8)", "passed over 1: failed request (UNAVAILABLE)",
+            "passed over 1: failed request (late)", "passed over 2: other call (ReadSchema)"])
+
+
+class OpenFga(Case):
+    check = staticmethod(test_openfga.check)
+
+    def words(self, *lines):
+        self.put("model.json", MODEL % THIS)
+        self.put("log", list(lines))
+        return "openfga", "--model", "model.json", "--from-empty", "log"
+
+    def report(self, *lines):
+        self.said = self.imported(*self.words(*lines))
+        return self.audited()
+
+    @staticmethod
+    def write(second, writes=(), deletes=()):
+        keys = {side: {"tuple_keys": [{"user": user, "relation": "viewer", "object": "doc:1"} for user in users]}
+                for side, users in (("writes", writes), ("deletes", deletes)) if users}
+        return {"request": keys, "response": {}, **({} if second is None else {"time": AT % second})}
+
+    def test_calls_that_wrote_are_changes_where_the_log_has_no_others(self):
+        log = (self.write(1, ["user:a", "user:b"]), self.check(at=2), self.check("user:c", at=2, allowed=False),
+               self.write(2, ["user:c"], ["user:a"]), self.check(at=4, allowed=False), self.check("user:c", at=AT % 2), self.check(at=AT % 1))
+        self.assertEqual(self.report(*log), "entries 5\nfindings 0\nverdict clean\n")
+        self.assertIn("F10 wrong reply", self.report(*log, self.check(at=4)))
+
+    def test_where_the_log_has_changes_such_calls_are_counted(self):
+        self.assertEqual(self.report(self.write(1, ["user:a"]), change("user:a"), self.check()), "entries 1\nfindings 0\nverdict clean\n")
+        self.assertIn("passed over 1: other call (Write)\n", self.said)
+
+    def test_a_log_whose_writes_have_no_time_and_no_changes_is_refused(self):
+        self.assertEqual(self.refused(*self.words(self.write(None, ["user:a"]), self.check(at=0), self.write(None, ["user:b"]))), [
+            "log:1: this Write wrote, and no line of the log says all of what: give the changes as ReadChanges answers them, or each "
+            "line of Write its `time`"])
+
+    def test_a_write_that_failed_wrote_nothing(self):
+        failed = self.write(2, deletes=["user:a"]) | {"response": {"code": "write_failed_due_to_invalid_input", "message": "no"}}
+        self.assertEqual(self.report(self.write(1, ["user:a"]), failed, self.check(at=1)), "entries 1\nfindings 0\nverdict clean\n")
+
+    def test_a_page_of_changes_that_was_read_twice_is_seen(self):
+        page = [change("user:a", at=AT % 1), change("user:b", at=AT % 1), change("user:a", at=AT % 2, operation="DELETE"),
+                change("user:a", at=AT % 3)]
+        checks = self.check(at=3, allowed=False), self.check(at=4), self.check("user:b", at=AT % 1)
+        for lines in ([*page, *page], [{"changes": page}, {"changes": page}], [*page[:2], *page[:2], *page[2:]], [*page, *page[2:]]):
+            self.assertEqual(self.report(*lines, *checks), "entries 3\nfindings 0\nverdict clean\n")
+            self.assertIn(": change that was read twice\n", self.said)
+        again = [change("user:a", at=AT % 1), change("user:a", at=AT % 1, operation="DELETE"), change("user:a", at=AT % 1)]
+        self.assertEqual(self.report(*again, self.check(at=3), self.check(at=2, allowed=False)), "entries 2\nfindings 0\nverdict clean\n")
+        self.assertNotIn("read twice", self.said)
