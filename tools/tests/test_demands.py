@@ -48,8 +48,8 @@ class Demands(Case):
     def test_a_consistency_that_the_service_does_not_have(self):
         self.put("model.json", test_openfga.MODEL % test_openfga.THIS)
         self.put("log", [test_openfga.change("user:a"), *(test_openfga.check(request={"consistency": one}) for one in ("BEST", 7, True, []))])
-        self.assertEqual(self.refused("openfga", "--model", "model.json", "--from-empty", "log"), [
-            "log:%d: unknown consistency %s" % (line, shown) for line, shown in enumerate(("'BEST'", "7", "True", "[]"), 2)])
+        self.assertEqual(self.struck("openfga", "--model", "model.json", "--from-empty", "log"), [
+            "log:%d: check that can't be read: unknown consistency %s" % (line, shown) for line, shown in enumerate(("'BEST'", "7", "True", "[]"), 2)])
 
     def spicedb(self, consistency, *snapshots, revision=lambda at: at, own=lambda at: at):
         self.put("schema.zed", test_spicedb.SCHEMA % test_spicedb.VIEW)

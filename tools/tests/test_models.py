@@ -59,8 +59,7 @@ class TightenedModels(Case):
         wide = model(["user", "group#member"], "wide", editor=["user"])
         log = MEMBER, VIEWER, change("user:a", "editor"), {"authorization_model": tight}
         self.assertEqual(self.report(wide, *log, check(at=3, allowed=False, request=of("tight")), check(at=3, request=of("wide"))), [])
-        self.forget()
-        self.assertEqual(self.refused(*self.words(wide, *log, check("user:a", "editor", at=3, request=of("tight")))),
+        self.assertEqual(self.struck(*self.words(wide, *log, check("user:a", "editor", at=3, request=of("tight")))),
                          ["log:5: check of a relation that the rules do not have: doc:1#editor of model tight@user:a"])
 
     def forget(self):
@@ -114,7 +113,7 @@ class TightenedModels(Case):
         log = (change("user:a", condition={"name": "c"}), {"authorization_model": tight}, check(at=1, request=of("wide")),
                check(at=1, request=of("tight")), check(thing="doc:2", at=1, allowed=False, request=of("tight")))
         said = self.imported(*self.words(wide, *log), "--skip-unmapped")
-        self.assertIn("left out 2: check that hangs on a tuple or rule that was left out\n", said)
+        self.assertIn("not audited 2: check that hangs on a tuple or rule that was left out\n", said)
         self.assertEqual(self.audited(), "entries 1\nfindings 0\nverdict clean\n")
 
 

@@ -3,6 +3,7 @@ import json
 import os
 
 from new_enemy_tools.importing import causes
+from new_enemy_tools.importing.feed import NO_SNAPSHOT
 from tests.support import EXAMPLES, Case
 
 MODEL = """{
@@ -86,7 +87,7 @@ class Refusals(Case):
             "log:6: context of conditions: doc:1#viewer@user:a",
             "log:7: check with another model: doc:1#viewer@user:a",
             "log:8: check that can't be read: the response has no `allowed`",
-            "log:9: check that can't be read: the check has none of `snapshot` and `snapshot_between`; give one",
+            "log:9: check that can't be read: " + NO_SNAPSHOT,
             "log:10: check that can't be read: `token` is no place in the changes feed and no timestamp",
             "log:11: check that can't be read: `version` is no text",
             "log:12: content check that can't be read: `content` is no object"])

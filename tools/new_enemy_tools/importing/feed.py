@@ -6,17 +6,18 @@ from typing import Any, Iterable, Iterator, NamedTuple, Optional, Union, cast
 from new_enemy_tools.importing.causes import NO_ONE_SNAPSHOT, OTHER_MODEL
 from new_enemy_tools.importing.checks import Checks, Row
 from new_enemy_tools.importing.events import Entry, Event, Relationship, is_whole
-from new_enemy_tools.importing.models import Models, OtherModel, TwoModels
+from new_enemy_tools.importing.models import BEFORE, Given, Models, OtherModel, TwoModels
 from new_enemy_tools.importing.order import ordered
 from new_enemy_tools.importing.reading import Bad
 from new_enemy_tools.importing.refusals import Refusals
-from new_enemy_tools.importing.service import ServiceRules
 from new_enemy_tools.importing.spool import CHECKS, Lines, WriteRow, row_of
 from new_enemy_tools.importing.times import nanoseconds
 
 NOT_TAKEN = "tuple that the model does not take"
-# Below all places of the feed.
-BEFORE = -1
+
+
+NO_SNAPSHOT = ("the check has none of `snapshot` and `snapshot_between`, and OpenFGA does not say which state it looked at: run `ne record`, "
+               "or add one of them to each line")
 
 
 class Moment(NamedTuple):
@@ -48,7 +49,7 @@ def asked_of(value: dict[str, Any], token: object, model: object) -> Asked:
     """What the keys of a check's line ask; raises Bad."""
     snapshot, between = value.get("snapshot"), value.get("snapshot_between")
     if (snapshot is None) == (between is None):
-        raise Bad("the check has %s of `snapshot` and `snapshot_between`; give one" % ("both" if between else "none"))
+        raise Bad("the check has both of `snapshot` and `snapshot_between`; give one" if between else NO_SNAPSHOT)
     if between is None:
         found: tuple[Moment, ...] = (moment_of(snapshot, "`snapshot`"),)
     elif isinstance(between, list) and len(between) == 2:
@@ -172,9 +173,12 @@ class Placing:
                                 for name in sorted({self.models.name(model, relation) for model in self.models.used})]
 
 
-def placed(lines: Lines, base: Moment, given: list[ServiceRules], skew: Optional[int], refusals: Refusals) -> Lines:
-    """The lines of a trace for those of a log with these models, the first in force from the beginning; those that have a place."""
+def placed(lines: Lines, base: Moment, given: Given, skew: Optional[int], refusals: Refusals) -> Lines:
+    """The lines of a trace for those of a log with these models; those that have a place."""
     feed, models, numbers = _changes(lines, base, given, skew, refusals)
+    for model in models.used:
+        if model in given.apart and model not in models.in_force:
+            refusals.merge(given.apart[model])
     placing, made = Placing(feed, models, refusals), Lines()
     placing.doubts()
     made.add(models.rules())
@@ -201,7 +205,7 @@ def placed(lines: Lines, base: Moment, given: list[ServiceRules], skew: Optional
     return made
 
 
-def _changes(lines: Lines, base: Moment, given: list[ServiceRules], skew: Optional[int],
+def _changes(lines: Lines, base: Moment, given: Given, skew: Optional[int],
              refusals: Refusals) -> tuple[Feed, Models, Iterator[Optional[int]]]:
     """The feed and the models of a log, and the place of each change in the order of its lines; none for one that was read twice."""
     def changes() -> Iterator[Union[Event, WriteRow]]:
@@ -213,7 +217,7 @@ def _changes(lines: Lines, base: Moment, given: list[ServiceRules], skew: Option
     # Rows of writes have the fields that order them.
     in_order: Iterable[Any] = ordered(cast("list[Event]", as_read), skew, Refusals()) if are_sorted else changes()
     repeated = Repeated(event.revision for event in (in_order if are_sorted else changes()) if event.kind != "rules")
-    starts = [(BEFORE, 0)]
+    starts = [(BEFORE, model) for model in range(given.first)]
     times: list[int] = []
     places: list[Optional[int]] = []
     by_event: dict[int, Optional[int]] = {}
@@ -233,7 +237,7 @@ def _changes(lines: Lines, base: Moment, given: list[ServiceRules], skew: Option
             places.append(None if is_again else len(times))
     if are_sorted:
         places = [by_event.get(id(event), 0) for event in as_read if event.kind != "rules"]
-    return Feed(base, times), Models(given, starts, _asked(lines) if len(given) > 1 else ()), iter(places)
+    return Feed(base, times), Models(given.models, starts, _asked(lines) if len(given.models) > 1 else ()), iter(places)
 
 
 class Repeated:

@@ -20,6 +20,8 @@ except ImportError:
 
 BLOCK = 1 << 20
 BLANK = b" \t\r"
+# Some programs put a byte order mark before a text.
+MARK = b"\xef\xbb\xbf"
 STRANGE = re.compile(rb'"[ \t\r]+:|[0-9]{18}|[0-9][.eE]|-0')
 HALF = "half of a pair of code units stands alone"
 
@@ -168,7 +170,7 @@ def read_text(path: str) -> str:
 
 def text_of(data: bytes) -> str:
     try:
-        return data.decode("utf-8")
+        return data.removeprefix(MARK).decode("utf-8")
     except UnicodeDecodeError as fault:
         raise Malformed(data.count(b"\n", 0, fault.start) + 1, "the bytes are no UTF-8") from None
 
@@ -241,7 +243,7 @@ class Source:
         self.file.seek(0)
         while data := self.file.read(BLOCK):
             data += self.file.readline()
-            yield Block(first, data)
+            yield Block(first, data.removeprefix(MARK) if first == 1 else data)
             first += data.count(b"\n")
 
     def is_lines(self) -> bool:

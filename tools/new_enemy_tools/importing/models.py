@@ -5,13 +5,16 @@ a tuple in those of them whose models take it. Models that agree on a relation, 
 """
 import json
 from bisect import bisect_left, bisect_right
-from typing import Any, Iterable, NamedTuple, Optional
+from typing import Any, Iterable, Mapping, NamedTuple, Optional
 
 from new_enemy_tools.importing.events import EVERY, Event, RelationRule
 from new_enemy_tools.importing.reading import Bad
+from new_enemy_tools.importing.refusals import Refusals
 from new_enemy_tools.importing.service import ServiceRules
 from new_enemy_tools.rules import children_of, form_of, places
 
+# Below all places of the feed.
+BEFORE = -1
 Key = tuple[str, str, str, Optional[str]]
 
 
@@ -77,10 +80,18 @@ def _renamed(rewrite: dict[str, Any], name: Any) -> dict[str, Any]:
     return {form: {"base": children[0], "subtract": children[1]} if form == "exclusion" else children}
 
 
+class Given(NamedTuple):
+    """The models of a log; one of the `first` was in force before all changes, and what is refused of those `apart` matters where they are used."""
+
+    models: list[ServiceRules]
+    first: int
+    apart: Mapping[int, Refusals]
+
+
 class Models:
     """The models of a log by their numbers; some may be of no check, and have no names in the trace.
 
-    `starts` has for each model that came into force the place of the feed behind which it did, the first one below all places.
+    `starts` has for each model that came into force the place of the feed behind which it did, those at first below all places.
     """
 
     def __init__(self, given: list[ServiceRules], starts: list[tuple[int, int]], asked: Iterable[Optional[str]] = ()):
@@ -104,10 +115,8 @@ class Models:
 
     def _used(self, asked: Iterable[Optional[str]]) -> list[int]:
         named = set(asked)
-        if None in named:
-            return list(range(len(self.given)))
-        found = {self.by_id.get(model, 0) for model in named if model is not None}
-        return sorted(found | {0})
+        found = set(self.in_force) if None in named else {0}
+        return sorted(found | {self.by_id.get(model, 0) for model in named if model is not None})
 
     def name(self, model: int, relation: str) -> str:
         """What the trace calls a relation of a model; one that the model does not have has no rule there either."""
@@ -151,6 +160,8 @@ class Models:
         if model is not None:
             return self.name(self._named(model), relation)
         begins = max(bisect_left(self.starts, low) - 1, 0)
+        # Which of those at first was in force is not known.
+        begins = begins if self.starts[begins] > BEFORE else 0
         found = {self.name(one, relation) for one in self.in_force[begins:bisect_right(self.starts, max(high, -1))]}
         if len(found) > 1:
             raise Bad("the model changes %s, and the request does not say which it is of"

@@ -10,7 +10,7 @@ from new_enemy_tools.importing.checks import Look
 from new_enemy_tools.importing.events import EVERY, Event, Relationship, RelationRule, Stamp, put_stamp
 from new_enemy_tools.importing.feed import Moment, asked_of, moment_of, placed, shown_of
 from new_enemy_tools.importing.located import List, line_at, line_of
-from new_enemy_tools.importing.models import said_by
+from new_enemy_tools.importing.models import Given, said_by
 from new_enemy_tools.importing.openfga_answers import answers_of, relationship_of
 from new_enemy_tools.importing.reading import Bad, get, spelled
 from new_enemy_tools.importing.refusals import Refusals
@@ -22,7 +22,8 @@ from new_enemy_tools.importing.spool import CALL, Lines
 from new_enemy_tools.importing.times import nanoseconds
 
 SCHEMAS = ("1.1", "1.2")
-OPERATIONS = {"TUPLE_OPERATION_WRITE": True, "TUPLE_OPERATION_DELETE": False}
+# By names and numbers; what JSON of protobuf leaves out is the first.
+OPERATIONS = {"TUPLE_OPERATION_WRITE": True, 0: True, "TUPLE_OPERATION_DELETE": False, 1: False}
 # Whether the newest state is asked for: the names and the numbers that JSON of protobuf may have.
 CONSISTENCY = {None: False, "UNSPECIFIED": False, 0: False, "MINIMIZE_LATENCY": False, 100: False, "HIGHER_CONSISTENCY": True, 200: True}
 REWRITES = ("this", "computedUserset", "tupleToUserset", "union", "intersection", "difference")
@@ -55,6 +56,8 @@ class ModelReader:
     def __init__(self, path: str, refusals: Refusals, line: int = 1):
         """`line` is that of a model which knows none of its own."""
         self.path, self.refusals, self.line = path, refusals, line
+        # those that some relation takes users with
+        self.conditions: dict[str, None] = {}
 
     def read(self) -> Optional[ServiceRules]:
         try:
@@ -62,7 +65,12 @@ class ModelReader:
         except located.Malformed as fault:
             self.refusals.refuse(self.path, fault.line, str(fault))
             return None
-        return self.rules(model)
+        listed = get(model, "authorization_models")
+        if not isinstance(listed, list) or not listed:
+            return self.rules(model)
+        made = [ModelReader(self.path, self.refusals, line_of(one, 1)).rules(one) for one in listed]
+        known = [one for one in made if one is not None]
+        return known[0]._replace(others=tuple(known[1:])) if known else None
 
     def _model(self) -> object:
         """The model of a file in JSON or in OpenFGA's own language, or of a store file; raises Malformed."""
@@ -95,13 +103,13 @@ class ModelReader:
         if get(model, "schema_version") not in SCHEMAS:
             self.refusals.refuse(self.path, line_at(model, "schema_version", self.line), "schema version %r: only %s are mapped"
                                  % (get(model, "schema_version"), " and ".join(SCHEMAS)))
-        conditions = get(model, "conditions")
-        for name in conditions if isinstance(conditions, dict) else ():
-            self.refusals.unmapped(self.path, line_at(conditions, name, self.line), "condition", name)
         event = Event("rules", self.path, self.line)
         takes: dict[tuple[str, str], set[tuple[str, Optional[str]]]] = {}
         for given in get(model, "type_definitions"):
             self._type(given, event, takes)
+        conditions = get(model, "conditions")
+        for name in self.conditions if isinstance(conditions, dict) else ():
+            self.refusals.unmapped(self.path, line_at(conditions, name, self.line), "condition", name)
         self._refuse_unknown_users(takes, event)
         refuse_wild_tuplesets(event, takes, self.refusals)
         return ServiceRules(event, get(model, "id") or None, takes)
@@ -146,6 +154,7 @@ class ModelReader:
                 self.refusals.refuse(self.path, here, "%s takes a user without a type" % where)
             elif get(user, "condition"):
                 self.refusals.unmapped(self.path, here, "condition", "%s on %s" % (get(user, "condition"), told))
+                self.conditions[str(get(user, "condition"))] = None
             else:
                 relation = EVERY if get(user, "wildcard") is not None else get(user, "relation") or None
                 users.add((get(user, "type"), relation))
@@ -222,7 +231,8 @@ class OpenFgaLog(Log):
     CALL_KNOWN = "other call (Write)"
     GIVE_CHANGES = "give the changes as ReadChanges answers them, or each line of Write its `time`"
     KEYS = Log.KEYS | {"snapshot", "snapshot_between", "token"}
-    RULES = (b'"type_definitions"', b'"typeDefinitions"', b'"authorization_model"', b'"authorizationModel"')
+    RULES = (b'"type_definitions"', b'"typeDefinitions"', b'"authorization_model"', b'"authorizationModel"', b'"authorization_models"',
+             b'"authorizationModels"')
     ASKED = {**_goal("request.tuple_key.", ID), "request.authorization_model_id": field(b'"(%s*)"' % TEXT, "model"),
              "request.consistency": field(b'("[A-Z_]+"|[0-9]{1,3})', "consistency"),
              "response.allowed": field(REPLY, "reply"), "snapshot": field(MOMENT, "place", "moment"), "time": field(TIME, "time")}
@@ -237,8 +247,9 @@ class OpenFgaLog(Log):
 
     def __init__(self, rules: ServiceRules, base_at: Optional[Moment], refusals: Refusals):
         super().__init__(rules._replace(takes={name: set(users) for name, users in rules.takes.items()}), base_at, refusals)
-        # the models of the log, each once
-        self.models = [rules]
+        # the models of the log, each once; and what was refused of those that were read and never in force, which matters where they are used
+        self.models = [rules, *rules.others]
+        self.apart: dict[int, Refusals] = {}
 
     @staticmethod
     def read_base(text: str) -> Optional[Moment]:
@@ -253,7 +264,8 @@ class OpenFgaLog(Log):
     def placed(self, lines: Lines, skew: Optional[int]) -> Lines:
         lines = self.with_calls(lines, any(True for _ in lines.writes()), lambda row: None)
         self.refuse_unseen(lines)
-        return placed(lines, self.base_at or Moment(None, None, "the beginning"), self.models, skew, self.refusals)
+        first = len(self.rules.others) + 1
+        return placed(lines, self.base_at or Moment(None, None, "the beginning"), Given(self.models, first, self.apart), skew, self.refusals)
 
     def may_store(self, given: Relationship) -> bool:
         """Which tuples some model takes is known when all models are."""
@@ -283,7 +295,8 @@ class OpenFgaLog(Log):
         yield 1, store.get("tuples") or List()
 
     def is_write(self, value: object) -> bool:
-        return isinstance(get(value, "changes"), list) or get(value, "operation") is not None
+        return isinstance(get(value, "changes"), list) or get(value, "operation") is not None or (
+            get(value, "tuple_key") is not None and get(value, "timestamp") is not None)
 
     def writes(self, value: dict[str, Any], stamp: Stamp, path: str, line: int) -> Iterator[Event]:
         page = get(value, "changes")
@@ -291,7 +304,7 @@ class OpenFgaLog(Log):
             here = line_of(change, line)
             shown = get(change, "timestamp")
             revision = nanoseconds(shown)
-            live = one_of(OPERATIONS, get(change, "operation"))
+            live = one_of(OPERATIONS, 0 if get(change, "operation") is None else get(change, "operation"))
             if revision is None or live is None:
                 self.refusals.refuse(path, here, "a change has no `timestamp` of RFC 3339" if revision is None
                                      else "unknown operation %r" % (get(change, "operation"),))
@@ -337,7 +350,7 @@ class OpenFgaLog(Log):
         demanded, label = json.loads(said.get("consistency") or b"null"), None if version is None else version.decode()
         if demanded not in CONSISTENCY:
             return None
-        return Look(said["reply"] == b"true", None, snapshot[2], demand_of(CONSISTENCY[demanded], label, token), label,
+        return Look(said.get("reply") == b"true", None, snapshot[2], demand_of(CONSISTENCY[demanded], label, token), label,
                     ((snapshot,), token, model.decode() if model else None))
 
     def moment(self, value: dict[str, Any], content: Optional[dict[str, Any]]) -> Looked:
@@ -367,6 +380,18 @@ class OpenFgaLog(Log):
             self.take(rules)
             event = put_stamp(Event("rules", path, line, 0, "model %s" % model_id, asked=(model,)), stamp)
             yield event
+
+    def _other_call(self, value: object, path: str, line: int) -> Optional[str]:
+        """Models that were read are known by their ids; when they were in force is not."""
+        response = get(value, "response")
+        listed = get(response, "authorization_models")
+        for model in listed if isinstance(listed, list) else [get(response, "authorization_model")]:
+            known = Refusals(self.refusals.skip)
+            rules = ModelReader(path, known, line).rules(model) if model is not None else None
+            if rules is not None and rules.id is not None and not known.refused:
+                self.take(rules)
+                self.apart.setdefault(self._model(rules, path, line), known)
+        return super()._other_call(value, path, line)
 
     def _model(self, rules: ServiceRules, path: str, line: int) -> int:
         """The number of a model; one that the log has already is told by its id."""

@@ -9,6 +9,8 @@ from new_enemy_tools.importing.reading import Bad, get
 from new_enemy_tools.importing.refusals import Refusals
 from new_enemy_tools.importing.service import Answer
 
+# What a denial may have without its `allowed`.
+SILENT = frozenset(("allowed", "resolution"))
 OBJECT = re.compile(r"([^:#\s]+):([^#\s]+)")
 
 
@@ -49,10 +51,14 @@ def answers_of(request: object, response: object, refusals: Refusals) -> Iterato
     elif get(request, "type") is not None:
         yield from _list_objects(request, response)
     else:
-        yield _answer(request, request, get(response, "allowed"))
+        yield _answer(request, request, response)
 
 
-def _answer(request: object, check: object, allowed: object) -> Answer:
+def _answer(request: object, check: object, answer: object) -> Answer:
+    """JSON of protobuf may leave a false `allowed` out, but not the answer that it stands in."""
+    allowed = get(answer, "allowed") if isinstance(answer, dict) else None
+    if allowed is None and isinstance(answer, dict) and not answer.keys() - SILENT:
+        allowed = False
     if not isinstance(allowed, bool):
         raise Bad("the response has no `allowed`")
     return _mapped(relationship_of(get(check, "tuple_key")), allowed, request, check)
@@ -84,6 +90,11 @@ def _list(holder: object, key: str) -> list[Any]:
     return found
 
 
+def _listed(response: object, key: str) -> list[Any]:
+    """What an answer lists; JSON of protobuf may leave out a list of nothing."""
+    return _list(response, key) if not isinstance(response, dict) or get(response, key) is not None else []
+
+
 def _batch(request: object, response: object, refusals: Refusals) -> Iterator[Answer]:
     results = get(response, "result")
     for check in _list(request, "checks"):
@@ -93,18 +104,24 @@ def _batch(request: object, response: object, refusals: Refusals) -> Iterator[An
         if failed:
             refusals.pass_over(failed)
         else:
-            yield _answer(request, check, get(result, "allowed"))
+            yield _answer(request, check, result)
 
 
 def _list_objects(request: object, response: object) -> Iterator[Answer]:
-    for thing in _list(response, "objects"):
+    """Of a StreamedListObjects the answers stand in a list or one by one, bare or as a `result`."""
+    streamed = [get(one, "result") or one for one in (response if isinstance(response, list) else [response])]
+    if isinstance(response, list) or get(streamed[0], "object") is not None:
+        found = [get(one, "object") for one in streamed]
+    else:
+        found = _listed(response, "objects")
+    for thing in found:
         key = {"object": thing, "relation": get(request, "relation"), "user": get(request, "user")}
         yield _mapped(relationship_of(key), True, request)
 
 
 def _list_users(request: object, response: object) -> Iterator[Answer]:
     thing = "%s:%s" % (get(get(request, "object"), "type"), get(get(request, "object"), "id"))
-    for user in _list(response, "users"):
+    for user in _listed(response, "users"):
         of, userset, every = get(user, "object"), get(user, "userset"), get(user, "wildcard")
         shown = "%s:%s" % (get(of or userset or every, "type"), "*" if every else get(of or userset, "id"))
         shown += "#%s" % get(userset, "relation") if userset else ""

@@ -2,10 +2,10 @@
 from contextlib import closing
 from functools import partial
 from itertools import islice
-from typing import Any, Callable, Iterable, Iterator, NamedTuple, Optional
+from typing import Any, Callable, Iterable, Iterator, Mapping, NamedTuple, Optional
 
 from new_enemy_tools import limits
-from new_enemy_tools.importing import causes, located, passing
+from new_enemy_tools.importing import causes, located, passing, printed
 from new_enemy_tools.importing.block import Reader, Usual, When
 from new_enemy_tools.importing.checks import NEWEST, Look, Row
 from new_enemy_tools.importing.events import EVERY, STAMP, Entry, Event, Line, Relationship, Stamp, newest_of, sequence_of, stamp_of
@@ -18,8 +18,9 @@ from new_enemy_tools.parting.sharing import shared
 from new_enemy_tools.rules import places
 
 
-def one_of(table: dict[str, bool], value: object) -> Optional[bool]:
-    return table.get(value) if isinstance(value, str) else None
+def one_of(table: Mapping[Any, bool], value: object) -> Optional[bool]:
+    """What a name or a number stands for; None where the table does not have it."""
+    return table.get(value) if isinstance(value, (str, int)) and not isinstance(value, bool) else None
 
 
 def text_or_none(value: object, what: str) -> Optional[str]:
@@ -41,6 +42,8 @@ class ServiceRules(NamedTuple):
     event: Event
     id: Optional[str]
     takes: dict[tuple[str, str], set[tuple[str, Optional[str]]]]
+    # other rules that are known, of which it is not said when they were in force
+    others: "tuple[ServiceRules, ...]" = ()
 
 
 def refuse_wild_tuplesets(event: Event, takes: dict[tuple[str, str], set[tuple[str, Optional[str]]]], refusals: Refusals) -> None:
@@ -84,16 +87,6 @@ def content_of(value: object) -> Optional[dict[str, Any]]:
     return content
 
 
-def unwrapped(value: Any) -> Any:
-    """The call within an event of CloudEvents, with its time and type; any other line as it is."""
-    data = value.get("data") if isinstance(value, dict) and "specversion" in value else None
-    if not isinstance(data, dict):
-        return value
-    found = {key: get(data, key) for key in ("request", "response", "error", "status")}
-    found.update(time=value.get("time"), method=value.get("type"))
-    return {key: one for key, one in found.items() if one is not None}
-
-
 class Log:
     """Reads the log of a service with one set of rules; each service says how its lines are read."""
 
@@ -116,6 +109,7 @@ class Log:
 
     def __init__(self, rules: ServiceRules, base_at: Any, refusals: Refusals):
         self.rules, self.base_at, self.refusals = rules, base_at, refusals
+        self.joining = printed.Joining()
 
     @staticmethod
     def read_base(text: str) -> Any:
@@ -183,6 +177,7 @@ class Log:
             for line in self.events(path, source.values(self.refusals)):
                 lines.add(line)
                 yield lines.facts.count
+            self._end(path)
             return
         count = 0
         with closing(shared(partial(self._block, reader), source.blocks(), jobs)) as blocks:
@@ -198,6 +193,13 @@ class Log:
             for piece in reader.pieces(block, partial(self._full, path)):
                 lines.add_piece(piece)
             yield lines.facts.count
+        self._end(path)
+
+    def _end(self, path: str) -> None:
+        """A call whose response does not stand in the file of its request was not told."""
+        for _, line in self.joining.waiting.values():
+            self.refusals.unread_check(path, line, causes.UNREADABLE, "the log has no response of this request")
+        self.joining = printed.Joining()
 
     def _block(self, reader: Reader, block: located.Block) -> Optional[tuple[Read, Refusals]]:
         """What a process makes of a block; None where it may have new rules."""
@@ -217,7 +219,13 @@ class Log:
 
     def events(self, path: str, values: Iterable[tuple[int, Any]]) -> Iterator[Line]:
         for line, given in values:
-            value = unwrapped(given)
+            try:
+                value = self._told(given, line)
+            except Bad as fault:
+                self.refusals.unread_check(path, line, causes.UNREADABLE, str(fault))
+                continue
+            if value is None:
+                continue
             stamp = stamp_of(value if isinstance(value, dict) else {}, path, line, self.refusals)
             try:
                 self._refuse_unread(value)
@@ -245,6 +253,8 @@ class Log:
                     self.refusals.pass_over(passed)
                 elif is_check:
                     yield from self._checks(value, stamp, path, line)
+                elif printed.is_own_log(value):
+                    self.refusals.pass_over(printed.OWN)
                 else:
                     raise Bad(self.NO_LINE)
             except Bad as fault:
@@ -285,6 +295,12 @@ class Log:
             return
         for call, (path, line) in self.refusals.unseen.items():
             self.refusals.refuse(path, line, "this %s wrote, and no line of the log says all of what: %s" % (call, self.GIVE_CHANGES))
+
+    def _told(self, given: Any, line: int) -> Any:
+        """The line that a printed one tells; None where it tells none as yet. Raises Bad."""
+        if self.joining.takes(given):
+            return self.joining.joined(given, line, self.KEYS)
+        return printed.unwrapped(given, self.KEYS)
 
     def _checks(self, value: dict[str, Any], stamp: Stamp, path: str, line: int) -> Iterator[Entry]:
         """A check that can't be read is not audited. Of a content check it is then not known which version it issued."""

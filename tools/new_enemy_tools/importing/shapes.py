@@ -35,6 +35,10 @@ def field(pattern: bytes, *names: str) -> Field:
     return Field(pattern, names)
 
 
+# of a key that a line may have with null
+NULL = field(b"(?!)")
+
+
 class Form(NamedTuple):
     """The keys of one kind of line: those whose values may differ, and those that a line may have with any one value."""
 

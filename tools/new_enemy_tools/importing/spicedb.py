@@ -8,10 +8,11 @@ from new_enemy_tools.importing.block import When
 from new_enemy_tools.importing.checks import Look
 from new_enemy_tools.importing.events import EVERY, Event, Line, Relationship, Stamp, put_stamp
 from new_enemy_tools.importing.located import line_of
+from new_enemy_tools.importing.printed import REQUEST, RESPONSE
 from new_enemy_tools.importing.reading import Bad, get
 from new_enemy_tools.importing.refusals import Refusals
 from new_enemy_tools.importing.service import Answer, Log, Looked, ServiceRules, demand_of, one_of, text_or_none
-from new_enemy_tools.importing.shapes import GOAL, ID, LABEL, TEXT, TIME, Field, Said, field, form, needed
+from new_enemy_tools.importing.shapes import GOAL, ID, LABEL, NULL, TEXT, TIME, Field, Said, field, form, needed
 from new_enemy_tools.importing.simple_yaml import is_yaml, read_yaml
 from new_enemy_tools.importing.spicedb_answers import answers_of, relationship_of, revision_at, revision_in
 from new_enemy_tools.importing.spicedb_schema import Parser
@@ -25,7 +26,8 @@ RELATIONSHIP = re.compile(r"(?P<type>[a-z0-9_/]+):(?P<id>[A-Za-z0-9/_|\-=+]+)#(?
 # as `zed relationship read` prints it
 READ = re.compile(RELATIONSHIP.pattern.replace("#(?P<relation>", " +(?P<relation>").replace("@(?P<user_type>", " +(?P<user_type>")
                   .replace("(?P<traits>", " *(?P<traits>"))
-OPERATIONS = {"OPERATION_CREATE": True, "OPERATION_TOUCH": True, "OPERATION_DELETE": False}
+# By names and numbers.
+OPERATIONS = {"OPERATION_CREATE": True, 1: True, "OPERATION_TOUCH": True, 2: True, "OPERATION_DELETE": False, 3: False}
 
 
 def _goal(path: str, relation: str, thing: bytes) -> dict[str, Field]:
@@ -45,14 +47,16 @@ class SpiceDbLog(Log):
     NO_LINE = "neither a response of Watch nor a check with its `request`"
 
     BASE = "token or revision"
-    RULES = (b'"schema"',)
+    # and what stands in lines that are joined with others
+    RULES = (b'"schema"', b'"%s"' % REQUEST.encode(), b'"%s"' % RESPONSE.encode())
     WRITES = ("WriteRelationships", "DeleteRelationships", "ImportBulkRelationships")
     CALL_KNOWN = "other call (WriteRelationships)"
     GIVE_CHANGES = "give the watch stream, which has each change with its revision"
     DECIDES = ("permissionship", "pairs", "resourceObjectId", "subject", "subjectObjectId")
-    ASKED = {**_goal("request.", "permission", ID), "response.checked_at.token": field(b'"(%s+)"' % TEXT, "snapshot"),
+    ASKED = {**_goal("request.", "permission", ID), "request.context": NULL, "response.partial_caveat_info": NULL,
+             "response.debug_trace": NULL, "response.optional_expires_at": NULL, "response.checked_at.token": field(b'"(%s+)"' % TEXT, "snapshot"),
              "request.consistency.fully_consistent": field(b"(true)", "newest"), "response.permissionship": field(b'"PERMISSIONSHIP_(HAS|NO)_PERMISSION"', "reply"), "time": field(TIME, "time")}
-    FIXED = ("request.consistency.minimize_latency", "request.subject.optional_relation")
+    FIXED = ("request.consistency.minimize_latency", "request.subject.optional_relation", "request.with_tracing")
     CHECK = form({**ASKED, "request.consistency.at_least_as_fresh.token": field(b'"(%s+)"' % TEXT, "token"),
                   "version": field(LABEL, "version")}, *FIXED)
     CONTENT_CHECK = form({**ASKED, "content.version": field(LABEL, "version"), "content.token": field(b'"(%s+)"' % TEXT, "token")}, *FIXED)

@@ -12,6 +12,9 @@ from new_enemy_tools.importing.zedtokens import Older, Revision, read_revision
 REPLIES = {"PERMISSIONSHIP_HAS_PERMISSION": True, "PERMISSIONSHIP_NO_PERMISSION": False}
 CONDITIONAL = "PERMISSIONSHIP_CONDITIONAL_PERMISSION"
 LOOKUP = "LOOKUP_"
+# What the numbers of a check, and of what a lookup found, stand for.
+CHECKED = (None, "PERMISSIONSHIP_NO_PERMISSION", "PERMISSIONSHIP_HAS_PERMISSION", CONDITIONAL)
+LOOKED_UP = (None, "PERMISSIONSHIP_HAS_PERMISSION", CONDITIONAL)
 
 
 def revision_in(holder: object, what: str) -> Revision:
@@ -60,6 +63,8 @@ def revision_at(response: object) -> Revision:
     looked_up = get(first, "lookedUpAt")
     if looked_up is not None:
         return revision_in(looked_up, "`lookedUpAt` of the response")
+    if get(first, "checkedAt") is None:
+        raise Bad("the response has no `checkedAt`, which says the state that was looked at: run `ne record`, or log whole responses")
     return revision_in(get(first, "checkedAt"), "`checkedAt` of the response")
 
 
@@ -70,19 +75,21 @@ def answers_of(request: object, response: object, refusals: Refusals) -> Iterato
     elif get(request, "resourceObjectType") is not None:
         for one in responses_of(response) if response else ():
             thing = get(request, "resourceObjectType"), get(one, "resourceObjectId")
-            yield _answer(request, {"objectType": thing[0], "objectId": thing[1]}, get(request, "subject"), one)
+            yield _answer(request, {"objectType": thing[0], "objectId": thing[1]}, get(request, "subject"), one, LOOKED_UP)
     elif get(request, "subjectObjectType") is not None:
         for one in responses_of(response) if response else ():
             found = get(one, "subject") or one
             subject = {"object": {"objectType": get(request, "subjectObjectType"), "objectId": get(found, "subjectObjectId")},
                        "optionalRelation": get(request, "optionalSubjectRelation")}
-            yield _answer(request, get(request, "resource"), subject, found)
+            yield _answer(request, get(request, "resource"), subject, found, LOOKED_UP)
     else:
         yield _answer(request, get(request, "resource"), get(request, "subject"), response)
 
 
-def _answer(request: object, resource: object, subject: object, found: object) -> Answer:
+def _answer(request: object, resource: object, subject: object, found: object, numbers: tuple[Optional[str], ...] = CHECKED) -> Answer:
     permission, said = get(request, "permission"), get(found, "permissionship")
+    if isinstance(said, int) and not isinstance(said, bool) and 0 < said < len(numbers):
+        said = numbers[said]
     if not isinstance(permission, str) or not permission:
         raise Bad("the request has no permission")
     goal = _relationship(_object(resource, "resource"), permission, _subject(subject))

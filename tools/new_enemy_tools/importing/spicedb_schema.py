@@ -71,6 +71,9 @@ class Parser:
         self.takes: dict[tuple[str, str], set[tuple[str, Optional[str]]]] = {}
         self.arrows: list[tuple[str, str, str, int]] = []
         self.reads: list[tuple[str, str, str, int]] = []
+        # those that the schema has, and those that some relation takes subjects with
+        self.caveats: list[Token] = []
+        self.with_caveats: set[str] = set()
 
     # Tokens
 
@@ -113,7 +116,10 @@ class Parser:
             try:
                 if token.text == "definition":
                     self.definition()
-                elif token.text in ("caveat", "partial"):
+                elif token.text == "caveat":
+                    self.caveats.append(self.tokens[self.at + 1])
+                    self.skip_block()
+                elif token.text == "partial":
                     self.refusals.unmapped(self.path, token.line, token.text, self.tokens[self.at + 1].text)
                     self.skip_block()
                 elif token.text == "use" and self.tokens[self.at + 1].text == "typechecking":
@@ -129,6 +135,9 @@ class Parser:
                 self.refusals.refuse(self.path, fault.line, str(fault))
                 self.next()
                 self.skip_to_start()
+        for caveat in self.caveats:
+            if caveat.text in self.with_caveats:
+                self.refusals.unmapped(self.path, caveat.line, "caveat", caveat.text)
         self._refuse_unknown()
         refuse_wild_tuplesets(self.rules, self.takes, self.refusals)
         return ServiceRules(self.rules, None, self.takes)
@@ -191,6 +200,7 @@ class Parser:
                 self.next()
                 trait = self.word("a caveat or expiration").text
                 unmapped.append("expiration" if trait == "expiration" else "caveat")
+                self.with_caveats.add(trait)
         for reason in unmapped:
             self.refusals.unmapped(self.path, name.line, reason, "%s of %s" % (name.text, where))
         return None if unmapped else (name.text, relation)

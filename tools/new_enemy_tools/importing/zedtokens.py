@@ -125,9 +125,14 @@ def snapshot_of(data: bytes) -> Snapshot:
     return Snapshot(xmin, xmin + width, frozenset(xmin + relative for relative in running), own)
 
 
+def _bytes_of(text: str) -> bytes:
+    """The bytes of base64, whose padding may have been left out."""
+    return base64.b64decode(text + "=" * (-len(text) % 4), validate=True)
+
+
 def _revision_text(token: str) -> str:
     """The datastore's revision in a token."""
-    data = base64.b64decode(token, validate=True)
+    data = _bytes_of(token)
     # As a rule there is nothing but field 3, and in it nothing but field 1.
     if 3 < len(data) < 128 and data[:4] == bytes((0x1a, len(data) - 2, 0x0a, len(data) - 4)):
         return data[4:].decode("ascii")
@@ -150,7 +155,7 @@ def _of_text(text: str) -> Revision:
     number = NUMBER.fullmatch(text)
     if number:
         return Revision(int(number[1]) * 10 ** 10 + int(number[2] or 0), None, text)
-    snapshot = snapshot_of(base64.b64decode(text, validate=True))
+    snapshot = snapshot_of(_bytes_of(text))
     return Revision(None, snapshot, str(snapshot))
 
 

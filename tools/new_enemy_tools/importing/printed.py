@@ -1,0 +1,98 @@
+"""Lines as servers print them: events of CloudEvents, OpenFGA's log, and SpiceDB's log of requests and of responses.
+
+Each becomes a line with a `request` and a `response`, as a recorder writes it. The forms of OpenFGA's and SpiceDB's logs are taken from
+their public sources.
+"""
+from datetime import datetime, timezone
+from typing import Any, Iterable, Optional
+
+from new_enemy_tools.importing.reading import Bad, get
+from new_enemy_tools.importing.times import nanoseconds
+
+REQUEST, RESPONSE = "grpc.request.content", "grpc.response.content"
+FINISHED = "finished call"
+REQUEST_ID = ("requestID", "requestId", "request_id")
+OWN = "line of the service's own log"
+
+
+def unwrapped(value: Any, keys: Iterable[str]) -> Any:
+    """The call that a printed line tells, with those of the recorder's keys that it has; any other line as it is."""
+    if not isinstance(value, dict):
+        return value
+    data = value.get("data")
+    if "specversion" in value and isinstance(data, dict):
+        found = {key: get(data, key) for key in ("request", "response", "error", "status")}
+        return _filled({**found, "time": value.get("time"), "method": value.get("type")})
+    if "raw_request" not in value:
+        return value
+    code, given = value.get("grpc_code"), {key: value[key] for key in keys if key in value}
+    found = {"request": value["raw_request"], "response": value.get("raw_response"), "error": value.get("error"),
+             "method": value.get("grpc_method"), "status": {"code": code} if code else None, "time": _time_of(value.get("timestamp"))}
+    return _filled({**found, **given})
+
+
+def _filled(found: dict[str, Any]) -> dict[str, Any]:
+    return {key: one for key, one in found.items() if one is not None}
+
+
+def _time_of(stamp: object) -> Optional[str]:
+    """The time of a line of OpenFGA's log, which is a text or seconds since 1970; None where it is neither."""
+    if isinstance(stamp, str) and nanoseconds(stamp) is not None:
+        return stamp
+    if isinstance(stamp, float) and 0 < stamp < 1 << 33:
+        return datetime.fromtimestamp(stamp, timezone.utc).strftime("%Y-%m-%dT%H:%M:%S.%fZ")
+    return None
+
+
+def is_own_log(value: Any) -> bool:
+    """Whether a line is what a server says of itself, as at its start."""
+    return isinstance(value, dict) and isinstance(value.get("level"), str) and any(isinstance(value.get(key), str) for key in ("msg", "message"))
+
+
+def plain_of(content: Any) -> Any:
+    """A message as its JSON has it. As a server prints one, the choice of a field stands in a holder, and both have capital letters."""
+    if isinstance(content, list):
+        return [plain_of(one) for one in content]
+    if not isinstance(content, dict):
+        return content
+    made: dict[str, Any] = {}
+    for key, one in content.items():
+        if key[:1].isupper() and (one is None or isinstance(one, dict) and all(name[:1].isupper() for name in one)):
+            made.update((name[:1].lower() + name[1:], plain_of(inner)) for name, inner in (one or {}).items())
+        else:
+            made[key] = plain_of(one)
+    return made
+
+
+class Joining:
+    """Requests that wait for their responses, by their ids: as many as are under way at once."""
+
+    def __init__(self) -> None:
+        self.waiting: dict[str, tuple[Any, int]] = {}
+
+    @staticmethod
+    def takes(value: Any) -> bool:
+        """Whether a line is one of SpiceDB's log of requests and responses, or says that a call has ended."""
+        return isinstance(value, dict) and (REQUEST in value or RESPONSE in value or value.get("message") == FINISHED)
+
+    def joined(self, value: dict[str, Any], line: int, keys: Iterable[str]) -> Optional[dict[str, Any]]:
+        """The request and the response, or the failure, of a call, once a line says it; None before. Raises Bad."""
+        found = next((value[key] for key in REQUEST_ID if isinstance(value.get(key), str)), None)
+        if found is None:
+            if value.get("message") == FINISHED:
+                return None
+            raise Bad("the line has no `requestID`, which joins a request and its response")
+        if REQUEST in value:
+            self.waiting[found] = plain_of(value[REQUEST]), line
+            return None
+        told = {"method": value.get("grpc.method"), "time": value.get("time")}
+        if RESPONSE not in value:
+            asked, code = self.waiting.pop(found, (None, 0)), value.get("grpc.code")
+            return _filled({**told, "request": asked[0], "status": code}) if isinstance(code, str) and code != "OK" else None
+        if found not in self.waiting:
+            raise Bad("the log has no request of the response with the `requestID` %s" % found[:80])
+        request, _ = self.waiting[found]
+        if not str(value.get("grpc.method_type")).endswith("stream"):
+            del self.waiting[found]
+        given = {key: value[key] for key in keys if key in value and key not in ("time", "error", "method")}
+        return _filled({**told, "request": request, "response": plain_of(value[RESPONSE]), **given})

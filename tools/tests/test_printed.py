@@ -1,0 +1,208 @@
+"""What servers and their clients print: logs of OpenFGA and of SpiceDB, numbers for names, and JSON of protobuf without its defaults."""
+import json
+import os
+
+from new_enemy_tools.importing.feed import NO_SNAPSHOT
+from tests import test_openfga, test_spicedb
+from tests.random_models import json_of
+from tests.support import Case
+from tests.test_openfga import MODEL, THIS, change
+from tests.test_round_trips import token_text
+from tests.test_spicedb import SCHEMA, VIEW, thing, update, watch
+
+AT = "2024-01-01T00:00:%02dZ"
+
+
+class LogCase(Case):
+    def forget(self):
+        for name in "trace.jsonl", "ids.jsonl":
+            os.remove(self.path(name))
+
+
+class OpenFga(LogCase):
+    check = staticmethod(test_openfga.check)
+
+    def words(self, *lines, model=MODEL % THIS):
+        self.put("model.json", model)
+        self.put("log", list(lines))
+        return "openfga", "--model", "model.json", "--from-empty", "log"
+
+    def report(self, *lines, **more):
+        self.said = self.imported(*self.words(*lines, **more))
+        return self.audited()
+
+    @staticmethod
+    def printed(method, request, response=None, code=0, at=1714986000.5, **more):
+        """A line of the server's log."""
+        return {"level": "info", "timestamp": at, "msg": "grpc_req_complete", "grpc_service": "openfga.v1.OpenFGAService", "grpc_method": method,
+                "grpc_type": "unary", "raw_request": request, **({} if response is None else {"raw_response": response}), "grpc_code": code, **more}
+
+    def test_the_servers_log(self):
+        key = {"user": "user:a", "relation": "viewer", "object": "doc:1"}
+        start = [{"level": "info", "ts": 1.5, "msg": "starting openfga service..."}, {"level": "info", "msg": "gRPC server listening"}]
+        log = (*start, self.printed("Write", {"store_id": "s", "writes": {"tuple_keys": [key]}}, {}),
+               self.printed("Check", {"store_id": "s", "tuple_key": key, "consistency": "HIGHER_CONSISTENCY"}, {"allowed": True}, snapshot=1),
+               self.printed("Check", {"store_id": "s", "tuple_key": {**key, "user": "user:b"}}, {}, snapshot=1, at="2024-05-06T09:00:01.5Z"),
+               self.printed("Check", {"store_id": "s", "tuple_key": key}, code=2000, error="no type"), self.printed("ListStores", {}, {}))
+        self.assertEqual(self.report(*log), "entries 2\nfindings 0\nverdict clean\n")
+        self.assertEqual([line for line in self.said.splitlines() if line.startswith("passed")], [
+            "passed over 1: failed request (2000)", "passed over 2: line of the service's own log", "passed over 1: other call (ListStores)"])
+
+    def test_a_log_whose_checks_have_no_snapshot_says_what_would_do(self):
+        key = {"user": "user:a", "relation": "viewer", "object": "doc:1"}
+        self.assertEqual(self.struck(*self.words(change("user:a"), self.printed("Check", {"tuple_key": key}, {"allowed": True}))),
+                         ["log:2: check that can't be read: " + NO_SNAPSHOT])
+        self.assertIn("run `ne record`", NO_SNAPSHOT)
+
+    def test_a_denial_without_allowed_is_audited(self):
+        for response in {}, {"resolution": ""}, {"allowed": False}:
+            denied = self.check("user:b") | {"response": response}
+            self.assertEqual(self.report(change("user:a"), *[denied] * 5), "entries 5\nfindings 0\nverdict clean\n")
+            self.assertIn("F10 wrong reply", self.report(change("user:a"), *[denied] * 5, self.check() | {"response": response}))
+        self.assertEqual(self.struck(*self.words(change("user:a"), self.check() | {"response": {"allow": True}}, self.check() | {"response": []})), [
+            "log:%d: check that can't be read: the response has no `allowed`" % line for line in (2, 3)])
+
+    def test_a_denial_within_a_batch(self):
+        checks = [{"correlation_id": user, "tuple_key": {"user": "user:" + user, "relation": "viewer", "object": "doc:1"}} for user in "ab"]
+        batch = {"request": {"checks": checks}, "response": {"result": {"a": {"allowed": True}, "b": {}}}, "snapshot": 1}
+        self.assertEqual(self.report(change("user:a"), batch), "entries 2\nfindings 0\nverdict clean\n")
+
+    def test_a_write_without_its_operation_and_with_its_number(self):
+        bare = {key: value for key, value in change("user:a").items() if key != "operation"}
+        gone = {**bare, "operation": 1, "timestamp": AT % 3}
+        self.assertEqual(self.report(bare, {"changes": [{**bare, "operation": 0, "tuple_key": {**bare["tuple_key"], "user": "user:b"}}]},
+                                     self.check(at=1), gone, self.check(at=3, allowed=False), self.check("user:b", at=3)),
+                         "entries 3\nfindings 0\nverdict clean\n")
+        self.forget()
+        self.assertEqual(self.refused(*self.words({**bare, "operation": ""}, {**bare, "operation": 2}, {**bare, "operation": True})), [
+            "log:1: unknown operation ''", "log:2: unknown operation 2", "log:3: unknown operation True"])
+
+    def test_lists_that_are_streamed_or_empty(self):
+        asked = {"type": "doc", "relation": "viewer", "user": "user:a"}
+        one, two = {"result": {"object": "doc:1"}}, {"object": "doc:2"}
+        lines = [{"request": asked, "response": response, "snapshot": 2} for response in ([one, two], one, two, {"objects": ["doc:1"]}, {}, [])]
+        lines.append({"request": {"object": {"type": "doc", "id": "1"}, "relation": "viewer", "user_filters": [{"type": "user"}]}, "response": {},
+                      "snapshot": 2})
+        self.assertEqual(self.report(change("user:a"), change("user:a", thing="doc:2"), *lines), "entries 5\nfindings 0\nverdict clean\n")
+        self.assertIn("passed over 3: call that found nothing\n", self.said)
+
+    def test_an_answer_of_all_models(self):
+        old, new = (json_of({"doc": {"viewer": (users, ("this",))}}, name) for users, name in ((["user", "user:*"], "old"), (["user"], "new")))
+        checks = [self.check(at=1, allowed=allowed, request={"authorization_model_id": name}) for allowed, name in ((True, "old"), (False, "new"))]
+        both = {"authorization_models": [new, old], "continuation_token": ""}
+        self.assertEqual(self.report(change("user:*"), *checks, model=json.dumps(both)), "entries 2\nfindings 0\nverdict clean\n")
+        self.assertEqual(self.struck(*self.words(change("user:*"), self.check(at=1), model=json.dumps(both))),
+                         ["log:2: check without one snapshot: the model changes at its place, and the request does not say which it is of"])
+        read = {"request": {}, "response": both}
+        self.assertEqual(self.report(change("user:*"), read, *checks, self.check(at=1), model=json.dumps(old)),
+                         "entries 3\nfindings 0\nverdict clean\n")
+        self.assertIn("passed over 1: other call (ReadAuthorizationModels)\n", self.said)
+
+    def test_a_model_that_was_read_and_that_no_check_is_of_refuses_nothing(self):
+        odd = json_of({"doc": {"viewer": (["user"], ("this",))}}, "odd")
+        odd["type_definitions"][1]["metadata"]["relations"]["viewer"]["directly_related_user_types"][0]["condition"] = "c"
+        log = change("user:a"), {"request": {}, "response": {"authorization_models": [odd]}}, self.check()
+        self.assertEqual(self.report(*log), "entries 1\nfindings 0\nverdict clean\n")
+
+    def test_a_condition_that_no_relation_takes(self):
+        model = json.loads(MODEL % THIS) | {"conditions": {"c": {"name": "c", "expression": "true"}}}
+        self.assertEqual(self.report(change("user:a"), self.check(), model=json.dumps(model)), "entries 1\nfindings 0\nverdict clean\n")
+
+    def test_a_byte_order_mark(self):
+        self.words()
+        for name, content in ("model.json", MODEL % THIS), ("log", json.dumps(change("user:a")) + "\n" + json.dumps(self.check()) + "\n"):
+            self.put(name, b"\xef\xbb\xbf" + content.encode())
+        self.imported("openfga", "--model", "model.json", "--from-empty", "log")
+        self.assertEqual(self.audited(), "entries 1\nfindings 0\nverdict clean\n")
+
+
+class SpiceDb(LogCase):
+    def words(self, *lines, schema=SCHEMA % VIEW):
+        self.put("schema.zed", schema)
+        self.put("log", list(lines))
+        return "spicedb", "--schema", "schema.zed", "--from-empty", "log"
+
+    def report(self, *lines, **more):
+        self.said = self.imported(*self.words(*lines, **more))
+        return self.audited()
+
+    check = staticmethod(test_spicedb.check)
+
+    @staticmethod
+    def printed(call, request_id, message, kind="unary", service="PermissionsService", **more):
+        """A line of the server's log."""
+        return {"level": "info", "protocol": "grpc", "grpc.component": "server", "grpc.service": "authzed.api.v1." + service,
+                "grpc.method": call, "grpc.method_type": kind, "requestID": request_id, "time": AT % 1, "message": message, **more}
+
+    def asked(self, call, request_id, request, response, **more):
+        content = {"grpc.request.content": request}, {"grpc.response.content": response}
+        return [self.printed(call, request_id, text, **one, **more) for text, one in zip(("request received", "response sent"), content)]
+
+    @staticmethod
+    def thing(text):
+        return dict(zip(("object_type", "object_id"), text.split(":")))
+
+    def checked(self, request_id, user, permissionship, at, consistency=None, **more):
+        request = {"consistency": {"Requirement": consistency or {"MinimizeLatency": True}}, "resource": self.thing("doc:1"), "permission": "view",
+                   "subject": {"object": self.thing(user)}}
+        response = {"checked_at": {"token": token_text(at)}, "permissionship": permissionship}
+        return self.asked("CheckPermission", request_id, request, response, **more)
+
+    def test_requests_and_responses_are_joined(self):
+        update = {"operation": 2, "relationship": {"resource": self.thing("doc:1"), "relation": "viewer", "subject": {"object": self.thing("user:a")}}}
+        written = self.asked("WriteRelationships", "w", {"updates": [update]}, {"written_at": {"token": token_text(1)}})
+        first, second = self.checked("1", "user:a", 2, 1, {"FullyConsistent": True}), self.checked("2", "user:b", 1, 1)
+        found = {"Response": {"Item": {"permissionship": 2}}}
+        bulk = self.asked("CheckBulkPermissions", "b", {"items": [{}]}, {"checked_at": {"token": token_text(1)}, "pairs": [
+            {"request": {"resource": self.thing("doc:1"), "permission": "view", "subject": {"object": self.thing("user:a")}}, **found}]})
+        looked = {"resource_object_type": "doc", "permission": "view", "subject": {"object": self.thing("user:a")}}
+        stream = self.asked("LookupResources", "l", looked, {"looked_up_at": {"token": token_text(1)}, "resource_object_id": "1", "permissionship": 1},
+                            kind="server_stream")
+        ended = self.printed("LookupResources", "l", "finished call", **{"grpc.code": "OK"})
+        failed = self.checked("3", "user:a", 2, 1)[0], self.printed("CheckPermission", "3", "finished call", **{"grpc.code": "Unavailable"})
+        start = {"level": "info", "time": AT % 0, "message": "configured logging"}
+        log = (start, *written, first[0], second[0], second[1], first[1], *bulk, *stream, stream[1], ended, *failed)
+        self.assertEqual(self.report(*log), "entries 5\nfindings 0\nverdict clean\n")
+        self.assertEqual([line for line in self.said.splitlines() if line.startswith("passed")], [
+            "passed over 1: failed request (Unavailable)", "passed over 1: line of the service's own log"])
+        self.assertIn("F10 wrong reply", self.report(*log, *self.checked("4", "user:b", 2, 1)))
+
+    def test_what_has_no_other_half_is_told(self):
+        first, second = self.checked("1", "user:a", 2, 1), self.checked("2", "user:a", 2, 1)
+        bare = {key: value for key, value in first[0].items() if key != "requestID"}
+        self.assertEqual(self.struck(*self.words(watch(1, update("user:a")), first[1], second[0], bare)), [
+            "log:2: check that can't be read: the log has no request of the response with the `requestID` 1",
+            "log:3: check that can't be read: the log has no response of this request",
+            "log:4: check that can't be read: the line has no `requestID`, which joins a request and its response"])
+
+    def test_names_as_numbers(self):
+        one = update("user:a")
+        log = watch(1, {**one, "operation": 1}), self.check(1) | {"response": {"checkedAt": {"token": token_text(1)}, "permissionship": 2}}
+        denied = self.check(2) | {"response": {"checkedAt": {"token": token_text(2)}, "permissionship": 1}}
+        self.assertEqual(self.report(*log, watch(2, {**one, "operation": 3}), denied), "entries 2\nfindings 0\nverdict clean\n")
+        lookup = {"request": {"resourceObjectType": "doc", "permission": "view", "subject": {"object": thing("user:a")}},
+                  "response": {"lookedUpAt": {"token": token_text(1)}, "resourceObjectId": "1", "permissionship": 1}}
+        self.assertEqual(self.report(*log, lookup), "entries 2\nfindings 0\nverdict clean\n")
+        for number in 0, 3, 4, True:
+            odd = self.check(1) | {"response": {"checkedAt": {"token": token_text(1)}, "permissionship": number}}
+            self.assertEqual(len(self.struck(*self.words(*log, odd))), 1)
+
+    def test_a_caveat_that_no_relation_takes(self):
+        schema = "caveat tuesday(day string) {\n  day == \"tuesday\"\n}\n" + SCHEMA % VIEW
+        self.assertEqual(self.report(watch(1, update("user:a")), self.check(1), schema=schema), "entries 1\nfindings 0\nverdict clean\n")
+
+    def test_tokens_without_their_padding(self):
+        log = json.dumps([watch(10, update("user:a")), self.check(10), self.check(100)])
+        self.assertIn('="', log)
+        self.assertEqual(self.report(*json.loads(log.replace('=="', '"').replace('="', '"'))), "entries 2\nfindings 0\nverdict clean\n")
+
+    def test_a_response_without_its_snapshot_says_what_would_do(self):
+        self.assertEqual(self.struck(*self.words(watch(1, update("user:a")), self.check() | {"response": {"permissionship": 2}})), [
+            "log:2: check that can't be read: the response has no `checkedAt`, which says the state that was looked at: run `ne record`, or log whole responses"])
+
+    def test_wildcards_that_a_lookup_finds_are_told(self):
+        found = {"request": {"resource": thing("doc:1"), "permission": "view", "subjectObjectType": "user"}, "response": {
+            "lookedUpAt": {"token": token_text(1)}, "subject": {"subjectObjectId": "*", "permissionship": 1}}}
+        said = self.imported(*self.words(watch(1, update("user:a")), found, self.check(1)), "--skip-unmapped")
+        self.assertIn("check of a wildcard as the user", said)
+        self.assertEqual(self.audited(), "entries 1\nfindings 0\nverdict clean\n")
