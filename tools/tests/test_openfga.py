@@ -154,17 +154,25 @@ class Refusals(Case):
         log = json.dumps(change("user:a")) + "\n{\"a\":\n" + '{"a":1,"a":2}\n{"a":NaN}\n'
         self.assertEqual(self.refusals(log), ["log:2: not JSON", "log:3: the key 'a' stands twice", "log:4: NaN is no JSON"])
 
-    def test_recursion_through_a_difference(self):
+    def test_recursion_through_a_difference_leaves_out_what_hangs_on_it(self):
         rewrite = '{"difference": {"base": {"this": {}}, "subtract": {"computedUserset": {"relation": "banned"}}}}'
         model = (MODEL % rewrite).replace('"parent": {"this": {}}', '"parent": {"this": {}}, "banned": {"this": {}}')
         users = '"banned": {"directly_related_user_types": [{"type": "user"}, {"type": "doc", "relation": "viewer"}]},\n"parent":'
         model = model.replace('"parent": {"dir', users + ' {"dir')
         log = [change("user:a"), change("doc:2#viewer", "banned", at="2024-01-01T00:00:02Z"),
                change("doc:3#viewer", "banned", at="2024-01-01T00:00:03Z")]
-        self.assertEqual(self.refusals(log, model), [
-            "log:2: recursion through exclusion, by tuple doc:1#banned@doc:2#viewer: doc#viewer reads doc#banned strictly "
-            "by the rule of doc#viewer at model.json:10; doc#banned reads doc#viewer by tuple doc:1#banned@doc:2#viewer at "
-            "log:2, and 1 more like it"])
+        checks = [check(at=3), check("user:b", at=3, allowed=False, thing="doc:2"), check("user:b", at=3, thing="doc:4"),
+                  check(at=1), check("user:a", "banned", at=1, allowed=False, thing="doc:4")]
+        gone = change("doc:2#viewer", "banned", at="2024-01-01T00:00:04Z", operation="DELETE")
+        self.put("model.json", model)
+        self.put("log", [*log, *checks, gone])
+        self.assertEqual(self.struck("openfga", "--model", "model.json", "--from-empty", "log"), [
+            "log:%d: check that hangs on a tuple or rule that was left out: doc:1#viewer@user:a" % line for line in (4, 7)])
+        self.assertEqual(self.audited(), "line 7: F10 wrong reply\nentries 3\nfindings 1\nverdict dirty\n")
+        said = self.imported("openfga", "--model", "model.json", "--from-empty", "log")
+        self.assertIn("log:2: by tuple doc:1#banned@doc:2#viewer and what is like it doc#banned reads doc#viewer, and so a relation takes away "
+                      "what rests on it", said)
+        self.assertIn("left out 2: tuple through which a relation takes away what it rests on\n", said)
 
     def test_base_state(self):
         self.put("base.json", '{"tuples": [\n{"key": {"user": "user:a", "relation": "viewer", "object": "doc:1"}},\n'

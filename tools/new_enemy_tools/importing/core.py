@@ -8,7 +8,7 @@ from functools import partial
 from itertools import chain, islice
 from typing import Any, Callable, Iterable, Iterator, NamedTuple, Optional, Union
 
-from new_enemy_tools.edges import Name
+from new_enemy_tools.edges import Name, Pair, pair_of
 from new_enemy_tools.ids import Ids
 from new_enemy_tools.importing import causes, going_on
 from new_enemy_tools.importing.ahead import Ahead
@@ -24,15 +24,16 @@ from new_enemy_tools.importing.order import in_order
 from new_enemy_tools.importing.refusals import Refusals
 from new_enemy_tools.importing.shown import Shown
 from new_enemy_tools.importing.spool import BATCH, CHECKS, Facts, Lines, checks_of
-from new_enemy_tools.importing.strata import Edges, choose
+from new_enemy_tools.importing.strata import Edges, choose, open_circles
 from new_enemy_tools.importing.taken import Taken
 from new_enemy_tools.importing.wildcards import Wildcards
 from new_enemy_tools.importing.writing import Counts, Piece, Written
 from new_enemy_tools.parting.sharing import shared
 from new_enemy_tools.progress import Progress
-from new_enemy_tools.texts import Tuple, Userset
+from new_enemy_tools.texts import Tuple, Userset, parse_tuple
 from new_enemy_tools.windowing.state import State
 
+CIRCULAR = "tuple through which a relation takes away what it rests on"
 # By lines of the trace and, where these are known, their snapshots, with -1 for a line of which it is not.
 Look = Callable[[bytes, Optional[list[int]]], Any]
 
@@ -69,6 +70,8 @@ class Core:
         self.commits_before = 0
         self.oldest: Optional[int] = None
         self.counts = Counts()
+        # of tuples that are left out the namespaces and relations of both sides, by the names of the trace
+        self.circular: set[Pair] = set()
 
     def trace(self, given: Given, jobs: int = 1) -> Optional[Written]:
         """The trace, whose lines are still to be written, by so many processes; None where something was refused."""
@@ -82,8 +85,9 @@ class Core:
             self.taken.refusals = self.refusals
         else:
             self._take_all(given, lines, wildcards)
-        strata = choose([(name, relation) for name in self.declared.rules.current
-                         for relation in self.declared.rules.relations(name)], self.edges, self.refusals)
+        names = [(name, relation) for name in self.declared.rules.current for relation in self.declared.rules.relations(name)]
+        self._open_circles(names)
+        strata = choose(names, self.edges, self.refusals)
         if self.refusals.refused:
             return None
         shown, before = Shown(self.declared, self.ids, strata, self._times(strata), self.taken.demanded), self._before
@@ -92,6 +96,28 @@ class Core:
         else:
             shown.go_on(going_on.has_other_strata(before, strata))
         return Written(self._chunks(shown, jobs), self.counts, lambda: chain(wildcards.told(), self.taken.states.told()))
+
+    def _open_circles(self, names: list[Name]) -> None:
+        """Leaves tuples out through which a relation takes away what it rests on; a trace has no form for them. What rests on them is in doubt."""
+        known = self.writer.tuple_edges.known
+        for edge, told in open_circles(names, self.edges):
+            pairs = {pair for pair, found in known.items() if edge in found}
+            out = [one for one in self.writer.stored if isinstance(one.user, Userset) and pair_of(one.set, one.user) in pairs]
+            self.refusals.note("circle", told)
+            self.refusals.left_out[CIRCULAR] += len(out)
+            self.refusals.doubts += [tuple(one.set) for one in out]
+            for one in map(self.writer.named, out):
+                if isinstance(one.user, Userset):
+                    self.circular.add(pair_of(one.set, one.user))
+
+    def _without_circular(self, row: tuple[Any, ...]) -> tuple[Any, ...]:
+        """A commit without the tuples that are left out."""
+        def kept(listed: list[str]) -> list[str]:
+            return [text for text in listed if not self._is_circular(parse_tuple(text))]
+        return (*row[:-1], [(kept(add), kept(remove)) for add, remove in row[-1]])
+
+    def _is_circular(self, given: Tuple) -> bool:
+        return isinstance(given.user, Userset) and pair_of(given.set, given.user) in self.circular
 
     @property
     def _before(self) -> Optional[Left]:
@@ -238,7 +264,7 @@ class Core:
     def _kept_row(self, row: tuple[Any, ...], doubts: Doubts) -> Optional[tuple[Any, ...]]:
         """A row as it is kept; None of a check that is not audited."""
         if row[0] not in CHECKS:
-            return row
+            return self._without_circular(row) if self.circular and row[0] == "commit" else row
         entry = Entry._make(row)
         if doubts.has(Userset(*entry.goal[:3])):
             self.refusals.unmapped_check(entry, causes.HANGS_ON_LEFT_OUT, entry.told)

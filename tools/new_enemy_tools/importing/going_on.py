@@ -151,7 +151,7 @@ def _are_in(event: Event, known: dict[str, dict[str, Any]]) -> bool:
 
 def add_edges(left: Left, edges: Edges) -> None:
     for reader, read, strict in left.edges:
-        edges.add(Edge((reader[0], reader[1]), (read[0], read[1]), strict), Reason("the days before", 1, "a rule or tuple", True))
+        edges.add(Edge((reader[0], reader[1]), (read[0], read[1]), strict), Reason("the days before", 1, "a rule or tuple", True, True))
 
 
 def has_other_strata(left: Left, strata: dict[Name, int]) -> bool:

@@ -13,6 +13,8 @@ class Reason(NamedTuple):
     line: int
     text: str
     is_tuple: bool
+    # whether it came in the days before
+    is_before: bool = False
 
 
 class Edges:
@@ -30,6 +32,11 @@ class Edges:
             self.reads.setdefault(edge.reader, []).append(edge)
             self.readers_of.setdefault(edge.read, []).append(edge)
         self.counts[edge] = self.counts.get(edge, 0) + 1
+
+    def take_away(self, edge: Edge) -> None:
+        for known in self.reads[edge.reader], self.readers_of[edge.read]:
+            known.remove(edge)
+        del self.reasons[edge], self.counts[edge]
 
     def path(self, start: Name, end: Name) -> Optional[list[Edge]]:
         """A shortest path of edges from reader to read."""
@@ -124,6 +131,27 @@ def choose(names: list[Name], edges: Edges, refusals: Refusals) -> dict[Name, in
             refusals.refuse(reason.file, reason.line, "%s#%s would have stratum %d, and the highest is %d"
                             % (*name, stratum, limits.STRATUM))
     return strata
+
+
+def open_circles(names: list[Name], edges: Edges) -> list[tuple[Edge, str]]:
+    """Takes away edges of the day's tuples until no strict edge lies on a circle with one; each with what is told of its circle.
+
+    Each round takes one edge away. What rules alone make stays, and what came the days before.
+    """
+    taken: list[tuple[Edge, str]] = []
+    while True:
+        inside = {name: number for number, component in enumerate(components(names, edges)) for name in component}
+        circles = ([edge] + (edges.path(edge.read, edge.reader) or []) for edge in list(edges.reasons)
+                   if edge.strict and inside.get(edge.reader, -1) == inside.get(edge.read, -2))
+        tuples = next(filter(None, ([edge for edge in circle if edges.reasons[edge].is_tuple and not edges.reasons[edge].is_before]
+                                    for circle in circles)), None)
+        if tuples is None:
+            return taken
+        edge = min(tuples, key=lambda one: edges.counts[one])
+        reason = edges.reasons[edge]
+        taken.append((edge, "%s:%d: by %s and what is like it %s, and so a relation takes away what rests on it: such tuples are left out, and "
+                            "the checks that hang on them" % (reason.file, reason.line, reason.text, edge)))
+        edges.take_away(edge)
 
 
 def _refuse(strict: Edge, edges: Edges, refusals: Refusals) -> None:
