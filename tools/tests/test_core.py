@@ -373,3 +373,52 @@ class Told(CoreCase):
         self.assertLess(ended.children_user + ended.children_system - began.children_user - began.children_system, 20)
         self.assertIn("commits 50000, checks 50000", run.stderr)
         self.assertEqual(self.get("trace.jsonl").count("\n"), 100_001)
+
+
+class FilesInAnyOrder(CoreCase):
+    """Files of one sequencer, or of one clock, may be given in any order, and their lines may be between each other."""
+
+    LINES = [RULES, write(1, rel(), base=True), check(1), write(2, rel("2")), content(2, "v", token=2), check(2, goal=rel("2")),
+             check(2, version="v", token=2), write(3, remove=[rel()]), check(3, False)]
+
+    def assert_same(self, lines, *words):
+        """Each way to put the lines into files gives the trace of one file, but for where the lines come from."""
+        def read(*names):
+            self.assertEqual(self.run_import("events", *words, "--trace", "trace", "--ids", "ids", *names)[0], 0)
+            found = [{key: one for key, one in row.items() if key not in ("from", "ids")} for row in self.rows("trace")]
+            os.remove(self.path("trace"))
+            os.remove(self.path("ids"))
+            return found
+        wanted = read(self.given(*lines))
+        self.assertEqual([row["kind"] for row in wanted], ["namespace", *["commit", "check"] * 1, "commit", "content", "check", "check", "commit", "check"])
+        for first, second in (lines[:4], lines[4:]), (lines[0:2] + lines[2::2], lines[3::2]), (lines[3::2], lines[0:2] + lines[2::2]):
+            self.given(*first, name="first")
+            self.given(*second, name="second")
+            for names in ("first", "second"), ("second", "first"):
+                self.assertEqual(read(*names), wanted)
+
+    def test_of_one_sequence(self):
+        self.assert_same([one | {"sequence": number} for number, one in enumerate(self.LINES)])
+
+    def test_of_one_clock(self):
+        times = [one | {"time": "2024-01-01T00:00:%02dZ" % number, "clock": "c"} for number, one in enumerate(self.LINES)]
+        self.assert_same(times, "--skew", "0")
+        self.assert_same(times, "--skew", "500")
+
+    def test_what_stands_before_the_base_state_does_so_in_any_order(self):
+        first, rest = check(1, sequence=1), [RULES | {"sequence": 2}, write(1, rel(), base=True, sequence=3), check(1, sequence=4)]
+        self.given(first, name="first")
+        self.given(*rest, name="second")
+        for names in ("first", "second"), ("second", "first"):
+            self.assertEqual(self.struck("events", *names), ["first:1: check before the base state: second:2 gives base state behind it"])
+
+    def test_lines_of_one_clock_and_one_time_in_two_files(self):
+        stamp = {"time": "2024-01-01T00:00:01Z", "clock": "c"}
+        self.given(RULES, write(1, rel(), **stamp), name="first")
+        self.given(check(1, **stamp), name="second")
+        for names in ("first", "second"), ("second", "first"):
+            self.assertEqual(len(self.struck("events", "--from-empty", "--skew", "0", *names)), 1)
+
+    def test_a_file_whose_times_fall_is_refused(self):
+        lines = [one | {"time": "2024-01-01T00:00:%02dZ" % at, "clock": "c"} for one, at in ((RULES, 0), (write(1, rel()), 2), (check(1), 1))]
+        self.assertEqual(self.refusals(*lines, words=("--from-empty", "--skew", "0")), ["log:3: its time is before that of log:2, of the same clock"])

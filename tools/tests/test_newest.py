@@ -61,7 +61,7 @@ class Newest(CoreCase):
             "not audited 1: %s" % causes.UNREADABLE, "not audited 2: %s" % causes.UNREADABLE_CONTENT])
         os.remove(self.path("trace.jsonl"))
         os.remove(self.path("ids.jsonl"))
-        self.assertEqual(self.refusals(RULES, check(1, newest=True)), ['log:2: unknown key "newest"'])
+        self.assertEqual(self.refusals(RULES, check(1, newest=1)), ["log:2: `newest` is neither true nor false"])
 
 
 class Busy(CoreCase):

@@ -20,7 +20,7 @@ from new_enemy_tools.importing.doubts import Doubts
 from new_enemy_tools.importing.events import Entry, Event
 from new_enemy_tools.importing.going_on import Left
 from new_enemy_tools.importing.newest import put_newest
-from new_enemy_tools.importing.order import in_order
+from new_enemy_tools.importing.order import in_order, is_before_base
 from new_enemy_tools.importing.refusals import Refusals
 from new_enemy_tools.importing.shown import Shown
 from new_enemy_tools.importing.spool import BATCH, CHECKS, Facts, Lines, checks_of
@@ -211,13 +211,13 @@ class Core:
         return put_newest(list(stream), self.skew, self.refusals) if facts.has_newest else stream
 
     def _behind_base(self, lines: Iterable[Any], facts: Facts) -> Iterator[Any]:
-        last = facts.last_base
+        is_stamped = self.skew is not None or facts.is_sequenced
         for place, line in enumerate(lines):
             if isinstance(line, tuple):
-                if place > last:
-                    yield line
-                else:
+                if is_before_base(Entry._make(line), place, facts, self.skew) if is_stamped else place <= facts.last_base:
                     self.refusals.unmapped_check(Entry._make(line), causes.BEFORE_BASE, "%s:%d gives base state behind it" % facts.base_source)
+                else:
+                    yield line
             elif not line.base and not (line.kind == "rules" and line.revision is None):
                 yield line
 

@@ -27,6 +27,15 @@ def in_order(lines: Iterable[Line], facts: Facts, skew: Optional[int], refusals:
     return lines
 
 
+def is_before_base(line: Line, place: int, facts: Facts, skew: Optional[int]) -> bool:
+    """Of lines that stamps order whether one stands before the base state: by their stamps where both have them, else where it does in its file."""
+    if skew is not None and facts.base_time is not None and line.time is not None:
+        return line.time < facts.base_time
+    if skew is None and facts.is_sequenced and facts.base_sequence is not None and line.sequence is not None:
+        return line.sequence < facts.base_sequence
+    return place <= facts.last_base and line.file == facts.base_source[0]
+
+
 def ordered(lines: list[Some], skew: Optional[int], refusals: Refusals) -> list[Some]:
     """Lines by their stamps, or as they stand."""
     if skew is not None:
@@ -60,20 +69,22 @@ def _by_time(events: list[Some], skew: int, refusals: Refusals) -> list[Some]:
     for event in events:
         if event.time is None:
             _leave_out(event, causes.WITHOUT_TIME, "the line has no `time`, which --skew orders by", refusals)
-    last: dict[str, Line] = {}
+    # Files of one clock may be given in any order.
+    last: dict[tuple[str, str], Line] = {}
     for event in timed:
-        before = last.get(event.clock)
+        before = last.get((event.clock, event.file))
         if before is not None and _time(event) < _time(before):
             refusals.refuse(event.file, event.line, "its time is before that of %s:%d, of the same clock"
                             % (before.file, before.line))
-        last[event.clock] = event
+        last[event.clock, event.file] = event
     result = sorted(timed, key=_time)
     lost: set[int] = set()
     for number, event in enumerate(result):
         place = number - 1
         while place >= 0 and _time(event) - _time(result[place]) <= skew:
             other = result[place]
-            if event.clock != other.clock and not lost & {id(event), id(other)} and _matters(event, other):
+            is_unsure = event.clock != other.clock or event.file != other.file and event.time == other.time
+            if is_unsure and not lost & {id(event), id(other)} and _matters(event, other):
                 told = "which came first, this %s or the %s at %s:%d, is not known: they are %s ms apart, and the skew is %d ms" % (
                     event.kind, other.kind, other.file, other.line, format((_time(event) - _time(other)) / 1e6, "g"), skew // 1_000_000)
                 out: Line = event if isinstance(event, Entry) else other

@@ -84,6 +84,9 @@ class Facts:
         self.count = 0
         self.last_base = -1
         self.base_source = ("", 0)
+        # the last sequence and time of the base state, where it has one
+        self.base_sequence: Optional[tuple[int, int]] = None
+        self.base_time: Optional[int] = None
         self.files: dict[str, int] = {}
         self.is_sequenced = True
         self.is_chained = False
@@ -98,6 +101,7 @@ class Facts:
         else:
             if line.base:
                 self.last_base, self.base_source = self.count - 1, (line.file, line.line)
+                self._note_base(line.sequence, line.time)
             self.has_calls |= line.kind == CALL
             self.has_groups |= line.group is not None
             self.has_every |= any(given[5] == EVERY for given in line.add) or any(given[5] == EVERY for given in line.remove)
@@ -106,6 +110,10 @@ class Facts:
         if line.file not in self.files:
             self.files[line.file] = line.line
         self.is_sequenced &= line.sequence is not None
+
+    def _note_base(self, sequence: Optional[tuple[int, int]], time: Optional[int]) -> None:
+        self.base_sequence = max(filter(None, (self.base_sequence, sequence)), default=None)
+        self.base_time = max((one for one in (self.base_time, time) if one is not None), default=None)
 
     def note_checks(self, file: str, first: int) -> None:
         """Checks of a file without a sequence, and the line of the first."""
@@ -116,6 +124,7 @@ class Facts:
         """Those of lines that stand behind."""
         if other.last_base >= 0:
             self.last_base, self.base_source = self.count + other.last_base, other.base_source
+            self._note_base(other.base_sequence, other.base_time)
         self.count += other.count
         for file, line in other.files.items():
             self.files.setdefault(file, line)
