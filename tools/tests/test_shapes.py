@@ -15,6 +15,7 @@ from tests.test_blocks import BlockCase
 from tests.test_core import RULES, check, content, rel, write
 from tests.test_round_trips import (OpenFga, OpenFgaBetween, OpenFgaWithConditions, OpenFgaWithWildcards, SpiceDb, SpiceDbWithWildcards,
                                     time_text, token_text)
+from tests.test_spicedb import update, watch
 
 IDS = ["1", "2", "d 3", "~7", "~x", "é", "a@b", "a:b", "*", "x" * 129, 'q"', "", "\n", "n_1"]
 LABELS = ["v1", "v 2", "~1", "", "x" * 129, "é", None]
@@ -56,6 +57,14 @@ class Shapes(BlockCase):
                              "subject": {"object": {"objectType": "user", "objectId": "a"}, "optionalRelation": ""}},
                  "response": {"checkedAt": {"token": "7"}, "permissionship": "PERMISSIONSHIP_HAS_PERMISSION"}}
         self.assertIsNotNone(shape(asked, SpiceDbLog.CHECK))
+        printed = {"request": {**asked["request"], "context": None, "withTracing": False}, "response": {
+            **asked["response"], "partialCaveatInfo": None, "debugTrace": None, "optionalExpiresAt": None}}
+        self.assertIsNotNone(shape(printed, SpiceDbLog.CHECK), "as the gateway prints it")
+        self.assertIsNone(shape({**asked, "response": {**asked["response"], "partialCaveatInfo": "x"}}, SpiceDbLog.CHECK))
+        written = watch(1, update("user:a", optionalCaveat=None, optionalExpiresAt=None), schemaUpdated=False, isCheckpoint=False,
+                        optionalTransactionMetadata=None, fullRevisionMetadata=[])
+        self.assertIsNotNone(shape(written, SpiceDbLog.WRITE), "as the gateway prints it")
+        self.assertIsNone(shape({"result": {**written["result"], "schemaUpdated": True}}, SpiceDbLog.WRITE))
         for part, key, value in (("request", "context", {}), ("request", "items", []), ("response", "pairs", None), ("response", "x", 1)):
             self.assertIsNone(shape({**asked, part: {**asked[part], key: value}}, SpiceDbLog.CHECK))
         both = {**asked["request"], "resource": {"objectType": "doc", "object_type": "doc", "objectId": "1"}}

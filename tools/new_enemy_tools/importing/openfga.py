@@ -26,6 +26,7 @@ SCHEMAS = ("1.1", "1.2")
 OPERATIONS = {"TUPLE_OPERATION_WRITE": True, 0: True, "TUPLE_OPERATION_DELETE": False, 1: False}
 # Whether the newest state is asked for: the names and the numbers that JSON of protobuf may have.
 CONSISTENCY = {None: False, "UNSPECIFIED": False, 0: False, "MINIMIZE_LATENCY": False, 100: False, "HIGHER_CONSISTENCY": True, 200: True}
+ASKS_FOR_NEWEST = {json.dumps(one).encode(): asks for one, asks in CONSISTENCY.items()}
 REWRITES = ("this", "computedUserset", "tupleToUserset", "union", "intersection", "difference")
 
 MOMENT = b'(?:%s|"(%s+)")' % (WHOLE, TEXT)
@@ -347,10 +348,10 @@ class OpenFgaLog(Log):
             return None
         if snapshot is None:
             return None
-        demanded, label = json.loads(said.get("consistency") or b"null"), None if version is None else version.decode()
-        if demanded not in CONSISTENCY:
+        asks_for_newest, label = ASKS_FOR_NEWEST.get(said.get("consistency") or b"null"), None if version is None else version.decode()
+        if asks_for_newest is None:
             return None
-        return Look(said.get("reply") == b"true", None, snapshot[2], demand_of(CONSISTENCY[demanded], label, token), label,
+        return Look(said.get("reply") == b"true", None, snapshot[2], demand_of(asks_for_newest, label, token), label,
                     ((snapshot,), token, model.decode() if model else None))
 
     def moment(self, value: dict[str, Any], content: Optional[dict[str, Any]]) -> Looked:

@@ -62,8 +62,10 @@ class SpiceDbLog(Log):
     CONTENT_CHECK = form({**ASKED, "content.version": field(LABEL, "version"), "content.token": field(b'"(%s+)"' % TEXT, "token")}, *FIXED)
     WRITE = form({"%s%s" % (result, path): one for result in ("", "result.") for path, one in {
         **_goal("updates.0.relationship.", "relation", b"%s+" % TEXT), "changes_through.token": field(b'"(%s+)"' % TEXT, "revision"),
-        "time": field(TIME, "time")}.items()}, *("%supdates.0.%s" % (result, path) for result in ("", "result.") for path in (
-            "operation", "relationship.subject.optional_relation", "relationship.optional_caveat", "relationship.optional_expires_at")))
+        "schema_updated": field(b"false"), "optional_transaction_metadata": NULL, "time": field(TIME, "time")}.items()},
+        *("%s%s" % (result, path) for result in ("", "result.") for path in (
+            "updates.0.operation", "updates.0.relationship.subject.optional_relation", "updates.0.relationship.optional_caveat",
+            "updates.0.relationship.optional_expires_at", "is_checkpoint", "full_revision_metadata.0")))
     OTHERS = {"WriteRelationships": ("request.updates",), "DeleteRelationships": ("response.deletedAt",),
               "ReadRelationships": ("request.relationshipFilter",), "ExpandPermissionTree": ("response.treeRoot",),
               "ReadSchema": ("response.schemaText",), "ReflectSchema": (), "DiffSchema": (), "ImportBulkRelationships": (),
