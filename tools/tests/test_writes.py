@@ -41,6 +41,16 @@ class SpiceDb(Case):
             self.assertEqual(self.report(*log), "entries 1\nfindings 0\nverdict clean\n")
             self.assertIn("passed over 1: other call (WriteRelationships)\n", self.said)
 
+    def test_a_call_that_is_logged_late_is_put_before_what_saw_it(self):
+        one, two = written(1, update("user:a")), written(2, update("user:b"))
+        for log in ((two, one), (self.check(1), one, two), (self.check(2, "user:b"), two, self.check(1), one), (one, self.check(2), two)):
+            report = self.report(*log, self.check(2, "user:b"), self.check(0, reply="NO"))
+            self.assertEqual(report.splitlines()[1:], ["findings 0", "verdict clean"])
+        self.assertIn("log:3: a check saw this write before the line of its call", self.said)
+        self.assertIn("F10 wrong reply", self.report(two, one, self.check(1, "user:b")))
+        self.report(one, two, self.check(2))
+        self.assertNotIn("before the line of its call", self.said)
+
     def test_on_postgres(self):
         own, after = test_postgres.revision(10, 11, own=10), test_postgres.revision(12, 12)
         log = written(own, update("user:a")), self.check(after)

@@ -263,7 +263,8 @@ class OpenFgaLog(Log):
         return None if self.base_at is None else 0
 
     def placed(self, lines: Lines, skew: Optional[int]) -> Lines:
-        lines = self.with_calls(lines, any(True for _ in lines.writes()), lambda row: None)
+        # Of a call the service does not say which changes are its; where the log has any, it has all.
+        lines = self.with_calls(lines, lambda row: None)
         self.refuse_unseen(lines)
         first = len(self.rules.others) + 1
         return placed(lines, self.base_at or Moment(None, None, "the beginning"), Given(self.models, first, self.apart), skew, self.refusals)

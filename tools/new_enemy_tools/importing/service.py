@@ -7,12 +7,13 @@ from typing import Any, Callable, Iterable, Iterator, Mapping, NamedTuple, Optio
 from new_enemy_tools import limits
 from new_enemy_tools.importing import causes, located, passing, printed
 from new_enemy_tools.importing.block import Reader, Usual, When
+from new_enemy_tools.importing.called import with_calls
 from new_enemy_tools.importing.checks import NEWEST, Look, Row
 from new_enemy_tools.importing.events import EVERY, STAMP, Entry, Event, Line, Relationship, Stamp, newest_of, sequence_of, stamp_of
 from new_enemy_tools.importing.reading import Bad, get
 from new_enemy_tools.importing.refusals import Refusals
 from new_enemy_tools.importing.shapes import Form, Said
-from new_enemy_tools.importing.spool import CALL, Lines, Read, row_of
+from new_enemy_tools.importing.spool import Lines, Read
 from new_enemy_tools.keys import near, unread
 from new_enemy_tools.parting.sharing import shared
 from new_enemy_tools.rules import places
@@ -98,6 +99,8 @@ class Log:
     OTHERS: dict[str, tuple[str, ...]] = {}
     # those of them that write; what is told of a call whose changes the log has; and what a log lacks that has no changes
     WRITES: tuple[str, ...] = ()
+    # whether the answers of calls that write have revisions
+    HAS_REVISIONS = False
     CALL_KNOWN = GIVE_CHANGES = ""
     # what stands in each line that says of new rules
     RULES: tuple[bytes, ...] = ()
@@ -271,22 +274,12 @@ class Log:
             self.refusals.unseen.setdefault(call, (path, line))
         return call and "other call (%s)" % call
 
-    def with_calls(self, lines: Lines, has_changes: bool, key_of: Callable[[Row], object]) -> Lines:
+    def with_calls(self, lines: Lines, key_of: Callable[[Row], object]) -> Lines:
         """The lines with the writes of calls as writes, but for those that the service's changes have, by what both have in common."""
         if not lines.facts.has_calls:
             return lines
-        known = {key_of(row) for row in lines.writes()}
-        made = Lines(ids=lines.ids)
-        for line in lines.rows():
-            row = row_of(line) if isinstance(line, Event) and line.kind != "rules" else line
-            if isinstance(row, Event):
-                made.add(row)
-            elif row[0] != CALL:
-                made.add_row(row)
-            elif has_changes or key_of(row) in known:
-                self.refusals.pass_over(self.CALL_KNOWN)
-            else:
-                made.add_row(("write", *row[1:]))
+        made, count = with_calls(lines, key_of, self.HAS_REVISIONS, self.refusals)
+        self.refusals.passed.update({self.CALL_KNOWN: count} if count else {})
         return made
 
     def refuse_unseen(self, lines: Lines) -> None:

@@ -49,6 +49,7 @@ class SpiceDbLog(Log):
     BASE = "token or revision"
     # and what stands in lines that are joined with others
     RULES = (b'"schema"', b'"%s"' % REQUEST.encode(), b'"%s"' % RESPONSE.encode())
+    HAS_REVISIONS = True
     WRITES = ("WriteRelationships", "DeleteRelationships", "ImportBulkRelationships")
     CALL_KNOWN = "other call (WriteRelationships)"
     GIVE_CHANGES = "give the watch stream, which has each change with its revision"
@@ -88,7 +89,7 @@ class SpiceDbLog(Log):
 
     def placed(self, lines: Lines, skew: Optional[int]) -> Lines:
         """Numbers for the snapshots of PostgreSQL; a log has either those or numbers."""
-        lines = self.with_calls(lines, False, lambda row: row[12][0][3] if row[12] else row[3])
+        lines = self.with_calls(lines, lambda row: row[12][0][3] if row[12] else row[3])
         self.refuse_unseen(lines)
         for key, path, line in self.refusals.updated:
             if key not in self.written:

@@ -1,0 +1,72 @@
+"""Writes of which a log has the calls that made them."""
+from bisect import bisect_left
+from typing import Callable, Iterator, Optional, Union
+
+from new_enemy_tools.importing.checks import Row
+from new_enemy_tools.importing.events import Event
+from new_enemy_tools.importing.refusals import Refusals
+from new_enemy_tools.importing.spool import CALL, CHECKS, Lines, row_of
+
+ORDER = "%s:%d: a check saw this write before the line of its call: each such write is put before what saw it, and none is called F4"
+
+
+def _rows(lines: Lines) -> Iterator[Union[Event, Row]]:
+    """The lines as rows; rules have none."""
+    return (row_of(line) if isinstance(line, Event) and line.kind != "rules" else line for line in lines.rows())
+
+
+class Seen:
+    """The revisions that lines saw, as far as these rise, and the places of those lines."""
+
+    def __init__(self) -> None:
+        self.revisions: list[int] = []
+        self.places: list[int] = []
+
+    def take(self, place: int, row: Row) -> None:
+        if row[0] in CHECKS:
+            revision = row[5] if row[9] is None else row[9]
+        else:
+            # What is written later saw all before.
+            revision = None if row[5] or row[3] is None else row[3] - 1
+        if revision is not None and (not self.revisions or revision > self.revisions[-1]):
+            self.revisions.append(revision)
+            self.places.append(place)
+
+    def first(self, revision: int) -> Optional[int]:
+        """The place of the first line that saw a revision, if one did."""
+        at = bisect_left(self.revisions, revision)
+        return self.places[at] if at < len(self.places) else None
+
+
+def with_calls(lines: Lines, key_of: Callable[[Row], object], has_revisions: bool, refusals: Refusals) -> tuple[Lines, int]:
+    """The lines with calls as the writes that they are, and of how many calls the log's own changes have the write, as both have one key.
+
+    Where calls have revisions that checks see, each is put before the first line that saw it.
+    """
+    known = {key_of(row) for row in lines.writes()}
+    seen, moved = Seen(), dict[int, list[Row]]()
+    places: dict[int, Optional[int]] = {}
+    for place, row in enumerate(_rows(lines)):
+        if isinstance(row, Event):
+            continue
+        if row[0] == CALL:
+            places[place] = None if key_of(row) in known else place
+            first = seen.first(row[3]) if has_revisions and places[place] is not None and row[12] is None else None
+            if first is not None:
+                refusals.note("calls", ORDER % row[1:3])
+                places[place] = None
+                moved.setdefault(first, []).append(row)
+        seen.take(place, row)
+    made, count = Lines(ids=lines.ids), 0
+    for place, row in enumerate(_rows(lines)):
+        for call in sorted(moved.get(place, ()), key=lambda one: (one[3], one[2])):
+            made.add_row(("write", *call[1:]))
+        if isinstance(row, Event):
+            made.add(row)
+        elif row[0] != CALL:
+            made.add_row(row)
+        elif places[place] is not None:
+            made.add_row(("write", *row[1:]))
+        else:
+            count += key_of(row) in known
+    return made, count
