@@ -3,6 +3,7 @@ import json
 import os
 
 from new_enemy_tools.importing.feed import NO_SNAPSHOT
+from new_enemy_tools.importing.printed import UNTOLD
 from tests import test_openfga, test_spicedb
 from tests.random_models import json_of
 from tests.support import Case
@@ -47,6 +48,13 @@ class OpenFga(LogCase):
         self.assertEqual(self.report(*log), "entries 2\nfindings 0\nverdict clean\n")
         self.assertEqual([line for line in self.said.splitlines() if line.startswith("passed")], [
             "passed over 1: failed request (2000)", "passed over 2: line of the service's own log", "passed over 1: other call (ListStores)"])
+
+    def test_calls_of_which_the_log_has_no_payload_are_counted(self):
+        bare = [{key: one for key, one in self.printed(call, {}).items() if key != "raw_request"} for call in ("Check", "ListStores")]
+        health = {**self.printed("Check", {}, {}), "grpc_service": "grpc.health.v1.Health"}
+        self.assertEqual(self.struck(*self.words(change("user:a"), *bare, health)), ["log:2: check that can't be read: " + UNTOLD])
+        self.assertIn("passed over 1: other call (Health)\npassed over 1: other call (ListStores)\n", self.imported(*self.words(
+            change("user:a"), *bare, health)))
 
     def test_a_log_whose_checks_have_no_snapshot_says_what_would_do(self):
         key = {"user": "user:a", "relation": "viewer", "object": "doc:1"}
@@ -174,6 +182,20 @@ class SpiceDb(LogCase):
             "log:2: check that can't be read: the log has no request of the response with the `requestID` 1",
             "log:3: check that can't be read: the log has no response of this request",
             "log:4: check that can't be read: the line has no `requestID`, which joins a request and its response"])
+
+    def test_calls_of_which_the_log_has_no_payload_are_counted(self):
+        def ended(call, request_id, **more):
+            return self.printed(call, request_id, "finished call", **{"grpc.code": "OK", **more})
+        nothing = self.asked("LookupResources", "l", {"resource_object_type": "doc", "permission": "view", "subject": {"object": self.thing("user:a")}},
+                             {}, kind="server_stream")[0]
+        log = (watch(1, update("user:a")), ended("CheckPermission", "1"), ended("CheckPermission", "2", **{"grpc.code": "Unknown"}),
+               ended("ReadSchema", "3"), ended("Check", "4", **{"grpc.service": "grpc.health.v1.Health"}), nothing, ended("LookupResources", "l"),
+               *self.checked("5", "user:a", 2, 1), ended("CheckPermission", "5"))
+        self.assertEqual(self.struck(*self.words(*log)), ["log:2: check that can't be read: " + UNTOLD])
+        self.assertEqual(self.report(*log), "entries 1\nfindings 0\nverdict clean\n")
+        self.assertEqual([line for line in self.said.splitlines() if line.startswith("passed")], [
+            "passed over 1: call that found nothing", "passed over 1: failed request (Unknown)", "passed over 1: other call (Health)",
+            "passed over 1: other call (ReadSchema)"])
 
     def test_names_as_numbers(self):
         one = update("user:a")

@@ -227,7 +227,8 @@ class OpenFgaLog(Log):
               "ReadChanges": (), "ReadAuthorizationModel": ("response.authorization_model",),
               "ReadAuthorizationModels": ("response.authorization_models",), "ReadAssertions": ("response.assertions",),
               "WriteAssertions": ("request.assertions",), "GetStore": (), "ListStores": ("response.stores",), "CreateStore": (),
-              "UpdateStore": (), "DeleteStore": ()}
+              "UpdateStore": (), "DeleteStore": (), "Health": ()}
+    DECISIONS = frozenset(("Check", "BatchCheck", "ListObjects", "StreamedListObjects", "ListUsers"))
     WRITES = ("Write",)
     CALL_KNOWN = "other call (Write)"
     GIVE_CHANGES = "give the changes as ReadChanges answers them, or each line of Write its `time`"

@@ -13,6 +13,10 @@ REQUEST, RESPONSE = "grpc.request.content", "grpc.response.content"
 FINISHED = "finished call"
 REQUEST_ID = ("requestID", "requestId", "request_id")
 OWN = "line of the service's own log"
+UNTOLD = "the line of this call has no request and no response: run `ne record`, or let the server log both"
+HEALTH = "Health"
+# So many calls that were answered are known until a line says that they ended.
+ANSWERED = 10_000
 
 
 def unwrapped(value: Any, keys: Iterable[str]) -> Any:
@@ -23,12 +27,19 @@ def unwrapped(value: Any, keys: Iterable[str]) -> Any:
     if "specversion" in value and isinstance(data, dict):
         found = {key: get(data, key) for key in ("request", "response", "error", "status")}
         return _filled({**found, "time": value.get("time"), "method": value.get("type")})
-    if "raw_request" not in value:
+    if "raw_request" not in value and not isinstance(value.get("grpc_method"), str):
         return value
+    if _is_health(value.get("grpc_service")):
+        return {"method": HEALTH}
     code, given = value.get("grpc_code"), {key: value[key] for key in keys if key in value}
-    found = {"request": value["raw_request"], "response": value.get("raw_response"), "error": value.get("error"),
+    found = {"request": value.get("raw_request"), "response": value.get("raw_response"), "error": value.get("error"),
              "method": value.get("grpc_method"), "status": {"code": code} if code else None, "time": _time_of(value.get("timestamp"))}
     return _filled({**found, **given})
+
+
+def _is_health(service: object) -> bool:
+    """Whether a call is of gRPC's own services, one of which has a call `Check`, too."""
+    return isinstance(service, str) and service.startswith("grpc.")
 
 
 def _filled(found: dict[str, Any]) -> dict[str, Any]:
@@ -69,6 +80,7 @@ class Joining:
 
     def __init__(self) -> None:
         self.waiting: dict[str, tuple[Any, int]] = {}
+        self.answered: dict[str, None] = {}
 
     @staticmethod
     def takes(value: Any) -> bool:
@@ -77,22 +89,40 @@ class Joining:
 
     def joined(self, value: dict[str, Any], line: int, keys: Iterable[str]) -> Optional[dict[str, Any]]:
         """The request and the response, or the failure, of a call, once a line says it; None before. Raises Bad."""
+        if _is_health(value.get("grpc.service")):
+            return {"method": HEALTH} if RESPONSE not in value and REQUEST not in value else None
         found = next((value[key] for key in REQUEST_ID if isinstance(value.get(key), str)), None)
+        told = {"method": value.get("grpc.method"), "time": value.get("time")}
+        if RESPONSE not in value and REQUEST not in value:
+            return self._ended(found, value.get("grpc.code"), told)
         if found is None:
-            if value.get("message") == FINISHED:
-                return None
             raise Bad("the line has no `requestID`, which joins a request and its response")
         if REQUEST in value:
             self.waiting[found] = plain_of(value[REQUEST]), line
             return None
-        told = {"method": value.get("grpc.method"), "time": value.get("time")}
-        if RESPONSE not in value:
-            asked, code = self.waiting.pop(found, (None, 0)), value.get("grpc.code")
-            return _filled({**told, "request": asked[0], "status": code}) if isinstance(code, str) and code != "OK" else None
         if found not in self.waiting:
             raise Bad("the log has no request of the response with the `requestID` %s" % found[:80])
         request, _ = self.waiting[found]
+        self.answered[found] = None
+        if len(self.answered) > ANSWERED:
+            del self.answered[next(iter(self.answered))]
         if not str(value.get("grpc.method_type")).endswith("stream"):
             del self.waiting[found]
         given = {key: value[key] for key in keys if key in value and key not in ("time", "error", "method")}
         return _filled({**told, "request": request, "response": plain_of(value[RESPONSE]), **given})
+
+    def left(self) -> list[int]:
+        """The lines of requests that no line answered."""
+        return [line for found, (_, line) in self.waiting.items() if found not in self.answered]
+
+    def _ended(self, found: Optional[str], code: object, told: dict[str, Any]) -> Optional[dict[str, Any]]:
+        """What the end of a call tells: that it failed, or, of one that no line told, that there was such a call."""
+        request, _ = self.waiting.pop(found or "", (None, 0))
+        is_answered = found in self.answered
+        if found is not None:
+            self.answered.pop(found, None)
+        if isinstance(code, str) and code != "OK":
+            return _filled({**told, "request": request, "status": code})
+        if is_answered:
+            return None
+        return _filled({**told, "request": request, "response": None if request is None else []})

@@ -96,6 +96,7 @@ class Log:
     KEYS = STAMP | passing.KEYS | {"request", "response", "version", "content", "newest"}
     # of a response, what a decision stands in, a single one first; and the calls that have none
     DECIDES: tuple[str, ...] = ()
+    DECISIONS: frozenset[str] = frozenset()
     OTHERS: dict[str, tuple[str, ...]] = {}
     # those of them that write; what is told of a call whose changes the log has; and what a log lacks that has no changes
     WRITES: tuple[str, ...] = ()
@@ -200,7 +201,7 @@ class Log:
 
     def _end(self, path: str) -> None:
         """A call whose response does not stand in the file of its request was not told."""
-        for _, line in self.joining.waiting.values():
+        for line in self.joining.left():
             self.refusals.unread_check(path, line, causes.UNREADABLE, "the log has no response of this request")
         self.joining = printed.Joining()
 
@@ -231,37 +232,42 @@ class Log:
                 continue
             stamp = stamp_of(value if isinstance(value, dict) else {}, path, line, self.refusals)
             try:
-                self._refuse_unread(value)
-                is_check = get(value, "request") is not None
-                if is_check and get(value.get("response"), self.DECIDES[0]) is not None:
-                    yield from self._checks(value, stamp, path, line)
-                    continue
-                changes = get(value, "response") if is_check else value
-                if self.is_write(changes):
-                    yield from self.writes(changes, stamp, path, line)
-                    continue
-                rules = self.new_rules(value)
-                if rules is not None:
-                    yield from self.change(rules, value, stamp, path, line)
-                    continue
-                passed = passing.failure_of(value, self.DECIDES)
-                if passed is None and is_check and get(value, "response") is not None:
-                    made = list(self.calls(value, stamp, path, line))
-                    if made:
-                        yield from made
-                        continue
-                if passed is None and (is_check or get(value, "method") is not None):
-                    passed = self._other_call(value, path, line)
-                if passed:
-                    self.refusals.pass_over(passed)
-                elif is_check:
-                    yield from self._checks(value, stamp, path, line)
-                elif printed.is_own_log(value):
-                    self.refusals.pass_over(printed.OWN)
-                else:
-                    raise Bad(self.NO_LINE)
+                yield from self._line(value, stamp, path, line)
             except Bad as fault:
                 self.refusals.refuse(path, line, str(fault))
+
+    def _line(self, value: Any, stamp: Stamp, path: str, line: int) -> Iterator[Line]:
+        """What a line has; raises Bad."""
+        self._refuse_unread(value)
+        is_check = get(value, "request") is not None
+        changes = get(value, "response") if is_check else value
+        if is_check and get(changes, self.DECIDES[0]) is not None:
+            yield from self._checks(value, stamp, path, line)
+        elif self.is_write(changes):
+            yield from self.writes(changes, stamp, path, line)
+        elif (rules := self.new_rules(value)) is not None:
+            yield from self.change(rules, value, stamp, path, line)
+        else:
+            yield from self._call(value, is_check, stamp, path, line)
+
+    def _call(self, value: Any, is_check: bool, stamp: Stamp, path: str, line: int) -> Iterator[Line]:
+        """What a line has that is no single decision, no change and no rules; raises Bad."""
+        passed = passing.failure_of(value, self.DECIDES)
+        if passed is None and is_check and get(value, "response") is not None:
+            made = list(self.calls(value, stamp, path, line))
+            if made:
+                yield from made
+                return
+        if passed is None and (is_check or get(value, "method") is not None):
+            passed = self._other_call(value, path, line)
+        if passed is None and not is_check and printed.is_own_log(value):
+            passed = printed.OWN
+        if passed:
+            self.refusals.pass_over(passed)
+        elif is_check:
+            yield from self._checks(value, stamp, path, line)
+        else:
+            raise Bad(self.NO_LINE)
 
     def calls(self, value: dict[str, Any], stamp: Stamp, path: str, line: int) -> Iterator[Event]:
         """The writes of a call that wrote, where its line says all of them; raises Bad."""
@@ -291,9 +297,11 @@ class Log:
 
     def _told(self, given: Any, line: int) -> Any:
         """The line that a printed one tells; None where it tells none as yet. Raises Bad."""
-        if self.joining.takes(given):
-            return self.joining.joined(given, line, self.KEYS)
-        return printed.unwrapped(given, self.KEYS)
+        value = self.joining.joined(given, line, self.KEYS) if self.joining.takes(given) else printed.unwrapped(given, self.KEYS)
+        if value is not given and value is not None and value.get("request") is None and passing.method_of(value) in self.DECISIONS \
+                and passing.failure_of(value, self.DECIDES) is None:
+            raise Bad(printed.UNTOLD)
+        return value
 
     def _checks(self, value: dict[str, Any], stamp: Stamp, path: str, line: int) -> Iterator[Entry]:
         """A check that can't be read is not audited. Of a content check it is then not known which version it issued."""

@@ -56,7 +56,8 @@ class SpiceDbLog(Log):
     DECIDES = ("permissionship", "pairs", "resourceObjectId", "subject", "subjectObjectId")
     ASKED = {**_goal("request.", "permission", ID), "request.context": NULL, "response.partial_caveat_info": NULL,
              "response.debug_trace": NULL, "response.optional_expires_at": NULL, "response.checked_at.token": field(b'"(%s+)"' % TEXT, "snapshot"),
-             "request.consistency.fully_consistent": field(b"(true)", "newest"), "response.permissionship": field(b'"PERMISSIONSHIP_(HAS|NO)_PERMISSION"', "reply"), "time": field(TIME, "time")}
+             "request.consistency.fully_consistent": field(b"(true)", "newest"),
+             "response.permissionship": field(b'"PERMISSIONSHIP_(HAS|NO)_PERMISSION"', "reply"), "time": field(TIME, "time")}
     FIXED = ("request.consistency.minimize_latency", "request.subject.optional_relation", "request.with_tracing")
     CHECK = form({**ASKED, "request.consistency.at_least_as_fresh.token": field(b'"(%s+)"' % TEXT, "token"),
                   "version": field(LABEL, "version")}, *FIXED)
@@ -70,7 +71,8 @@ class SpiceDbLog(Log):
     OTHERS = {"WriteRelationships": ("request.updates",), "DeleteRelationships": ("response.deletedAt",),
               "ReadRelationships": ("request.relationshipFilter",), "ExpandPermissionTree": ("response.treeRoot",),
               "ReadSchema": ("response.schemaText",), "ReflectSchema": (), "DiffSchema": (), "ImportBulkRelationships": (),
-              "ExportBulkRelationships": ()}
+              "ExportBulkRelationships": (), "Health": ()}
+    DECISIONS = frozenset(("CheckPermission", "CheckBulkPermissions", "BulkCheckPermission", "LookupResources", "LookupSubjects"))
 
     def __init__(self, rules: ServiceRules, base_at: Optional[Revision], refusals: Refusals):
         super().__init__(rules, base_at, refusals)
