@@ -74,6 +74,13 @@ class TightenedModels(Case):
         self.assertEqual(self.report(wide, *log), [])
         self.assertEqual(len(self.report(wide, *log, check(at=2, allowed=False, request=of("wide")))), 1)
 
+    def test_a_relation_that_the_model_of_a_check_does_not_have(self):
+        """Also where the models agree on all that both have."""
+        more = model(["user"], "more", editor=["user"])
+        log = change("user:a"), {"authorization_model": more}, check("user:b", "editor", at=1, allowed=False, request=of("less"))
+        self.assertEqual(self.struck(*self.words(model(["user"], "less"), *log, check(at=1, request=of("more")))), [
+            "log:3: check of a relation that the rules do not have: doc:1#editor of model less@user:b"])
+
     def test_a_version_is_one_for_all_models(self):
         wide, tight = model(["user", "user:*"], "wide"), model(["user"], "tight")
         log = (change("user:*"), change("user:a", at="2024-01-01T00:00:02Z"), {"authorization_model": tight},

@@ -68,6 +68,13 @@ class SpiceDb(Case):
         nothing = delete | {"response": {**delete["response"], "relationshipsDeletedCount": "0"}}
         self.report(nothing, self.check(3, reply="NO"))
 
+    def test_what_a_status_says(self):
+        asked = {"request": self.check(1)["request"]}
+        fine = [self.check(1, status=status) for status in ("OK", 200, "200 OK", {"code": 0}, {"code": "OK"})]
+        failed = [{**asked, "status": status} for status in ("UNAVAILABLE", "2", "503 late", {"code": 14})]
+        self.assertEqual(self.report(watch(1, update("user:a")), *fine, *failed), "entries 5\nfindings 0\nverdict clean\n")
+        self.assertEqual(self.said.count("failed request"), 4)
+
     def test_a_tuple_of_a_call_that_has_no_form_is_left_out(self):
         bad = written(1, update("user:a", optionalCaveat={"caveatName": "c"}))
         self.assertEqual(self.refused(*self.words(bad)), ["log:1: caveat: doc:1#viewer@user:a"])

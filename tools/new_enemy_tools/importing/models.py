@@ -110,7 +110,8 @@ class Models:
             for name, meaning in found.items():
                 labels.setdefault(meaning, name if first.setdefault(name, meaning) == meaning else _label(name, given[model]))
             self.names[model] = {name: labels[meaning] for name, meaning in found.items()}
-        self.is_plain = all(name == shown for names in self.names.values() for name, shown in names.items())
+        # whether all models that are used have the same relations, and mean the same by them
+        self.is_plain = all(names == {name: name for name in self.names[self.used[0]]} for names in self.names.values())
         self.known: dict[Key, list[tuple[str, Optional[str]]]] = {}
 
     def _used(self, asked: Iterable[Optional[str]]) -> list[int]:

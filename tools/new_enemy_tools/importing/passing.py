@@ -1,11 +1,12 @@
 """Lines of a service that record no decision: requests that failed, and other calls."""
+import re
 from typing import Iterable, Optional
 
 from new_enemy_tools.importing.reading import Bad, get
 
 LONGEST = 60
-# What the status of a call that did not fail is called.
-FINE = ("OK", "Ok", "ok", "0", "200", "")
+# What the status of a call that did not fail is called, by gRPC and by HTTP.
+FINE = re.compile(r"(?i:ok)|0|2\d\d( .*)?|")
 # What a recorder may add to say so.
 KEYS = frozenset(("error", "status", "method"))
 
@@ -18,7 +19,7 @@ def failure_of(value: object, decides: Iterable[str]) -> Optional[str]:
     status = get(value, "status")
     if isinstance(status, int) and status >= 400:
         return "failed request (%d)" % status
-    if isinstance(status, str) and status not in FINE or get(status, "code") not in (None, 0, *FINE):
+    if isinstance(status, str) and not FINE.fullmatch(status) or get(status, "code") not in (None, 0, "OK"):
         return _failed(status if isinstance(status, str) else get(status, "code"))
     for holder in (value, response):
         error = get(holder, "error")
