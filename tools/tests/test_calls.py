@@ -44,7 +44,7 @@ class OpenFga(CallsCase):
         self.assertIn("verdict clean", self.audited())
         del results["a"]
         words = self.words({"request": {"checks": checks[:1]}, "response": {"result": results}, "snapshot": 2})
-        self.assertEqual(self.unaudited(*words), ["not audited: %s, first at log:3: the response has no `allowed`" % causes.UNREADABLE,
+        self.assertEqual(self.unaudited(*words), ["not audited: %s, first at log:3: doc:1#viewer@user:a" % causes.UNREADABLE,
                                                   "not audited 1: %s" % causes.UNREADABLE])
 
     def test_lists(self):

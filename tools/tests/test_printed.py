@@ -75,6 +75,13 @@ class OpenFga(LogCase):
         batch = {"request": {"checks": checks}, "response": {"result": {"a": {"allowed": True}, "b": {}}}, "snapshot": 1}
         self.assertEqual(self.report(change("user:a"), batch), "entries 2\nfindings 0\nverdict clean\n")
 
+    def test_an_odd_answer_within_a_batch_costs_no_other(self):
+        checks = [{"correlation_id": user, "tuple_key": {"user": "user:" + user, "relation": "viewer", "object": "doc:1"}} for user in "abc"]
+        batch = {"request": {"checks": checks}, "response": {"result": {"a": {"allowed": True}, "b": {"allowed": "yes"}}}, "snapshot": 1}
+        self.assertEqual(self.struck(*self.words(change("user:a"), batch)), [
+            "log:2: check that can't be read: doc:1#viewer@user:%s" % user for user in "bc"])
+        self.assertEqual(self.audited(), "entries 1\nfindings 0\nverdict clean\n")
+
     def test_a_write_without_its_operation_and_with_its_number(self):
         bare = {key: value for key, value in change("user:a").items() if key != "operation"}
         gone = {**bare, "operation": 1, "timestamp": AT % 3}
@@ -208,6 +215,13 @@ class SpiceDb(LogCase):
         for number in 0, 3, 4, True:
             odd = self.check(1) | {"response": {"checkedAt": {"token": token_text(1)}, "permissionship": number}}
             self.assertEqual(len(self.struck(*self.words(*log, odd))), 1)
+
+    def test_an_odd_answer_of_many_costs_no_other(self):
+        pairs = [{"request": {"resource": thing("doc:1"), "permission": "view", "subject": {"object": thing("user:" + user)}}, "item": item}
+                 for user, item in (("a", {"permissionship": 2}), ("b", {}), ("c", {"permissionship": 1}))]
+        many = {"request": {"items": [{}] * 3}, "response": {"checkedAt": {"token": token_text(1)}, "pairs": pairs}}
+        self.assertEqual(self.struck(*self.words(watch(1, update("user:a")), many)), ["log:2: check that can't be read: doc:1#view@user:b"])
+        self.assertEqual(self.audited(), "entries 2\nfindings 0\nverdict clean\n")
 
     def test_a_caveat_that_no_relation_takes(self):
         schema = "caveat tuesday(day string) {\n  day == \"tuesday\"\n}\n" + SCHEMA % VIEW

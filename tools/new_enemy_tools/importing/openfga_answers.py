@@ -96,6 +96,7 @@ def _listed(response: object, key: str) -> list[Any]:
 
 
 def _batch(request: object, response: object, refusals: Refusals) -> Iterator[Answer]:
+    """One answer that can't be read costs no other."""
     results = get(response, "result")
     for check in _list(request, "checks"):
         found = get(check, "correlation_id")
@@ -103,8 +104,12 @@ def _batch(request: object, response: object, refusals: Refusals) -> Iterator[An
         failed = failure_of(result, ("allowed",))
         if failed:
             refusals.pass_over(failed)
-        else:
-            yield _answer(request, check, result)
+            continue
+        try:
+            answer = _answer(request, check, result)
+        except Bad:
+            answer = Answer(relationship_of(get(check, "tuple_key")), False, causes.UNREADABLE)
+        yield answer
 
 
 def _list_objects(request: object, response: object) -> Iterator[Answer]:

@@ -109,6 +109,7 @@ def _answer(request: object, resource: object, subject: object, found: object, n
 
 
 def _bulk(response: object, refusals: Refusals) -> Iterator[Answer]:
+    """One answer that can't be read costs no other."""
     pairs = get(response, "pairs")
     if not isinstance(pairs, list):
         raise Bad("`pairs` is no list")
@@ -116,6 +117,11 @@ def _bulk(response: object, refusals: Refusals) -> Iterator[Answer]:
         failed = failure_of(pair, ("item",))
         if failed and get(pair, "item") is None:
             refusals.pass_over(failed)
-        else:
-            asked = get(pair, "request")
-            yield _answer(asked, get(asked, "resource"), get(asked, "subject"), get(pair, "item"))
+            continue
+        asked = get(pair, "request")
+        try:
+            answer = _answer(asked, get(asked, "resource"), get(asked, "subject"), get(pair, "item"))
+        except Bad:
+            goal = _relationship(_object(get(asked, "resource"), "resource"), str(get(asked, "permission")), _subject(get(asked, "subject")))
+            answer = Answer(goal, False, causes.UNREADABLE)
+        yield answer
