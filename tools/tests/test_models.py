@@ -7,7 +7,7 @@ from tests.random_models import RandomLog, json_of
 from tests.support import Case
 from tests.test_openfga import change, check
 
-LOGS = int(os.environ.get("RANDOM_MODELS", 40))
+RANDOM_MODELS = int(os.environ.get("RANDOM_MODELS", "40"))
 
 
 def model(takes, model_id, **more):
@@ -145,5 +145,5 @@ class RandomModels(Case):
         self.assertEqual([source.rsplit(":", 1)[1] for source in found], [str(planted + 1)], "seed %d" % seed)
 
     def test_random_logs_are_not_accused_and_each_planted_fault_is_found(self):
-        for seed in range(LOGS):
+        for seed in range(RANDOM_MODELS):
             self.looked_at(seed)
