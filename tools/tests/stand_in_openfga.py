@@ -3,7 +3,8 @@
 Of the share of checks that ask of a document called `fixed`, which no later write touches, the reply is a wrong one; of those that
 ask of a document called `early`, the state before its last change is looked at, whatever the request demands. A check of the document
 `held` has no answer; a line on standard output says that it came. A list for the user `broken` breaks off behind its first object.
-The feed never shows a change of the document `hidden`, and a change of the document `slow`, with all behind it, half a second late.
+The feed never shows a change of the document `hidden`, and a change of the document `slow`, with all behind it, half a second late. It can't
+be read between `control-pause` and `control-go-on`.
 """
 import json
 import re
@@ -32,6 +33,7 @@ class OpenFga:
         self.states = [frozenset()]
         self.lock = threading.Lock()
         self.random = Random(11)
+        self.is_paused = False
 
     def call(self, handler, method, path, body):
         found = PATH.match(path)
@@ -72,7 +74,18 @@ class OpenFga:
             self.states[-1] = frozenset(state)
         handler.answer({})
 
+    def control_pause(self, handler, method, body, query):
+        self.is_paused = True
+        handler.answer({})
+
+    def control_go_on(self, handler, method, body, query):
+        self.is_paused = False
+        handler.answer({})
+
     def changes(self, handler, method, body, query):
+        if self.is_paused:
+            handler.answer({"code": "internal", "message": "paused"}, 503)
+            return
         with self.lock:
             first = int(query.get("continuation_token") or 0)
             end = min(first + int(query.get("page_size", 50)), self.last_shown())

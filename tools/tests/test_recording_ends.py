@@ -11,8 +11,6 @@ from tests.test_recording_openfga import NEWEST, key
 from tests.test_recording_spicedb import FULL, SpiceDb
 
 ANSWERS, CHANGES = "the recorder ended before their answers: ", "the recorder ended before the changes that these needed: "
-# So long the changes are not read again, which is longer than a test runs.
-NEVER = ("--poll", "600")
 DID_NOT_RUN, KILLED = "the recorder did not run", "the recorder was killed"
 
 
@@ -28,7 +26,7 @@ class Ending(Failing):
     def users(self):
         return {row["goal"][4] for row in self.events() if row["event"] in ("check", "content")}
 
-    def begin(self, *words):
+    def begin(self, *words, is_last=False):
         """A service and a recorder, which has read the changes for the last time where that is asked for."""
         self.service = self.start_service()
         self.recorder = self.start_recorder(*words)
@@ -36,6 +34,14 @@ class Ending(Failing):
         self.addCleanup(self.client.close)
         self.ask("first")
         self.wait_for(lambda: "first" in self.users())
+        if is_last:
+            self.control("pause")
+
+    def control(self, what):
+        """The changes of the service can't be read any more, or can be again."""
+        client = Client(self.service_port)
+        self.assertEqual(self.call(client, "control-" + what, {})[0], 200)
+        client.close()
 
     def ask(self, user, thing="document:d0", **headers):
         status, answer = self.check(self.client, "user:" + user, "viewer", thing, **headers)
@@ -86,28 +92,28 @@ class Unread(Ending):
             with self.subTest(number):
                 self.room = self.path("%d" % number)
                 os.mkdir(self.room)
-                self.begin(*NEVER)
+                self.begin(is_last=True)
                 self.ask("last")
                 self.end_service()
                 self.end_by(number)
                 self.assert_last_is_lost()
 
     def test_with_the_service(self):
-        self.begin(*NEVER)
+        self.begin(is_last=True)
         self.ask("last")
         self.service.send_signal(signal.SIGTERM)
         self.end_by(signal.SIGTERM)
         self.assert_last_is_lost()
 
     def test_before_the_service(self):
-        self.begin(*NEVER)
+        self.begin(is_last=True)
         self.ask("last")
         self.end_by(signal.SIGTERM)
         self.assert_last_is_lost()
 
     def test_where_the_proxy_is_killed(self):
         """The keeper goes on and ends the log; it has the beginning of each check before the service has it."""
-        self.begin(*NEVER)
+        self.begin(is_last=True)
         self.ask("last")
         self.end_service()
         self.recorder.kill()
@@ -115,7 +121,7 @@ class Unread(Ending):
         self.assert_last_is_lost()
 
     def test_kinds(self):
-        self.begin(*NEVER)
+        self.begin(is_last=True)
         self.ask("second")
         self.ask("third", X_Content_Version="v")
         self.assertTrue(self.check(self.client, "user:owner", "editor", "document:d0", X_Content_Save="v")[1]["allowed"])
@@ -184,7 +190,7 @@ class Killed(Ending):
         self.wait_for(lambda: not os.path.exists("/proc/%d" % keeper))
 
     def test_an_open_end_is_a_gap(self):
-        self.begin(*NEVER)
+        self.begin(is_last=True)
         self.ask("last")
         self.kill_all()
         self.assertEqual(self.users(), {"first"})
@@ -196,10 +202,11 @@ class Killed(Ending):
                       self.run_tool("report", "--form", "text", "trace.jsonl", "report.txt").stdout)
 
     def test_the_next_recorder_says_it(self):
-        self.begin(*NEVER, "--hold", "7")
+        self.begin("--hold", "7", is_last=True)
         self.ask("last")
         last = max(row["time"] for row in self.events() if "time" in row)
         self.kill_all()
+        self.control("go-on")
         recorder = self.start_recorder()
         self.end(recorder)
         gaps = [row for row in self.of_kind("gap") if row["reason"] != "the log begins"]
@@ -212,7 +219,7 @@ class Killed(Ending):
 
     def test_a_next_recorder_that_cannot_begin(self):
         """It closes what it found, and says what passed by it, so that the log does not look as if nothing was lost."""
-        self.begin(*NEVER)
+        self.begin(is_last=True)
         self.write(self.client, key("user:new", "viewer", "document:d0"))
         self.ask("last")
         self.kill_all()
@@ -225,6 +232,7 @@ class Killed(Ending):
         self.end(wrong)
         self.assertEqual((self.users(), self.lost()), ({"first"}, Counter({KILLED: 0, DID_NOT_RUN: 3})))
         self.import_log()
+        self.control("go-on")
         recorder = self.start_recorder()
         self.end(recorder)
         self.assertEqual(self.lost(), Counter({KILLED: 0, DID_NOT_RUN: 3}))

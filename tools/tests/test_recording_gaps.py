@@ -11,6 +11,7 @@ from collections import Counter
 from random import Random
 
 from new_enemy_tools.importing import causes
+from new_enemy_tools.recording.openfga import UNORDERED
 from tests.recorded import Client, Recorded
 from tests.stand_in_openfga import STORE
 from tests.test_recording_openfga import MODEL, OpenFga, key
@@ -59,7 +60,7 @@ class Failing(OpenFga):
         return service
 
     def assert_once(self):
-        """No check and no change stands twice in the log, and the changes are those of the service, in their order."""
+        """No check and no change stands twice in the log, and the changes are those of the service."""
         events = self.events()
         checks = Counter((row["goal"][4], row["goal"][1], row.get("version")) for row in events if row["event"] in ("check", "content"))
         self.assertEqual([one for one, count in checks.items() if count > 1], [])
@@ -67,8 +68,9 @@ class Failing(OpenFga):
         self.assertEqual([row["revision"] for row in writes], sorted({row["revision"] for row in writes}))
         feed = self.feed()
         base = len(feed) - len(writes)
-        self.assertEqual([row["add"][0] for row in writes], [["document", one["object"].split(":")[1], "viewer", "user", one["user"].split(":")[1]]
-                                                            for one in feed[base:]])
+        given = [["document", one["object"].split(":")[1], "viewer", "user", one["user"].split(":")[1]] for one in feed[base:]]
+        # Of those that came at once the order is not known.
+        self.assertEqual(sorted(row["add"][0] for row in writes), sorted(given))
         return len(checks)
 
     def feed(self):
@@ -216,7 +218,8 @@ class Full(Failing):
         self.assertIn("cannot end the log: File too large", self.get("said"))
         self.assertEqual(set(self.passed), {200})
         self.end(self.start_recorder())
-        self.assertEqual([row["reason"] for row in self.of_kind("gap")], ["the log begins", "the recorder was killed", "the recorder did not run"])
+        reasons = [row["reason"] for row in self.of_kind("gap") if row["reason"] != UNORDERED]
+        self.assertEqual(reasons, ["the log begins", "the recorder was killed", "the recorder did not run"])
         self.assertIn("the log has gaps", self.import_log())
         self.assert_once()
 

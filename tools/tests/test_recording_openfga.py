@@ -7,6 +7,7 @@ import stat
 import subprocess
 import sys
 
+from new_enemy_tools.recording.openfga import UNORDERED
 from tests.documents import read
 from tests.recorded import Client, Recorded, counted
 from tests.stand_in_openfga import STORE
@@ -86,7 +87,9 @@ class Load(OpenFga):
     def test_nothing_planted(self):
         said = self.run_load(0)
         self.assertEqual(self.found(), {}, self.said_of_audit)
-        self.assertNotIn("lost", said)
+        lost = [line for line in said.splitlines() if "lost" in line]
+        self.assertEqual([line for line in lost if UNORDERED not in line], [])
+        self.assertLess(sum(int(line.rpartition("(")[2].split()[0]) for line in lost), CLIENTS * REQUESTS * 0.1)
         self.assertIn("the log begins", said)
         entries = len(self.of_kind("check")) + len(self.of_kind("content"))
         self.assertGreater(entries, CLIENTS * REQUESTS * 0.7)

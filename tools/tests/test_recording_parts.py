@@ -1,20 +1,14 @@
 """The parts of tools/record alone: what reads along with HTTP, the order of a log, its files, and what goes to the keeper."""
 import errno
-import json
 import os
 import socket
 import threading
 import time
-from bisect import bisect_left
-from functools import partial
 from random import Random
 from unittest import mock
 
 from new_enemy_tools.importing.chained import end_of, head_of
-from new_enemy_tools.importing.events import Relationship
-from new_enemy_tools.recording import openfga
-from new_enemy_tools.recording.keeper import Settings
-from new_enemy_tools.recording.http_reading import BODY, Messages, Strange
+from new_enemy_tools.recording.http_reading import BODY, Messages, Strange, path_of
 from new_enemy_tools.recording.log_files import InUse, LogFault, LogFiles, Place
 from new_enemy_tools.recording.lines import gap_line, line, write_line
 from new_enemy_tools.recording.messages import Beat, Bye, Ended, Lost, Started, Teller, messages_from
@@ -58,6 +52,24 @@ class Reading(Case):
                      b"POST / HTTP/1.1\r\nContent-Length: x\r\n\r\n", b"POST / HTTP/1.1\r\nTransfer-Encoding: chunked\r\n\r\nzz\r\n"):
             with self.assertRaises(Strange):
                 read_along(data, lambda: len(data))
+
+    def test_what_two_readers_may_read_in_two_ways(self):
+        """Wherever it is cut, it is refused before a request behind it is read."""
+        post, chunked = b"POST /x HTTP/1.1\r\n", b"POST /x HTTP/1.1\r\nTransfer-Encoding: chunked\r\n\r\n"
+        for data in (post + b"A: b\nContent-Length: 30\r\n\r\n", b"GET / HTTP/1.1\n\n", post + b"A: b\rC: d\r\n\r\n", post + b"A: \x00\r\n\r\n",
+                     post + b"Content-Length: 2\r\nContent-Length: 2\r\n\r\n{}", post + b"Content-Length : 2\r\n\r\n{}",
+                     post + b"Content-Length: 2\r\nTransfer-Encoding: chunked\r\n\r\n", post + b"Transfer-Encoding: gzip, chunked\r\n\r\n",
+                     post + b"A: b\r\n folded\r\n\r\n", post + b"Content-Length: +2\r\n\r\n{}", chunked + b"+1\r\na\r\n0\r\n\r\n",
+                     chunked + b"0x1\r\na\r\n0\r\n\r\n", chunked + b"1_0\r\n", chunked + b"1\na\r\n0\r\n\r\n", chunked + b"1\r\nab\r\n0\r\n\r\n",
+                     b"\x16\x03\x01"):
+            for size in (1, 3, len(data)):
+                with self.subTest(data=data, size=size), self.assertRaises(Strange):
+                    read_along(data + b"GET /later HTTP/1.1\r\n\r\n", lambda size=size: size)
+
+    def test_which_path(self):
+        self.assertEqual([path_of(one) for one in ("/stores/S/%63heck", "/stores/S/check#x", "/stores/S/check?a=/b", "http://host/stores/S/check",
+                                                   "/stores/%53/check", "*")],
+                         ["/stores/S/check"] * 5 + ["/"])
 
     def test_a_body_that_is_too_long_is_not_kept(self):
         data = b"POST / HTTP/1.1\r\nContent-Length: %d\r\n\r\n" % (BODY + 1) + b"x" * (BODY + 1) + b"GET / HTTP/1.1\r\n\r\n"
@@ -121,136 +133,6 @@ class Order(Case):
                 told.append((at, revision))
                 time = random.randint(0, 60)
                 self.assertEqual(known.at(time), max(revision for at, revision in told if at <= time))
-
-
-class Stop(Exception):
-    pass
-
-
-class Made(Case):
-    """What the recorder says of writes that passed it, on OpenFGA."""
-
-    def setUp(self):
-        super().setUp()
-        self.service = openfga.OpenFga(Settings("openfga", "http://127.0.0.1:1", "log", "S", None, False, 30.0, 0.0, 0.0, 1, 1.0))
-        self.keeper = mock.Mock(is_ready=True)
-
-    def change(self, user, live):
-        return openfga.Change(Relationship("document", "d", "viewer", "user", user, None), live, 0, None, None)
-
-    def answered(self, asked, at, *changes, status=200):
-        body = {"writes": {"tuple_keys": []}, "deletes": {"tuple_keys": []}}
-        for user, live in changes:
-            body["writes" if live else "deletes"]["tuple_keys"].append({"user": "user:" + user, "relation": "viewer", "object": "document:d"})
-        self.service.end(Ended(1, "write", "/stores/S/write", asked + 7, at + 7, at, None, None, None, status, json.dumps(body).encode(), b"{}", None),
-                         None, self.keeper)
-
-    def shown(self, received, *changes):
-        self.service.take(openfga.Changes(received, [self.change(*one) for one in changes], None), self.keeper)
-
-    def test_what_a_reading_shows_is_known_when_it_has_ended(self):
-        ended, put = [], []
-
-        def read():
-            ended.append(time.monotonic_ns())
-            return [], None
-
-        def take(message):
-            put.append(message)
-            if len(put) == 2:
-                raise Stop
-        self.service.has_begun = True
-        self.service.kicked.set()
-        with mock.patch.object(self.service, "_read", read), self.assertRaises(Stop):
-            self.service.feed(None, take)
-        self.assertGreaterEqual(put[1].received, ended[0])
-
-    def run_writers(self, random, others):
-        """Writers of the same tuples, and others whose writes do not pass the recorder; a feed that is read now and then; and what the
-        proxy and the feed tell, each in its order. Gives the times of the commits, and those when no write was under way."""
-        state, feed, commits, told, read, quiet = set(), [], [], ([], []), 0, []
-        writers = [None] * 3
-        for now in range(10, 300):
-            number, which, user = random.randrange(3), random.random(), "u%d" % random.randrange(3)
-            if not any(writers):
-                quiet.append(now)
-            if which < others:
-                feed.append((user, user not in state))
-                state ^= {user}
-                commits.append(now)
-            elif which < 0.15 + others:
-                told[1].append(partial(self.shown, now, *feed[read:]))
-                read = len(feed)
-            elif writers[number] is None:
-                writers[number] = (now, (user, random.random() < 0.5), False)
-            elif writers[number][2]:
-                told[0].append(partial(self.answered, writers[number][0], now, writers[number][1]))
-                writers[number] = None
-            elif writers[number][1][1] == (writers[number][1][0] in state):
-                told[0].append(partial(self.answered, writers[number][0], now, writers[number][1], status=400))
-                writers[number] = None
-            else:
-                state ^= {writers[number][1][0]}
-                feed.append(writers[number][1])
-                commits.append(now)
-                writers[number] = (*writers[number][:2], True)
-        for asked, change, is_made in filter(None, writers):
-            told[0].append(partial(self.answered, asked, 300, change, status=200 if is_made else 400))
-        told[1].append(partial(self.shown, 301, *feed[read:]))
-        while any(told):
-            random.choice([one for one in told if one]).pop(0)()
-        return commits, quiet
-
-    def test_writes_that_come_and_go(self):
-        """What is said to be known at a time was there; where nobody else writes and no write is under way, all that was there is."""
-        least = 0
-        for seed in range(100):
-            self.setUp()
-            commits, quiet = self.run_writers(Random(seed), seed % 2 * 0.2)
-            self.assertEqual((list(self.service.made), self.keeper.lose.call_args), ([], None))
-            for now in range(300):
-                self.assertLessEqual(self.service.known(now), bisect_left(commits, now), (seed, now))
-            if seed % 2 == 0:
-                self.assertEqual([self.service.known(now) for now in quiet], [bisect_left(commits, now) for now in quiet], seed)
-                least += len(quiet)
-        self.assertGreater(least, 500)
-
-    def test_a_change_that_was_shown_before_the_answer_came(self):
-        self.shown(5, ("a", True), ("a", False))
-        self.answered(2, 4, ("a", False))
-        self.assertEqual([self.service.known(at) for at in (3, 4, 5)], [0, 2, 2])
-        self.answered(8, 9, ("a", True), ("b", True))
-        self.shown(12, ("c", True), ("b", True), ("c", False), ("a", True), ("c", True))
-        self.assertEqual([self.service.known(at) for at in (8, 9, 12)], [2, 6, 7])
-
-    def test_how_much_is_remembered(self):
-        with mock.patch("new_enemy_tools.recording.openfga.RECENT", 3), mock.patch("new_enemy_tools.recording.openfga.MADE", 3):
-            for number in range(8):
-                self.shown(10 * number, ("a", number % 2 == 0))
-            self.assertEqual(sum(map(len, self.service.shown.values())), 3)
-            self.answered(1, 75, ("a", False))
-            self.assertEqual((len(self.service.made), self.service.known(75)), (1, 8))
-            self.service.made.clear()
-            for number in range(8):
-                self.answered(100 + number, 101 + number, ("b%d" % number, True))
-            self.assertEqual([one.answered for one in self.service.made], [101, 102, 108])
-            self.shown(200, *[("b%d" % number, True) for number in range(8)])
-            self.assertEqual([one.answered for one in self.service.made], [108])
-            self.assertEqual([self.service.known(at) for at in (102, 108)], [10, 10])
-            self.keeper.lose.assert_not_called()
-            self.shown(200 + 30 * 10 ** 9)
-            self.assertEqual((len(self.service.made), self.keeper.lose.call_args[0][0]),
-                             (0, "a write was answered that the changes did not show within 30 seconds"))
-
-    def test_behind_one_that_is_never_shown(self):
-        second = 10 ** 9
-        with mock.patch("new_enemy_tools.recording.openfga.RECENT", 3):
-            self.answered(1, 2, ("hidden", True))
-            self.answered(3, 20 * second, ("a", True))
-            self.shown(21 * second, ("a", True), *[("b", number % 2 == 0) for number in range(8)])
-            self.assertEqual((len(self.service.made), self.service.known(20 * second)), (2, 0))
-            self.shown(31 * second)
-            self.assertEqual((len(self.service.made), self.service.known(20 * second), self.keeper.lose.call_count), (0, 1, 1))
 
 
 class Files(Case):

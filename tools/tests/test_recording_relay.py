@@ -8,10 +8,12 @@ import threading
 from random import Random
 from urllib.parse import urlsplit
 
-from new_enemy_tools.recording.keeper import body_of
+from new_enemy_tools.importing.reading import Bad
+from new_enemy_tools.recording.core import body_of
 from new_enemy_tools.recording.messages import Ended, Started, Teller, messages_from
 from new_enemy_tools.recording.openfga import call_of
-from new_enemy_tools.recording.relay import Reader, Relay
+from new_enemy_tools.recording.reader import Reader
+from new_enemy_tools.recording.relay import Relay
 from tests.support import Case
 
 HEAD = b"POST /stores/A/check HTTP/1.1\r\nHost: x\r\nAuthorization: Bearer z\r\nX-Content-Save: v1\r\n"
@@ -25,7 +27,8 @@ def chunked(data, size=7):
 
 class Unchanged(Case):
     def passed(self, request, answer, is_half_closed=False, seed=1):
-        """What the service got and what the client got, in pieces of any size, and what was told."""
+        """What the service got and what the client got, in pieces of any size, and what was told. Of several requests, in a list, the
+        service answers each before it reads the next."""
         mine, its = socket.socketpair()
         mine.setblocking(False)
         told = []
@@ -39,23 +42,25 @@ class Unchanged(Case):
 
     async def relayed(self, teller, request, answer, is_half_closed, random):
         got, done = bytearray(), asyncio.Event()
+        requests, answers = ([one] if isinstance(one, bytes) else one for one in (request, answer))
 
         async def serve(reader, writer):
-            while len(got) < len(request) and (data := await reader.read(random.randint(1, 100_000))):
-                got.extend(data)
-            at = 0
-            while at < len(answer):
-                size = random.randint(1, max(10, len(answer) // 5))
-                writer.write(answer[at:at + size])
-                await writer.drain()
-                at += size
+            for number, answer in enumerate(answers, 1):
+                while len(got) < sum(map(len, requests[:number])) and (data := await reader.read(random.randint(1, 100_000))):
+                    got.extend(data)
+                at = 0
+                while at < len(answer):
+                    size = random.randint(1, max(10, len(answer) // 5))
+                    writer.write(answer[at:at + size])
+                    await writer.drain()
+                    at += size
             writer.close()
             done.set()
         server = await asyncio.start_server(serve, "127.0.0.1", 0)
         relay = Relay(urlsplit("http://127.0.0.1:%d" % server.sockets[0].getsockname()[1]), teller, call_of)
         await relay.serve("127.0.0.1", 0)
         reader, writer = await asyncio.open_connection(*relay.server.sockets[0].getsockname())
-        writer.write(request)
+        writer.write(b"".join(requests))
         if is_half_closed:
             writer.write_eof()
         answered = await asyncio.wait_for(read_all(reader), 30)
@@ -70,8 +75,7 @@ class Unchanged(Case):
 
     def assert_passes(self, request, answer, **words):
         got, told = self.passed(request, answer, **words)
-        self.assertEqual(got[0], request)
-        self.assertEqual(got[1], answer)
+        self.assertEqual(got, tuple(one if isinstance(one, bytes) else b"".join(one) for one in (request, answer)))
         return told
 
     def test_a_check(self):
@@ -101,7 +105,8 @@ class Unchanged(Case):
 
     def test_several_requests_one_behind_the_other(self):
         one = HEAD + b"Content-Length: 2\r\n\r\n{}"
-        told = self.assert_passes(one + b"GET /stores HTTP/1.1\r\n\r\n" + one, OK + OK + b"HTTP/1.1 403 Forbidden\r\nContent-Length: 0\r\n\r\n")
+        told = self.assert_passes([one, b"GET /stores HTTP/1.1\r\n\r\n", one],
+                                  [OK, OK, b"HTTP/1.1 403 Forbidden\r\nContent-Length: 0\r\n\r\n"])
         self.assertEqual([one.status for one in told if isinstance(one, Ended)], [200, 403])
         self.assertEqual(sum(isinstance(one, Started) for one in told), 2)
 
@@ -148,3 +153,114 @@ async def read_all(reader):
     except ConnectionError:
         pass
     return bytes(found)
+
+
+class Beginning(Case):
+    """A check begins when it is passed on: whole, and not before what is ahead of it has its answer."""
+
+    REQUEST = HEAD + b"Content-Length: 2\r\n\r\n{}"
+
+    def setUp(self):
+        super().setUp()
+        self.told = []
+        self.reader = Reader(self, call_of)
+
+    def tell(self, message):
+        self.told.append(message)
+
+    def lose(self, reason):
+        self.told.append(reason)
+
+    def asks(self, data):
+        self.reader.feed(self.reader.requests, data)
+        return self.reader.passing()
+
+    def answers(self, data):
+        self.reader.feed(self.reader.answers, data)
+        return self.reader.passing()
+
+    def kinds(self):
+        return [type(one).__name__ for one in self.told]
+
+    def test_a_head_that_is_sent_early(self):
+        self.assertEqual((self.asks(self.REQUEST[:-1]), self.told), (b"", []))
+        self.assertEqual((self.asks(self.REQUEST[-1:]), self.kinds()), (self.REQUEST, ["Started"]))
+
+    def test_a_body_that_the_service_asks_for(self):
+        head = HEAD + b"Expect: 100-continue\r\nContent-Length: 2\r\n\r\n"
+        self.assertEqual((self.asks(head), self.told), (head, []))
+        self.assertEqual((self.answers(b"HTTP/1.1 100 Continue\r\n\r\n"), self.asks(b"{"), self.told), (b"", b"", []))
+        self.assertEqual((self.asks(b"}"), self.kinds()), (b"{}", ["Started"]))
+
+    def test_a_check_behind_another(self):
+        self.assertEqual(self.asks(self.REQUEST * 2), self.REQUEST)
+        self.assertEqual(self.kinds(), ["Started"])
+        self.assertEqual((self.answers(OK), self.kinds()), (self.REQUEST, ["Started", "Ended", "Started"]))
+        self.assertEqual((self.answers(OK), self.kinds()), (b"", ["Started", "Ended", "Started", "Ended"]))
+
+    def test_however_requests_are_cut(self):
+        other = b"POST /other HTTP/1.1\r\nTransfer-Encoding: chunked\r\n\r\n" + chunked(b"x" * 40)
+        data = self.REQUEST + other + self.REQUEST
+        for seed in range(100):
+            random, at, got = Random(seed), 0, b""
+            self.setUp()
+            while at < len(data):
+                size = random.randint(1, 60)
+                got += self.asks(data[at:at + size])
+                at += size
+                if random.random() < 0.3 and self.reader.exchanges and self.reader.exchanges[0].is_passed \
+                        and not self.reader.exchanges[0].held and self.reader.exchanges[0].is_whole:
+                    got += self.answers(OK)
+            while self.reader.exchanges:
+                got += self.answers(OK)
+            self.assertEqual((got, self.kinds()), (data, ["Started", "Ended"] * 2))
+
+    def test_a_request_that_breaks_off(self):
+        """What came goes on as it came; where it is answered all the same, it is a gap."""
+        self.asks(self.REQUEST[:-1])
+        self.reader.end_requests()
+        self.assertEqual(self.reader.passing(), self.REQUEST[:-1])
+        self.answers(OK)
+        self.assertEqual((self.kinds(), self.told[-1].strange), (["Started", "Ended"], "a request that broke off"))
+
+    def test_a_long_request(self):
+        data = HEAD + b"Content-Length: 3000000\r\n\r\n" + b"x" * 3_000_000
+        self.assertEqual(self.asks(data[:2_000_000]) + self.asks(data[2_000_000:]), data)
+        self.answers(OK)
+        self.assertEqual(self.told[-1].strange, "a request of more than 1048576 bytes, which went on in pieces")
+
+    def test_what_can_not_be_read_along_goes_on_at_once(self):
+        bad = b"GET / HTTP/1.1\nHost: x\n\n"
+        self.assertEqual(self.asks(self.REQUEST[:-1] + b"}" + bad), self.REQUEST + bad)
+        self.assertEqual(self.kinds(), ["str", "Started", "Ended"])
+        self.assertEqual((self.told[-1].response, self.asks(b"more")), (None, b"more"))
+
+    def test_an_answer_to_what_was_not_asked(self):
+        self.asks(self.REQUEST[:-1])
+        self.answers(OK)
+        self.assertEqual((self.told[0], self.kinds()), ("a connection can't be read along: an answer without a request", ["str", "Started", "Ended"]))
+        self.assertIsNone(self.told[-1].response)
+
+    def test_labels_are_bytes_of_utf_8(self):
+        for given, save, strange in (("à".encode(), "à", None), ("Å".encode(), "Å", None), (b"\xe0", None, "X-Content-Save is no UTF-8"),
+                                     (b"v\r\nX-Content-Save: w", None, "X-Content-Save stands twice"), (b" \tv\xc2\xa0 ", "v\u00a0", None)):
+            self.setUp()
+            self.asks(b"POST /stores/A/check HTTP/1.1\r\nX-Content-Save: %s\r\nContent-Length: 2\r\n\r\n{}" % given)
+            self.answers(OK)
+            self.assertEqual(self.told[-1].strange, strange)
+            if strange is None:
+                self.assertEqual(self.told[-1].save, save)
+
+    def test_paths_as_services_read_them(self):
+        for path in (b"/stores/A/%63heck", b"/stores/A/check#x", b"http://host/stores/A/check?x"):
+            self.setUp()
+            self.asks(b"POST %s HTTP/1.1\r\nContent-Length: 2\r\n\r\n{}" % path)
+            self.answers(OK)
+            self.assertEqual((self.told[-1].call, self.told[-1].path), ("check", "/stores/A/check"))
+
+    def test_a_packed_answer_that_holds_much(self):
+        data = gzip.compress(b"[" + b"1," * (20 << 20) + b"1]")
+        self.asks(self.REQUEST)
+        self.answers(b"HTTP/1.1 200 OK\r\nContent-Encoding: gzip\r\nContent-Length: %d\r\n\r\n" % len(data) + data)
+        with self.assertRaisesRegex(Bad, "too long"):
+            body_of(self.told[-1])

@@ -20,8 +20,8 @@ ENTRY = EVERY_EVENT | {"goal", "snapshot", "snapshot_between", "newest_between",
 KEYS = {"rules": EVERY_EVENT | {"revision", "namespaces"}, "write": EVERY_EVENT | {"revision", "base", "add", "remove"},
         "check": ENTRY | {"newest"}, "content": ENTRY | {"newest"},
         "gap": EVERY_EVENT | {"from", "to", "reason", "lost"}, "unmapped": EVERY_EVENT | {"reason", "detail", "userset", "version"},
-        "log": EVERY_EVENT | {"number", "before", "service", "cursor", "revision", "rules_sha256", "behind"},
-        "place": EVERY_EVENT | {"cursor", "revision", "rules_sha256", "behind"}, "closed": EVERY_EVENT | {"count", "sha256"}}
+        "log": EVERY_EVENT | {"number", "before", "service", "cursor", "revision", "rules_sha256", "behind", "apart"},
+        "place": EVERY_EVENT | {"cursor", "revision", "rules_sha256", "behind", "apart"}, "closed": EVERY_EVENT | {"count", "sha256"}}
 # Lines of a recorder for itself and for the chain of its files.
 RECORDER = frozenset(("log", "place", "closed"))
 NAMESPACE, RELATION = frozenset(("name", "relations")), frozenset(("name", "rewrite"))

@@ -11,7 +11,8 @@ from new_enemy_tools.importing.service import Answer
 
 # What a denial may have without its `allowed`.
 SILENT = frozenset(("allowed", "resolution"))
-OBJECT = re.compile(r"([^:#\s]+):([^#\s]+)")
+# The service takes every letter in an id but blanks of ASCII.
+OBJECT = re.compile(r"([^:#\s]+):([^#\s]+)", re.ASCII)
 
 
 def split_object(text: object) -> tuple[str, str]:

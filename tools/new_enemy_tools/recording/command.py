@@ -6,6 +6,7 @@ the content that it shows or saves. SIGTERM ends it.
 import asyncio
 import json
 import os
+import resource
 import signal
 import socket
 import subprocess
@@ -18,9 +19,11 @@ from urllib.parse import SplitResult, urlsplit
 from new_enemy_tools.commands.running import Parser
 from new_enemy_tools.recording import openfga, spicedb
 from new_enemy_tools.recording.spicedb_http import HttpSource
-from new_enemy_tools.recording.keeper import Keeper, Service, Settings
+from new_enemy_tools.recording.core import Service
+from new_enemy_tools.recording.keeper import Feed, Keeper, Settings
 from new_enemy_tools.recording.log_files import AGE, SIZE
 from new_enemy_tools.recording.messages import Bye, Teller
+from new_enemy_tools.recording.openfga_feed import OpenFgaFeed
 from new_enemy_tools.recording.relay import Relay
 
 ENTRY = os.path.join(os.path.dirname(os.path.dirname(os.path.dirname(os.path.abspath(__file__)))), "record")
@@ -29,6 +32,8 @@ TICK = 0.05
 LAST = 3.0
 # A keeper that ends is started again after so long.
 AGAIN = 2.0
+# The proxy itself has a few files open; and more than so many are not asked for.
+FILES, MANY = 40, 1 << 20
 CALLS = {"openfga": openfga.call_of, "spicedb": spicedb.call_of}
 
 
@@ -44,6 +49,10 @@ def words(arguments: list[str]) -> tuple[Parser, Namespace]:
     parser.add_argument("--key-file", metavar="FILE", help="a file with the key by which the recorder reads the changes")
     parser.add_argument("--hold", type=float, default=30.0, metavar="SECONDS", help="how long a check waits for the changes that it saw (30)")
     parser.add_argument("--poll", type=float, default=0.05, metavar="SECONDS", help="the rest of OpenFGA between two reads of its changes (0.05)")
+    parser.add_argument("--horizon", type=float, default=0.0, metavar="SECONDS", help="how late OpenFGA shows its changes at least, as its "
+                        "changelog horizon says (0)")
+    parser.add_argument("--overlap", type=float, default=2.0, metavar="SECONDS", help="how far back each read of OpenFGA's changes begins, "
+                        "for commits that come later than their place (2)")
     parser.add_argument("--stale-by", type=float, default=0.0, metavar="SECONDS", help="how long OpenFGA may answer from its cache (0)")
     parser.add_argument("--file-bytes", type=int, default=SIZE, metavar="N", help="how long a file of the log is at most (512 MB)")
     parser.add_argument("--file-seconds", type=float, default=AGE, metavar="N", help="how long a file of the log is written to (an hour)")
@@ -87,7 +96,17 @@ def relay_of(settings: Settings, url: SplitResult, teller: Teller) -> Any:
     if settings.grpc:
         from new_enemy_tools.recording.grpc_relay import GrpcRelay
         return GrpcRelay(url, teller)
-    return Relay(url, teller, CALLS[settings.service])
+    return Relay(url, teller, CALLS[settings.service], (files_raised() - FILES) // 2)
+
+
+def files_raised() -> int:
+    """How many files this process may have open: as many as it may allow itself."""
+    soft, hard = resource.getrlimit(resource.RLIMIT_NOFILE)
+    most = MANY if hard == resource.RLIM_INFINITY else min(hard, MANY)
+    if soft != resource.RLIM_INFINITY and soft < most:
+        resource.setrlimit(resource.RLIMIT_NOFILE, (most, hard))
+        return most
+    return MANY if soft == resource.RLIM_INFINITY else soft
 
 
 class Proxy:
@@ -166,13 +185,15 @@ class Proxy:
         return 0 if self.keeper is not None and self.keeper.returncode == 0 else 5
 
 
-def service_of(settings: Settings) -> Service:
+def service_of(settings: Settings) -> tuple[Service, Feed]:
+    """What places the calls of a service, and what reads its changes."""
     if settings.service == "openfga":
-        return openfga.OpenFga(settings)
+        made = openfga.OpenFga(settings.store, int(settings.stale * 1e9), int(settings.hold * 1e9), int(settings.horizon * 1e9))
+        return made, OpenFgaFeed(settings)
     if settings.grpc:
         from new_enemy_tools.recording.spicedb_grpc import GrpcSource
-        return spicedb.SpiceDb(settings, GrpcSource(settings.url, settings.key))
-    return spicedb.SpiceDb(settings, HttpSource(settings.url, settings.key))
+        return spicedb.SpiceDb(), spicedb.Feed(GrpcSource(settings.url, settings.key))
+    return spicedb.SpiceDb(), spicedb.Feed(HttpSource(settings.url, settings.key))
 
 
 def keep(descriptor: int) -> int:
@@ -180,7 +201,7 @@ def keep(descriptor: int) -> int:
     for number in (signal.SIGTERM, signal.SIGINT):
         signal.signal(number, signal.SIG_IGN)
     settings = Settings(*json.loads(sys.stdin.buffer.read()))
-    return Keeper(settings, service_of(settings), socket.socket(fileno=descriptor)).run()
+    return Keeper(settings, *service_of(settings), socket.socket(fileno=descriptor)).run()
 
 
 def main(arguments: list[str]) -> int:
@@ -191,11 +212,14 @@ def main(arguments: list[str]) -> int:
         parser.error("--store goes with --openfga")
     if given.grpc and not given.spicedb:
         parser.error("--grpc goes with --spicedb")
-    if min(given.hold, given.poll, given.stale_by, given.file_seconds) < 0 or given.file_bytes < 1:
+    if min(given.hold, given.poll, given.stale_by, given.file_seconds, given.horizon, given.overlap) < 0 or given.file_bytes < 1:
         parser.error("a number is below 0")
+    if given.hold < 2 * given.horizon:
+        parser.error("--hold has to be twice as long as --horizon, since each check waits for that")
     url, (host, port) = url_of(parser, given.openfga or given.spicedb), address_of(parser, given.listen)
     settings = Settings("openfga" if given.openfga else "spicedb", given.openfga or given.spicedb, given.out, given.store,
-                        key_of(parser, given), given.grpc, given.hold, given.poll, given.stale_by, given.file_bytes, given.file_seconds)
+                        key_of(parser, given), given.grpc, given.hold, given.poll, given.stale_by, given.file_bytes, given.file_seconds,
+                        given.horizon, given.overlap)
     try:
         return asyncio.run(Proxy(settings, url).run(host, port))
     except OSError as fault:

@@ -1,10 +1,20 @@
-"""Reads along with HTTP/1.1 messages on their way, whole or in pieces as they come; it changes nothing, and never holds them up."""
+"""Reads along with HTTP/1.1 messages on their way, whole or in pieces as they come.
+
+It is strict: what a service might read in another way is no message here, so that no answer is taken for that of another request.
+"""
+import re
 from typing import Callable, Optional
+from urllib.parse import unquote
 
 # A longer head, or a line of a chunk, is none that is read along.
 HEAD = 64 << 10
 # Of a longer body nothing is kept.
 BODY = 16 << 20
+NAME = re.compile(rb"[!#$%&'*+.^_`|~0-9A-Za-z-]+")
+# A line that ends in one way, and has no other sign that some read as an end.
+STRAY = re.compile(rb"(?<!\r)\n|\r(?!\n|\Z)|\x00")
+SIZE = re.compile(rb"([0-9A-Fa-f]{1,15})[ \t]*(?:;.*)?", re.DOTALL)
+Raw = Callable[[bytes], None]
 
 
 class Strange(Exception):
@@ -12,41 +22,66 @@ class Strange(Exception):
 
 
 class Head:
-    """The first line of a message and its headers, by their names in small letters."""
+    """The first line of a message and its headers, by their names in small letters; of one that stands twice the last, and its name."""
 
     def __init__(self, raw: bytes):
-        first, *rest = raw.decode("latin-1").split("\r\n")
-        self.words = first.split(" ", 2)
+        first, *rest = raw.split(b"\r\n")
+        self.words = first.decode("latin-1").split(" ", 2)
         if len(self.words) < 2:
             raise Strange("a first line of fewer than two words")
-        self.headers: dict[str, str] = {}
+        self.values: dict[str, bytes] = {}
+        self.twice: set[str] = set()
         for one in rest:
-            name, colon, value = one.partition(":")
+            name, colon, value = one.partition(b":")
             if not colon:
                 raise Strange("a header without a colon")
-            self.headers[name.lower()] = value.strip()
+            if not NAME.fullmatch(name):
+                raise Strange("a header whose name has blanks or other signs")
+            key = name.decode("ascii").lower()
+            if key in self.values:
+                self.twice.add(key)
+            self.values[key] = value.strip(b" \t")
+
+    def text(self, name: str) -> Optional[str]:
+        value = self.values.get(name)
+        return None if value is None else value.decode("latin-1")
 
     def length(self) -> Optional[int]:
         """How long the body is by its header; None where no header says so, -1 where it comes in chunks."""
-        if "chunked" in self.headers.get("transfer-encoding", "").lower():
+        given, coding = self.values.get("content-length"), self.values.get("transfer-encoding")
+        if not self.twice.isdisjoint(("content-length", "transfer-encoding")) or given is not None and coding is not None:
+            raise Strange("a message that says twice how long it is")
+        if coding is not None:
+            if coding.lower() != b"chunked":
+                raise Strange("a transfer-encoding that is not read along")
             return -1
-        given = self.headers.get("content-length")
         if given is None:
             return None
-        if not given.isascii() or not given.isdigit():
+        if not given.isdigit() or len(given) > 15:
             raise Strange("a content-length that is no number")
         return int(given)
 
 
-class Messages:
-    """The messages of one side. `begun` is told each head and answers how long its body is, as `Head.length` does; `ended` the body."""
+def path_of(target: str) -> str:
+    """The path that a request names, as services read it: decoded, without a query, a fragment or the name of a host."""
+    path = target.split("#")[0].split("?")[0]
+    if not path.startswith("/"):
+        path = "/" + path.partition("://")[2].partition("/")[2]
+    return unquote(path)
 
-    def __init__(self, begun: Callable[[Head], Optional[int]], ended: Callable[[Optional[bytes]], None]):
-        self.begun, self.ended = begun, ended
+
+class Messages:
+    """The messages of one side. `begun` is told each head and answers how long its body is, as `Head.length` does; `ended` the body; and
+    `raw` each piece of a message as it came, behind its head."""
+
+    def __init__(self, begun: Callable[[Head], Optional[int]], ended: Callable[[Optional[bytes]], None], raw: Raw = lambda data: None):
+        self.begun, self.ended, self.raw = begun, ended, raw
         self.data = bytearray()
         self.left: Optional[int] = None
         self.body = bytearray()
         self.is_kept = True
+        # up to where the data have no stray end of a line
+        self.seen = 0
         self._step: Callable[[], bool] = self._head
 
     def feed(self, data: bytes) -> None:
@@ -60,24 +95,38 @@ class Messages:
         if self._step == self._to_end:
             self._finish()
 
-    def _line(self, end: bytes) -> Optional[bytes]:
-        at = self.data.find(end)
+    def _cut(self, count: int) -> bytes:
+        found = bytes(self.data[:count])
+        del self.data[:count]
+        self.seen = 0
+        return found
+
+    def _find(self, end: bytes) -> int:
+        """Where a line or a head ends; -1 where the end has not come. What has been looked at is not looked at again."""
+        at = self.data.find(end, max(0, self.seen - len(end)))
+        stray = STRAY.search(self.data, max(0, self.seen - 1), at if at >= 0 else len(self.data))
+        if stray:
+            raise Strange("a line with a stray end in it")
         if at < 0:
+            self.seen = len(self.data)
             if len(self.data) > HEAD:
                 raise Strange("a line of more than %d bytes" % HEAD)
-            return None
-        found = bytes(self.data[:at])
-        del self.data[:at + len(end)]
-        return found
+        return at
 
     def _head(self) -> bool:
         while self.data[:2] == b"\r\n":
-            del self.data[:2]
-        raw = self._line(b"\r\n\r\n")
-        if raw is None:
+            self.raw(self._cut(2))
+        if self.data and not NAME.match(self.data):
+            if self.data == b"\r":
+                return False
+            raise Strange("a first line that begins with no word")
+        at = self._find(b"\r\n\r\n")
+        if at < 0:
             return False
         self.body, self.is_kept = bytearray(), True
-        length = self.begun(Head(raw))
+        # Where it is strange, nothing of it is taken.
+        length = self.begun(Head(bytes(self.data[:at])))
+        self.raw(self._cut(at + 4))
         if length is None:
             self._step = self._to_end
         elif length < 0:
@@ -89,13 +138,13 @@ class Messages:
 
     def _take(self, count: int) -> int:
         """Moves at most so many bytes to the body."""
-        taken = min(count, len(self.data))
+        taken = self._cut(min(count, len(self.data)))
         if self.is_kept:
-            self.body += self.data[:taken]
+            self.body += taken
             if len(self.body) > BODY:
                 self.body, self.is_kept = bytearray(), False
-        del self.data[:taken]
-        return taken
+        self.raw(taken)
+        return len(taken)
 
     def _counted(self) -> bool:
         assert self.left is not None
@@ -106,14 +155,22 @@ class Messages:
         self._take(len(self.data))
         return False
 
+    def _line(self) -> Optional[bytes]:
+        at = self._find(b"\r\n")
+        if at < 0:
+            return None
+        found = self._cut(at + 2)
+        self.raw(found)
+        return found[:-2]
+
     def _chunk(self) -> bool:
-        raw = self._line(b"\r\n")
-        if raw is None:
+        line = self._line()
+        if line is None:
             return False
-        try:
-            self.left = int(raw.split(b";")[0], 16)
-        except ValueError:
-            raise Strange("a chunk without its length") from None
+        found = SIZE.fullmatch(line)
+        if not found:
+            raise Strange("a chunk without its length")
+        self.left = int(found[1], 16)
         self._step = self._chunk_data if self.left else self._trailer
         return True
 
@@ -122,15 +179,17 @@ class Messages:
         self.left -= self._take(self.left)
         if self.left or len(self.data) < 2:
             return False
-        del self.data[:2]
+        if self.data[:2] != b"\r\n":
+            raise Strange("a chunk that is longer than it says")
+        self.raw(self._cut(2))
         self._step = self._chunk
         return True
 
     def _trailer(self) -> bool:
-        raw = self._line(b"\r\n")
-        if raw is None:
+        line = self._line()
+        if line is None:
             return False
-        return bool(raw) or self._finish()
+        return bool(line) or self._finish()
 
     def _finish(self) -> bool:
         body = bytes(self.body) if self.is_kept else None

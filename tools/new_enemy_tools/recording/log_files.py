@@ -8,10 +8,12 @@ import json
 import os
 import re
 import time
+from collections import deque
 from typing import Any, NamedTuple, Optional
 
 from new_enemy_tools.importing.times import nanoseconds
 from new_enemy_tools.recording.lines import gap_line, line, time_text
+from new_enemy_tools.recording.overlap import Known
 
 NAME = re.compile(r"[0-9]{6}\.jsonl")
 SIZE = 512 << 20
@@ -33,29 +35,33 @@ class InUse(Exception):
 class Place(NamedTuple):
     """Where the changes of the service are: what it gave to go on by, the last revision, and the hash of the rules in force.
 
-    `behind` is how many changes the log has that come again where the service goes on by that.
+    `behind` is how many changes the log has that come again where the service goes on by that; those of the revisions `apart`, among the
+    last so many, do not.
     """
 
     cursor: Optional[str]
     revision: int
     rules: Optional[str]
     behind: int = 0
+    apart: tuple[int, ...] = ()
 
     @property
     def keys(self) -> dict[str, Any]:
         """As it stands in a line."""
-        return {"cursor": self.cursor, "revision": self.revision, "rules_sha256": self.rules, "behind": self.behind or None}
+        return {"cursor": self.cursor, "revision": self.revision, "rules_sha256": self.rules, "behind": self.behind or None,
+                "apart": list(self.apart) or None}
 
 
 class Left(NamedTuple):
-    """What an earlier recorder left: its last place, how many writes it wrote behind that and the last revision, its last time, and
-    the revision of the base state."""
+    """What an earlier recorder left: its last place, how many writes it wrote behind that and the last revision, its last time, the
+    revision of the base state, and the first tuples of its last writes, as far as they may come again."""
 
     place: Place
     writes: int
     revision: int
     time: Optional[str]
     base: int
+    changes: list[Known] = []
 
     @property
     def behind(self) -> int:
@@ -104,7 +110,8 @@ class LogFiles:
                 path = os.path.join(self.folder, names[-1])
                 found = self._take_over(path)
                 if found is not None:
-                    return found._replace(base=_base_of(os.path.join(self.folder, names[0])))
+                    changes = _last_changes([os.path.join(self.folder, name) for name in names], found.writes + found.place.behind)
+                    return found._replace(base=_base_of(os.path.join(self.folder, names[0])), changes=changes)
                 # What was begun and has no base state yet is of no use.
                 os.remove(path)
                 names.pop()
@@ -129,7 +136,7 @@ class LogFiles:
                     head = _Found(value["number"], value.get("before"))
                 kind = value.get("event")
                 if kind in ("log", "place"):
-                    place, writes = Place(value.get("cursor"), value.get("revision", 0), value.get("rules_sha256"), value.get("behind", 0)), 0
+                    place, writes = _place_of(value), 0
                     revision = place.revision
                 elif kind in ("write", "rules") and not value.get("base") and value.get("revision") is not None:
                     writes, revision = writes + (kind == "write"), value["revision"]
@@ -151,7 +158,7 @@ class LogFiles:
             last = time_text(now)
         self.number, self.before = head.number, hashed.hexdigest()
         # A file may follow that has no changes.
-        self.place = Place(place.cursor, revision, place.rules, writes + place.behind)
+        self.place = place._replace(revision=revision, behind=writes + place.behind)
         return Left(place, writes, revision, last, 0)
 
     def _gap_of_killed(self, last: Optional[str], now: int) -> bytes:
@@ -240,6 +247,27 @@ def _value_of(raw: bytes) -> Optional[dict[str, Any]]:
     except ValueError:
         return None
     return value if isinstance(value, dict) else None
+
+
+def _place_of(value: dict[str, Any]) -> Place:
+    return Place(value.get("cursor"), value.get("revision", 0), value.get("rules_sha256"), value.get("behind", 0), tuple(value.get("apart", ())))
+
+
+def _last_changes(paths: list[str], count: int) -> list[Known]:
+    """The first tuples of the last writes of a log; as many files are read as have them."""
+    found: list[Known] = []
+    for path in reversed(paths):
+        if len(found) >= count:
+            break
+        listed: deque[Known] = deque((), count)
+        with open(path, "rb") as file:
+            for raw in file:
+                value = _value_of(raw) if raw.startswith(b'{"event":"write"') else None
+                if value is not None and not value.get("base"):
+                    given = (value.get("add") or value.get("remove") or [None])[0]
+                    listed.append(Known(given and tuple(given), not value.get("remove"), value["revision"]))
+        found = [*listed, *found]
+    return found[len(found) - count:] if count else []
 
 
 def _base_of(path: str) -> int:

@@ -14,7 +14,7 @@ ROOM = 64 << 20
 
 
 class Started(NamedTuple):
-    """A check begins, by the clock of all processes; `save` where it is one for content that is to be saved."""
+    """A check, or a write, is passed on whole, by the clock of all processes; `save` where it is a check for content that is to be saved."""
 
     number: int
     clock: int
@@ -39,6 +39,8 @@ class Ended(NamedTuple):
     request: Optional[bytes]
     response: Optional[bytes]
     encoding: Optional[str]
+    # why what the application says with the call can't be used
+    strange: Optional[str] = None
 
 
 class Lost(NamedTuple):

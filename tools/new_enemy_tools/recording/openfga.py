@@ -1,47 +1,50 @@
-"""OpenFGA: its calls, and its changes by ReadChanges.
+"""OpenFGA: its calls, and where its checks stand among its changes.
 
-A revision is a number: that of a change in the feed, counted from the beginning of the log, or of a change of the model.
-OpenFGA does not say which state a reply was computed on. It lies between what was known when the check began and what
-ReadChanges gives after its end. Known is what had been read, and what writes had made that passed here and were answered. Their
-answers name no revision, so a check waits until ReadChanges has shown what they made.
+A revision is a number: that of a change in the log, counted from its beginning, or of a change of the model. OpenFGA does not say which
+state a reply was computed on, and its feed does not have the order of the commits. Of each change it is known from when to when it may
+have come (`places.py`): by the readings that did not show it and those that did, and by the write that made it, where that passed here.
+A check saw what had come when it was passed on, and nothing that came behind its answer.
 """
 import json
 import re
-import threading
-import time
 from bisect import bisect_right
 from collections import deque
 from functools import partial
-from typing import Any, Callable, NamedTuple, Optional, Union
-from urllib.parse import quote
+from typing import Any, NamedTuple, Optional, Union
 
+from new_enemy_tools.importing.between import STATES
 from new_enemy_tools.importing.events import Relationship
-from new_enemy_tools.importing.openfga import OPERATIONS, ModelReader
 from new_enemy_tools.importing.openfga_answers import answers_of, relationship_of
 from new_enemy_tools.importing.reading import Bad, get
 from new_enemy_tools.importing.refusals import Refusals
 from new_enemy_tools.importing.service import Answer, ServiceRules
 from new_enemy_tools.importing.times import nanoseconds
-from new_enemy_tools.recording.asking import Asker, FeedFault
-from new_enemy_tools.recording.keeper import Asked, Begun, Keeper, Settings, body_of
-from new_enemy_tools.recording.lines import base_lines, write_line
+from new_enemy_tools.recording.bearing import Bearing
+from new_enemy_tools.recording.core import Asked, Begun, Core, body_of
+from new_enemy_tools.recording.lines import base_lines, unmapped_line, write_line
 from new_enemy_tools.recording.log_files import Left, Place
-from new_enemy_tools.recording.messages import Ended
-from new_enemy_tools.recording.ruled import Takes, Unread, refuse_unread, ruled
-from new_enemy_tools.recording.sequencer import Commit, Known
+from new_enemy_tools.recording.messages import Ended, Started
+from new_enemy_tools.recording.overlap import Change, Read
+from new_enemy_tools.recording.places import Places, Row, Window, by_turns
+from new_enemy_tools.recording.ruled import Takes, Unread, ruled
+from new_enemy_tools.recording.sequencer import Commit
 
 PATH = re.compile(r"/stores/([^/]+)/(check|batch-check|list-objects|streamed-list-objects|list-users|write|authorization-models)")
 CALLS = {"check": "check", "batch-check": "batch", "list-objects": "list", "list-users": "list", "streamed-list-objects": "stream",
          "write": "write", "authorization-models": "rules"}
-PAGE = 100
-IDLE = 1.0
 # Of so many changes the times are remembered.
 TIMES = 100_000
-# Of so many changes it is remembered where they were, for writes whose answers come later.
+# Of so many changes it is remembered where each tuple's stand, for writes whose answers come later.
 RECENT = 20_000
-# So many changes of writes may wait until they are shown.
+# So many changes of writes may wait until they are shown; and so many tuples may be in doubt, before all are.
 MADE = 40_000
+TAINTED = 1_000
+# A check waits so long for a write without an answer, which it may have seen.
+OPEN = 2 * 10 ** 9
 UNSHOWN = "a write was answered that the changes did not show within %g seconds"
+UNORDERED = "changes that came at once, in an order that is not known"
+Rules = tuple[Optional[ServiceRules], Refusals]
+Key = tuple[Relationship, bool]
 
 
 def call_of(method: str, path: str) -> Optional[str]:
@@ -49,30 +52,31 @@ def call_of(method: str, path: str) -> Optional[str]:
     return CALLS[found[2]] if found and found.end() == len(path) else None
 
 
-class Change(NamedTuple):
-    """A change of the feed; `cursor` where its page ends, and `reason` where it has no form in a log."""
+class Base(NamedTuple):
+    """What the feed begins with, from and to when it was read; the changes are those that the log does not have."""
 
-    given: Relationship
-    live: bool
-    time: int
-    reason: Optional[str]
+    store: Optional[str]
+    left: Optional[Left]
+    changes: list[Change]
     cursor: Optional[str]
-
-
-class Round(NamedTuple):
-    """The feed is read from now on."""
+    rules: Optional[ServiceRules]
+    refusals: Refusals
+    began: int
+    received: int
 
 
 class Changes(NamedTuple):
-    """What a round read: changes, and rules where they are others than before, or cannot be read; and when."""
+    """What a reading gave, from and to when; whether it was of one page; and rules where they are others than before, or can't be read."""
 
+    began: int
     received: int
-    changes: list[Change]
-    rules: Optional[tuple[Optional[ServiceRules], Refusals]]
+    is_single: bool
+    read: Read
+    rules: Optional[Rules]
 
 
 class Waiting(NamedTuple):
-    """A call that waits for the round behind it, and for all writes that were answered before `since`: it saw what was known then."""
+    """A call that waits for a reading behind it: it saw what was known at `since`."""
 
     message: Ended
     answers: list[Answer]
@@ -82,14 +86,12 @@ class Waiting(NamedTuple):
     model: Optional[str]
 
 
-class Made(NamedTuple):
-    """A change that a write made and the feed has yet to show: a tuple and whether it is there now; None is never shown. The write was
+class Made:
+    """What a write made that has its answer, and the readings have yet to prove: each of its changes, None where too many wait. It was
     asked and answered at times of the clock of all processes, and answered at a time."""
 
-    change: Optional[tuple[Relationship, bool]]
-    asked: int
-    answered: int
-    at: int
+    def __init__(self, number: int, keys: list[Optional[Key]], asked: int, answered: int, at: int):
+        self.number, self.keys, self.asked, self.answered, self.at = number, keys, asked, answered, at
 
 
 class Model(NamedTuple):
@@ -100,270 +102,318 @@ class Model(NamedTuple):
 
 
 class OpenFga:
-    def __init__(self, settings: Settings):
-        self.settings = settings
-        self.asker = Asker(settings.url, settings.key)
-        self.store = settings.store
-        self.kicked = threading.Event()
-        # of the feed's thread
-        self.cursor: Optional[str] = None
-        self.has_begun = False
-        self.model_data = b""
-        # of the keeper's thread
-        self.revision = 0
-        self.takes = Takes()
+    """`stale`, `hold` and `horizon` in nanoseconds: how long it may answer from its cache, how long a check waits, and how late the
+    changes are shown at least, which is learnt where a write proves that it is more."""
+
+    def __init__(self, store: Optional[str], stale: int, hold: int, horizon: int = 0):
+        self.store, self.stale, self.hold, self.horizon = store, stale, hold, horizon
+        self.takes, self.bearing = Takes(), Bearing()
         self.models: list[Model] = []
-        self.new: list[Waiting] = []
-        self.old: list[Waiting] = []
         self.muddled: list[tuple[int, int]] = []
-        self.history = Known()
-        # what writes made, by the times of their answers; the last changes, and of each where it stands that no write is known to
-        # have made; and up to where they are forgotten
+        self.places = Places()
+        # readings that came before all that the proxy told up to their time
+        self.unplaced: deque[Changes] = deque()
+        # of the last reading when it began, how many commits it gave, and whether it was of one page
+        self.began, self.last = 0, (0, False)
+        self.waits: list[Waiting] = []
+        # writes under way by their numbers, with when they were asked, and those that have an answer
+        self.open: dict[int, int] = {}
         self.made: deque[Made] = deque()
-        self.recent: deque[tuple[tuple[Relationship, bool], int]] = deque()
-        self.shown: dict[tuple[Relationship, bool], list[int]] = {}
-        self.forgotten = 0
+        # of the last changes where those of each key stand; and of each tuple whether it was there last
+        self.recent: deque[tuple[Key, int]] = deque()
+        self.shown: dict[Key, deque[int]] = {}
+        self.live: dict[Relationship, bool] = {}
+        # tuples that a write changed and the feed did not show
+        self.tainted: dict[Optional[Relationship], None] = {}
         # of each change its time, or the latest before it, and its revision
         self.times: list[int] = []
-        self.places: list[int] = []
-        self.began = 0
+        self.stands: list[int] = []
+        self.first = 0
         self.is_from_empty = False
-
-    # The feed
-
-    def feed(self, left: Optional[Left], put: Callable[[Any], None]) -> None:
-        if not self.has_begun:
-            self._begin(left, put)
-            self.has_begun = True
-        while True:
-            self.kicked.wait(IDLE)
-            self.kicked.clear()
-            put(Round())
-            changes, rules = self._read()
-            # What was read is known from now on, and may be newer than the beginning of the reading.
-            put(Changes(time.monotonic_ns(), changes, rules))
-            time.sleep(self.settings.poll)
-
-    def _begin(self, left: Optional[Left], put: Callable[[Any], None]) -> None:
-        self.store = self.store or self._only_store()
-        self.model_data, self.cursor = b"", left.place.cursor if left else None
-        changes, model = self._read()
-        if model is None:
-            raise FeedFault("the store has no authorization model yet")
-        try:
-            refuse_unread(*model)
-        except Unread as fault:
-            raise FeedFault(str(fault)) from None
-        put(Base(left, changes, self.cursor, *model, time.monotonic_ns()))
-
-    def _read(self) -> tuple[list[Change], Optional[tuple[Optional[ServiceRules], Refusals]]]:
-        """All changes that there are, and the model where it is another; only then the next reading goes on behind them."""
-        changes, cursor = self._changes()
-        data = self.asker.raw("GET", self._path("authorization-models?page_size=1"))
-        model = None if data == self.model_data else _model(data)
-        self.cursor, self.model_data = cursor, data
-        return changes, model
-
-    def _only_store(self) -> str:
-        stores = get(self.asker.ask("GET", "/stores?page_size=10"), "stores") or []
-        if len(stores) != 1:
-            raise FeedFault("the service has %s stores; name one by --store" % (len(stores) or "no"), bool(stores))
-        return str(stores[0]["id"])
-
-    def _path(self, call: str) -> str:
-        return "/stores/%s/%s" % (quote(self.store or ""), call)
-
-    def _changes(self) -> tuple[list[Change], Optional[str]]:
-        """The changes from where the feed was read to its end, and where it goes on."""
-        found: list[Change] = []
-        cursor = self.cursor
-        while True:
-            path = self._path("changes?page_size=%d" % PAGE)
-            page = self.asker.ask("GET", path + ("&continuation_token=" + quote(cursor, safe="") if cursor else ""))
-            listed = get(page, "changes") or []
-            cursor = get(page, "continuation_token") or cursor
-            found += [_change(change, cursor if number == len(listed) else None) for number, change in enumerate(listed, 1)]
-            if len(listed) < PAGE:
-                return found, cursor
 
     # What the feed tells
 
-    def take(self, message: Any, keeper: Keeper) -> None:
-        if isinstance(message, Round):
-            self.old += self.new
-            self.new = []
+    def take(self, message: Any, core: Core) -> None:
+        if isinstance(message, Base):
+            self._take_base(message, core)
         elif isinstance(message, Changes):
-            self._take_changes(message, keeper)
-        elif isinstance(message, Base):
-            self._take_base(message, keeper)
+            self.unplaced.append(message)
 
-    def _take_base(self, base: "Base", keeper: Keeper) -> None:
+    def moved(self, core: Core) -> None:
+        """Places what was read before all that the proxy told has come."""
+        while self.unplaced and self.unplaced[0].received <= core.sequencer.told_until:
+            self._take_changes(self.unplaced.popleft(), core)
+
+    def _take_base(self, base: Base, core: Core) -> None:
         """The base state, which is what all changes so far left; or the changes since an earlier log."""
         left = base.left
-        self.revision = left.revision if left else 0
-        rules = ruled(base.rules, base.refusals, self.revision + 1, left is None)
-        self.takes.add(rules.rules)
-        lines: list[bytes] = []
+        self.store, self.places = base.store, Places(left.revision if left else 0)
+        rules = ruled(base.rules, base.refusals, self.places.revision + 1, left is None)
+        self._take_names(rules.rules)
         if left is None:
-            stored: dict[Relationship, Optional[str]] = {}
-            for change in base.changes:
-                if change.live:
-                    stored[change.given] = change.reason
-                else:
-                    stored.pop(change.given, None)
-            kept, unmapped = self.takes.sorted_out(stored.items())
-            lines = [rules.data, unmapped, *base_lines(0, kept)]
+            lines = [rules.data, *self._base_lines(base.changes)]
             self.is_from_empty = not base.changes
         else:
-            lines = [self._commit(change, 0).data for change in base.changes[left.writes + left.place.behind:]]
+            lines = []
+            for change in base.changes:
+                self.places.add([Row(0, base.received, change)])
+                lines.append(self._commit(change, self.places.revision, 0).data)
             if left.place.rules != rules.hash:
-                self.revision += 1
-                lines.append(rules.data if rules.revision == self.revision else ruled(
-                    base.rules, base.refusals, self.revision, False).data)
-        self.models = [Model(rules.id or "", self.revision)]
-        self.history, self.began = Known(self.revision), base.received
-        keeper.sequencer.reached = self.revision
-        place = Place(base.cursor, self.revision, rules.hash)
-        keeper.begin_log(Begun(lines, not base.changes, place))
+                self.places.add([Row(0, base.received, None)])
+                lines.append(ruled(base.rules, base.refusals, self.places.revision, False).data)
+        revision = self.places.revision
+        self.models = [Model(rules.id or "", revision)]
+        self.places = Places(revision, base.received)
+        self.began, self.first = base.began, base.received
+        core.sequencer.reached = revision
+        behind = left.writes + left.place.behind + len(base.changes) if left else 0
+        core.begin_log(Begun(lines, not base.changes, Place(base.cursor, revision, rules.hash, behind, left.place.apart if left else ())))
 
-    def _commit(self, change: Change, received: int) -> Commit:
-        self.revision += 1
+    def _base_lines(self, changes: list[Change]) -> list[bytes]:
+        stored: dict[Relationship, Optional[str]] = {}
+        lines = []
+        for change in changes:
+            if change.given is None:
+                lines.append(_unread_line(change))
+            elif change.live:
+                stored[change.given] = change.reason
+            else:
+                stored.pop(change.given, None)
+        kept, unmapped = self.takes.sorted_out(stored.items())
+        return [unmapped, *lines, *base_lines(0, kept)]
+
+    def _take_names(self, rules: ServiceRules) -> None:
+        self.takes.add(rules)
+        self.bearing.add(rules)
+
+    def _commit(self, change: Change, revision: int, received: int) -> Commit:
+        change.revision = revision
+        self.times.append(max(change.time, self.times[-1] if self.times else 0))
+        self.stands.append(revision)
+        if change.given is None:
+            return Commit(revision, _unread_line(change) + write_line(revision, [], []), received)
         kept, unmapped = self.takes.sorted_out([(change.given, change.reason)])
         add, remove = (kept, []) if change.live else ([], kept)
-        self.times.append(max(change.time, self.times[-1] if self.times else 0))
-        self.places.append(self.revision)
-        return Commit(self.revision, unmapped + write_line(self.revision, add, remove), received, change.cursor)
+        return Commit(revision, unmapped + write_line(revision, add, remove), received)
 
-    def _take_changes(self, message: Changes, keeper: Keeper) -> None:
-        before = self.revision
-        for change in message.changes:
-            keeper.put_commit(self._commit(change, message.received))
-            self.recent.append(((change.given, change.live), self.revision))
-            self.shown.setdefault((change.given, change.live), []).append(self.revision)
+    def _take_changes(self, message: Changes, core: Core) -> None:
+        before = self.places.revision
+        rows = self._rows(message)
+        if message.read.changes and self.last[1] and message.is_single and not self.horizon:
+            # What one page showed came before what it did not show.
+            self.places.lower(self.last[0], min(row.high for row in rows))
+        self._put_rows(rows, message, core)
         if message.rules is not None:
-            self._take_rules(*message.rules, message.received, keeper)
-            if message.changes:
+            self._take_rules(*message.rules, message, core)
+            if message.read.changes:
                 # Which of them came first is not known.
-                self.muddled.append((before, self.revision))
-        if self.revision != before:
-            self.history.add(message.received, self.revision)
-            for listed in self.times, self.places:
-                del listed[:max(0, len(listed) - TIMES)]
-        keeper.sequencer.reached = self.revision
-        self._settle()
-        self._give_up(message.received - int(self.settings.hold * 1e9), keeper)
-        waiting, self.old = self.old, []
-        for one in waiting:
-            if self.made and self.made[0].answered <= one.since:
-                self.old.append(one)
-                self.kicked.set()
-            else:
-                keeper.tried(one.message, partial(self._put, one, keeper))
-        while len(self.recent) > RECENT and not self.made:
-            change, self.forgotten = self.recent.popleft()
-            shown = self.shown.get(change, [])
-            if shown[:1] == [self.forgotten]:
-                del shown[0]
-            if not shown:
-                self.shown.pop(change, None)
+                self.muddled.append((before, self.places.revision))
+        self.began = message.began
+        self.last = (0 if message.rules is not None else self.places.revision - before, message.is_single)
+        for listed in self.times, self.stands:
+            del listed[:max(0, len(listed) - TIMES)]
+        core.sequencer.reached = self.places.revision
+        self._prove(message.began)
+        self._give_up(message.received - self.hold, core)
+        self._forget()
+        self._put_waiting(message, core)
 
-    def _take_rules(self, rules: Optional[ServiceRules], refusals: Refusals, received: int, keeper: Keeper) -> None:
+    def _rows(self, message: Changes) -> list[Row]:
+        """The commits of a reading in the order that the log has, each with the times between which it came."""
+        changes, odd = by_turns(message.read.changes, lambda change: None if change.given is None else self.live.get(change.given))
+        for change in odd:
+            self._taint(change.given)
+        highs = self._highs(changes, message)
+        low = self.began - self.horizon
+        rows = [Row(low, high, change) for high, change in zip(highs, changes)]
+        last: dict[Relationship, Row] = {}
+        for row in reversed(rows):
+            if row.change is not None and row.change.given is not None:
+                # A tuple's changes come one behind the other.
+                later = last.get(row.change.given)
+                row.high = row.high if later is None else min(row.high, later.high)
+                last[row.change.given] = row
+        return sorted(rows, key=lambda row: row.high)
+
+    def _highs(self, changes: list[Change], message: Changes) -> list[int]:
+        """When each change had come: it was shown then, or a write had its answer that made it or a later one of its tuple."""
+        wanted: dict[Key, deque[Made]] = {}
+        for made in self.made:
+            if made.asked < message.received:
+                for key in made.keys:
+                    if key is not None and not self._after(key, made.asked):
+                        wanted.setdefault(key, deque()).append(made)
+        highs = []
+        for change in changes:
+            found = wanted.get((change.given, change.live)) if change.given is not None else None
+            made = found.popleft() if found else None
+            highs.append(message.received if made is None else min(message.received, made.answered))
+            if made is not None and self.began - self.horizon > made.answered:
+                self._learn(message.began - made.asked)
+        return highs
+
+    def _learn(self, late: int) -> None:
+        """A write that had its answer was not shown by a reading behind it, so the changes are shown late."""
+        late = min(late, self.hold // 2)
+        if late > self.horizon:
+            for row in self.places.rows[-STATES:]:
+                row.low -= late - self.horizon
+            self.horizon = late
+
+    def _put_rows(self, rows: list[Row], message: Changes, core: Core) -> None:
+        for row in rows:
+            change = row.change
+            assert change is not None
+            self.places.add([row])
+            commit = self._commit(change, self.places.revision, message.received)
+            if row is rows[-1]:
+                apart = tuple(sorted(one.revision for one in message.read.apart))
+                commit = commit._replace(cursor=message.read.cursor, behind=message.read.behind, apart=apart)
+            core.put_commit(commit)
+            if change.given is not None:
+                self.live[change.given] = change.live
+                self.tainted.pop(change.given, None)
+                self.recent.append(((change.given, change.live), change.revision))
+                self.shown.setdefault((change.given, change.live), deque()).append(change.revision)
+
+    def _take_rules(self, rules: Optional[ServiceRules], refusals: Refusals, message: Changes, core: Core) -> None:
+        revision = self.places.revision
         try:
-            found = ruled(rules, refusals, self.revision + 1, False)
+            found = ruled(rules, refusals, revision + 1, False)
         except Unread as fault:
-            keeper.say("a new model can't be read: %s" % fault)
-            keeper.lose("a model that can't be read", time.time_ns())
-            self.models.append(Model(None, self.revision))
+            core.say("a new model can't be read: %s" % fault)
+            core.lose("a model that can't be read", 0)
+            self.models.append(Model(None, revision))
             return
-        self.revision += 1
-        self.takes.add(found.rules)
-        self.models.append(Model(found.id or "", self.revision))
-        keeper.put_commit(Commit(self.revision, found.data, received, None, found.hash))
+        self.places.add([Row(self.began, message.received, None)])
+        self._take_names(found.rules)
+        self.models.append(Model(found.id or "", revision + 1))
+        core.put_commit(Commit(revision + 1, found.data, message.received, None, found.hash))
+
+    def _forget(self) -> None:
+        """Of changes that stand far back it is not remembered any more where they are."""
+        while len(self.recent) > RECENT:
+            key, _ = self.recent.popleft()
+            shown = self.shown[key]
+            shown.popleft()
+            if not shown:
+                del self.shown[key]
+                if (key[0], not key[1]) not in self.shown:
+                    self.live.pop(key[0], None)
 
     # Writes
 
+    def begin(self, message: Started) -> None:
+        self.open[message.number] = message.clock
+
     def _note(self, message: Ended) -> None:
         """What a write made that has its answer. Where it is no fault that a tuple is there, or is not, it may have made nothing."""
-        asked = message.clock - (message.at - message.begun)
-        if message.request is None or message.status >= 300 or asked < self.began:
+        asked = self.open.pop(message.number, message.clock - (message.at - message.begun))
+        if message.request is None or not 200 <= message.status < 300 or asked < self.first:
             return
-        request = json.loads(message.request)
+        request, keys = json.loads(message.request), []
         for part, otherwise, live in ("writes", "on_duplicate", True), ("deletes", "on_missing", False):
             given = get(request, part)
-            for one in get(given, "tuple_keys") or [] if (get(given, otherwise) or "error") == "error" else []:
-                if len(self.made) < MADE:
-                    self.made.append(Made((relationship_of(one), live), asked, message.clock, message.at))
-                else:
-                    self.made[-1] = Made(None, asked, message.clock, message.at)
-        self._settle()
+            keys += [(relationship_of(one), live) for one in get(given, "tuple_keys") or ()
+                     if (get(given, otherwise) or "error") == "error"]
+        if not keys:
+            return
+        if len(self.made) < MADE:
+            self.made.append(Made(message.number, [*keys], asked, message.clock, message.at))
+        else:
+            self.made[-1] = Made(0, [None], self.made[-1].asked, message.clock, message.at)
 
-    def _settle(self) -> None:
-        """What the feed has shown of what writes made was known when they were answered.
+    def _after(self, key: Key, asked: int) -> list[int]:
+        """The changes of a key that a write may have made which was asked at a time."""
+        found = []
+        for revision in reversed(self.shown.get(key, ())):
+            row = self.places.row(revision)
+            if row is None or row.high <= asked:
+                break
+            found.append(revision)
+        return found
 
-        A write made a change behind what was known when it was asked. Of those that are the same, each write in the order of the
-        answers takes the first that is left: the last that some writes made is this one, or one after it.
-        """
-        while self.made:
-            first = self.made[0]
-            known = self.history.at(first.asked)
-            shown = self.shown.get(first.change, []) if first.change and known >= self.forgotten else []
-            place = bisect_right(shown, known)
-            if place == len(shown):
-                return
-            self.history.add(first.answered, shown.pop(place))
-            self.made.popleft()
+    def _prove(self, began: int) -> None:
+        """What a reading shows that began behind the answers of writes: their changes, and which these are where there is one only."""
+        kept: deque[Made] = deque()
+        for made in self.made:
+            if made.answered > began - self.horizon:
+                kept.append(made)
+                continue
+            made.keys = [key for key in made.keys if key is None or not self._is_proved(key, made)]
+            if made.keys:
+                kept.append(made)
+        self.made = kept
 
-    def _give_up(self, before: int, keeper: Keeper) -> None:
-        """What was made before a time and is not shown yet is waited for no longer; the calls that need it are lost."""
+    def _is_proved(self, key: Key, made: Made) -> bool:
+        """Whether the change of a write was shown."""
+        found = self._after(key, made.asked)
+        rows = [row for row in map(self.places.row, found) if row is not None and row.low < made.answered]
+        if len(rows) == 1:
+            rows[0].low, rows[0].unit = max(rows[0].low, made.asked), made.number
+        return bool(found)
+
+    def _give_up(self, before: int, core: Core) -> None:
+        """What was made before a time and is not shown yet is waited for no longer; the calls that need it are lost, and later ones that
+        it bears on."""
         while self.made and self.made[0].answered < before:
             first = self.made.popleft()
-            lost = [one for one in self.new + self.old if one.since >= first.answered]
-            self.new, self.old = ([one for one in listed if one.since < first.answered] for listed in (self.new, self.old))
+            for key in first.keys:
+                self._taint(None if key is None else key[0])
+            lost = [one for one in self.waits if one.message.clock >= first.asked]
+            self.waits = [one for one in self.waits if one.message.clock < first.asked]
             for one in lost:
-                keeper.forget(one.message.number)
-            keeper.lose(UNSHOWN % self.settings.hold, first.at, sum(len(one.answers) for one in lost))
-            self._settle()
+                core.forget(one.message.number)
+            core.lose(UNSHOWN % (self.hold / 1e9), first.at, sum(len(one.answers) for one in lost))
+        for number, asked in list(self.open.items()):
+            if asked < before:
+                del self.open[number]
+
+    def _taint(self, given: Optional[Relationship]) -> None:
+        if given is not None:
+            self.tainted[given] = None
+            if len(self.tainted) > TAINTED:
+                # Too many to be told from others.
+                self.tainted = {None: None}
 
     # Calls
 
     def known(self, clock: int) -> int:
-        return self.history.at(clock)
+        return self.places.known(clock)
 
     def waiting(self) -> bool:
-        if self.new or self.old:
-            self.kicked.set()
-        return bool(self.new or self.old)
+        return bool(self.waits)
 
     def late(self, before: int) -> list[Ended]:
-        found = [one.message for one in self.new + self.old if one.message.at < before]
+        found = [one.message for one in self.waits if one.message.at < before]
         if found:
-            self.new, self.old = ([one for one in listed if one.message.at >= before] for listed in (self.new, self.old))
+            self.waits = [one for one in self.waits if one.message.at >= before]
         return found
 
-    def end(self, message: Ended, asked: Asked, keeper: Keeper) -> None:
-        self.kicked.set()
-        is_ours = "/stores/%s/" % self.store in message.path
+    def end(self, message: Ended, asked: Asked, core: Core) -> None:
+        is_ours = self.store is None or "/stores/%s/" % self.store in message.path
         if message.call in ("write", "rules") or not is_ours:
-            keeper.forget(message.number)
-            if message.call == "write" and is_ours and keeper.is_ready:
+            core.forget(message.number)
+            if message.call == "write" and is_ours and core.is_ready:
                 self._note(message)
+            self.open.pop(message.number, None)
             return
         request, response = json.loads(message.request or b""), body_of(message)
         if message.call == "stream":
             response = {"objects": [get(get(one, "result"), "object") for one in response]}
         answers = list(answers_of(request, response, Refusals()))
         if not answers:
-            keeper.forget(message.number)
+            core.forget(message.number)
             return
         newest = message.save is not None or get(request, "consistency") == "HIGHER_CONSISTENCY"
         since = asked.clock if newest else self._stale(asked.clock)
         token = None if message.token is None or newest and message.save is None else self._place_of(message.token)
-        self.new.append(Waiting(message, answers, since, newest, token, get(request, "authorization_model_id") or None))
+        self.waits.append(Waiting(message, answers, since, newest, token, get(request, "authorization_model_id") or None))
 
     def _stale(self, clock: int) -> int:
         """When that was known which a check has seen at least that does not ask for the newest state."""
-        since = clock - int(self.settings.stale * 1e9)
-        if self.settings.stale and since < self.began and not self.is_from_empty:
+        since = clock - self.stale
+        if self.stale and since < self.first and not self.is_from_empty:
             raise Bad("a check may have seen a state from before the log")
         return since
 
@@ -374,16 +424,32 @@ class OpenFga:
             raise Bad("X-Content-Token is no time of RFC 3339")
         place = bisect_right(self.times, at)
         if place:
-            return self.places[place - 1]
+            return self.stands[place - 1]
         if not self.is_from_empty or len(self.times) == TIMES:
             raise Bad("X-Content-Token is from before the log, or too old")
         return 0
 
-    def _put(self, one: Waiting, keeper: Keeper) -> None:
-        span = self._span(one, self.revision)
+    def _put_waiting(self, message: Changes, core: Core) -> None:
+        """Places the calls that a reading shows all of which they may have seen: it began behind them, and no write is left that they may
+        have seen and that it does not prove."""
+        first = min((made.asked for made in self.made), default=None)
+        for asked in self.open.values():
+            if asked > message.began - OPEN:
+                first = asked if first is None else min(first, asked)
+        waiting, self.waits = self.waits, []
+        for one in waiting:
+            ended = one.message.clock
+            if ended + self.horizon > message.began or first is not None and first <= ended:
+                self.waits.append(one)
+            else:
+                core.tried(one.message, partial(self._put, one, core))
+
+    def _put(self, one: Waiting, core: Core) -> None:
+        window = self.places.window(one.since, one.message.clock)
+        span = self._span(one, window)
         if isinstance(span, str):
-            keeper.forget(one.message.number)
-            keeper.lose(span, one.message.begun, len(one.answers))
+            core.forget(one.message.number)
+            core.lose(span, one.message.begun, len(one.answers))
             return
         low, high = span
         values: dict[str, Any] = {"token": one.token}
@@ -393,42 +459,41 @@ class OpenFga:
             values["snapshot"] = low
             values["token"] = low if one.newest and one.token is None else one.token
         # A content check stands before all that it may not have seen.
-        keeper.put_entries(one.message, one.answers, low if one.message.save is not None else self.revision, **values)
+        core.put_entries(one.message, one.answers, window.low if one.message.save is not None else self.places.revision, **values)
 
-    def _span(self, one: Waiting, high: int) -> Union[str, tuple[int, int]]:
-        """From where to where a check may have looked; or why that can't be said."""
-        low = self.history.at(one.since)
-        if any(low < end and high > start for start, end in self.muddled):
+    def _span(self, one: Waiting, window: Window) -> Union[str, Window]:
+        """From where to where in a window a check may have looked; or why that can't be said."""
+        if any(window.low < end and window.high > start for start, end in self.muddled):
             return "the model and tuples changed at once"
+        if window.high - window.low >= STATES:
+            return "more than %d changes came while a check was under way" % STATES
+        goals = [answer.goal for answer in one.answers]
+        if self._bears_any(self.tainted, goals):
+            return UNSHOWN % (self.hold / 1e9)
+        if self.places.is_unsure(window, lambda row: True) and any(self._is_unsure(window, goal) for goal in goals):
+            return UNORDERED
+        low = min(self.places.surely(window, one.since, partial(self._bears, goal)) for goal in goals)
+        return self._of_model(one, Window(low, window.high))
+
+    def _is_unsure(self, window: Window, goal: Relationship) -> bool:
+        return self.places.is_unsure(window, partial(self._bears, goal))
+
+    def _bears(self, goal: Relationship, row: Row) -> bool:
+        return row.change is None or self.bearing.bears(row.change.given, goal)
+
+    def _bears_any(self, given: Any, goals: list[Relationship]) -> bool:
+        return any(self.bearing.bears(one, goal) for one in given for goal in goals)
+
+    def _of_model(self, one: Waiting, window: Window) -> Union[str, Window]:
+        """The part of a window in which the model was in force that a check names."""
         for model, behind in zip(self.models, [*self.models[1:], None]):
-            start, end = max(low, model.start), high if behind is None else min(high, behind.start - 1)
+            start, end = max(window.low, model.start), window.high if behind is None else min(window.high, behind.start - 1)
             if start <= end and model.id is None:
                 return "a model that can't be read"
             if start <= end and model.id == one.model:
-                return start, end
-        return (low, high) if one.model is None else "a check by another model than the latest"
+                return Window(start, end)
+        return window if one.model is None else "a check by another model than the latest"
 
 
-class Base(NamedTuple):
-    """What the feed begins with."""
-
-    left: Optional[Left]
-    changes: list[Change]
-    cursor: Optional[str]
-    rules: Optional[ServiceRules]
-    refusals: Refusals
-    received: int
-
-
-def _model(data: bytes) -> Optional[tuple[Optional[ServiceRules], Refusals]]:
-    """The latest model; None where there is none."""
-    models = get(json.loads(data), "authorization_models") or []
-    refusals = Refusals(True)
-    return (ModelReader("the model", refusals).rules(models[0]), refusals) if models else None
-
-
-def _change(given: Any, cursor: Optional[str]) -> Change:
-    key, live, at = get(given, "tuple_key"), OPERATIONS.get(get(given, "operation")), nanoseconds(get(given, "timestamp"))
-    if live is None or at is None:
-        raise FeedFault("a change has no operation or no timestamp: %r" % (given,))
-    return Change(relationship_of(key), live, at, "condition on a tuple" if get(key, "condition") else None, cursor)
+def _unread_line(change: Change) -> bytes:
+    return unmapped_line(change.reason or "tuple that can't be read", userset=change.userset)

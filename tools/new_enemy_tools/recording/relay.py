@@ -1,128 +1,15 @@
 """The proxy: passes the bytes of each connection through unchanged, and reads along."""
 import asyncio
-import itertools
 import ssl
-import time
-from collections import deque
-from typing import Any, Callable, Optional
+import sys
+from typing import Any, Optional
 from urllib.parse import SplitResult
 
-from new_enemy_tools.recording.http_reading import Head, Messages, Strange
-from new_enemy_tools.recording.messages import CHECKS, Ended, Started, Teller
+from new_enemy_tools.recording.messages import Teller
+from new_enemy_tools.recording.reader import Call, Reader
 
-NUMBERS = itertools.count(1)
-Call = Callable[[str, str], Optional[str]]
-# What counts as the status of an answer that may have been given, and can't be read along.
-UNREAD = 200
-
-
-class Exchange:
-    """A request on its way, and what is kept of it where its call is recorded."""
-
-    def __init__(self, call: Optional[str], head: Head):
-        self.call, self.path, self.is_head = call, head.words[1].split("?")[0], head.words[0] == "HEAD"
-        self.number, self.begun = next(NUMBERS), time.time_ns()
-        self.save = head.headers.get("x-content-save")
-        self.version = head.headers.get("x-content-version")
-        self.token = head.headers.get("x-content-token")
-        self.request: Optional[bytes] = None
-        self.status = 0
-        self.encoding: Optional[str] = None
-
-    def ended(self, body: Optional[bytes]) -> Ended:
-        return Ended(self.number, self.call or "", self.path, self.begun, time.time_ns(), time.monotonic_ns(), self.save, self.version,
-                     self.token, self.status, self.request, body, self.encoding)
-
-
-class Reader:
-    """Reads along with both sides of a connection, and tells the keeper of the calls that are recorded."""
-
-    def __init__(self, teller: Teller, call_of: Call):
-        self.teller, self.call_of = teller, call_of
-        self.exchanges: deque[Exchange] = deque()
-        self.asked: Optional[Exchange] = None
-        self.requests = Messages(self._request, self._request_body)
-        self.answers = Messages(self._answer, self._answer_body)
-        # why the connection can't be read along any more
-        self.blind: Optional[str] = None
-        self.is_over = False
-
-    def feed(self, side: Messages, data: bytes) -> None:
-        if self.is_over:
-            return
-        if self.blind is not None:
-            # Each piece may be a request.
-            if side is self.requests:
-                self.teller.lose(self.blind)
-            return
-        try:
-            side.feed(data)
-        except Exception as fault:
-            # Whatever it is, it must not touch the request.
-            self.blind = "a connection can't be read along: %s" % (fault if isinstance(fault, Strange) else type(fault).__name__)
-            self.teller.lose(self.blind)
-            for exchange in self.exchanges:
-                exchange.status = UNREAD
-            self._give_up()
-
-    def leave(self) -> None:
-        """The recorder ends. What has no answer yet is told no more, so that the keeper counts it."""
-        self.is_over = True
-        self.exchanges.clear()
-
-    def end(self) -> None:
-        """The service has ended its side of the connection, or one side is gone: no more answers come."""
-        if not self.is_over:
-            self.is_over = True
-            if self.blind is None:
-                self._feed_end()
-            self._give_up()
-
-    def _give_up(self) -> None:
-        """No answer will be read of what was asked; one that had begun broke off."""
-        for exchange in self.exchanges:
-            if exchange.call in CHECKS:
-                self.teller.tell(exchange.ended(None))
-        self.exchanges.clear()
-
-    def _feed_end(self) -> None:
-        try:
-            self.answers.end()
-        except Exception:
-            self.teller.lose("a connection can't be read along at its end")
-
-    def _request(self, head: Head) -> Optional[int]:
-        exchange = Exchange(self.call_of(head.words[0], head.words[1].split("?")[0]), head)
-        self.exchanges.append(exchange)
-        self.asked = exchange
-        if exchange.call in CHECKS:
-            self.teller.tell(Started(exchange.number, time.monotonic_ns(), exchange.save is not None, exchange.call or ""))
-        return head.length() or 0
-
-    def _request_body(self, body: Optional[bytes]) -> None:
-        if self.asked is not None and self.asked.call:
-            self.asked.request = body
-
-    def _answer(self, head: Head) -> Optional[int]:
-        status = head.words[1]
-        if not status.isdigit():
-            raise Strange("an answer without a status")
-        if status == "101":
-            raise Strange("another protocol")
-        if not self.exchanges:
-            raise Strange("an answer without a request")
-        exchange = self.exchanges[0]
-        exchange.status, exchange.encoding = int(status), head.headers.get("content-encoding")
-        if exchange.is_head or status.startswith("1") or status in ("204", "304"):
-            return 0
-        return head.length()
-
-    def _answer_body(self, body: Optional[bytes]) -> None:
-        if 100 <= self.exchanges[0].status < 200:
-            return
-        exchange = self.exchanges.popleft()
-        if exchange.call:
-            self.teller.tell(exchange.ended(body))
+# A client is read no further while so much of what it sent can't go on.
+ROOM = 2 << 20
 
 
 class Side(asyncio.Protocol):
@@ -133,6 +20,8 @@ class Side(asyncio.Protocol):
         self.transport: Any = None
         self.other: Optional["Side"] = None
         self.has_ended = False
+        # whether too much is held of what it sent, and whether the other end takes no more
+        self.is_full = self.is_stopped = False
 
     def connection_made(self, transport: Any) -> None:
         self.transport = transport
@@ -140,17 +29,35 @@ class Side(asyncio.Protocol):
     def data_received(self, data: bytes) -> None:
         assert self.other is not None
         if self.is_client:
-            # The beginning of a check is told before the service can answer it.
             self.reader.feed(self.reader.requests, data)
-            self.other.transport.write(data)
+            self.pass_on(self, self.other)
         else:
             self.other.transport.write(data)
             self.reader.feed(self.reader.answers, data)
+            self.pass_on(self.other, self)
+
+    def pass_on(self, client: "Side", service: "Side") -> None:
+        """Passes on what may go on to the service. The beginning of a check has been told before the service can answer it."""
+        data = self.reader.passing()
+        if data:
+            service.transport.write(data)
+        client.is_full = self.reader.waits() > ROOM
+        client.read_or_pause()
+
+    def read_or_pause(self) -> None:
+        if self.is_full or self.is_stopped:
+            self.transport.pause_reading()
+        else:
+            self.transport.resume_reading()
 
     def eof_received(self) -> bool:
         """Whether the connection stays open for what comes from the other end."""
         self.has_ended = True
-        if not self.is_client:
+        if self.is_client:
+            self.reader.end_requests()
+            if self.other is not None:
+                self.pass_on(self, self.other)
+        else:
             self.reader.end()
         if self.other is None or self.other.has_ended or not self.other.transport.can_write_eof():
             return False
@@ -164,15 +71,20 @@ class Side(asyncio.Protocol):
 
     def pause_writing(self) -> None:
         if self.other is not None:
-            self.other.transport.pause_reading()
+            self.other.is_stopped = True
+            self.other.read_or_pause()
 
     def resume_writing(self) -> None:
         if self.other is not None:
-            self.other.transport.resume_reading()
+            self.other.is_stopped = False
+            self.other.read_or_pause()
 
 
 class Relay:
-    def __init__(self, url: SplitResult, teller: Teller, call_of: Call):
+    """`most` is how many clients there may be at once; more are refused."""
+
+    def __init__(self, url: SplitResult, teller: Teller, call_of: Call, most: int = 1 << 30):
+        self.most, self.refused = most, 0
         self.host, self.secure = url.hostname or "", url.scheme == "https"
         self.port = url.port or (443 if self.secure else 80)
         self.teller, self.call_of = teller, call_of
@@ -199,6 +111,14 @@ class Relay:
         for client in list(self.open):
             client.reader.leave()
             client.transport.close()
+
+    def refuse(self, transport: Any) -> None:
+        """There are as many clients as there may be files."""
+        transport.abort()
+        self.refused += 1
+        self.teller.lose("a connection was refused, since there were %d" % self.most)
+        if self.refused & (self.refused - 1) == 0:
+            sys.stderr.write("record: connections refused: %d; this process may have too few files open (ulimit -n)\n" % self.refused)
 
     async def connect(self, client: "Client") -> None:
         """Opens the connection to the service; where that fails, the client's is closed, as the service would refuse it."""
@@ -248,6 +168,9 @@ class Client(Side):
 
     def connection_made(self, transport: Any) -> None:
         super().connection_made(transport)
+        if len(self.relay.open) >= self.relay.most:
+            self.relay.refuse(transport)
+            return
         transport.pause_reading()
         self.relay.open.add(self)
         task = asyncio.get_running_loop().create_task(self.relay.connect(self))

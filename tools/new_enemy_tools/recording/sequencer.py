@@ -13,14 +13,16 @@ MOMENTS = 100_000
 
 
 class Commit(NamedTuple):
-    """A revision of the service with its lines, and when it was received; `cursor` is what the service goes on by behind it, and
-    `rules` the hash of new rules."""
+    """A revision of the service with its lines, and when it was received; `cursor` is what the service goes on by, and `rules` the
+    hash of new rules. Of the last `behind` changes up to this one, those come again behind the cursor that are not `apart`."""
 
     revision: int
     data: bytes
     received: int
     cursor: Optional[str] = None
     rules: Optional[str] = None
+    behind: int = 0
+    apart: tuple[int, ...] = ()
 
 
 class Ready(NamedTuple):

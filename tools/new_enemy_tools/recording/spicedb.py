@@ -19,10 +19,10 @@ from new_enemy_tools.importing.spicedb_schema import Parser
 from new_enemy_tools.importing.zedtokens import Older, Revision, Snapshot, read_revision
 from new_enemy_tools.recording.asking import FeedFault
 from new_enemy_tools.recording.grpc_calls import GRPC, decoded
-from new_enemy_tools.recording.keeper import Asked, Begun, Keeper, Settings, body_of
+from new_enemy_tools.recording.core import Asked, Begun, Core, body_of
 from new_enemy_tools.recording.lines import base_lines, write_line
 from new_enemy_tools.recording.log_files import Left, Place
-from new_enemy_tools.recording.messages import Ended
+from new_enemy_tools.recording.messages import Ended, Started
 from new_enemy_tools.recording.ruled import Takes, Unread, refuse_unread, ruled
 from new_enemy_tools.recording.sequencer import Commit, Known
 from new_enemy_tools.recording.transactions import Transactions
@@ -231,9 +231,7 @@ class Answered(NamedTuple):
 
 
 class SpiceDb:
-    def __init__(self, settings: Settings, source: Source):
-        self.settings = settings
-        self.reader = Feed(source)
+    def __init__(self) -> None:
         self.history, self.base = Known(), 0
         self.takes = Takes()
         self.commits: list[int] = []
@@ -244,21 +242,18 @@ class SpiceDb:
         self.pending: list[Waiting] = []
         self.answered: list[Answered] = []
 
-    def feed(self, left: Optional[Left], put: Callable[[Any], None]) -> None:
-        self.reader.run(left, put)
-
     # What the feed tells
 
-    def take(self, message: Any, keeper: Keeper) -> None:
+    def take(self, message: Any, core: Core) -> None:
         if isinstance(message, Base):
-            self._take_base(message, keeper)
+            self._take_base(message, core)
         elif isinstance(message, Unsure):
             self.unsure.append(message)
-            keeper.lose("the schema changed twice before its text was read", 0, 0)
+            core.lose("the schema changed twice before its text was read", 0, 0)
         elif isinstance(message, Watched):
-            self._take_watched(message, keeper)
+            self._take_watched(message, core)
 
-    def _take_base(self, base: Base, keeper: Keeper) -> None:
+    def _take_base(self, base: Base, core: Core) -> None:
         left = base.left
         revision = left.revision if left else base.revision.number or 0
         if base.revision.snapshot is not None:
@@ -275,8 +270,8 @@ class SpiceDb:
             lines = [rules.data]
         self.base = revision if left is None else left.base
         self.history = Known(revision)
-        keeper.sequencer.reached = revision
-        keeper.begin_log(Begun(lines, not base.relationships, self._first_place(base, revision, rules.hash)))
+        core.sequencer.reached = revision
+        core.begin_log(Begun(lines, not base.relationships, self._first_place(base, revision, rules.hash)))
 
     def _first_place(self, base: Base, revision: int, rules: str) -> Place:
         """Where the changes are when the log begins; on PostgreSQL the log may have some that come again."""
@@ -291,35 +286,35 @@ class SpiceDb:
         self.transactions.watch(snapshot)
         return self.transactions.add(snapshot.own or 0) if message.updates or message.rules else self.transactions.count
 
-    def _take_watched(self, message: Watched, keeper: Keeper) -> None:
+    def _take_watched(self, message: Watched, core: Core) -> None:
         revision = self._revision(message)
         if not message.is_known:
-            self._put_watched(message, revision, keeper)
+            self._put_watched(message, revision, core)
         answered, self.answered = self.answered, []
         for told in answered:
             self._learn(told)
         waiting, self.pending = self.pending, []
         for one in waiting:
-            keeper.tried(one.message, partial(self._wait, one, keeper))
+            core.tried(one.message, partial(self._wait, one, core))
 
-    def _put_watched(self, message: Watched, revision: int, keeper: Keeper) -> None:
+    def _put_watched(self, message: Watched, revision: int, core: Core) -> None:
         self.history.add(message.received, revision)
         if message.rules is not None:
             try:
                 found = ruled(*message.rules, revision, False)
                 self.takes.add(found.rules)
                 self.unsure = [one._replace(end=min(one.end, revision)) for one in self.unsure]
-                keeper.put_commit(Commit(revision, found.data, message.received, message.token, found.hash))
+                core.put_commit(Commit(revision, found.data, message.received, message.token, found.hash))
             except Unread as fault:
-                keeper.say(str(fault))
+                core.say(str(fault))
                 self.unsure.append(Unsure(revision, 1 << 200))
-                keeper.lose("a schema that can't be read", 0, 0)
+                core.lose("a schema that can't be read", 0, 0)
         elif message.updates:
             insort(self.commits, revision)
             del self.commits[:max(0, len(self.commits) - COMMITS)]
-            keeper.put_commit(self._commit(message, revision))
+            core.put_commit(self._commit(message, revision))
         else:
-            self._checkpoint(message, revision, keeper)
+            self._checkpoint(message, revision, core)
 
     def _commit(self, message: Watched, revision: int) -> Commit:
         sides = []
@@ -329,14 +324,20 @@ class SpiceDb:
         (add, first), (remove, second) = sides
         return Commit(revision, first + second + write_line(revision, add, remove), message.received, message.token)
 
-    def _checkpoint(self, message: Watched, revision: int, keeper: Keeper) -> None:
+    def _checkpoint(self, message: Watched, revision: int, core: Core) -> None:
         """All changes up to here are known; now and then that is written, so that a later recorder goes on from there."""
-        keeper.sequencer.reached = max(keeper.sequencer.reached, revision)
-        if keeper.ticks - self.placed_at > 300:
-            self.placed_at = keeper.ticks
-            keeper.put_commit(Commit(revision, b"", message.received, message.token))
+        core.sequencer.reached = max(core.sequencer.reached, revision)
+        if core.ticks - self.placed_at > 300:
+            self.placed_at = core.ticks
+            core.put_commit(Commit(revision, b"", message.received, message.token))
+
+    def moved(self, core: Core) -> None:
+        """What the proxy tells needs not come before what the service does: tokens say what was seen."""
 
     # Calls
+
+    def begin(self, message: Started) -> None:
+        """The answer of a write says what it made."""
 
     def known(self, clock: int) -> int:
         return self.history.at(clock)
@@ -350,7 +351,9 @@ class SpiceDb:
         self.answered = [one for one in self.answered if one.at >= before]
         return found
 
-    def end(self, message: Ended, asked: Asked, keeper: Keeper) -> None:
+    def end(self, message: Ended, asked: Asked, core: Core) -> None:
+        if message.call == "write" and not 200 <= message.status < 300:
+            return
         request, response = decoded(message) if message.encoding == GRPC else (_request_of(message), body_of(message))
         if message.call == "write":
             revision = revision_of(get(get(response, "writtenAt") or get(response, "deletedAt"), "token"))
@@ -362,13 +365,13 @@ class SpiceDb:
             return
         if message.call == "stream":
             response = [one for one in response if get(one, "error") is None]
-        self.decided(message, request, response, asked, keeper)
+        self.decided(message, request, response, asked, core)
 
-    def decided(self, message: Ended, request: Any, response: Any, asked: Asked, keeper: Keeper) -> None:
+    def decided(self, message: Ended, request: Any, response: Any, asked: Asked, core: Core) -> None:
         """Puts the decisions of a call behind all that it saw, and behind all that was surely visible when it began."""
         answers = list(answers_of(request, response, Refusals())) if response else []
         if not answers:
-            keeper.forget(message.number)
+            core.forget(message.number)
             return
         revision = revision_at(response)
         if (revision.number is None) != (self.transactions is not None):
@@ -377,10 +380,10 @@ class SpiceDb:
             token = _demand(request) if message.save is None else message.token
             demanded = None if token is None else revision_of(token).snapshot
             self._learn(Answered(message.at, message.clock, revision.snapshot))
-            self._wait(Waiting(message, request, answers, asked.clock, revision.snapshot, demanded), keeper)
+            self._wait(Waiting(message, request, answers, asked.clock, revision.snapshot, demanded), core)
             return
         self.history.add(message.clock, revision.number or 0)
-        self._place(message, request, answers, asked.known, revision.number or 0, keeper)
+        self._place(message, request, answers, asked.known, revision.number or 0, core)
 
     def _learn(self, answered: Answered) -> None:
         """What an answer on PostgreSQL saw is known, when its number is."""
@@ -389,23 +392,23 @@ class SpiceDb:
         else:
             self.answered.append(answered)
 
-    def _wait(self, one: Waiting, keeper: Keeper) -> None:
+    def _wait(self, one: Waiting, core: Core) -> None:
         """Places a call on PostgreSQL, or lets it wait; also for the numbers of all answers before it, which come in their order."""
         assert self.transactions is not None
         is_known = not self.answered or self.answered[0].clock > one.begun
         if is_known and self.transactions.reaches(one.snapshot) and (one.demanded is None or self.transactions.reaches(one.demanded)):
-            self._place(*one[:3], self.history.at(one.begun), self.transactions.number(one.snapshot), keeper)
+            self._place(*one[:3], self.history.at(one.begun), self.transactions.number(one.snapshot), core)
         else:
             self.pending.append(one)
 
-    def _place(self, message: Ended, request: Any, answers: list[Answer], known: int, snapshot: int, keeper: Keeper) -> None:
+    def _place(self, message: Ended, request: Any, answers: list[Answer], known: int, snapshot: int, core: Core) -> None:
         unsure = any(one.start <= snapshot < one.end for one in self.unsure)
         if unsure or snapshot < self.base:
-            keeper.forget(message.number)
-            keeper.lose("the rules at a snapshot are not known" if unsure else "a snapshot is from before the log", message.begun, len(answers))
+            core.forget(message.number)
+            core.lose("the rules at a snapshot are not known" if unsure else "a snapshot is from before the log", message.begun, len(answers))
             return
         token = self._token(message, request, snapshot, known)
-        keeper.put_entries(message, answers, max(known, snapshot), snapshot=snapshot, token=token)
+        core.put_entries(message, answers, max(known, snapshot), snapshot=snapshot, token=token)
 
     def _token(self, message: Ended, request: Any, snapshot: int, known: int) -> Optional[int]:
         """What is stored with content, or what the request demanded."""

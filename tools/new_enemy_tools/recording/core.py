@@ -1,0 +1,387 @@
+"""The recorder as a machine: what the proxy, the service's changes and the clock tell goes in, lines of the log and gaps come out.
+
+It has no socket, no clock, no thread and no file: who drives it says what time it is. `keeper.py` has the devices around it, and
+`tools/dev/simulate` drives it through interleavings by seeds.
+"""
+import gzip
+import json
+import zlib
+from functools import partial
+from typing import Any, Callable, NamedTuple, Optional, Protocol
+
+from new_enemy_tools.importing.reading import Bad
+from new_enemy_tools.importing.service import Answer
+from new_enemy_tools.importing.times import nanoseconds
+from new_enemy_tools.recording.lines import gap_line, line, time_text, unmapped_line
+from new_enemy_tools.recording.log_files import Left, Place
+from new_enemy_tools.recording.messages import CHECKS, Beat, Bye, Ended, Lost, Started
+from new_enemy_tools.recording.sequencer import Commit, Sequencer
+
+FOREVER = 1 << 63
+# Gaps behind the first one are told together, so often.
+TOGETHER = 10 ** 9
+# An answer is read up to so many bytes, also where it comes compressed.
+BODY = 16 << 20
+# What a gap calls the requests of a call.
+KINDS = {"check": "checks", "batch": "batches of checks", "list": "lists", "stream": "lists"}
+
+
+class Now(NamedTuple):
+    """What time it is, in nanoseconds: since 1970, and by the clock that all processes of a machine share."""
+
+    wall: int
+    clock: int
+
+
+class Begun(NamedTuple):
+    """The log can begin, or go on: the lines that stand first, whether the store was empty, and where the changes are."""
+
+    data: list[bytes]
+    is_empty: bool
+    place: Place
+
+
+class Faulty(NamedTuple):
+    """The changes of the service can't be read, from now on or for good."""
+
+    reason: str
+
+
+class Asked(NamedTuple):
+    """When a check began, the newest revision that was known then, and what a gap calls it; `is_early` where the log had not begun."""
+
+    clock: int
+    known: int
+    kind: str = ""
+    is_early: bool = False
+
+
+class Service(Protocol):
+    """What a service knows of its calls and its changes."""
+
+    def take(self, message: Any, core: "Core") -> None:
+        """Takes what the feed of the changes put."""
+
+    def moved(self, core: "Core") -> None:
+        """All that the proxy told up to `core.sequencer.told_until` has come."""
+
+    def begin(self, message: Started) -> None:
+        """A call that is no check is passed on."""
+
+    def known(self, clock: int) -> int:
+        """The newest revision that is surely visible to a check that begins at a time."""
+
+    def end(self, message: Ended, asked: Asked, core: "Core") -> None:
+        """A call has its answer."""
+
+    def waiting(self) -> bool:
+        """Whether entries wait for the feed."""
+
+    def late(self, before: int) -> list[Ended]:
+        """Takes out the calls that have waited for the feed since before a time."""
+
+
+class Gaps:
+    """What the log has not, told together where it goes on; the first at once, so that it stands before all that hangs on it."""
+
+    def __init__(self) -> None:
+        self.open: dict[str, Lost] = {}
+        self.told: Optional[int] = None
+
+    def add(self, reason: str, start: int, end: int, amount: int = 1) -> None:
+        before = self.open.get(reason)
+        self.open[reason] = Lost(start, end, amount, reason) if before is None else Lost(
+            min(before.start, start), max(before.end, end), before.amount + amount, reason)
+
+    def take(self) -> int:
+        """How much was lost, which is then told."""
+        lost = sum(one.amount for one in self.open.values())
+        self.open.clear()
+        return lost
+
+    def lines(self, now: Now, at_once: bool) -> bytes:
+        if not self.open or not at_once and self.told is not None and now.clock - self.told < TOGETHER:
+            return b""
+        found = b"".join(gap_line(one.start, one.end, one.reason, one.amount) for one in self.open.values())
+        self.open.clear()
+        self.told = now.clock
+        return found
+
+
+def _unpacked(data: bytes) -> bytes:
+    """What was compressed, as far as an answer is read; raises Bad where it is longer, ValueError where it is cut or none."""
+    reader = zlib.decompressobj(16 + zlib.MAX_WBITS)
+    try:
+        found = reader.decompress(data, BODY + 1)
+    except zlib.error:
+        raise ValueError from None
+    if len(found) > BODY:
+        raise Bad("an answer was too long to be kept")
+    if not reader.eof:
+        raise ValueError
+    # What is packed in several pieces is rare, and small where it is read.
+    return gzip.decompress(data) if reader.unused_data and len(data) < BODY >> 10 else found
+
+
+def body_of(message: Ended) -> Any:
+    """The JSON of an answer, of one value or a line for each; raises ValueError, or Bad where it is too long."""
+    data = message.response or b""
+    if message.encoding == "gzip":
+        data = _unpacked(data)
+    elif message.encoding not in (None, "", "identity"):
+        raise ValueError
+    if message.call != "stream":
+        return json.loads(data)
+    return [json.loads(one) for one in data.split(b"\n") if one.strip()]
+
+
+class Core:
+    """`take` takes an event, `tick` the time alone, `drained` gives the lines that can be written, and `end` ends it."""
+
+    def __init__(self, service: Service, hold: float):
+        self.service, self.hold = service, hold
+        self.now = Now(0, 0)
+        self.sequencer, self.gaps = Sequencer(), Gaps()
+        self.is_ready = self.is_over = False
+        self.ticks = 0
+        self.left: Optional[Left] = None
+        self.place = Place(None, 0, None)
+        # the checks without an answer, and those with one that are neither in the log nor in a gap yet
+        self.asked: dict[int, Asked] = {}
+        self.held: dict[int, Asked] = {}
+        self.saves_since: dict[int, int] = {}
+        self.unheld: set[int] = set()
+        self.unsaid: list[bytes] = []
+        # what is to be told on standard error
+        self.told: list[str] = []
+
+    # Events
+
+    def take(self, message: Any, now: Now) -> None:
+        self.now = now
+        try:
+            if isinstance(message, (Started, Ended, Beat)):
+                self._tell_until(message.clock)
+            if isinstance(message, Started):
+                self._begin(message)
+            elif isinstance(message, Ended):
+                self._end(message)
+            elif isinstance(message, Lost):
+                self.gaps.add(message.reason, message.start, message.end, message.amount)
+                self._say_gaps(False)
+            elif isinstance(message, Bye):
+                if not message.at and not self.is_over:
+                    self.say("the proxy is gone")
+                self.is_over = True
+                self._tell_until(FOREVER)
+            elif isinstance(message, Faulty):
+                self.say(message.reason)
+            elif not isinstance(message, Beat):
+                self.service.take(message, self)
+                self.service.moved(self)
+        except Exception as fault:
+            self.lose(_reason(fault), 0)
+
+    def _tell_until(self, clock: int) -> None:
+        self.sequencer.told_until = max(clock, self.sequencer.told_until)
+        self.service.moved(self)
+
+    def _begin(self, message: Started) -> None:
+        if message.call not in CHECKS:
+            self.service.begin(message)
+            return
+        known = self.service.known(message.clock)
+        kind = "content checks" if message.save else KINDS[message.call]
+        self.asked[message.number] = Asked(message.clock, known, kind, not self.is_ready)
+        if message.save and self.is_ready:
+            self.sequencer.saves[message.number] = known
+            self.saves_since[message.number] = message.clock
+
+    def _end(self, message: Ended) -> None:
+        asked = self.asked.pop(message.number, None)
+        is_late = message.number in self.unheld
+        self.unheld.discard(message.number)
+        if message.call not in CHECKS:
+            self.service.end(message, Asked(0, 0), self)
+        elif message.status < 200 or message.status >= 400:
+            self.forget(message.number)
+        elif is_late:
+            self.lose("an answer took longer than %g seconds" % self.hold, message.begun)
+        elif asked is None or asked.is_early:
+            self.lose("the recorder was beginning", message.begun)
+        elif message.response is None:
+            self.forget(message.number)
+            self.lose("an answer broke off, or was too long to be kept", message.begun)
+        else:
+            self.held[message.number] = asked
+            self.tried(message, partial(self.service.end, message, asked, self))
+
+    def begin_log(self, message: Begun) -> None:
+        """The log goes on: the time before it is a gap, but for a log that begins with an empty store."""
+        lost = self.gaps.take()
+        data = b"".join(message.data) + place_line(message.place)
+        if self.left is not None or lost or not message.is_empty:
+            data = self._gap_before(lost) + data
+        self.unsaid.append(data)
+        self.place, self.is_ready = message.place, True
+        self.say("recording")
+
+    def _gap_before(self, lost: int) -> bytes:
+        """The gap up to now, of a log that goes on or begins."""
+        if self.left is None:
+            return gap_line(None, self.now.wall, "the log begins", lost)
+        return gap_line(nanoseconds(self.left.time), self.now.wall, "the recorder did not run", lost)
+
+    # What a service puts into the log
+
+    def say(self, text: str) -> None:
+        self.told.append(text)
+
+    def lose(self, reason: str, since: int, count: int = 1) -> None:
+        """Something is not recorded, since a time or now."""
+        self.gaps.add(reason, since or self.now.wall, self.now.wall, count)
+        self._say_gaps(False)
+
+    def tried(self, message: Ended, work: Callable[[], None]) -> None:
+        """Does something for a call; where that fails, this one call is a gap."""
+        try:
+            work()
+        except Exception as fault:
+            self.forget(message.number)
+            self.lose(_reason(fault), message.begun)
+
+    def _say_gaps(self, at_once: bool) -> None:
+        if self.is_ready:
+            self.unsaid.append(self.gaps.lines(self.now, at_once))
+
+    def forget(self, number: int) -> None:
+        """Of a call nothing more is to be written."""
+        self.held.pop(number, None)
+        self._let_go(number)
+
+    def _let_go(self, number: int) -> None:
+        """Commits do not wait for a content check any more."""
+        self.sequencer.saves.pop(number, None)
+        self.saves_since.pop(number, None)
+
+    def put_commit(self, commit: Commit) -> None:
+        self.sequencer.put_commit(commit)
+
+    def put_entries(self, message: Ended, answers: list[Answer], place: int, **values: Any) -> None:
+        """The entries of a call, which has all that it needs."""
+        self._let_go(message.number)
+        _refuse_headers(message, answers)
+        made = b"".join(_entry(message, answer, values) for answer in answers)
+        if made:
+            self.sequencer.put_entry(place, message.at, made, message.number)
+
+    # Time, and the lines
+
+    def tick(self, now: Now) -> None:
+        """Gives up what has waited for too long."""
+        self.now = now
+        self.ticks += 1
+        before, clock = now.wall - int(self.hold * 1e9), now.clock - int(self.hold * 1e9)
+        for number, since in list(self.saves_since.items()):
+            if since < clock and number in self.asked:
+                self._let_go(number)
+                self.unheld.add(number)
+        behind = "the changes were more than %g seconds behind" % self.hold
+        for one in self.sequencer.late(before):
+            self.forget(one.call)
+            self.lose(behind, one.since, one.data.count(b"\n"))
+        for message in self.service.late(before):
+            self.forget(message.number)
+            self.lose(behind, message.begun)
+        self._say_gaps(False)
+
+    def drained(self) -> bytes:
+        """The lines that can be written now; `place` is then where the changes are behind them."""
+        made = self.unsaid
+        self.unsaid = []
+        for one in self.sequencer.drained() if self.is_ready else ():
+            if isinstance(one, Commit):
+                made.append(one.data)
+                self.place = _moved(self.place, one)
+                if one.cursor is not None or one.rules is not None:
+                    made.append(place_line(self.place))
+            else:
+                made.append(one.data)
+                self.held.pop(one.call, None)
+        return b"".join(made)
+
+    # The end
+
+    def end_asked(self, now: Now) -> None:
+        """The proxy is gone: what has no answer gets none."""
+        self.now = now
+        self._lose_open(self.asked, "the recorder ended before their answers")
+
+    def is_waiting(self) -> bool:
+        """Whether entries wait for the changes that they need."""
+        return self.is_ready and (bool(self.sequencer.ready) or self.service.waiting())
+
+    def end(self, now: Now) -> None:
+        """Nothing more comes: what waits is lost."""
+        self.now = now
+        self.sequencer.ready = []
+        self._lose_open(self.held, "the recorder ended before the changes that these needed")
+
+    def end_unbegun(self) -> bytes:
+        """The recorder ends before the log could begin or go on; what passed is a gap behind what there is of it."""
+        lost = self.gaps.take()
+        if self.left is not None:
+            return self._gap_before(lost)
+        self.say("the log was never begun; requests that passed and stand in no log: %d" % lost)
+        return b""
+
+    def _lose_open(self, calls: dict[int, Asked], reason: str) -> None:
+        """The recorder ends with these calls; each is counted."""
+        for number, asked in list(calls.items()):
+            self.forget(number)
+            self.gaps.add("%s: %s" % (reason, asked.kind), self.now.wall - (self.now.clock - asked.clock), self.now.wall)
+        calls.clear()
+        self._say_gaps(True)
+
+
+def _moved(place: Place, commit: Commit) -> Place:
+    """Where the changes are behind a commit."""
+    rules = commit.rules or place.rules
+    if commit.cursor is not None:
+        return Place(commit.cursor, commit.revision, rules, commit.behind, commit.apart)
+    return Place(place.cursor, commit.revision, rules, place.behind + (commit.rules is None), place.apart)
+
+
+def _reason(fault: Exception) -> str:
+    return str(fault) if isinstance(fault, Bad) else "a line can't be understood (%s)" % type(fault).__name__
+
+
+def place_line(place: Place) -> bytes:
+    return line("place", **place.keys)
+
+
+def _refuse_headers(message: Ended, answers: list[Answer]) -> None:
+    """Raises Bad where what the application says with a call can't be used."""
+    if message.strange is not None:
+        raise Bad(message.strange)
+    if message.save is not None and message.version is not None:
+        raise Bad("X-Content-Save and X-Content-Version on one call")
+    if message.save is not None and len(answers) > 1:
+        raise Bad("X-Content-Save on a call that asks more than one question")
+    if message.version is not None and len({one.goal[:2] for one in answers}) > 1:
+        raise Bad("X-Content-Version on a call about several objects")
+    if "" in (message.save, message.version):
+        raise Bad("X-Content-Save or X-Content-Version without a label")
+
+
+def _entry(message: Ended, answer: Answer, values: dict[str, Any]) -> bytes:
+    goal, reply = answer.goal, answer.reply
+    is_content = message.save is not None
+    version = message.save if is_content and reply else message.version if not is_content else None
+    if answer.unmapped:
+        issued = (goal.type, goal.id, version) if is_content and version is not None else None
+        return unmapped_line(answer.unmapped, str(goal), version=issued)
+    if is_content and not reply:
+        values = {**values, "token": None}
+    return line("content" if is_content else "check", goal=list(goal[:5]), **values, reply=reply, version=version,
+                time=time_text(message.at))

@@ -1,0 +1,139 @@
+"""Reads the changes of OpenFGA by ReadChanges, in a thread of its own."""
+import json
+import time
+from typing import Any, Callable, Optional
+from urllib.parse import quote
+
+from new_enemy_tools.importing.openfga import OPERATIONS, ModelReader
+from new_enemy_tools.importing.openfga_answers import relationship_of
+from new_enemy_tools.importing.reading import Bad, get
+from new_enemy_tools.importing.refusals import Refusals
+from new_enemy_tools.importing.times import nanoseconds
+from new_enemy_tools.recording.asking import Asker, FeedFault
+from new_enemy_tools.recording.keeper import Settings
+from new_enemy_tools.recording.log_files import Left
+from new_enemy_tools.recording.openfga import Base, Changes, Rules
+from new_enemy_tools.recording.overlap import Change, Overlap
+from new_enemy_tools.recording.ruled import Unread, refuse_unread
+
+PAGE = 100
+# So many readings in turn may show less than before, as those of a replica may.
+LESS = 100
+
+
+class OpenFgaFeed:
+    def __init__(self, settings: Settings):
+        self.settings = settings
+        self.asker = Asker(settings.url, settings.key)
+        self.store = settings.store
+        self.overlap: Optional[Overlap] = None
+        self.model_data = b""
+
+    def run(self, left: Optional[Left], put: Callable[[Any], None]) -> None:
+        if self.overlap is None:
+            self._begin(left, put)
+        less = 0
+        while True:
+            began = time.monotonic_ns()
+            changes = self._read(began)
+            less = less + 1 if changes is None else 0
+            if changes is not None:
+                put(changes)
+            elif less >= LESS:
+                raise FeedFault("the changes do not show any more what they showed before")
+            time.sleep(self.settings.poll)
+
+    def _begin(self, left: Optional[Left], put: Callable[[Any], None]) -> None:
+        self.store = self.store or self._only_store()
+        began, back = time.monotonic_ns(), int(self.settings.overlap * 1e9)
+        overlap = Overlap(left.place.cursor if left else None, back)
+        changes, ends = self._changes(overlap.cursor)
+        end = ends[-1][1] if ends else overlap.cursor
+        data, rules = self._model()
+        if rules is None:
+            raise FeedFault("the store has no authorization model yet")
+        try:
+            refuse_unread(*rules)
+        except Unread as fault:
+            raise FeedFault(str(fault)) from None
+        received = time.monotonic_ns()
+        if left is None:
+            count, cursor = _some_way_back(changes, ends, back)
+            overlap.begin(changes[count:], cursor, end, received)
+        else:
+            new = overlap.go_on(changes, left.changes, left.place.apart, end, received)
+            if new is None:
+                raise FeedFault("the changes do not show what the log has of them; begin a new log in another folder")
+            changes = new
+        put(Base(self.store, left, changes, end if left is None else overlap.mark.cursor, *rules, began, received))
+        self.overlap, self.model_data = overlap, data
+
+    def _read(self, began: int) -> Optional[Changes]:
+        """All changes that there are, and the model where it is another; None where it shows less than one before."""
+        assert self.overlap is not None
+        listed, ends = self._changes(self.overlap.cursor)
+        data, rules = self._model()
+        received = time.monotonic_ns()
+        read = self.overlap.take(listed, ends[-1][1] if ends else self.overlap.cursor, began, received)
+        if read is None:
+            return None
+        self.model_data = data
+        return Changes(began, received, len(ends) < 2, read, rules)
+
+    def _model(self) -> tuple[bytes, Optional[Rules]]:
+        """The latest model, where it is another than before."""
+        data = self.asker.raw("GET", self._path("authorization-models?page_size=1"))
+        return data, None if data == self.model_data else _model(data)
+
+    def _only_store(self) -> str:
+        stores = get(self.asker.ask("GET", "/stores?page_size=10"), "stores") or []
+        if len(stores) != 1:
+            raise FeedFault("the service has %s stores; name one by --store" % (len(stores) or "no"), bool(stores))
+        return str(stores[0]["id"])
+
+    def _path(self, call: str) -> str:
+        return "/stores/%s/%s" % (quote(self.store or ""), call)
+
+    def _changes(self, cursor: Optional[str]) -> tuple[list[Change], list[tuple[int, Optional[str]]]]:
+        """The changes behind a token to the end of the feed; and of each page how many there are up to its end, and the token there."""
+        found: list[Change] = []
+        ends: list[tuple[int, Optional[str]]] = []
+        while True:
+            path = self._path("changes?page_size=%d" % PAGE)
+            page = self.asker.ask("GET", path + ("&continuation_token=" + quote(cursor, safe="") if cursor else ""))
+            listed = get(page, "changes") or []
+            cursor = get(page, "continuation_token") or cursor
+            found += map(_change, listed)
+            if listed:
+                ends.append((len(found), cursor))
+            if len(listed) < PAGE:
+                return found, ends
+
+
+def _some_way_back(changes: list[Change], ends: list[tuple[int, Optional[str]]], back: int) -> tuple[int, Optional[str]]:
+    """The last end of a page whose changes are so much older than the newest, by the times of the service."""
+    newest = max((change.time for change in changes), default=0)
+    for count, cursor in reversed(ends):
+        if changes[count - 1].time <= newest - back:
+            return count, cursor
+    return 0, None
+
+
+def _model(data: bytes) -> Optional[Rules]:
+    """The latest model; None where there is none."""
+    models = get(json.loads(data), "authorization_models") or []
+    refusals = Refusals(True)
+    return (ModelReader("the model", refusals).rules(models[0]), refusals) if models else None
+
+
+def _change(given: Any) -> Change:
+    key, live, at = get(given, "tuple_key"), OPERATIONS.get(get(given, "operation")), nanoseconds(get(given, "timestamp"))
+    if live is None or at is None:
+        raise FeedFault("a change has no operation or no timestamp: %r" % (given,))
+    try:
+        return Change(relationship_of(key), live, at, "condition on a tuple" if get(key, "condition") else None)
+    except Bad as fault:
+        of, colon, name = str(get(key, "object")).partition(":")
+        relation = get(key, "relation")
+        userset = (of, name, relation) if colon and isinstance(relation, str) and relation else None
+        return Change(None, live, at, "tuple that can't be read (%s)" % fault, userset)

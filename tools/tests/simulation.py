@@ -1,0 +1,400 @@
+"""A simulation of OpenFGA, its clients, the network and the clocks, which drives the recorder's core by a seed; and an oracle that knows
+what happened.
+
+Nothing here waits: time is a number, and what happens next is drawn. A commit gets its place in the feed before it comes, as on
+PostgreSQL; changes may be shown late (a horizon); checks may be answered from a cache; faults are planted. Expected is what the truth
+says: a right reply is never wrong at each state that the log leaves open, and a wrong one is, or is in no line.
+"""
+import heapq
+import json
+from itertools import count, product
+from random import Random
+
+from new_enemy_tools.importing.events import Relationship
+from new_enemy_tools.importing.openfga import ModelReader
+from new_enemy_tools.importing.refusals import Refusals
+from new_enemy_tools.recording.core import Core, Now
+from new_enemy_tools.recording.lines import time_text
+from new_enemy_tools.recording.messages import Beat, Bye, Ended, Started
+from new_enemy_tools.recording.openfga import Base, Changes, OpenFga
+from new_enemy_tools.recording.overlap import Change, Overlap
+
+WALL = 1_700_000_000 * 10 ** 9
+# A step of time, by which all that happens differs.
+STEP = 1_000_000
+STORE = "S"
+THIS, MEMBER, USER = {"this": {}}, {"type": "group", "relation": "member"}, {"type": "user"}
+MODEL = {"schema_version": "1.1", "id": "M", "type_definitions": [
+    {"type": "user"},
+    {"type": "group", "relations": {"member": THIS}, "metadata": {"relations": {"member": {"directly_related_user_types": [USER]}}}},
+    {"type": "document", "relations": {"viewer": THIS, "blocked": THIS, "reader": {"difference": {
+        "base": {"computedUserset": {"relation": "viewer"}}, "subtract": {"computedUserset": {"relation": "blocked"}}}}},
+     "metadata": {"relations": {"viewer": {"directly_related_user_types": [USER, MEMBER]}, "blocked": {"directly_related_user_types": [USER]},
+                                "reader": {"directly_related_user_types": []}}}}]}
+USERS, DOCUMENTS, GROUPS = ("a", "b"), ("d", "e"), ("g",)
+TUPLES = [("document", one, relation, "user", user, None) for one in DOCUMENTS for relation in ("viewer", "blocked") for user in USERS]
+TUPLES += [("document", one, "viewer", "group", group, "member") for one in DOCUMENTS for group in GROUPS]
+TUPLES += [("group", group, "member", "user", user, None) for group in GROUPS for user in USERS]
+GOALS = [("document", one, relation, user) for one in DOCUMENTS for relation in ("viewer", "reader") for user in USERS]
+
+
+def rules():
+    refusals = Refusals(True)
+    found = ModelReader("the model", refusals).rules(MODEL)
+    assert not refusals.refused, refusals.refused
+    return found, refusals
+
+
+RULES = rules()
+
+
+def holds(state, goal):
+    """What the model above says of a goal, by its meaning."""
+    kind, name, relation, user = goal
+    viewer = ("document", name, "viewer", "user", user, None) in state or any(
+        ("document", name, "viewer", "group", group, "member") in state and ("group", group, "member", "user", user, None) in state
+        for group in GROUPS)
+    return viewer and (relation == "viewer" or ("document", name, "blocked", "user", user, None) not in state)
+
+
+class Service:
+    """Commits in their true order, each with its time and the state behind it; and the feed, in the order of its places."""
+
+    def __init__(self, horizon):
+        self.horizon = horizon
+        self.times, self.states = [-1], [frozenset()]
+        self.feed, self.changes = [], {}
+        self.places = count(1)
+        self.busy = set()
+
+    def commit(self, now, changes, place, stamped):
+        state = set(self.states[-1])
+        for number, (given, live) in enumerate(changes):
+            (state.add if live else state.discard)(given)
+            self.feed.append((place, number, given, live, now, stamped))
+        self.feed.sort(key=lambda one: one[:2])
+        self.times.append(now)
+        self.states.append(frozenset(state))
+        self.changes.setdefault(now, []).extend(changes)
+
+    def state_at(self, now):
+        return self.states[self.index(now)]
+
+    def index(self, now):
+        return max(place for place, at in enumerate(self.times) if at <= now)
+
+    def page(self, now, cursor, size):
+        """The changes behind a place that are shown at a time, at most so many, and the place of the last one."""
+        shown = [one for one in self.feed if one[:2] > cursor and one[4] <= now and one[5] + self.horizon <= now][:size]
+        return shown, shown[-1][:2] if shown else cursor
+
+
+class Asked:
+    """A check as it was: when it was passed on and answered, its reply, and the states that it may have had."""
+
+    def __init__(self, number, goal, began, newest, save):
+        self.number, self.goal, self.began, self.newest, self.save = number, goal, began, newest, save
+        self.ended = self.reply = None
+        self.is_planted = False
+
+
+class World:
+    """One run by a seed; `shape` gives how the service is, and what the recorder is told of it."""
+
+    def __init__(self, seed, shape):
+        self.random, self.shape = Random(seed), shape
+        self.now, self.order, self.events = 10 * STEP, count(), []
+        self.service = Service(shape.horizon)
+        self.core = Core(OpenFga(STORE, shape.stale, shape.hold, shape.told_horizon), shape.hold / 1e9)
+        self.overlap = Overlap(None, shape.back)
+        self.numbers = count(1)
+        self.checks, self.lines = [], []
+        # what was known from the readings, and from answers of writes: when, and of which commits; and of each commit until when it may
+        # be known that it had not come
+        self.known, self.since = [], {}
+        self.last_began = 0
+        self.tell_at = {"proxy": 0, "feed": 0}
+        self.under_way, self.quiet_since = 0, 0
+
+    # Time
+
+    def later(self, least, most, work, *given):
+        """Something of the clients or of the service happens."""
+        self.under_way += 1
+        self._put(self.now + STEP * self.random.randint(least, most), self._happens, work, *given)
+
+    def _happens(self, work, *given):
+        self.under_way -= 1
+        self.quiet_since = self.now
+        work(*given)
+
+    def own(self, least, most, work, *given):
+        """Something of the recorder itself happens."""
+        self._put(self.now + STEP * self.random.randint(least, most), work, *given)
+
+    def _put(self, at, work, *given):
+        heapq.heappush(self.events, (at, next(self.order), work, given))
+
+    def run(self):
+        shape, random = self.shape, self.random
+        self._begin_feed()
+        for _ in range(shape.requests):
+            self.later(3, shape.length, self._request)
+        self.own(5, 5, self._beat)
+        while self.events:
+            at, _, work, given = heapq.heappop(self.events)
+            # Nothing happens at once.
+            self.now = max(at, self.now + 1000)
+            work(*given)
+        self.core.take(Bye(1), self._at())
+        self._drain()
+        self.core.end_asked(self._at())
+        self.core.end(self._at())
+        self._drain()
+        return self
+
+    def _at(self):
+        return Now(WALL + self.now, self.now)
+
+    def _tell(self, way, message):
+        """A message comes later, behind those of its way."""
+        at = max(self.now + STEP * self.random.choice((0, 0, 1, self.shape.delay)), self.tell_at[way])
+        self.tell_at[way] = at
+        self._put(at, self._told, self.core, message)
+
+    def _told(self, core, message):
+        # What was told to a recorder that was killed meanwhile goes nowhere.
+        if core is self.core:
+            core.take(message, self._at())
+            self._drain()
+
+    def _drain(self):
+        self.lines.append(self.core.drained())
+
+    def _beat(self):
+        self._tell("proxy", Beat(self.now))
+        self.core.tick(self._at())
+        self._drain()
+        if self._has_more():
+            self.own(5, 5, self._beat)
+
+    def _has_more(self):
+        """Whether something is still to come: a request, or what the feed shows of it."""
+        if self.under_way or self.now < self.quiet_since + self.shape.horizon + 30 * STEP:
+            return True
+        return bool(self.core.held) and self.now < self.quiet_since + 2 * self.shape.hold
+
+    # The feed
+
+    def _begin_feed(self):
+        began = self.now
+        for given in self.random.sample(TUPLES, self.random.choice((0, 0, 4))):
+            self.service.commit(self.now - 5 * STEP, [(given, True)], next(self.service.places), self.now - 10 * STEP - self.shape.horizon)
+        changes = [change_of(one) for one in self.service.page(self.now, (0, 0), 100)[0]]
+        end = self.service.feed[-1][:2] if self.service.feed else (0, 0)
+        self.now += STEP
+        self.overlap.begin(changes, (0, 0), end, self.now)
+        self.core.take(Base(STORE, None, changes, "end", *RULES, began, self.now), self._at())
+        self._drain()
+        self.own(1, 3, self._read, self.overlap)
+
+    def _read(self, overlap):
+        if overlap is self.overlap:
+            self._page(overlap, self.now, overlap.cursor, [], 0)
+
+    def _page(self, overlap, began, cursor, found, pages):
+        listed, cursor = self.service.page(self.now, cursor, self.shape.page)
+        found = found + listed
+        # A page takes its time to come, before it is asked what comes behind it.
+        if len(listed) == self.shape.page:
+            self.own(0, 3, self._page, overlap, began, cursor, found, pages + 1)
+        else:
+            self.own(0, 3, self._has_read, overlap, began, cursor, found, pages + 1)
+
+    def _has_read(self, overlap, began, cursor, found, pages):
+        if overlap is not self.overlap:
+            return
+        read = overlap.take([change_of(one) for one in found], cursor, began, self.now)
+        assert read is not None
+        self._tell("feed", Changes(began, self.now, pages == 1, read._replace(cursor=str(read.cursor)), None))
+        self.known += [(self.now, one[4]) for one in found]
+        for one in found:
+            self.since.setdefault(one[4], max(0, self.last_began - self.shape.horizon))
+        self.last_began = began
+        if self._has_more():
+            self.own(0, self.shape.poll, self._read, overlap)
+
+    # Requests
+
+    def _request(self):
+        if self.random.random() < self.shape.writes:
+            self._write()
+        else:
+            self._check()
+
+    def _write(self):
+        taken = self.random.sample(TUPLES, self.random.choice((1, 1, 1, 2)))
+        if self.service.busy & set(taken):
+            return
+        self.service.busy.update(taken)
+        is_ours = self.random.random() < self.shape.ours
+        number = next(self.numbers)
+        if is_ours:
+            self._tell("proxy", Started(number, self.now, False, "write"))
+        self.later(0, 2, self._place_write, number, taken, self.now, is_ours)
+
+    def _place_write(self, number, taken, asked, is_ours):
+        """The write has its place in the feed, and comes later."""
+        state = self.service.states[-1]
+        changes = [(given, given not in state) for given in taken]
+        self.later(0, self.shape.race, self._commit_write, number, changes, asked, is_ours, next(self.service.places), self.now)
+
+    def _commit_write(self, number, changes, asked, is_ours, place, stamped):
+        self.service.commit(self.now, changes, place, stamped)
+        self.service.busy.difference_update(given for given, _ in changes)
+        if is_ours:
+            self.later(0, 3, self._answer_write, number, changes, asked, self.now)
+
+    def _answer_write(self, number, changes, asked, committed):
+        body = {}
+        for given, live in changes:
+            body.setdefault("writes" if live else "deletes", {"tuple_keys": []})["tuple_keys"].append(key_of(given))
+        self.known.append((self.now, committed))
+        self._tell("proxy", Ended(number, "write", "/stores/S/write", WALL + asked, WALL + self.now, self.now, None, None, None, 200,
+                                  json.dumps(body).encode(), b"{}", None))
+
+    def _check(self):
+        random = self.random
+        asked = Asked(next(self.numbers), random.choice(GOALS), self.now, random.random() < 0.6, random.random() < 0.25)
+        self.checks.append(asked)
+        self._tell("proxy", Started(asked.number, self.now, asked.save, "check"))
+        self.later(0, 6, self._evaluate, asked)
+
+    def _evaluate(self, asked):
+        at = self.now
+        if not asked.newest and not asked.save and self.shape.stale:
+            at = max(10 * STEP, at - self.random.randint(0, self.shape.stale))
+        asked.reply = holds(self.service.state_at(at), asked.goal)
+        if self.random.random() < self.shape.faults:
+            asked.is_planted = True
+            old = self.service.states[max(0, self.service.index(at) - self.random.randint(0, 3))]
+            asked.reply = holds(old, asked.goal) if self.random.random() < 0.6 else not asked.reply
+        self.later(0, 6, self._answer, asked)
+
+    def _answer(self, asked):
+        asked.ended = self.now
+        kind, name, relation, user = asked.goal
+        body = {"tuple_key": {"user": "user:" + user, "relation": relation, "object": "%s:%s" % (kind, name)}}
+        if asked.newest:
+            body["consistency"] = "HIGHER_CONSISTENCY"
+        self._tell("proxy", Ended(asked.number, "check", "/stores/S/check", WALL + asked.began, WALL + self.now, self.now,
+                                  "v%d" % asked.number if asked.save else None, None, None, 200, json.dumps(body).encode(),
+                                  json.dumps({"allowed": asked.reply}).encode(), None))
+
+
+def change_of(row):
+    return Change(Relationship(*row[2]), row[3], WALL + row[5])
+
+
+def key_of(given):
+    user = "%s:%s" % given[3:5] + ("#" + given[5] if given[5] else "")
+    return {"user": user, "relation": given[2], "object": "%s:%s" % given[:2]}
+
+
+class Shape:
+    """How a run is; times in nanoseconds, `requests` in number, `length` in steps."""
+
+    def __init__(self, random):
+        self.race = random.choice((0, 2, 8, 20))
+        self.horizon = random.choice((0, 0, 0, 15)) * STEP
+        self.told_horizon = self.horizon
+        self.stale = random.choice((0, 0, 10)) * STEP
+        self.back = 40 * STEP
+        self.hold = 150 * STEP
+        self.poll, self.page, self.delay = random.choice((1, 4)), random.choice((2, 50)), random.choice((0, 3, 10))
+        self.requests, self.length = random.choice((6, 12, 25)), random.choice((20, 60, 150))
+        self.writes, self.ours, self.faults = random.choice((0.3, 0.6)), random.choice((1, 0.5, 0)), random.choice((0, 0.3))
+
+
+class Verdict:
+    """What the log says of a run, against what was."""
+
+    def __init__(self, world):
+        self.world = world
+        self.rows = [json.loads(one) for one in b"".join(world.lines).splitlines()]
+        self.states = [frozenset()]
+        self.entries = {}
+        self.lost = 0
+        for row in self.rows:
+            self._take(row)
+
+    def _take(self, row):
+        if row["event"] == "write":
+            state = set(self.states[-1])
+            for one in row.get("add", ()):
+                state.add(tuple(one + [None] * (6 - len(one))))
+            for one in row.get("remove", ()):
+                state.discard(tuple(one + [None] * (6 - len(one))))
+            if row.get("base"):
+                self.states[-1] = frozenset(state)
+            else:
+                assert row["revision"] == len(self.states), "a revision is left out, or comes twice"
+                self.states.append(frozenset(state))
+        elif row["event"] in ("check", "content"):
+            assert row["time"] not in self.entries, "a check stands twice"
+            self.entries[row["time"]] = (row, len(self.states) - 1)
+        elif row["event"] == "gap":
+            self.lost += row.get("lost", 0)
+
+    def faults(self):
+        """What the log says that is not so, or does not say; none where it holds."""
+        answered = [one for one in self.world.checks if one.ended is not None]
+        found = []
+        if len(self.entries) + self.lost != len(answered):
+            found.append("%d checks were answered, and %d stand in the log and %d are counted" % (len(answered), len(self.entries), self.lost))
+        if self.states[-1] != self.world.service.states[-1] and not self.lost:
+            found.append("the changes in the log leave another state than the service has")
+        for one in answered:
+            entry = self.entries.get(time_text(WALL + one.ended))
+            if entry is not None:
+                found += self._of_check(one, *entry)
+        return found
+
+    def _of_check(self, one, row, behind):
+        low, high = row.get("newest_between") or row.get("snapshot_between") or (row["snapshot"],) * 2
+        if row["event"] == "content" and behind > low:
+            yield "a content check stands behind a commit that it need not have seen (check %d)" % one.number
+        if high > behind and row["event"] == "check":
+            yield "a check stands before a commit that it may have seen (check %d)" % one.number
+        is_passed = any(holds(self.states[at], one.goal) == one.reply for at in range(low, high + 1))
+        service = self.world.service
+        stale = 0 if one.newest or one.save else self.world.shape.stale
+        first, last = service.index(max(0, one.began - stale)), service.index(one.ended)
+        was_right = any(holds(service.states[at], one.goal) == one.reply for at in range(first, last + 1))
+        if was_right and not is_passed and not one.is_planted:
+            yield "a right reply is called wrong (check %d)" % one.number
+        if is_passed and not self._may_be(one, one.began - stale):
+            yield "a wrong reply is called right (check %d)" % one.number
+
+    def _may_be(self, one, since):
+        """Whether a reply may be right for all that is known: of the changes that bear on it all count that were known, and some of those
+        that may have come before the answer. Of a write of several tuples some may count, since the log has a state behind each."""
+        service, world = self.world.service, self.world
+        known = {at for told, at in world.known if told <= since}
+        changes = [(at, given, live) for at in sorted(service.changes) for given, live in service.changes[at]
+                   if world.since.get(at, at) <= one.ended and (given[0] == "group" or given[1] == one.goal[1])]
+        others = [change for change in changes if change[0] not in known]
+        for chosen in product((False, True), repeat=len(others)):
+            state, left = set(service.states[0]), iter(chosen)
+            for at, given, live in changes:
+                if at in known or next(left):
+                    (state.add if live else state.discard)(given)
+            if holds(state, one.goal) == one.reply:
+                return True
+        return False
+
+
+def run(seed, shape=None):
+    """The faults of one run."""
+    world = World(seed, shape or Shape(Random("shape %d" % seed))).run()
+    return world, Verdict(world)

@@ -1,0 +1,205 @@
+"""Where the recorder puts the changes and checks of OpenFGA: what is new in a reading, what bears on a question, what is known when."""
+import ast
+import os
+from collections import Counter
+from random import Random
+
+from new_enemy_tools.importing.events import Relationship
+from new_enemy_tools.importing.openfga import ModelReader
+from new_enemy_tools.importing.refusals import Refusals
+from new_enemy_tools.recording.bearing import Bearing
+from new_enemy_tools.recording.core import Core
+from new_enemy_tools.recording.log_files import LogFiles
+from new_enemy_tools.recording.openfga import Base, OpenFga
+from new_enemy_tools.recording.overlap import Change, Overlap
+from new_enemy_tools.recording.overlap import Known as Shown
+from new_enemy_tools.recording.places import Places, Row, Window, by_turns
+from tests.simulation import RULES, STORE, Shape, Verdict, World, change_of
+from tests.support import Case
+
+
+def change(user, live=True, time=0, thing="d"):
+    return Change(Relationship("document", thing, "viewer", "user", user, None), live, time)
+
+
+def again(*changes):
+    """The same changes, as another reading gives them."""
+    return [Change(one.given, one.live, one.time) for one in changes]
+
+
+class Overlapping(Case):
+    def setUp(self):
+        super().setUp()
+        self.overlap = Overlap(None, 10)
+        self.overlap.begin([], None, None, 0)
+
+    def take(self, listed, cursor, began):
+        read = self.overlap.take(again(*listed), cursor, began, began + 1)
+        return None if read is None else ([one.given.user_id for one in read.changes], read.cursor, read.behind, [one.given.user_id for one in read.apart])
+
+    def test_a_change_that_comes_before_one_that_was_shown(self):
+        a, b, late, c = change("a"), change("b"), change("late"), change("c")
+        self.assertEqual(self.take([a, b], "b", 1), (["a", "b"], None, 2, []))
+        self.assertEqual(self.take([a, late, b], "b", 3), (["late"], None, 3, []))
+        self.assertEqual(self.take([a, late, b, c], "c", 5), (["c"], None, 4, []))
+        # The token behind b is old enough: a later recorder goes on there, and late does not come again.
+        self.assertEqual(self.take([a, late, b, c], "c", 12), ([], "b", 2, ["late"]))
+        self.assertEqual(self.overlap.cursor, "b")
+        self.assertEqual(self.take([c], "c", 16), ([], "c", 0, []))
+
+    def test_what_is_the_same_twice(self):
+        a = change("a")
+        self.assertEqual(self.take([a], "a", 1)[0], ["a"])
+        self.assertEqual(self.take([a, change("a", False), a], "x", 2)[0], ["a", "a"])
+
+    def test_a_reading_that_shows_less(self):
+        """It is of a replica that is behind, and counts for nothing."""
+        a, b = change("a"), change("b")
+        self.take([a, b], "b", 1)
+        self.assertIsNone(self.take([a], "a", 3))
+        self.assertEqual(self.take([a, b], "b", 5)[0], [])
+
+    def test_a_log_that_does_not_have_what_is_shown(self):
+        overlap = Overlap("x", 10)
+        known = [Shown(("document", "d", "viewer", "user", user), True, number) for number, user in enumerate("ab", 1)]
+        self.assertIsNone(overlap.go_on([change("a"), change("c")], known, [], "x", 1))
+        self.assertEqual([one.given.user_id for one in overlap.go_on([change("a"), change("c")], known, [2], "x", 1)], ["c"])
+
+
+class Turns(Case):
+    def names(self, changes):
+        return [(one.given.user_id, one.live) for one in changes]
+
+    def test_a_tuple_comes_and_goes(self):
+        for was, given, wanted, odd in (
+                (False, (False, True), (True, False), 0), (True, (True, False), (False, True), 0), (None, (True, False), (True, False), 0),
+                (None, (False, True), (False, True), 0), (False, (False, True, True), (True, False, True), 0), (True, (True,), (True,), 1)):
+            made, strange = by_turns([change("a", live) for live in given], lambda one, was=was: was)
+            self.assertEqual((self.names(made), len(strange)), ([("a", live) for live in wanted], odd))
+
+    def test_others_stay_where_they_are(self):
+        made, _ = by_turns([change("a", False), change("b"), change("a"), change("c")], lambda one: False)
+        self.assertEqual(self.names(made), [("a", True), ("b", True), ("a", False), ("c", True)])
+
+
+class Known(Case):
+    def places(self, *rows):
+        made = Places()
+        made.add([Row(low, high, change(user)) for low, high, user in rows])
+        return made
+
+    def test_what_was_known_when(self):
+        places = self.places((0, 5, "a"), (2, 9, "b"), (8, 9, "c"))
+        self.assertEqual([places.known(at) for at in (4, 5, 8, 9)], [0, 1, 1, 3])
+
+    def test_nothing_behind_an_answer(self):
+        places = self.places((0, 5, "a"), (6, 9, "b"))
+        self.assertEqual([places.window(5, at) for at in (6, 7)], [Window(1, 1), Window(1, 2)])
+
+    def test_an_order_that_is_not_known(self):
+        places = self.places((0, 5, "a"), (4, 9, "b"), (9, 12, "c"))
+        everyone = Window(0, 3)
+        self.assertTrue(places.is_unsure(everyone, lambda row: True))
+        self.assertFalse(places.is_unsure(everyone, lambda row: row.change.given.user_id != "b"))
+        self.assertFalse(places.is_unsure(Window(1, 3), lambda row: True))
+        places.rows[0].unit = places.rows[1].unit = 7
+        self.assertFalse(places.is_unsure(everyone, lambda row: True))
+
+
+class Bears(Case):
+    MODEL = {"schema_version": "1.1", "id": "M", "type_definitions": [
+        {"type": "user"},
+        {"type": "group", "relations": {"member": {"this": {}}}, "metadata": {"relations": {"member": {"directly_related_user_types": [
+            {"type": "user"}, {"type": "group", "relation": "member"}]}}}},
+        {"type": "folder", "relations": {"viewer": {"this": {}}, "other": {"this": {}}}, "metadata": {"relations": {
+            "viewer": {"directly_related_user_types": [{"type": "user"}]}, "other": {"directly_related_user_types": [{"type": "user"}]}}}},
+        {"type": "document", "relations": {
+            "parent": {"this": {}}, "owner": {"this": {}}, "other": {"this": {}},
+            "viewer": {"union": {"child": [{"this": {}}, {"computedUserset": {"relation": "owner"}}, {"tupleToUserset": {
+                "tupleset": {"relation": "parent"}, "computedUserset": {"relation": "viewer"}}}]}}},
+         "metadata": {"relations": {"parent": {"directly_related_user_types": [{"type": "folder"}]}, "owner": {"directly_related_user_types": [{"type": "user"}]},
+                                    "other": {"directly_related_user_types": [{"type": "user"}]},
+                                    "viewer": {"directly_related_user_types": [{"type": "user"}, {"type": "group", "relation": "member"}]}}}}]}
+
+    def test_by_the_names_of_the_rules(self):
+        refusals, bearing = Refusals(True), Bearing()
+        bearing.add(ModelReader("m", refusals).rules(self.MODEL))
+        self.assertFalse(refusals.refused)
+        goal = Relationship("document", "d", "viewer", "user", "u", None)
+        for given, wanted in ((("document", "d", "viewer"), True), (("document", "e", "viewer"), False), (("document", "d", "owner"), True),
+                              (("document", "d", "parent"), True), (("document", "e", "parent"), False), (("document", "d", "other"), False),
+                              (("folder", "any", "viewer"), True), (("folder", "any", "other"), False), (("group", "any", "member"), True)):
+            self.assertEqual(bearing.bears(Relationship(*given, "user", "x", None), goal), wanted, given)
+        self.assertTrue(bearing.bears(None, goal))
+
+
+class Restarting(World):
+    """The recorder is killed now and then, and the next one goes on with what it left."""
+
+    def __init__(self, seed, folder):
+        shape = Shape(Random("shape %d" % seed))
+        shape.back = 12 * 10 ** 6
+        super().__init__(seed, shape)
+        self.folder = folder
+        self.log = LogFiles(folder, "openfga", size=self.random.choice((900, 1 << 20)))
+        self.log.lock()
+        self.kills = 2
+
+    def run(self):
+        for _ in range(self.kills):
+            self.later(10, self.shape.length, self._kill)
+        return super().run()
+
+    def _drain(self):
+        super()._drain()
+        if self.lines[-1]:
+            self.log.add(self.lines[-1])
+            self.log.place = self.core.place
+
+    def _kill(self):
+        if not self.core.is_ready or self.core.place.rules is None:
+            return
+        os.close(self.log._lock)
+        self.log = LogFiles(self.folder, "openfga", size=self.log.limit)
+        self.log.lock()
+        left = self.log.recover()
+        self.core = Core(OpenFga(STORE, self.shape.stale, self.shape.hold, self.shape.told_horizon), self.shape.hold / 1e9)
+        self.core.left = left
+        cursor = self.end if left.place.cursor == "end" else ast.literal_eval(left.place.cursor)
+        self.overlap = Overlap(cursor, self.shape.back)
+        listed, end = self.service.page(self.now, cursor, 1000)
+        began, self.now = self.now, self.now + 1000
+        new = self.overlap.go_on([change_of(one) for one in listed], left.changes, left.place.apart, end, self.now)
+        assert new is not None, "the feed does not show what the log has"
+        self.known += [(self.now, one[4]) for one in listed]
+        self.last_began = began
+        for one in listed:
+            self.since.setdefault(one[4], 0)
+        self.core.take(Base(STORE, left, new, left.place.cursor, *RULES, began, self.now), self._at())
+        self._drain()
+        self.own(1, 3, self._read, self.overlap)
+
+    def _begin_feed(self):
+        super()._begin_feed()
+        self.end = self.overlap.mark.cursor
+
+
+class Killed(Case):
+    def test_a_recorder_that_is_killed_and_goes_on(self):
+        """Nothing is recorded twice, no change is left out, and no right reply is called wrong."""
+        killed = 0
+        for seed in range(120):
+            world = Restarting(seed, self.path("log%d" % seed))
+            world.run()
+            verdict = Verdict(world)
+            killed += world.core.left is not None
+            faults = [one for one in verdict.faults() if "were answered" not in one]
+            self.assertEqual(faults, [], seed)
+            written = Counter()
+            for row in verdict.rows:
+                if row["event"] == "write":
+                    written.update((tuple(one), True) for one in row.get("add", ()))
+                    written.update((tuple(one), False) for one in row.get("remove", ()))
+            feed = Counter((tuple(one for one in row[2] if one is not None), row[3]) for row in world.service.feed)
+            self.assertEqual(written, feed, seed)
+        self.assertGreater(killed, 80)

@@ -1,0 +1,92 @@
+"""The recorder's core in a simulated world, by seeds; and that the simulation finds what it is there to find."""
+import os
+import subprocess
+import sys
+from random import Random
+from unittest import mock
+
+from new_enemy_tools.recording.openfga import OpenFga
+from new_enemy_tools.recording.places import Places
+from tests.simulation import STEP, Shape, run
+from tests.support import TOOLS, Case
+
+SEEDS = 1000
+
+
+def shape_of(seed, **values):
+    made = Shape(Random("shape %d" % seed))
+    for name, value in values.items():
+        setattr(made, name, value)
+    return made
+
+
+class Holds(Case):
+    def test_no_right_reply_is_accused_and_no_wrong_one_passes(self):
+        recorded = lost = 0
+        for seed in range(SEEDS):
+            _, verdict = run(seed)
+            self.assertEqual(verdict.faults(), [], "seed %d" % seed)
+            recorded, lost = recorded + len(verdict.entries), lost + verdict.lost
+        self.assertGreater(recorded, 2 * lost)
+
+    def test_where_changes_come_one_by_one_little_is_lost(self):
+        recorded = lost = 0
+        for seed in range(100):
+            _, verdict = run(seed, shape_of(seed, race=0, horizon=0, told_horizon=0, stale=0, writes=0.1, length=150))
+            recorded, lost = recorded + len(verdict.entries), lost + verdict.lost
+        self.assertGreater(recorded, 30 * lost)
+
+    def test_the_command(self):
+        run = subprocess.run([sys.executable, os.path.join(TOOLS, "dev", "simulate"), "--seeds", "20"], capture_output=True, text=True, timeout=60)
+        self.assertEqual((run.returncode, run.stdout.splitlines()[-1]), (0, "20 passed, 0 failed"), run.stderr)
+
+
+class Finds(Case):
+    """A recorder that is wrong in one way is found by some seed, each in the way that it is wrong."""
+
+    def found(self, seeds=150, **values):
+        faults = set()
+        for seed in range(seeds):
+            for fault in run(seed, shape_of(seed, **values))[1].faults():
+                faults.add(fault.split(" (check")[0])
+        return faults
+
+    def test_readings_that_go_on_behind_the_last_change(self):
+        """A commit that comes later than its place is never seen."""
+        self.assertIn("a right reply is called wrong", self.found(race=8, back=0))
+
+    def test_a_horizon_that_is_not_known(self):
+        self.assertIn("a right reply is called wrong", self.found(horizon=15 * STEP, told_horizon=0, ours=0, faults=0))
+
+    def test_a_horizon_that_writes_prove_is_learnt(self):
+        self.assertNotIn("a right reply is called wrong", self.found(horizon=15 * STEP, told_horizon=0, ours=1))
+
+    def test_the_order_of_the_feed_taken_for_that_of_the_commits(self):
+        with mock.patch.object(Places, "is_unsure", lambda *words: False):
+            self.assertIn("a right reply is called wrong", self.found(race=20, writes=0.6, requests=25, length=60, faults=0, ours=0))
+
+    def test_a_check_that_does_not_wait_for_a_reading_behind_it(self):
+        with mock.patch.object(OpenFga, "_put_waiting", _at_once):
+            self.assertIn("a right reply is called wrong", self.found())
+
+    def test_what_was_known_before_a_check_that_is_forgotten(self):
+        kept = Places.window
+        with mock.patch.object(Places, "window", lambda self, began, ended: kept(self, 0, ended)), \
+                mock.patch.object(Places, "surely", lambda self, window, began, bears: window.low):
+            self.assertIn("a wrong reply is called right", self.found(faults=0.6))
+
+    def test_answers_of_writes_that_say_nothing(self):
+        """What a write made counts before a check that is asked behind its answer."""
+        with mock.patch.object(OpenFga, "_note", lambda self, message: None):
+            self.assertIn("a wrong reply is called right", self.found(faults=0.6, ours=1))
+
+    def test_a_cache_that_is_not_told(self):
+        with mock.patch.object(OpenFga, "_stale", lambda self, clock: clock):
+            self.assertIn("a right reply is called wrong", self.found(stale=10 * STEP, faults=0))
+
+
+def _at_once(self, message, core):
+    """Places all calls that wait, whatever they wait for."""
+    waits, self.waits = self.waits, []
+    for one in waits:
+        core.tried(one.message, lambda one=one: self._put(one, core))
