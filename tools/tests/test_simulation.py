@@ -85,7 +85,7 @@ class Finds(Case):
             self.assertIn("a right reply is called wrong", self.found(stale=10 * STEP, faults=0))
 
 
-def _at_once(self, message, core):
+def _at_once(self, message, began_before, core):
     """Places all calls that wait, whatever they wait for."""
     waits, self.waits = self.waits, []
     for one in waits:

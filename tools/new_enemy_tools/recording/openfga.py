@@ -208,7 +208,7 @@ class OpenFga:
             if message.read.changes:
                 # Which of them came first is not known.
                 self.muddled.append((before, self.places.revision))
-        self.began = message.began
+        self.began, began_before = message.began, self.began
         self.last = (0 if message.rules is not None else self.places.revision - before, message.is_single)
         for listed in self.times, self.stands:
             del listed[:max(0, len(listed) - TIMES)]
@@ -216,7 +216,7 @@ class OpenFga:
         self._prove(message.began)
         self._give_up(message.received - self.hold, core)
         self._forget()
-        self._put_waiting(message, core)
+        self._put_waiting(message, began_before, core)
 
     def _rows(self, message: Changes) -> list[Row]:
         """The commits of a reading in the order that the log has, each with the times between which it came."""
@@ -429,9 +429,10 @@ class OpenFga:
             raise Bad("X-Content-Token is from before the log, or too old")
         return 0
 
-    def _put_waiting(self, message: Changes, core: Core) -> None:
+    def _put_waiting(self, message: Changes, began_before: int, core: Core) -> None:
         """Places the calls that a reading shows all of which they may have seen: it began behind them, and no write is left that they may
-        have seen and that it does not prove."""
+        have seen and that it does not prove. What changes came meanwhile is told by the reading behind that one, so a call with such waits
+        for it too."""
         first = min((made.asked for made in self.made), default=None)
         for asked in self.open.values():
             if asked > message.began - OPEN:
@@ -439,7 +440,8 @@ class OpenFga:
         waiting, self.waits = self.waits, []
         for one in waiting:
             ended = one.message.clock
-            if ended + self.horizon > message.began or first is not None and first <= ended:
+            is_early = ended + self.horizon > message.began or first is not None and first <= ended
+            if is_early or ended + self.horizon > began_before and self.places.known(one.since) < self.places.revision:
                 self.waits.append(one)
             else:
                 core.tried(one.message, partial(self._put, one, core))

@@ -1,0 +1,194 @@
+"""tools/record where a service, a client or a network does what is seldom seen: with processes, each against the truth of the stand-in."""
+import os
+import resource
+import socket
+import time
+
+from tests.recorded import Client
+from tests.stand_in_openfga import STORE
+from tests.support import TOOLS
+from tests.test_recording_gaps import keeper_of
+from tests.test_recording_openfga import DOCUMENTS, EARLY, MODEL, NEWEST, USERS, OpenFga, key
+
+
+class Raced(OpenFga):
+    STAND_IN = "stand_in_openfga_races.py"
+
+    def begin(self, race, horizon, *words, share="0"):
+        self.start_service(MODEL, str(race), str(horizon), share, "planted")
+        self.prepare()
+        time.sleep(horizon)
+        recorder = self.start_recorder(*words)
+        self.client = Client(self.port)
+        self.addCleanup(self.client.close)
+        return recorder
+
+    def lost(self):
+        return sum(row.get("lost", 0) for row in self.of_kind("gap"))
+
+    def run_load(self, recorder):
+        """Clients of which each writes and checks its own tuples and those of others."""
+        def work(client, random, number, turn):
+            user, thing = random.choice(USERS), random.choice(DOCUMENTS)
+            if random.random() < 0.4:
+                self.write(client, key("user:c%d.%d" % (number, turn), "viewer", thing))
+            else:
+                self.check(client, random.choice((user, "user:c%d.%d" % (random.randrange(8), turn - 1))), "viewer", thing)
+        self.run_clients(8, 60, work)
+        self.end(recorder)
+
+    def test_places_that_are_given_before_the_commit(self):
+        """Each change is in the log, most checks are, and no right reply is called wrong."""
+        for race in (0.005, 0.03):
+            self.room = self.path("race%g" % race)
+            os.mkdir(self.room)
+            self.run_load(self.begin(race, 0))
+            self.import_log()
+            self.assertEqual(self.found(), {}, self.said_of_audit)
+            checks, writes = len(self.of_kind("check")), [row for row in self.of_kind("write") if "base" not in row]
+            # Of the slower ones most come at once with others of their document.
+            self.assertGreater(checks, self.lost() * (4 if race < 0.01 else 1))
+            self.assertEqual(len(writes) + checks + self.lost(), 8 * 60)
+
+    def test_a_horizon_that_is_learnt(self):
+        self.run_load(self.begin(0.005, 1))
+        self.import_log()
+        self.assertEqual(self.found(), {}, self.said_of_audit)
+        self.assertGreater(len(self.of_kind("check")), self.lost())
+
+    def test_a_right_that_is_revoked_at_the_service_in_a_quiet_second(self):
+        recorder = self.begin(0, 0, share="1")
+        time.sleep(0.6)
+        direct = Client(self.service_port)
+        self.write(direct, key(USERS[0], "owner", EARLY[0]))
+        self.write(direct, key(USERS[0], "owner", EARLY[0]), kind="deletes")
+        direct.close()
+        time.sleep(0.3)
+        self.assertTrue(self.check(self.client, USERS[0], "owner", EARLY[0])[1]["allowed"])
+        self.end(recorder)
+        self.import_log()
+        self.assertEqual(list(self.found().values()), [{"F10 wrong reply"}])
+
+    def connected(self):
+        made = socket.create_connection(("127.0.0.1", self.port), timeout=20)
+        self.addCleanup(made.close)
+        return made
+
+    def request(self, path="/stores/%s/check" % STORE, user=USERS[0], thing=EARLY[0], headers=b""):
+        body = b'{"tuple_key":{"user":"%s","relation":"owner","object":"%s"},"consistency":"%s"}' % (user.encode(), thing.encode(), NEWEST.encode())
+        return b"POST %s HTTP/1.1\r\nHost: x\r\n%sContent-Length: %d\r\n\r\n" % (path.encode(), headers, len(body)), body
+
+    def test_a_check_whose_head_is_sent_before_a_right_is_revoked(self):
+        recorder = self.begin(0, 0, share="1")
+        self.write(self.client, key(USERS[0], "owner", EARLY[0]))
+        one = self.connected()
+        head, body = self.request()
+        one.sendall(head)
+        time.sleep(0.2)
+        self.write(self.client, key(USERS[0], "owner", EARLY[0]), kind="deletes")
+        one.sendall(body)
+        self.assertIn(b'"allowed": true', one.recv(10_000))
+        self.end(recorder)
+        self.import_log()
+        self.assertEqual(list(self.found().values()), [{"F10 wrong reply"}])
+
+    def test_paths_in_other_spellings(self):
+        recorder = self.begin(0, 0)
+        for path in ("/stores/%s/%%63heck" % STORE, "/stores/%%30%s/check" % STORE[1:], "/stores/%s/check#x" % STORE):
+            one = self.connected()
+            one.sendall(b"".join(self.request(path)))
+            self.assertIn(b'"allowed"', one.recv(10_000))
+            one.close()
+        self.end(recorder)
+        self.assertEqual(len(self.of_kind("check")), 3)
+
+    def test_a_stray_end_of_a_line(self):
+        """Whatever the service makes of it, no answer is taken for that of another request."""
+        recorder = self.begin(0, 0)
+        head, body = self.request(thing=DOCUMENTS[0])
+        smuggled = b"GET /stores HTTP/1.1\r\nHost: x\r\nX: y\nContent-Length: %d\r\n\r\n" % len(head + body)
+        one = self.connected()
+        one.sendall(smuggled + head + body + b"".join(self.request(user="user:other")))
+        time.sleep(0.5)
+        one.close()
+        self.end(recorder)
+        self.assertEqual(self.of_kind("check"), [])
+        self.assertIn("a connection can't be read along: a line with a stray end in it", {row["reason"] for row in self.of_kind("gap")})
+
+    def test_a_tuple_with_a_blank_of_unicode_in_its_id(self):
+        recorder = self.begin(0, 0)
+        self.write(self.client, key(USERS[1], "viewer", "document:no\u00a0break"), key(USERS[1], "viewer", DOCUMENTS[0]))
+        for _ in range(2):
+            self.assertTrue(self.check(self.client, USERS[1], "viewer", DOCUMENTS[0])[1]["allowed"])
+            self.assertTrue(self.check(self.client, USERS[1], "viewer", "document:no\u00a0break")[1]["allowed"])
+            self.end(recorder)
+            recorder = self.start_recorder()
+            self.client.port = self.port
+            self.client.close()
+        self.end(recorder)
+        self.assertEqual((len(self.of_kind("check")), self.lost()), (4, 0))
+        self.import_log()
+        self.assertEqual(self.found(), {}, self.said_of_audit)
+
+
+class Bounds(OpenFga):
+    """Files, and memory."""
+
+    def limited(self, soft, hard):
+        """A recorder that begins with limits on its files."""
+        kept = resource.getrlimit(resource.RLIMIT_NOFILE)
+        resource.setrlimit(resource.RLIMIT_NOFILE, (soft, kept[1]))
+        try:
+            recorder = self.start_recorder()
+        finally:
+            resource.setrlimit(resource.RLIMIT_NOFILE, kept)
+        return recorder
+
+    def clients(self, count):
+        made = [Client(self.port) for _ in range(count)]
+        for one in made:
+            self.addCleanup(one.close)
+        return [self.check(one, USERS[0], "viewer", DOCUMENTS[0])[0] for one in made]
+
+    def test_more_clients_than_the_soft_limit_of_files_has_room_for(self):
+        self.start_service(MODEL)
+        recorder = self.limited(128, None)
+        self.assertEqual(set(self.clients(150)), {200})
+        self.end(recorder)
+
+    def test_more_clients_than_there_can_be(self):
+        """They are refused and counted; the others go on."""
+        self.start_service(MODEL)
+        words = [os.path.join(TOOLS, "record")]
+        self.PYTHON, kept = "/bin/sh", self.PYTHON
+        shell = self.put("limited", 'ulimit -n 100 && exec "%s" "$@"\n' % kept)
+        start = self.start
+        self.start = lambda *given, **more: start(*((shell, *given) if given[0] in words else given), **more)
+        recorder = self.start_recorder()
+        status = self.clients(50)
+        self.assertEqual(set(status), {200, 0})
+        self.assertGreater(status.count(200), 20)
+        self.assertIn("record: connections refused: 1; this process may have too few files open (ulimit -n)", self.get("said"))
+        self.end(recorder)
+        self.assertEqual(len(self.of_kind("check")), status.count(200))
+        self.assertTrue(any(row["reason"].startswith("a connection was refused") for row in self.of_kind("gap")))
+
+    def memory(self, process):
+        with open("/proc/%d/status" % process, encoding="ascii") as file:
+            return int(next(line.split()[1] for line in file if line.startswith("VmHWM"))) >> 10
+
+    def test_long_requests_while_the_folder_is_held(self):
+        """What waits is bounded by bytes."""
+        self.start_service(MODEL)
+        first = self.start_recorder()
+        second = self.start_recorder(is_ready=False)
+        client = Client(self.port)
+        self.addCleanup(client.close)
+        pad = "x" * 200_000
+        for number in range(1500):
+            body = {"tuple_key": key(USERS[0], "viewer", DOCUMENTS[0]), "context": {"pad": pad}}
+            self.assertEqual(self.call(client, "check", body)[0], 200)
+        self.assertLess(self.memory(keeper_of(second)), 250)
+        self.assertLess(self.memory(second.pid), 250)
+        self.end(first)
+        self.end(second)
