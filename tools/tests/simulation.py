@@ -62,7 +62,7 @@ class Service:
 
     def __init__(self, horizon):
         self.horizon = horizon
-        self.times, self.states = [-1], [frozenset()]
+        self.times, self.states = [-10], [frozenset()]
         self.feed, self.changes = [], {}
         self.places = count(1)
         self.busy = set()
@@ -113,6 +113,8 @@ class World:
         # be known that it had not come
         self.known, self.since = [], {}
         self.last_began = 0
+        # the commits of writes that passed the recorder
+        self.whole = set()
         self.tell_at = {"proxy": 0, "feed": 0}
         self.under_way, self.quiet_since = 0, 0
 
@@ -260,6 +262,7 @@ class World:
         for given, live in changes:
             body.setdefault("writes" if live else "deletes", {"tuple_keys": []})["tuple_keys"].append(key_of(given))
         self.known.append((self.now, committed))
+        self.whole.add(committed)
         self._tell("proxy", Ended(number, "write", "/stores/S/write", WALL + asked, WALL + self.now, self.now, None, None, None, 200,
                                   json.dumps(body).encode(), b"{}", None))
 
@@ -277,9 +280,21 @@ class World:
         asked.reply = holds(self.service.state_at(at), asked.goal)
         if self.random.random() < self.shape.faults:
             asked.is_planted = True
-            old = self.service.states[max(0, self.service.index(at) - self.random.randint(0, 3))]
-            asked.reply = holds(old, asked.goal) if self.random.random() < 0.6 else not asked.reply
+            asked.reply = self._wrong(asked, at)
         self.later(0, 6, self._answer, asked)
+
+    def _wrong(self, asked, at):
+        """The reply of an old state, of one between two, or another one than it is."""
+        service, kind = self.service, self.random.random()
+        place = service.index(at)
+        if kind < 0.4:
+            return holds(service.states[max(0, place - self.random.randint(0, 3))], asked.goal)
+        if kind < 0.7:
+            state = set(service.states[max(0, place - 1)])
+            for given, live in self.random.sample(service.changes.get(service.times[place], []), place and 1):
+                (state.add if live else state.discard)(given)
+            return holds(state, asked.goal)
+        return not asked.reply
 
     def _answer(self, asked):
         asked.ended = self.now
@@ -337,6 +352,9 @@ class Verdict:
                 state.discard(tuple(one + [None] * (6 - len(one))))
             if row.get("base"):
                 self.states[-1] = frozenset(state)
+            elif row["revision"] == len(self.states) - 1:
+                # One more change of the commit before.
+                self.states[-1] = frozenset(state)
             else:
                 assert row["revision"] == len(self.states), "a revision is left out, or comes twice"
                 self.states.append(frozenset(state))
@@ -378,17 +396,21 @@ class Verdict:
 
     def _may_be(self, one, since):
         """Whether a reply may be right for all that is known: of the changes that bear on it all count that were known, and some of those
-        that may have come before the answer. Of a write of several tuples some may count, since the log has a state behind each."""
+        that may have come before the answer. A write that passed the recorder counts whole."""
         service, world = self.world.service, self.world
         known = {at for told, at in world.known if told <= since}
-        changes = [(at, given, live) for at in sorted(service.changes) for given, live in service.changes[at]
-                   if world.since.get(at, at) <= one.ended and (given[0] == "group" or given[1] == one.goal[1])]
-        others = [change for change in changes if change[0] not in known]
+        units = []
+        for at in sorted(service.changes):
+            changes = [change for change in service.changes[at] if change[0][0] == "group" or change[0][1] == one.goal[1]]
+            if changes and world.since.get(at, at) <= one.ended:
+                units += [(at, changes)] if at in world.whole else [(at, [change]) for change in changes]
+        others = [unit for unit in units if unit[0] not in known]
         for chosen in product((False, True), repeat=len(others)):
             state, left = set(service.states[0]), iter(chosen)
-            for at, given, live in changes:
+            for at, changes in units:
                 if at in known or next(left):
-                    (state.add if live else state.discard)(given)
+                    for given, live in changes:
+                        (state.add if live else state.discard)(given)
             if holds(state, one.goal) == one.reply:
                 return True
         return False

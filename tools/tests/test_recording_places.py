@@ -100,7 +100,7 @@ class Known(Case):
         places = self.places((0, 5, "a"), (4, 9, "b"), (9, 12, "c"))
         everyone = Window(0, 3)
         self.assertTrue(places.is_unsure(everyone, lambda row: True))
-        self.assertFalse(places.is_unsure(everyone, lambda row: row.change.given.user_id != "b"))
+        self.assertFalse(places.is_unsure(everyone, lambda row: row.changes[0].given.user_id != "b"))
         self.assertFalse(places.is_unsure(Window(1, 3), lambda row: True))
         places.rows[0].unit = places.rows[1].unit = 7
         self.assertFalse(places.is_unsure(everyone, lambda row: True))
@@ -198,6 +198,7 @@ class Killed(Case):
             written = Counter()
             for row in verdict.rows:
                 if row["event"] == "write":
+                    # Each change has a line.
                     written.update((tuple(one), True) for one in row.get("add", ()))
                     written.update((tuple(one), False) for one in row.get("remove", ()))
             feed = Counter((tuple(one for one in row[2] if one is not None), row[3]) for row in world.service.feed)

@@ -78,7 +78,12 @@ class Finds(Case):
     def test_answers_of_writes_that_say_nothing(self):
         """What a write made counts before a check that is asked behind its answer."""
         with mock.patch.object(OpenFga, "_note", lambda self, message: None):
-            self.assertIn("a wrong reply is called right", self.found(faults=0.6, ours=1))
+            late = {"horizon": 15 * STEP, "told_horizon": 15 * STEP}
+            self.assertIn("a wrong reply is called right", self.found(faults=0.6, ours=1, requests=25, length=150, stale=0, **late))
+
+    def test_a_write_of_several_tuples_that_counts_by_halves(self):
+        with mock.patch("new_enemy_tools.recording.openfga._writes", lambda changes, makers: [[place] for place in range(len(changes))]):
+            self.assertIn("a wrong reply is called right", self.found(300, faults=0.6, ours=1, writes=0.6, requests=25))
 
     def test_a_cache_that_is_not_told(self):
         with mock.patch.object(OpenFga, "_stale", lambda self, clock: clock):

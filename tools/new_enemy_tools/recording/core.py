@@ -349,7 +349,7 @@ def _moved(place: Place, commit: Commit) -> Place:
     rules = commit.rules or place.rules
     if commit.cursor is not None:
         return Place(commit.cursor, commit.revision, rules, commit.behind, commit.apart)
-    return Place(place.cursor, commit.revision, rules, place.behind + (commit.rules is None), place.apart)
+    return Place(place.cursor, commit.revision, rules, place.behind + (0 if commit.rules else commit.changes), place.apart)
 
 
 def _reason(fault: Exception) -> str:

@@ -157,9 +157,9 @@ class OpenFga:
             lines = []
             for change in base.changes:
                 self.places.add([Row(0, base.received, change)])
-                lines.append(self._commit(change, self.places.revision, 0).data)
+                lines.append(self._line(change, self.places.revision))
             if left.place.rules != rules.hash:
-                self.places.add([Row(0, base.received, None)])
+                self.places.add([Row(0, base.received)])
                 lines.append(ruled(base.rules, base.refusals, self.places.revision, False).data)
         revision = self.places.revision
         self.models = [Model(rules.id or "", revision)]
@@ -186,15 +186,16 @@ class OpenFga:
         self.takes.add(rules)
         self.bearing.add(rules)
 
-    def _commit(self, change: Change, revision: int, received: int) -> Commit:
+    def _line(self, change: Change, revision: int) -> bytes:
+        """A change as the log has it."""
         change.revision = revision
         self.times.append(max(change.time, self.times[-1] if self.times else 0))
         self.stands.append(revision)
         if change.given is None:
-            return Commit(revision, _unread_line(change) + write_line(revision, [], []), received)
+            return _unread_line(change) + write_line(revision, [], [])
         kept, unmapped = self.takes.sorted_out([(change.given, change.reason)])
         add, remove = (kept, []) if change.live else ([], kept)
-        return Commit(revision, unmapped + write_line(revision, add, remove), received)
+        return unmapped + write_line(revision, add, remove)
 
     def _take_changes(self, message: Changes, core: Core) -> None:
         before = self.places.revision
@@ -223,34 +224,37 @@ class OpenFga:
         changes, odd = by_turns(message.read.changes, lambda change: None if change.given is None else self.live.get(change.given))
         for change in odd:
             self._taint(change.given)
-        highs = self._highs(changes, message)
-        low = self.began - self.horizon
-        rows = [Row(low, high, change) for high, change in zip(highs, changes)]
-        last: dict[Relationship, Row] = {}
+        # How late changes are shown may be learnt of these.
+        found = self._makers(changes, message)
+        low, rows = self.began - self.horizon, []
+        is_as_read = changes == message.read.changes
+        for group in _writes(changes, found) if is_as_read else [[place] for place in range(len(changes))]:
+            made = found[group[0]]
+            high = message.received if made is None else min(message.received, made.answered)
+            rows.append(Row(low, high, *(changes[place] for place in group)))
+        later: dict[Optional[Relationship], int] = {}
         for row in reversed(rows):
-            if row.change is not None and row.change.given is not None:
-                # A tuple's changes come one behind the other.
-                later = last.get(row.change.given)
-                row.high = row.high if later is None else min(row.high, later.high)
-                last[row.change.given] = row
+            # A tuple's changes come one behind the other.
+            row.high = min([row.high, *(later[one] for one in row.tuples() if one in later)])
+            later.update(dict.fromkeys(row.tuples(), row.high))
         return sorted(rows, key=lambda row: row.high)
 
-    def _highs(self, changes: list[Change], message: Changes) -> list[int]:
-        """When each change had come: it was shown then, or a write had its answer that made it or a later one of its tuple."""
+    def _makers(self, changes: list[Change], message: Changes) -> list[Optional[Made]]:
+        """Of each change a write that has its answer, and made it or a later one of its tuple."""
         wanted: dict[Key, deque[Made]] = {}
         for made in self.made:
             if made.asked < message.received:
                 for key in made.keys:
                     if key is not None and not self._after(key, made.asked):
                         wanted.setdefault(key, deque()).append(made)
-        highs = []
+        makers = []
         for change in changes:
             found = wanted.get((change.given, change.live)) if change.given is not None else None
             made = found.popleft() if found else None
-            highs.append(message.received if made is None else min(message.received, made.answered))
+            makers.append(made)
             if made is not None and self.began - self.horizon > made.answered:
                 self._learn(message.began - made.asked)
-        return highs
+        return makers
 
     def _learn(self, late: int) -> None:
         """A write that had its answer was not shown by a reading behind it, so the changes are shown late."""
@@ -262,19 +266,23 @@ class OpenFga:
 
     def _put_rows(self, rows: list[Row], message: Changes, core: Core) -> None:
         for row in rows:
-            change = row.change
-            assert change is not None
             self.places.add([row])
-            commit = self._commit(change, self.places.revision, message.received)
+            revision = self.places.revision
+            data = b"".join(self._line(change, revision) for change in row.changes)
+            commit = Commit(revision, data, message.received, changes=len(row.changes))
             if row is rows[-1]:
                 apart = tuple(sorted(one.revision for one in message.read.apart))
                 commit = commit._replace(cursor=message.read.cursor, behind=message.read.behind, apart=apart)
             core.put_commit(commit)
-            if change.given is not None:
-                self.live[change.given] = change.live
-                self.tainted.pop(change.given, None)
-                self.recent.append(((change.given, change.live), change.revision))
-                self.shown.setdefault((change.given, change.live), deque()).append(change.revision)
+            for change in row.changes:
+                self._remember(change)
+
+    def _remember(self, change: Change) -> None:
+        if change.given is not None:
+            self.live[change.given] = change.live
+            self.tainted.pop(change.given, None)
+            self.recent.append(((change.given, change.live), change.revision))
+            self.shown.setdefault((change.given, change.live), deque()).append(change.revision)
 
     def _take_rules(self, rules: Optional[ServiceRules], refusals: Refusals, message: Changes, core: Core) -> None:
         revision = self.places.revision
@@ -285,7 +293,7 @@ class OpenFga:
             core.lose("a model that can't be read", 0)
             self.models.append(Model(None, revision))
             return
-        self.places.add([Row(self.began, message.received, None)])
+        self.places.add([Row(self.began, message.received)])
         self._take_names(found.rules)
         self.models.append(Model(found.id or "", revision + 1))
         core.put_commit(Commit(revision + 1, found.data, message.received, None, found.hash))
@@ -481,7 +489,7 @@ class OpenFga:
         return self.places.is_unsure(window, partial(self._bears, goal))
 
     def _bears(self, goal: Relationship, row: Row) -> bool:
-        return row.change is None or self.bearing.bears(row.change.given, goal)
+        return not row.changes or any(self.bearing.bears(change.given, goal) for change in row.changes)
 
     def _bears_any(self, given: Any, goals: list[Relationship]) -> bool:
         return any(self.bearing.bears(one, goal) for one in given for goal in goals)
@@ -495,6 +503,18 @@ class OpenFga:
             if start <= end and model.id == one.model:
                 return Window(start, end)
         return window if one.model is None else "a check by another model than the latest"
+
+
+def _writes(changes: list[Change], makers: list[Optional[Made]]) -> list[list[int]]:
+    """The places of changes, those of a write together that stand side by side in the feed with one time: they came at once."""
+    found: list[list[int]] = []
+    for place, (change, made) in enumerate(zip(changes, makers)):
+        is_next = bool(found) and made is not None and made is makers[place - 1] and not change.reason and not changes[place - 1].reason
+        if is_next and change.follows and change.time == changes[place - 1].time:
+            found[-1].append(place)
+        else:
+            found.append([place])
+    return found
 
 
 def _unread_line(change: Change) -> bytes:

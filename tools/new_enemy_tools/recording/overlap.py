@@ -12,14 +12,15 @@ from new_enemy_tools.recording.lines import tuple_list
 
 class Change:
     """A change of the feed: a tuple and whether it is there now, the service's time, and why it has no form in a log. One that can't be
-    read has no tuple, and the userset where that can be read. `revision` is where it stands in the log, once it does."""
+    read has no tuple, and the userset where that can be read. `revision` is where it stands in the log, once it does; `follows` whether
+    the change before it in the feed was new with it."""
 
-    __slots__ = ("given", "live", "time", "reason", "userset", "revision")
+    __slots__ = ("given", "live", "time", "reason", "userset", "revision", "follows")
 
     def __init__(self, given: Optional[Relationship], live: bool, time: int, reason: Optional[str] = None,
                  userset: Optional[tuple[str, str, str]] = None):
         self.given, self.live, self.time, self.reason, self.userset = given, live, time, reason, userset
-        self.revision = 0
+        self.revision, self.follows = 0, False
 
 
 class Known(NamedTuple):
@@ -110,6 +111,7 @@ class Overlap:
             if found:
                 now.append(found.popleft())
             else:
+                change.follows = bool(new) and now[-1] is new[-1]
                 now.append(change)
                 new.append(change)
         if any(left.values()):

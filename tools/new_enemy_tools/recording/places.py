@@ -5,6 +5,7 @@ The log has one order of commits; of two whose times overlap it is not known whe
 from bisect import bisect_right
 from typing import Callable, Iterable, NamedTuple, Optional
 
+from new_enemy_tools.importing.events import Relationship
 from new_enemy_tools.importing.reading import Bad
 from new_enemy_tools.recording.overlap import Change
 
@@ -14,13 +15,16 @@ KEPT = 200_000
 
 class Row:
     """A commit: it had not come at `low`, and had at `high`, by the clock of all processes. Commits of one `unit` are one write; one
-    without a change is of rules."""
+    without changes is of rules."""
 
-    __slots__ = ("low", "high", "change", "unit")
+    __slots__ = ("low", "high", "changes", "unit")
 
-    def __init__(self, low: int, high: int, change: Optional[Change]):
-        self.low, self.high, self.change = low, high, change
+    def __init__(self, low: int, high: int, *changes: Change):
+        self.low, self.high, self.changes = low, high, changes
         self.unit = 0
+
+    def tuples(self) -> set[Optional[Relationship]]:
+        return {change.given for change in self.changes} - {None}
 
 
 class Window(NamedTuple):
@@ -106,7 +110,7 @@ def _is_together(one: Row, other: Row) -> bool:
     """Whether the order of two commits is known, or does not matter."""
     if one.unit and one.unit == other.unit:
         return True
-    return one.change is not None and other.change is not None and one.change.given is not None and one.change.given == other.change.given
+    return not one.tuples().isdisjoint(other.tuples())
 
 
 def by_turns(changes: list[Change], live: Callable[[Change], Optional[bool]]) -> tuple[list[Change], list[Change]]:

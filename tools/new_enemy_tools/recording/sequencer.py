@@ -13,7 +13,7 @@ MOMENTS = 100_000
 
 
 class Commit(NamedTuple):
-    """A revision of the service with its lines, and when it was received; `cursor` is what the service goes on by, and `rules` the
+    """A revision of the service with its lines, of which so many are changes, and when it was received; `cursor` is what the service goes on by, and `rules` the
     hash of new rules. Of the last `behind` changes up to this one, those come again behind the cursor that are not `apart`."""
 
     revision: int
@@ -23,6 +23,7 @@ class Commit(NamedTuple):
     rules: Optional[str] = None
     behind: int = 0
     apart: tuple[int, ...] = ()
+    changes: int = 1
 
 
 class Ready(NamedTuple):
