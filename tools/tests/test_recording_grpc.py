@@ -96,6 +96,7 @@ class Cut(Case):
         relay.stopping = is_stopping or None
 
         async def passed(method, requests, context, metadata, kept):
+            teller.tell(kept.started())
             for _ in range(responses):
                 kept.take(kept.responses, b"x")
             raise fault
@@ -105,6 +106,46 @@ class Cut(Case):
             asyncio.run(relay.pass_on(path, None, SimpleNamespace(invocation_metadata=lambda: ())))
         self.assertEqual((told[0].call, relay.under_way), ("stream", 0))
         return [(one.status, one.response) for one in told[1:]]
+
+    def test_when_a_check_begins(self):
+        """When its message has come, and not with its head."""
+        told, seen = [], []
+        relay = self.module.GrpcRelay(None, SimpleNamespace(tell=told.append))
+
+        class Call:
+            def __init__(self, requests, **words):
+                self.requests = requests
+
+            async def initial_metadata(self):
+                return ()
+
+            async def __aiter__(self):
+                async for data in self.requests:
+                    seen.append((data, [type(one).__name__ for one in told]))
+                    yield b"answer"
+
+            def done(self):
+                return True
+
+            async def code(self):
+                return "OK"
+            details = trailing_metadata = code
+
+        async def requests():
+            seen.append((None, list(told)))
+            yield b"request"
+
+        async def nothing(*words):
+            pass
+        relay.channel = SimpleNamespace(stream_stream=lambda method: Call)
+        self.module.grpc.StatusCode = SimpleNamespace(OK="OK")
+        self.module.grpc.aio.AioRpcError = OSError
+        context = SimpleNamespace(invocation_metadata=lambda: (("x-content-save", "a"), ("x-content-save", "b")), time_remaining=lambda: None,
+                                  send_initial_metadata=nothing, write=nothing, set_trailing_metadata=lambda one: None,
+                                  set_details=lambda one: None, set_code=lambda one: None)
+        asyncio.run(relay.pass_on(next(path for path, call in CALLS.items() if call.kind == "check"), requests(), context))
+        self.assertEqual(seen, [(None, []), (b"request", ["Started"])])
+        self.assertEqual((told[1].status, told[1].strange), (200, "X-Content-Save stands twice"))
 
     def test_by_its_client(self):
         self.assertEqual(self.told(0, asyncio.CancelledError(), False), [(0, None)])

@@ -21,6 +21,7 @@ except ImportError:
 NUMBERS = itertools.count(1)
 OPTIONS = [("grpc.max_receive_message_length", -1), ("grpc.max_send_message_length", -1)]
 LAST = 3.0
+LABELS = ("x-content-save", "x-content-version", "x-content-token")
 # What gRPC itself says of a connection, and says anew on the next.
 OWN = ("grpc-", "user-agent", "content-type", "te", "accept-encoding")
 
@@ -28,9 +29,12 @@ OWN = ("grpc-", "user-agent", "content-type", "te", "accept-encoding")
 class Kept:
     """What is kept of a call that is recorded."""
 
-    def __init__(self, method: str, call: Call, metadata: dict[str, Any]):
-        self.method, self.call, self.metadata = method, call, metadata
+    def __init__(self, method: str, call: Call, metadata: list[tuple[str, Any]]):
+        self.method, self.call, self.metadata = method, call, dict(metadata)
         self.number, self.begun = next(NUMBERS), time.time_ns()
+        self.is_told = False
+        named = [name for name, _ in metadata if name in LABELS]
+        self.strange = next(("%s stands twice" % name.title() for name in LABELS if named.count(name) > 1), None)
         self.requests: list[bytes] = []
         self.responses: list[bytes] = []
         self.size = 0
@@ -41,6 +45,8 @@ class Kept:
             side.append(data)
 
     def started(self) -> Started:
+        """The call is passed on: its message has come whole."""
+        self.is_told, self.begun = True, time.time_ns()
         return Started(self.number, time.monotonic_ns(), self._text("x-content-save") is not None, self.call.kind)
 
     def _text(self, name: str) -> Optional[str]:
@@ -53,7 +59,7 @@ class Kept:
         status = 200 if is_good or self.responses else 0
         bodies = (joined(self.requests), joined(self.responses)) if is_good and self.size <= BODY else (None, None)
         return Ended(self.number, self.call.kind, self.method, self.begun, time.time_ns(), time.monotonic_ns(), save, version, token,
-                     status, *bodies, GRPC)
+                     status, *bodies, GRPC, self.strange)
 
 
 class Handler(grpc.GenericRpcHandler):  # type: ignore[misc]
@@ -103,9 +109,7 @@ class GrpcRelay:
     async def pass_on(self, method: str, requests: AsyncIterator[bytes], context: Any) -> None:
         metadata = [(key, value) for key, value in context.invocation_metadata() or () if not key.startswith(OWN)]
         call = CALLS.get(method)
-        kept = None if call is None else Kept(method, call, dict(metadata))
-        if kept is not None and kept.call.kind in CHECKS:
-            self.teller.tell(kept.started())
+        kept = None if call is None else Kept(method, call, metadata)
         self.under_way += 1
         is_good = is_cut = False
         try:
@@ -116,7 +120,7 @@ class GrpcRelay:
             raise
         finally:
             self.under_way -= 1
-            if kept is not None and not is_cut and (is_good or kept.call.kind in CHECKS):
+            if kept is not None and not is_cut and (is_good or kept.is_told):
                 self.teller.tell(kept.ended(is_good))
 
     async def _passed(self, method: str, requests: AsyncIterator[bytes], context: Any, metadata: list[Any], kept: Optional[Kept]) -> bool:
@@ -125,6 +129,8 @@ class GrpcRelay:
             async for data in requests:
                 if kept is not None:
                     kept.take(kept.requests, data)
+                    if kept.call.kind in CHECKS and not kept.is_told:
+                        self.teller.tell(kept.started())
                 yield data
         call = self.channel.stream_stream(method)(read_along(), metadata=metadata, timeout=context.time_remaining())
         try:
