@@ -18,6 +18,7 @@ from new_enemy_tools.recording.lines import time_text
 from new_enemy_tools.recording.messages import Beat, Bye, Ended, Started
 from new_enemy_tools.recording.openfga import Base, Changes, OpenFga
 from new_enemy_tools.recording.overlap import Change, Overlap
+from new_enemy_tools.recording.stored import Stored
 
 WALL = 1_700_000_000 * 10 ** 9
 # A step of time, by which all that happens differs.
@@ -192,11 +193,13 @@ class World:
         began = self.now
         for given in self.random.sample(TUPLES, self.random.choice((0, 0, 4))):
             self.service.commit(self.now - 5 * STEP, [(given, True)], next(self.service.places), self.now - 10 * STEP - self.shape.horizon)
-        changes = [change_of(one) for one in self.service.page(self.now, (0, 0), 100)[0]]
+        changes, stored = [change_of(one) for one in self.service.page(self.now, (0, 0), 100)[0]], Stored()
+        for change in changes:
+            stored.take(change)
         end = self.service.feed[-1][:2] if self.service.feed else (0, 0)
         self.now += STEP
         self.overlap.begin(changes, (0, 0), end, self.now)
-        self.core.take(Base(STORE, None, changes, "end", *RULES, began, self.now), self._at())
+        self.core.take(Base(STORE, None, stored, [], "end", *RULES, began, self.now), self._at())
         self._drain()
         self.own(1, 3, self._read, self.overlap)
 

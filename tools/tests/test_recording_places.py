@@ -1,6 +1,7 @@
 """Where the recorder puts the changes and checks of OpenFGA: what is new in a reading, what bears on a question, what is known when."""
 import ast
 import os
+import tracemalloc
 from collections import Counter
 from random import Random
 
@@ -14,6 +15,7 @@ from new_enemy_tools.recording.openfga import Base, OpenFga
 from new_enemy_tools.recording.overlap import Change, Overlap
 from new_enemy_tools.recording.overlap import Known as Shown
 from new_enemy_tools.recording.places import Places, Row, Window, by_turns
+from new_enemy_tools.recording.stored import Stored
 from tests.simulation import RULES, STORE, Shape, Verdict, World, change_of
 from tests.support import Case
 
@@ -64,6 +66,28 @@ class Overlapping(Case):
         known = [Shown(("document", "d", "viewer", "user", user), True, number) for number, user in enumerate("ab", 1)]
         self.assertIsNone(overlap.go_on([change("a"), change("c")], known, [], "x", 1))
         self.assertEqual([one.given.user_id for one in overlap.go_on([change("a"), change("c")], known, [2], "x", 1)], ["c"])
+
+
+class BaseState(Case):
+    def test_what_changes_left(self):
+        """Each tuple is kept in few bytes, and comes back as it was."""
+        stored, wanted = Stored(), {}
+        for given in (("document", "d", "viewer", "user", "a", None), ("document", "d", "viewer", "group", "g", "member"),
+                      ("document", "d", "viewer", "user", "*", "*"), ("document", "no\u00a0break", "viewer", "user", "a", None)):
+            stored.take(Change(Relationship(*given), True, 0, "why" if given[4] == "*" else None))
+            wanted[Relationship(*given)] = "why" if given[4] == "*" else None
+        stored.take(change("gone"))
+        stored.take(change("gone", False))
+        stored.take(Change(Relationship("document", "d", "two\nlines", "user", "a", None), True, 0))
+        self.assertEqual((dict(stored.items()), len(stored.odd), stored.count), (wanted, 1, 7))
+
+    def test_memory_of_a_tuple(self):
+        tracemalloc.start()
+        self.addCleanup(tracemalloc.stop)
+        stored = Stored()
+        for number in range(20_000):
+            stored.take(Change(Relationship("document", "d%d" % (number % 700), "viewer", "user", "u%d" % number, None), True, number))
+        self.assertLess(tracemalloc.get_traced_memory()[0] / 20_000, 220)
 
 
 class Turns(Case):
@@ -175,7 +199,7 @@ class Restarting(World):
         self.last_began = began
         for one in listed:
             self.since.setdefault(one[4], 0)
-        self.core.take(Base(STORE, left, new, left.place.cursor, *RULES, began, self.now), self._at())
+        self.core.take(Base(STORE, left, Stored(), new, left.place.cursor, *RULES, began, self.now), self._at())
         self._drain()
         self.own(1, 3, self._read, self.overlap)
 

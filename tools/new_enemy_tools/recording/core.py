@@ -7,7 +7,8 @@ import gzip
 import json
 import zlib
 from functools import partial
-from typing import Any, Callable, NamedTuple, Optional, Protocol
+from itertools import chain
+from typing import Any, Callable, Iterable, Iterator, NamedTuple, Optional, Protocol
 
 from new_enemy_tools.importing.reading import Bad
 from new_enemy_tools.importing.service import Answer
@@ -36,7 +37,7 @@ class Now(NamedTuple):
 class Begun(NamedTuple):
     """The log can begin, or go on: the lines that stand first, whether the store was empty, and where the changes are."""
 
-    data: list[bytes]
+    data: Iterable[bytes]
     is_empty: bool
     place: Place
 
@@ -152,6 +153,8 @@ class Core:
         self.saves_since: dict[int, int] = {}
         self.unheld: set[int] = set()
         self.unsaid: list[bytes] = []
+        # what stands first, in pieces, and is to be written before anything else is taken
+        self.first: Optional[Iterator[bytes]] = None
         # what is to be told on standard error
         self.told: list[str] = []
 
@@ -219,10 +222,8 @@ class Core:
     def begin_log(self, message: Begun) -> None:
         """The log goes on: the time before it is a gap, but for a log that begins with an empty store."""
         lost = self.gaps.take()
-        data = b"".join(message.data) + place_line(message.place)
-        if self.left is not None or lost or not message.is_empty:
-            data = self._gap_before(lost) + data
-        self.unsaid.append(data)
+        gap = self._gap_before(lost) if self.left is not None or lost or not message.is_empty else b""
+        self.first = chain([gap], message.data, [place_line(message.place)])
         self.place, self.is_ready = message.place, True
         self.say("recording")
 
@@ -297,8 +298,8 @@ class Core:
 
     def drained(self) -> bytes:
         """The lines that can be written now; `place` is then where the changes are behind them."""
-        made = self.unsaid
-        self.unsaid = []
+        made, self.unsaid = [*(self.first or ()), *self.unsaid], []
+        self.first = None
         for one in self.sequencer.drained() if self.is_ready else ():
             if isinstance(one, Commit):
                 made.append(one.data)

@@ -154,6 +154,12 @@ class Keeper:
         if not isinstance(message, (*KINDS, Faulty)):
             self.said = None
         self.core.take(message, _now())
+        if self.core.first is not None:
+            # It may be long, and stands in one file.
+            for data in self.core.first:
+                self._write_whole(data, True)
+            self.core.first = None
+            self.log.place = self.core.place
         self._tell()
 
     def _tell(self) -> None:
@@ -171,11 +177,11 @@ class Keeper:
         if self.core.is_ready:
             self.log.place = self.core.place
 
-    def _write_whole(self, data: bytes) -> None:
+    def _write_whole(self, data: bytes, goes_on: bool = False) -> None:
         failed = 0
         while data:
             try:
-                self.log.add(data)
+                self.log.add(data, goes_on)
                 if failed:
                     self.said = None
                     self.say("the log goes on")

@@ -180,9 +180,9 @@ class LogFiles:
 
     # Lines
 
-    def add(self, data: bytes) -> None:
-        """Adds whole lines; raises LogFault where none of them was added."""
-        if self.descriptor is not None and self.size and (self.size + len(data) > self.limit or time.monotonic() - self.opened > self.age):
+    def add(self, data: bytes, goes_on: bool = False) -> None:
+        """Adds whole lines, to the same file where they go on from the last; raises LogFault where none of them was added."""
+        if not goes_on and self.descriptor is not None and self.size and (self.size + len(data) > self.limit or time.monotonic() - self.opened > self.age):
             self.close()
         if self.descriptor is None:
             self._open()

@@ -10,7 +10,8 @@ import re
 from bisect import bisect_right
 from collections import deque
 from functools import partial
-from typing import Any, NamedTuple, Optional, Union
+from itertools import islice
+from typing import Any, Iterator, NamedTuple, Optional, Union
 
 from new_enemy_tools.importing.between import STATES
 from new_enemy_tools.importing.events import Relationship
@@ -21,13 +22,14 @@ from new_enemy_tools.importing.service import Answer, ServiceRules
 from new_enemy_tools.importing.times import nanoseconds
 from new_enemy_tools.recording.bearing import Bearing
 from new_enemy_tools.recording.core import Asked, Begun, Core, body_of
-from new_enemy_tools.recording.lines import base_lines, unmapped_line, write_line
+from new_enemy_tools.recording.lines import TUPLES, base_lines, unmapped_line, write_line
 from new_enemy_tools.recording.log_files import Left, Place
 from new_enemy_tools.recording.messages import Ended, Started
 from new_enemy_tools.recording.overlap import Change, Read
 from new_enemy_tools.recording.places import Places, Row, Window, by_turns
 from new_enemy_tools.recording.ruled import Takes, Unread, ruled
 from new_enemy_tools.recording.sequencer import Commit
+from new_enemy_tools.recording.stored import Stored
 
 PATH = re.compile(r"/stores/([^/]+)/(check|batch-check|list-objects|streamed-list-objects|list-users|write|authorization-models)")
 CALLS = {"check": "check", "batch-check": "batch", "list-objects": "list", "list-users": "list", "streamed-list-objects": "stream",
@@ -53,10 +55,12 @@ def call_of(method: str, path: str) -> Optional[str]:
 
 
 class Base(NamedTuple):
-    """What the feed begins with, from and to when it was read; the changes are those that the log does not have."""
+    """What the feed begins with, from and to when it was read: what is stored, or where an earlier log is left the changes that it does
+    not have."""
 
     store: Optional[str]
     left: Optional[Left]
+    stored: Stored
     changes: list[Change]
     cursor: Optional[str]
     rules: Optional[ServiceRules]
@@ -150,11 +154,10 @@ class OpenFga:
         self.store, self.places = base.store, Places(left.revision if left else 0)
         rules = ruled(base.rules, base.refusals, self.places.revision + 1, left is None)
         self._take_names(rules.rules)
+        lines: list[bytes] = []
         if left is None:
-            lines = [rules.data, *self._base_lines(base.changes)]
-            self.is_from_empty = not base.changes
+            self.is_from_empty = not base.stored.count
         else:
-            lines = []
             for change in base.changes:
                 self.places.add([Row(0, base.received, change)])
                 lines.append(self._line(change, self.places.revision))
@@ -167,20 +170,21 @@ class OpenFga:
         self.began, self.first = base.began, base.received
         core.sequencer.reached = revision
         behind = left.writes + left.place.behind + len(base.changes) if left else 0
-        core.begin_log(Begun(lines, not base.changes, Place(base.cursor, revision, rules.hash, behind, left.place.apart if left else ())))
+        place = Place(base.cursor, revision, rules.hash, behind, left.place.apart if left else ())
+        is_empty = not base.stored.count and not base.changes
+        core.begin_log(Begun(lines if left else self._base_lines(rules.data, base.stored), is_empty, place))
 
-    def _base_lines(self, changes: list[Change]) -> list[bytes]:
-        stored: dict[Relationship, Optional[str]] = {}
-        lines = []
-        for change in changes:
-            if change.given is None:
-                lines.append(_unread_line(change))
-            elif change.live:
-                stored[change.given] = change.reason
-            else:
-                stored.pop(change.given, None)
-        kept, unmapped = self.takes.sorted_out(stored.items())
-        return [unmapped, *lines, *base_lines(0, kept)]
+    def _base_lines(self, rules: bytes, stored: Stored) -> Iterator[bytes]:
+        """The rules and the base state, which may be long."""
+        yield rules + b"".join(map(_unread_line, stored.odd))
+        given = stored.items()
+        some = list(islice(given, TUPLES))
+        while True:
+            kept, unmapped = self.takes.sorted_out(some)
+            yield unmapped + b"".join(base_lines(0, kept))
+            some = list(islice(given, TUPLES))
+            if not some:
+                return
 
     def _take_names(self, rules: ServiceRules) -> None:
         self.takes.add(rules)

@@ -1,7 +1,8 @@
 """Reads the changes of OpenFGA by ReadChanges, in a thread of its own."""
 import json
 import time
-from typing import Any, Callable, Optional
+from collections import deque
+from typing import Any, Callable, Iterator, Optional
 from urllib.parse import quote
 
 from new_enemy_tools.importing.openfga import OPERATIONS, ModelReader
@@ -15,6 +16,7 @@ from new_enemy_tools.recording.log_files import Left
 from new_enemy_tools.recording.openfga import Base, Changes, Rules
 from new_enemy_tools.recording.overlap import Change, Overlap
 from new_enemy_tools.recording.ruled import Unread, refuse_unread
+from new_enemy_tools.recording.stored import Stored
 
 PAGE = 100
 # So many readings in turn may show less than before, as those of a replica may.
@@ -46,9 +48,12 @@ class OpenFgaFeed:
     def _begin(self, left: Optional[Left], put: Callable[[Any], None]) -> None:
         self.store = self.store or self._only_store()
         began, back = time.monotonic_ns(), int(self.settings.overlap * 1e9)
-        overlap = Overlap(left.place.cursor if left else None, back)
-        changes, ends = self._changes(overlap.cursor)
-        end = ends[-1][1] if ends else overlap.cursor
+        overlap, stored, changes = Overlap(left.place.cursor if left else None, back), Stored(), []
+        if left is None:
+            end = self._take_all(overlap, stored, back)
+        else:
+            changes, ends = self._changes(overlap.cursor)
+            end = ends[-1][1] if ends else overlap.cursor
         data, rules = self._model()
         if rules is None:
             raise FeedFault("the store has no authorization model yet")
@@ -58,15 +63,29 @@ class OpenFgaFeed:
             raise FeedFault(str(fault)) from None
         received = time.monotonic_ns()
         if left is None:
-            count, cursor = _some_way_back(changes, ends, back)
-            overlap.begin(changes[count:], cursor, end, received)
+            overlap.begin(overlap.shown, overlap.cursor, end, received)
         else:
             new = overlap.go_on(changes, left.changes, left.place.apart, end, received)
             if new is None:
                 raise FeedFault("the changes do not show what the log has of them; begin a new log in another folder")
             changes = new
-        put(Base(self.store, left, changes, end if left is None else overlap.mark.cursor, *rules, began, received))
+        put(Base(self.store, left, stored, changes, end if left is None else overlap.mark.cursor, *rules, began, received))
         self.overlap, self.model_data = overlap, data
+
+    def _take_all(self, overlap: Overlap, stored: Stored, back: int) -> Optional[str]:
+        """Takes all changes so far, and gives the token at their end; those that are so much older than the newest, by the times of the
+        service, are not kept."""
+        pages: deque[tuple[list[Change], Optional[str]]] = deque()
+        newest, end = 0, None
+        for page, end in self._pages(None):
+            for change in page:
+                stored.take(change)
+                newest = max(newest, change.time)
+            pages.append((page, end))
+            while pages and pages[0][0][-1].time <= newest - back:
+                overlap.cursor = pages.popleft()[1]
+        overlap.shown = [change for page, _ in pages for change in page]
+        return end
 
     def _read(self, began: int) -> Optional[Changes]:
         """All changes that there are, and the model where it is another; None where it shows less than one before."""
@@ -94,29 +113,26 @@ class OpenFgaFeed:
     def _path(self, call: str) -> str:
         return "/stores/%s/%s" % (quote(self.store or ""), call)
 
-    def _changes(self, cursor: Optional[str]) -> tuple[list[Change], list[tuple[int, Optional[str]]]]:
-        """The changes behind a token to the end of the feed; and of each page how many there are up to its end, and the token there."""
-        found: list[Change] = []
-        ends: list[tuple[int, Optional[str]]] = []
+    def _pages(self, cursor: Optional[str]) -> Iterator[tuple[list[Change], Optional[str]]]:
+        """The changes behind a token to the end of the feed, page by page, each with the token at its end."""
         while True:
             path = self._path("changes?page_size=%d" % PAGE)
             page = self.asker.ask("GET", path + ("&continuation_token=" + quote(cursor, safe="") if cursor else ""))
             listed = get(page, "changes") or []
             cursor = get(page, "continuation_token") or cursor
-            found += map(_change, listed)
             if listed:
-                ends.append((len(found), cursor))
+                yield list(map(_change, listed)), cursor
             if len(listed) < PAGE:
-                return found, ends
+                return
 
-
-def _some_way_back(changes: list[Change], ends: list[tuple[int, Optional[str]]], back: int) -> tuple[int, Optional[str]]:
-    """The last end of a page whose changes are so much older than the newest, by the times of the service."""
-    newest = max((change.time for change in changes), default=0)
-    for count, cursor in reversed(ends):
-        if changes[count - 1].time <= newest - back:
-            return count, cursor
-    return 0, None
+    def _changes(self, cursor: Optional[str]) -> tuple[list[Change], list[tuple[int, Optional[str]]]]:
+        """The changes behind a token to the end of the feed; and of each page how many there are up to its end, and the token there."""
+        found: list[Change] = []
+        ends: list[tuple[int, Optional[str]]] = []
+        for page, end in self._pages(cursor):
+            found += page
+            ends.append((len(found), end))
+        return found, ends
 
 
 def _model(data: bytes) -> Optional[Rules]:
