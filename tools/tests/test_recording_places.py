@@ -1,23 +1,29 @@
 """Where the recorder puts the changes and checks of OpenFGA: what is new in a reading, what bears on a question, what is known when."""
 import ast
+import json
 import os
 import tracemalloc
 from collections import Counter
+from itertools import count
 from random import Random
+from unittest import mock
 
 from new_enemy_tools.importing.events import Relationship
 from new_enemy_tools.importing.openfga import ModelReader
 from new_enemy_tools.importing.refusals import Refusals
 from new_enemy_tools.recording.bearing import Bearing
-from new_enemy_tools.recording.core import Core
+from new_enemy_tools.recording.core import Core, Now
 from new_enemy_tools.recording.log_files import LogFiles
-from new_enemy_tools.recording.openfga import Base, OpenFga
+from new_enemy_tools.recording.messages import Beat, Ended, Started
+from new_enemy_tools.recording.openfga import Base, Changes, OpenFga
 from new_enemy_tools.recording.overlap import Change, Overlap
 from new_enemy_tools.recording.overlap import Known as Shown
 from new_enemy_tools.recording.places import Places, Row, Window, by_turns
 from new_enemy_tools.recording.stored import Stored
 from tests.simulation import RULES, STORE, Shape, Verdict, World, change_of
 from tests.support import Case
+
+SECOND = 10 ** 9
 
 
 def change(user, live=True, time=0, thing="d"):
@@ -155,6 +161,112 @@ class Bears(Case):
                               (("folder", "any", "viewer"), True), (("folder", "any", "other"), False), (("group", "any", "member"), True)):
             self.assertEqual(bearing.bears(Relationship(*given, "user", "x", None), goal), wanted, given)
         self.assertTrue(bearing.bears(None, goal))
+
+
+class Writes(Case):
+    """What the recorder says of writes that passed it."""
+
+    def setUp(self):
+        super().setUp()
+        self.service = OpenFga(STORE, 0, 30 * SECOND)
+        self.core = Core(self.service, 30.0)
+        self.overlap = Overlap(None, 10 ** 15)
+        self.overlap.begin([], None, None, 0)
+        self.feed, self.numbers, self.lines = [], count(1), []
+        self.at(1, Base(STORE, None, Stored(), [], "end", *RULES, 0, 1))
+
+    def at(self, clock, message):
+        self.core.take(message, Now(clock, clock))
+        self.lines += self.core.drained().splitlines()
+
+    def write(self, asked, answered, *users, live=True, thing="d", **more):
+        body = {"writes" if live else "deletes": {"tuple_keys": [
+            {"user": "user:" + user, "relation": "viewer", "object": "document:" + thing} for user in users], **more}}
+        number = next(self.numbers)
+        self.at(asked, Started(number, asked, False, "write"))
+        self.at(answered, Ended(number, "write", "/stores/S/write", asked, answered, answered, None, None, None, 200, json.dumps(body).encode(), b"{}", None))
+
+    def read(self, began, received, *changes):
+        self.feed += changes
+        read = self.overlap.take(again(*self.feed), "c", began, received)
+        self.at(received, Changes(began, received, True, read, None))
+        self.at(received, Beat(received))
+
+    def check(self, began, ended, thing="d"):
+        number = next(self.numbers)
+        self.at(began, Started(number, began, False, "check"))
+        body = {"tuple_key": {"user": "user:a", "relation": "viewer", "object": "document:" + thing}, "consistency": "HIGHER_CONSISTENCY"}
+        self.at(ended, Ended(number, "check", "/stores/S/check", began, ended, ended, None, None, None, 200, json.dumps(body).encode(),
+                             b'{"allowed":true}', None))
+        return number
+
+    def lost(self):
+        """What the gaps count, by their reasons."""
+        self.core.tick(Now(10 ** 15, 10 ** 15))
+        found = Counter()
+        for row in map(json.loads, [*self.lines, *self.core.drained().splitlines()]):
+            if row["event"] == "gap":
+                found[row["reason"]] += row.get("lost", 0)
+        return found
+
+    def test_a_change_that_was_shown_before_the_answer_came(self):
+        self.read(2, 5, change("a"))
+        self.write(1, 6, "a")
+        self.assertEqual([self.service.known(at) for at in (4, 5)], [0, 1])
+
+    def test_an_answer_before_the_change_is_shown(self):
+        self.write(3, 4, "a", "b")
+        self.read(5, 9, change("a"), change("b"))
+        self.assertEqual([self.service.known(at) for at in (3, 4)], [0, 1])
+        self.assertEqual((len(self.service.places.rows), len(self.service.places.rows[0].changes)), (1, 2))
+
+    def test_a_write_that_need_change_nothing_proves_nothing(self):
+        self.write(3, 4, "a", on_duplicate="ignore")
+        self.read(5, 9, change("a"))
+        self.assertEqual([self.service.known(at) for at in (8, 9)], [0, 1])
+
+    def test_what_is_never_shown_puts_later_checks_in_doubt(self):
+        """Until the changes show its tuple."""
+        self.write(3, 4, "a")
+        waits = self.check(5, 6)
+        self.read(7, 8)
+        self.assertIn(waits, self.core.held)
+        self.read(40 * SECOND, 41 * SECOND)
+        later, other = self.check(42 * SECOND, 42 * SECOND + 1), self.check(42 * SECOND, 42 * SECOND + 1, "e")
+        self.read(43 * SECOND, 44 * SECOND)
+        self.assertEqual(self.core.held, {})
+        self.read(45 * SECOND, 46 * SECOND, change("a"))
+        self.check(47 * SECOND, 47 * SECOND + 1)
+        self.read(48 * SECOND, 49 * SECOND)
+        self.assertEqual((self.core.held, later < other), ({}, True))
+        self.assertEqual(self.lost(), {"a write was answered that the changes did not show within 30 seconds": 2})
+
+    def test_too_many_in_doubt_put_all_in_doubt(self):
+        with mock.patch("new_enemy_tools.recording.openfga.TAINTED", 3):
+            for number in range(5):
+                self.write(3 + number, 3 + number, "u%d" % number, thing="far%d" % number)
+            self.read(40 * SECOND, 41 * SECOND)
+            self.check(42 * SECOND, 43 * SECOND)
+            self.read(44 * SECOND, 45 * SECOND)
+            self.assertEqual(self.core.held, {})
+            self.assertEqual(sum(self.lost().values()), 1)
+
+    def test_how_much_is_remembered(self):
+        with mock.patch("new_enemy_tools.recording.openfga.RECENT", 3), mock.patch("new_enemy_tools.recording.openfga.MADE", 3):
+            for number in range(8):
+                self.read(10 * number + 5, 10 * number + 9, change("a", number % 2 == 0, number))
+            self.assertEqual((len(self.service.recent), sum(map(len, self.service.shown.values())), self.service.known(79)), (3, 3, 8))
+            for number in range(8):
+                self.write(100 + number, 100 + number, "b%d" % number)
+            self.assertEqual(len(self.service.made), 3)
+
+    def test_more_changes_than_an_import_looks_at(self):
+        with mock.patch("new_enemy_tools.recording.openfga.STATES", 3):
+            self.check(5, 30)
+            self.read(10, 20, *[change("u%d" % number, thing="x") for number in range(4)])
+            self.read(31, 40)
+            self.read(41, 50)
+            self.assertEqual(self.lost(), {"more than 3 changes came while a check was under way": 1})
 
 
 class Restarting(World):

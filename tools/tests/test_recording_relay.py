@@ -223,6 +223,15 @@ class Beginning(Case):
         self.answers(OK)
         self.assertEqual((self.kinds(), self.told[-1].strange), (["Started", "Ended"], "a request that broke off"))
 
+    def test_a_client_that_ends_behind_several_requests(self):
+        """All go on before the service sees the end; those that had to wait are gaps."""
+        self.assertEqual(self.asks(self.REQUEST * 2), self.REQUEST)
+        self.reader.end_requests()
+        self.assertEqual(self.reader.passing(), self.REQUEST)
+        self.answers(OK)
+        self.answers(OK)
+        self.assertEqual([one.strange for one in self.told if isinstance(one, Ended)], [None, "a request before whose turn its client ended"])
+
     def test_a_long_request(self):
         data = HEAD + b"Content-Length: 3000000\r\n\r\n" + b"x" * 3_000_000
         self.assertEqual(self.asks(data[:2_000_000]) + self.asks(data[2_000_000:]), data)

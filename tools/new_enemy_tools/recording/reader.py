@@ -146,10 +146,11 @@ class Reader:
             self.teller.tell(one.started())
 
     def _let_pass(self) -> None:
-        """All that is held goes on, as it came."""
+        """All that is held goes on, as it came; of a check that does not go on as others do it is not known when it began."""
         for one in self.coming:
-            if one.call in TOLD and not one.is_whole:
-                one.strange = one.strange or "a request that broke off"
+            has_turn = not self.exchanges or self.exchanges[0] is one
+            if one.call in TOLD and not one.is_told and not (one.is_whole and has_turn):
+                one.strange = one.strange or ("a request before whose turn its client ended" if one.is_whole else "a request that broke off")
             self._tell(one)
             one.is_passed = True
             self.free += one.held
@@ -166,8 +167,8 @@ class Reader:
         self.exchanges.clear()
 
     def end_requests(self) -> None:
-        """The client has ended its side: no more of a request comes."""
-        if not self.is_over and self.blind is None and not (self.coming and self.coming[-1].is_whole and not self.requests.data):
+        """The client has ended its side: no more of a request comes, and the service is to see that end."""
+        if not self.is_over and self.blind is None:
             self._let_pass()
 
     def end(self) -> None:
