@@ -241,6 +241,18 @@ class Writes(Case):
         self.assertEqual((self.core.held, later < other), ({}, True))
         self.assertEqual(self.lost(), {"a write was answered that the changes did not show within 30 seconds": 2})
 
+    def test_a_tuple_that_comes_twice(self):
+        """A change between was missed, so it is not known whether it is there until it changes again."""
+        self.read(2, 3, change("a", True, 1))
+        self.read(4, 5, change("a", True, 2))
+        self.check(6, 7)
+        self.check(6, 7, "e")
+        self.read(8, 9)
+        self.read(10, 11, change("a", False, 3))
+        self.check(12, 13)
+        self.read(14, 15)
+        self.assertEqual((self.core.held, self.lost()), ({}, {"changes of a tuple that do not come by turns": 1}))
+
     def test_too_many_in_doubt_put_all_in_doubt(self):
         with mock.patch("new_enemy_tools.recording.openfga.TAINTED", 3):
             for number in range(5):

@@ -44,6 +44,7 @@ TAINTED = 1_000
 # A check waits so long for a write without an answer, which it may have seen.
 OPEN = 2 * 10 ** 9
 UNSHOWN = "a write was answered that the changes did not show within %g seconds"
+ODD = "changes of a tuple that do not come by turns"
 UNORDERED = "changes that came at once, in an order that is not known"
 Rules = tuple[Optional[ServiceRules], Refusals]
 Key = tuple[Relationship, bool]
@@ -127,8 +128,8 @@ class OpenFga:
         self.recent: deque[tuple[Key, int]] = deque()
         self.shown: dict[Key, deque[int]] = {}
         self.live: dict[Relationship, bool] = {}
-        # tuples that a write changed and the feed did not show
-        self.tainted: dict[Optional[Relationship], None] = {}
+        # tuples of which it is not known whether they are there, and why
+        self.tainted: dict[Optional[Relationship], str] = {}
         # of each change its time, or the latest before it, and its revision
         self.times: list[int] = []
         self.stands: list[int] = []
@@ -203,11 +204,14 @@ class OpenFga:
 
     def _take_changes(self, message: Changes, core: Core) -> None:
         before = self.places.revision
-        rows = self._rows(message)
+        changes, odd = by_turns(message.read.changes, lambda change: None if change.given is None else self.live.get(change.given))
+        rows = self._rows(changes, message)
         if message.read.changes and self.last[1] and message.is_single and not self.horizon:
             # What one page showed came before what it did not show.
             self.places.lower(self.last[0], min(row.high for row in rows))
         self._put_rows(rows, message, core)
+        for change in odd:
+            self._taint(change.given, ODD)
         if message.rules is not None:
             self._take_rules(*message.rules, message, core)
             if message.read.changes:
@@ -223,11 +227,8 @@ class OpenFga:
         self._forget()
         self._put_waiting(message, began_before, core)
 
-    def _rows(self, message: Changes) -> list[Row]:
+    def _rows(self, changes: list[Change], message: Changes) -> list[Row]:
         """The commits of a reading in the order that the log has, each with the times between which it came."""
-        changes, odd = by_turns(message.read.changes, lambda change: None if change.given is None else self.live.get(change.given))
-        for change in odd:
-            self._taint(change.given)
         # How late changes are shown may be learnt of these.
         found = self._makers(changes, message)
         low, rows = self.began - self.horizon, []
@@ -371,7 +372,7 @@ class OpenFga:
         while self.made and self.made[0].answered < before:
             first = self.made.popleft()
             for key in first.keys:
-                self._taint(None if key is None else key[0])
+                self._taint(None if key is None else key[0], UNSHOWN % (self.hold / 1e9))
             lost = [one for one in self.waits if one.message.clock >= first.asked]
             self.waits = [one for one in self.waits if one.message.clock < first.asked]
             for one in lost:
@@ -381,12 +382,12 @@ class OpenFga:
             if asked < before:
                 del self.open[number]
 
-    def _taint(self, given: Optional[Relationship]) -> None:
+    def _taint(self, given: Optional[Relationship], why: str) -> None:
         if given is not None:
-            self.tainted[given] = None
+            self.tainted[given] = why
             if len(self.tainted) > TAINTED:
                 # Too many to be told from others.
-                self.tainted = {None: None}
+                self.tainted = {None: why}
 
     # Calls
 
@@ -482,8 +483,9 @@ class OpenFga:
         if window.high - window.low >= STATES:
             return "more than %d changes came while a check was under way" % STATES
         goals = [answer.goal for answer in one.answers]
-        if self._bears_any(self.tainted, goals):
-            return UNSHOWN % (self.hold / 1e9)
+        for given, why in self.tainted.items():
+            if any(self.bearing.bears(given, goal) for goal in goals):
+                return why
         if self.places.is_unsure(window, lambda row: True) and any(self._is_unsure(window, goal) for goal in goals):
             return UNORDERED
         low = min(self.places.surely(window, one.since, partial(self._bears, goal)) for goal in goals)
@@ -494,9 +496,6 @@ class OpenFga:
 
     def _bears(self, goal: Relationship, row: Row) -> bool:
         return not row.changes or any(self.bearing.bears(change.given, goal) for change in row.changes)
-
-    def _bears_any(self, given: Any, goals: list[Relationship]) -> bool:
-        return any(self.bearing.bears(one, goal) for one in given for goal in goals)
 
     def _of_model(self, one: Waiting, window: Window) -> Union[str, Window]:
         """The part of a window in which the model was in force that a check names."""
