@@ -1,12 +1,10 @@
 """tools/record where a service, a client or a network does what is seldom seen: with processes, each against the truth of the stand-in."""
 import os
-import resource
 import socket
 import time
 
 from tests.recorded import Client
 from tests.stand_in_openfga import STORE
-from tests.support import TOOLS
 from tests.test_recording_gaps import keeper_of
 from tests.test_recording_openfga import DOCUMENTS, EARLY, MODEL, NEWEST, USERS, OpenFga, key
 
@@ -134,15 +132,13 @@ class Raced(OpenFga):
 class Bounds(OpenFga):
     """Files, and memory."""
 
-    def limited(self, soft, hard):
-        """A recorder that begins with limits on its files."""
-        kept = resource.getrlimit(resource.RLIMIT_NOFILE)
-        resource.setrlimit(resource.RLIMIT_NOFILE, (soft, kept[1]))
-        try:
-            recorder = self.start_recorder()
-        finally:
-            resource.setrlimit(resource.RLIMIT_NOFILE, kept)
-        return recorder
+    def limited(self, words):
+        """A recorder that begins with limits on its files, as a shell sets them."""
+        self.PYTHON, python = "/bin/sh", self.PYTHON
+        shell = self.put("limited", 'ulimit %s && exec "%s" "$@"\n' % (words, python))
+        start = self.start
+        self.start = lambda *given, **more: start(shell, *given, **more)
+        return self.start_recorder()
 
     def clients(self, count):
         made = [Client(self.port) for _ in range(count)]
@@ -152,19 +148,14 @@ class Bounds(OpenFga):
 
     def test_more_clients_than_the_soft_limit_of_files_has_room_for(self):
         self.start_service(MODEL)
-        recorder = self.limited(128, None)
+        recorder = self.limited("-Sn 128")
         self.assertEqual(set(self.clients(150)), {200})
         self.end(recorder)
 
     def test_more_clients_than_there_can_be(self):
         """They are refused and counted; the others go on."""
         self.start_service(MODEL)
-        words = [os.path.join(TOOLS, "record")]
-        self.PYTHON, kept = "/bin/sh", self.PYTHON
-        shell = self.put("limited", 'ulimit -n 100 && exec "%s" "$@"\n' % kept)
-        start = self.start
-        self.start = lambda *given, **more: start(*((shell, *given) if given[0] in words else given), **more)
-        recorder = self.start_recorder()
+        recorder = self.limited("-n 100")
         status = self.clients(50)
         self.assertEqual(set(status), {200, 0})
         self.assertGreater(status.count(200), 20)
