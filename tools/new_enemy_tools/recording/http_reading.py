@@ -10,7 +10,7 @@ from urllib.parse import unquote
 HEAD = 64 << 10
 # Of a longer body nothing is kept.
 BODY = 16 << 20
-NAME = re.compile(rb"[!#$%&'*+.^_`|~0-9A-Za-z-]+")
+NAME = re.compile(rb"[!#$%&'+*.^_`|~0-9A-Za-z-]+")
 # A line that ends in one way, and has no other sign that some read as an end.
 STRAY = re.compile(rb"(?<!\r)\n|\r(?!\n|\Z)|\x00")
 SIZE = re.compile(rb"([0-9A-Fa-f]{1,15})[ \t]*(?:;.*)?", re.DOTALL)
