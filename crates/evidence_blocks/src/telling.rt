@@ -7,7 +7,6 @@ ghost use Rattle.trace_lines.specs.Values.{entry_lines};
 use evidence_check::{
     AskedRules, EntryLines, EvidenceCause, Judged, Judging, Verdict, judge_alone,
 };
-use json::Scratch;
 use json_lines::{LineCause, Stop, is_blank};
 use line_blocks::{PutTold, TellLine};
 use simdutf8::basic::from_utf8;
@@ -26,7 +25,6 @@ pub(crate) struct Records<'t> {
 /// found last.
 #[derive(Drop)]
 pub(crate) struct Desk<'t> {
-    json: Scratch,
     asked: AskedRules<'t>,
     next: usize,
 }
@@ -54,7 +52,6 @@ impl<'t> TellLine for Records<'t> {
 
     fn scratch(&self, alloc: Global) -> Desk<'t> {
         Desk {
-            json: Scratch::new(alloc),
             asked: AskedRules::new(alloc, self.trace),
             next: 0,
         }
@@ -72,14 +69,7 @@ impl<'t> TellLine for Records<'t> {
         let Ok(text) = from_utf8(line) else {
             return Ok(Err(EvidenceCause::NotJson));
         };
-        match judge_alone(
-            alloc,
-            &mut desk.asked,
-            &self.lines,
-            &mut desk.next,
-            text,
-            &mut desk.json,
-        ) {
+        match judge_alone(alloc, &mut desk.asked, &self.lines, &mut desk.next, text) {
             Ok(verdict) => Ok(Ok(Some(verdict))),
             Err(cause) if cause.is_memory() => Err(AllocError),
             Err(cause) => Ok(Err(cause)),

@@ -14,6 +14,5 @@ pub mod RecordData
 pub mod RecordPieces
 pub mod Records
 pub mod Rules
-pub mod StepReading
 pub mod Steps
 pub mod Taking

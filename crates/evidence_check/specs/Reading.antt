@@ -100,6 +100,10 @@ steps_at d = option_and_then if_shaped (option_and_then as_array (get (codes "st
 abbrev pub known_steps : Items → List StepValue → Result (List StepValue) EvidenceCause
 known_steps items steps = if are_known items then Ok steps else Err causes.UnknownStep
 
+-- the steps of a record
+unfoldable pub record_steps : Data → Result (List StepValue) EvidenceCause
+record_steps d = needed causes.Shape (steps_at d) >>= λ items. steps_in items >>= known_steps items
+
 abbrev pub count_of : StepValue → ℕ
 count_of (yes_step f) = 1
 count_of (no_step fs) = length fs

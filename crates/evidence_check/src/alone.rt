@@ -1,10 +1,9 @@
 //! What a record says of its entry by itself, whatever was read before it.
 
 ghost use Rattle.std.specs.Prelude.{◌≡◌, slice_get, IfOk};
-ghost use Rattle.evidence_check.specs.Alone.{verdict_of};
+ghost use Rattle.evidence_check.specs.Alone.{judgement_at, verdict_of};
 ghost use Rattle.evidence_check.specs.Causes.{Gives};
 ghost use Rattle.evidence_check.specs.Judging.{judged_by};
-ghost use Rattle.evidence_check.specs.Reading.{placed_text};
 ghost use Rattle.evidence_check.specs.Steps.{borrowed_steps};
 
 use crate::asked_rules::AskedRules;
@@ -13,8 +12,7 @@ use crate::judged::{Judged, judge_borrowed};
 use crate::placed::{EntryLines, sought_steps, sought_text};
 use crate::records::are_too_many;
 use crate::step::StepRef;
-use json::Scratch;
-use json_lines::JsonLine;
+use json_lines::read_value;
 use std::alloc::{AllocError, Global};
 
 /// What a record says of its entry by itself.
@@ -46,23 +44,23 @@ pub(crate) fn judge_at<'t>(
     }
 }
 
-/// The place of the entry that a record names, sought first at `next`, and the steps of the record, by its text.
-fn placed_in<'a>(
+/// How the steps of a record for the entry at a place judge it.
+fn verdict_at<'t>(
     alloc: Global,
-    lines: &EntryLines,
-    next: &mut usize,
-    text: &'a str,
-    scratch: &'a mut Scratch,
-) -> Result<(usize, Vec<StepRef<'a>>), EvidenceCause>
-    ensures { Gives (λ p. (p.0, borrowed_steps p.1.items)) result (placed_text lines.now text.now) }
+    asked: &mut AskedRules<'t>,
+    place: usize,
+    steps: &[StepRef<'_>],
+) -> Result<Verdict, AllocError>
+    ensures asked { asked.new ≡ asked.old }
+    ensures verdict { IfOk result (λ v. v
+        ≡ record { place = place; judgement = judgement_at asked.old place (borrowed_steps steps.now) }) }
 {
-    if let Some(placed) = sought_text(alloc, lines, next, text) {
-        return placed;
-    }
-    match JsonLine::read(alloc, text, scratch)? {
-        Some(json) => sought_steps(alloc, lines, next, &json),
-        None => Err(EvidenceCause::NotJson),
-    }
+    let judgement = if are_too_many(steps) {
+        None
+    } else {
+        Some(judge_at(alloc, asked, place, steps)?)
+    };
+    Ok(Verdict { place, judgement })
 }
 
 /// What a record says of its entry, whose place is sought first at `next`. Threads share the lines, and each has
@@ -74,16 +72,17 @@ pub fn judge_alone<'t>(
     lines: &EntryLines,
     next: &mut usize,
     text: &str,
-    scratch: &mut Scratch,
 ) -> Result<Verdict, EvidenceCause>
     ensures asked { asked.new ≡ asked.old }
     ensures verdict { Gives (λ v. v) result (verdict_of asked.old lines.now text.now) }
 {
-    let (place, steps) = placed_in(alloc, lines, next, text, scratch)?;
-    let judgement = if are_too_many(&steps) {
-        None
-    } else {
-        Some(judge_at(alloc, asked, place, &steps)?)
+    if let Some(placed) = sought_text(alloc, lines, next, text) {
+        let (place, steps) = placed?;
+        return Ok(verdict_at(alloc, asked, place, &steps)?);
+    }
+    let Some(record) = read_value(alloc, text)? else {
+        return Err(EvidenceCause::NotJson);
     };
-    Ok(Verdict { place, judgement })
+    let (place, steps) = sought_steps(alloc, lines, next, &record)?;
+    Ok(verdict_at(alloc, asked, place, &steps)?)
 }

@@ -1,7 +1,7 @@
 //! Judging the records as they are read.
 
 ghost use Rattle.std.specs.Prelude.{◌≡◌, replicate, slice_get, slice_set, None, Ok, Err, IfOk, IfErr, IfSome, OnOk};
-ghost use Rattle.json_lines.specs.Data.{line_data};
+ghost use Rattle.serde_json.specs.View.{view};
 ghost use Rattle.evidence_check.specs.Alone.{settled};
 ghost use Rattle.evidence_check.specs.Causes.{Gives};
 ghost use Rattle.evidence_check.specs.Judging.{is_judged, judge_line, judged_by, judged_text, no_judgements, put_judged};
@@ -15,7 +15,8 @@ use crate::judged::Judged;
 use crate::placed::{EntryLines, placed_steps, placed_text};
 use crate::records::are_too_many;
 use crate::step::StepRef;
-use json_lines::{JsonLine, TakeJson};
+use json_lines::TakeJson;
+use serde_json::Value;
 use std::alloc::{AllocError, Global};
 use std::marker::Model;
 use trace_lines::Trace;
@@ -145,10 +146,10 @@ impl<'t> Judging<'t> {
     }
 
     #[tactic(auto, unfolding(crate::specs::Judging::judge_line))]
-    fn take_record(&mut self, json: &JsonLine<'_>) -> Result<(), EvidenceCause>
-        ensures { Gives (λ _. self.new) result (judge_line self.old (line_data json.now)) }
+    fn take_record(&mut self, record: &Value) -> Result<(), EvidenceCause>
+        ensures { Gives (λ _. self.new) result (judge_line self.old (view record.now)) }
     {
-        let (place, steps) = placed_steps(self.alloc, &mut self.lines, json)?;
+        let (place, steps) = placed_steps(self.alloc, &mut self.lines, record)?;
         self.put(place, &steps)
     }
 
@@ -178,7 +179,7 @@ impl<'t> TakeJson for Judging<'t> {
         self.take_written(text)
     }
 
-    fn take_value(&mut self, _number: u64, line: &JsonLine<'_>) -> Result<(), EvidenceCause> {
+    fn take_value(&mut self, _number: u64, line: &Value) -> Result<(), EvidenceCause> {
         self.take_record(line)
     }
 }

@@ -2,7 +2,7 @@
 
 ghost use Rattle.std.specs.Prelude.{◌≡◌, IfOk, IfSome};
 ghost use Rattle.std.specs.List.Sorted.{IsStrictlyIncreasing};
-ghost use Rattle.json_lines.specs.Data.{line_data};
+ghost use Rattle.serde_json.specs.View.{view};
 ghost use Rattle.trace_lines.specs.Values.{entry_lines};
 ghost use Rattle.evidence_check.specs.Causes.{Gives};
 ghost use Rattle.evidence_check.specs.Reading.{place_of, placed_steps, placed_text};
@@ -12,8 +12,8 @@ use crate::cause::EvidenceCause;
 use crate::records::steps_of;
 use crate::step::StepRef;
 use crate::written::written_record;
-use json_lines::JsonLine;
 use json_lines::fields::number_at;
+use serde_json::Value;
 use std::alloc::{AllocError, Global};
 use std::marker::Model;
 use trace_lines::Trace;
@@ -85,13 +85,12 @@ pub(crate) fn sought_steps<'a>(
     alloc: Global,
     lines: &EntryLines,
     next: &mut usize,
-    json: &JsonLine<'a>,
+    record: &'a Value,
 ) -> Result<(usize, Vec<StepRef<'a>>), EvidenceCause>
-    ensures { Gives (λ p. (p.0, borrowed_steps p.1.items)) result (placed_steps lines.now (line_data json.now)) }
+    ensures { Gives (λ p. (p.0, borrowed_steps p.1.items)) result (placed_steps lines.now (view record.now)) }
 {
-    let record = json.root();
-    let line = number_at(&record, "line").ok_or(EvidenceCause::Shape)?;
-    let steps = steps_of(alloc, &record)?;
+    let line = number_at(record, "line").ok_or(EvidenceCause::Shape)?;
+    let steps = steps_of(alloc, record)?;
     let place = lines.seek(next, line).ok_or(EvidenceCause::StrayLine)?;
     Ok((place, steps))
 }
@@ -116,13 +115,13 @@ pub(crate) fn sought_text<'a>(
 pub(crate) fn placed_steps<'a>(
     alloc: Global,
     lines: &mut EntryLines,
-    json: &JsonLine<'a>,
+    record: &'a Value,
 ) -> Result<(usize, Vec<StepRef<'a>>), EvidenceCause>
-    ensures placed { Gives (λ p. (p.0, borrowed_steps p.1.items)) result (placed_steps lines.old (line_data json.now)) }
+    ensures placed { Gives (λ p. (p.0, borrowed_steps p.1.items)) result (placed_steps lines.old (view record.now)) }
     ensures same { lines.new ≡ lines.old }
 {
     let mut next = lines.next;
-    let placed = sought_steps(alloc, lines, &mut next, json);
+    let placed = sought_steps(alloc, lines, &mut next, record);
     lines.next = next;
     placed
 }

@@ -1,7 +1,7 @@
 //! The records that are read so far.
 
 ghost use Rattle.std.specs.Prelude.{◌≡◌, replicate, slice_get, slice_set, None, Some, IfOk, IfSome};
-ghost use Rattle.json_lines.specs.Data.{line_data};
+ghost use Rattle.serde_json.specs.View.{view};
 ghost use Rattle.evidence_check.specs.Causes.{Gives};
 ghost use Rattle.evidence_check.specs.Reading.{is_taken, put_steps, record_line, recorded_text, no_records};
 ghost use Rattle.evidence_check.specs.Evidences.{all_shown};
@@ -12,7 +12,8 @@ use crate::placed::{EntryLines, placed_steps, placed_text};
 use crate::records::are_too_many;
 use crate::step::{StepRef, Steps};
 use crate::steps::copied_steps;
-use json_lines::{JsonLine, TakeJson};
+use json_lines::TakeJson;
+use serde_json::Value;
 use std::alloc::{AllocError, Global};
 use std::marker::Model;
 use trace_lines::Trace;
@@ -113,10 +114,10 @@ impl Recorder {
     }
 
     #[tactic(auto, unfolding(crate::specs::Reading::record_line))]
-    fn take_record(&mut self, json: &JsonLine<'_>) -> Result<(), EvidenceCause>
-        ensures { Gives (λ _. self.new) result (record_line self.old (line_data json.now)) }
+    fn take_record(&mut self, record: &Value) -> Result<(), EvidenceCause>
+        ensures { Gives (λ _. self.new) result (record_line self.old (view record.now)) }
     {
-        let (place, steps) = placed_steps(self.alloc, &mut self.lines, json)?;
+        let (place, steps) = placed_steps(self.alloc, &mut self.lines, record)?;
         self.put(place, &steps)
     }
 
@@ -146,7 +147,7 @@ impl TakeJson for Recorder {
         self.take_written(text)
     }
 
-    fn take_value(&mut self, _number: u64, line: &JsonLine<'_>) -> Result<(), EvidenceCause> {
+    fn take_value(&mut self, _number: u64, line: &Value) -> Result<(), EvidenceCause> {
         self.take_record(line)
     }
 }

@@ -38,7 +38,7 @@ pub making_yes : (rules : Lookup) (store : List TupleValue) (C : List FactValue)
 making_yes rules store C k known ss making f inside proved unknown = record {
   saturating = yes_kept rules store C k ss making.saturating f (subst (λ (x : KnownValue). IsProved rules store x f) making.known_after proved);
   known_after = ap (λ (x : KnownValue). with_yes x f) making.known_after ∙ sym (after_steps-push ss nothing_known (yes_step f));
-  sparing = sparing_push rules C ss making.sparing (yes_step f) (not_in_nil f, tt) (λ g c. by_cases g (Contains-cons_cases f [] g c));
+  sparing = sparing_push rules C ss making.sparing (yes_step f) (λ e. absurd (cc)) (not_in_nil f, tt) (λ g c. by_cases g (Contains-cons_cases f [] g c));
 }
   where
     unsettled : ¬ IsSettled rules (after_steps nothing_known ss) f
@@ -50,16 +50,19 @@ making_yes rules store C k known ss making f inside proved unknown = record {
 
 -- ---- what is left of a stratum
 
+no_step_same : (R S : List FactValue) → no_step R ≡ no_step S → R ≡ S
+no_step_same R S e = cc
+
 module _ (rules : Lookup) (store : List TupleValue) (own : HasOwnRelations rules) (valid : HasValidStrata rules store)
     (C : List FactValue) (premises : HasItsPremises rules store C) (k : ℕ) (known : KnownValue) (ss : List StepValue) (making : IsMaking rules store C k known ss)
     (R : List FactValue) (left : AreUnsettled rules known C k R) (unproved : (f : FactValue) → Contains R f → ¬ IsProved rules store known f) where
-  pub making_no : AreDistinct R → IsMaking rules store C (k + 1) (with_no known R) (ss ++ no_step R ∷ [])
-  making_no distinct = record {
+  pub making_no : ¬ (R ≡ []) → AreDistinct R → IsMaking rules store C (k + 1) (with_no known R) (ss ++ no_step R ∷ [])
+  making_no some distinct = record {
     saturating = no_kept rules store C k ss making.saturating own valid premises R
         (subst (λ (x : KnownValue). AreUnsettled rules x C k R) making.known_after left)
         (subst (λ (x : KnownValue). (f : FactValue) → Contains R f → ¬ IsProved rules store x f) making.known_after unproved);
     known_after = ap (λ (x : KnownValue). with_no x R) making.known_after ∙ sym (after_steps-push ss nothing_known (no_step R));
-    sparing = sparing_push rules C ss making.sparing (no_step R)
+    sparing = sparing_push rules C ss making.sparing (no_step R) (λ e. some (no_step_same R [] e))
         (subst (λ (fs : List FactValue). AreDistinct fs) (sym (append-nil R)) distinct)
         (λ f c. new f (subst (λ (fs : List FactValue). Contains fs f) (append-nil R) c));
   }
@@ -286,7 +289,7 @@ pub making_start : (rules : Lookup) (store : List TupleValue) (C : List FactValu
 making_start rules store C = record {
   saturating = start_law rules store C;
   known_after = refl;
-  sparing = record { inside = λ f c. absurd (not_in_nil f c); distinct = tt };
+  sparing = record { inside = λ f c. absurd (not_in_nil f c); distinct = tt; filled = not_in_nil (no_step []) };
 }
 
 pub made_of : (rules : Lookup) (store : List TupleValue) (C : List FactValue) (top : ℕ) (known : KnownValue) (ss : List StepValue) → IsMaking rules store C (top + 1) known ss

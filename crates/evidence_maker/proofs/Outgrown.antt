@@ -23,6 +23,7 @@ use Rattle.record_text.proofs.Short.{yes_short, no_short}
 use Rattle.evidence_maker.specs.Made.{Settles, IsRecord, IsOneStep, IsTooLong}
 use Rattle.evidence_maker.specs.Making.{IsMade}
 use Rattle.evidence_maker.specs.Saturation.{facts_of}
+use Rattle.evidence_maker.proofs.Sparing.{spoken_of}
 
 fact_count-is : (ss : List StepValue) → fact_count ss ≡ length (facts_of ss)
 fact_count-is [] = refl
@@ -68,8 +69,10 @@ module _ (t : TraceValue) (e : EntryValue) (C : List FactValue) (ss : List StepV
       by_test false few = inr (record {
         steps = ss;
         settles = settles_made more;
+        whole = λ f declared n. spoken_of (rule_at t.declarations e.snapshot) ss f declared (made.settled f (n C cone.holds_goal cone.premises));
         needed = λ f c. cone.least f (made.sparing.inside f c);
         distinct = made.sparing.distinct;
+        filled = made.sparing.filled;
         long = over (record_length e.line ss) (2 ^ 20) (λ le. no_record (settles_made more, (ltb-false 100000 (fact_count ss) few, le)));
       })
 

@@ -9,6 +9,7 @@ use Rattle.evidence_check.specs.Judged.{judged}
 use Rattle.evidence_check.specs.Reading.{fact_count}
 use Rattle.evidence_check.specs.Steps.{StepValue, yes_step, no_step, step_values}
 use Rattle.evidence_check.specs.declared.records.TheConstants.{MAX_FACTS}
+use Rattle.judgement.specs.Judgement.{IsUndeclared}
 use Rattle.record_text.specs.Record.{record_length}
 use Rattle.goal_cone.specs.Bounds.{IsOutgrown}
 use Rattle.goal_cone.specs.Cone.{IsNeeded, AreDistinct}
@@ -37,18 +38,22 @@ IsOneStep t e =
     ⊎ IsAccepted (rule_at t.declarations e.snapshot) (store_at t.commits e.snapshot) nothing_known
     (no_step (e.goal ∷ []))
 
--- The record of the goal's cone is longer than 2^20 bytes: of steps that settle the entry, and speak of facts of the
--- cone alone, of none twice.
+-- The record of the goal's whole cone is longer than 2^20 bytes: of steps that settle the entry, speak of each declared
+-- fact of the cone, of none outside it, of none twice, and each of some fact.
 pub record IsTooLong (t : TraceValue) (e : EntryValue) : Type 0 where
   pub steps : List StepValue
   pub settles : Settles t e steps
+  pub whole : (f : FactValue) → ¬ IsUndeclared (rule_at t.declarations e.snapshot) f.set
+      → IsNeeded (rule_at t.declarations e.snapshot) (store_at t.commits e.snapshot) e.goal f
+      → Contains (facts_of steps) f
   pub needed : (f : FactValue) → Contains (facts_of steps) f
       → IsNeeded (rule_at t.declarations e.snapshot) (store_at t.commits e.snapshot) e.goal f
   pub distinct : AreDistinct (facts_of steps)
+  pub filled : ¬ Contains steps (no_step [])
   pub long : 2 ^ 20 < record_length e.line steps
 
--- one step is not enough, and the goal outgrows the search, or some record over facts of its cone, none of them
--- twice, is too long for a line; this is of the trace, whatever was tried
+-- one step is not enough, and the goal outgrows the search, or the record of its whole cone is too long for a line;
+-- this is of the trace, whatever was tried
 abbrev pub IsOutOfReach : TraceValue → EntryValue → Type 0
 IsOutOfReach t e =
     (¬ IsOneStep t e)

@@ -40,7 +40,8 @@ facts_of [] = []
 facts_of (yes_step f ∷ ss) = f ∷ facts_of ss
 facts_of (no_step fs ∷ ss) = fs ++ facts_of ss
 
--- the steps speak of facts of C alone, and of none twice
+-- the steps speak of facts of C alone, of none twice, and each of some fact
 pub record IsSparing (C : List FactValue) (steps : List StepValue) : Type 0 where
   pub inside : (f : FactValue) → Contains (facts_of steps) f → Contains C f
   pub distinct : AreDistinct (facts_of steps)
+  pub filled : ¬ Contains steps (no_step [])

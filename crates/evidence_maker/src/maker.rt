@@ -209,7 +209,7 @@ impl<'t> Maker<'t> {
 ///
 /// Refusals: 1 GaveUp, only where one step is not enough, and either every list of facts that holds the goal and its
 /// own premises has more than 100,000 facts or reads more than [`goal_cone::MAX_LINKS`] stored usersets, or the
-/// record of the goal's whole cone has more than 2^20 bytes; 2 OutOfMemory.
+/// record of the goal's whole cone, each declared fact of it said once, has more than 2^20 bytes; 2 OutOfMemory.
 pub fn make(alloc: Global, trace: &Trace, i: usize) -> Result<Steps, MakeFault>
     requires { i < length trace.now.entries }
     ensures accepted { IfOk result (λ v. (e : EntryValue) → slice_get trace.now.entries i ≡ Some e

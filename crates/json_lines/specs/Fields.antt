@@ -1,6 +1,6 @@
 -- The fields of an object of JSON, by their types. None is a wrong shape. What a field is, goes by the value that a
 -- key has, if it has one.
-use Rattle.std.specs.Prelude.{ℕ, Bool, true, false, List, ◌&&◌, Option, Some, None, option_map, option_and_then, if◌then◌else◌}
+use Rattle.std.specs.Prelude.{ℕ, Bool, true, List, ◌&&◌, Option, Some, None, is_some, option_map, option_and_then, if◌then◌else◌}
 use Rattle.serde_json.specs.Data.{Data, null, boolean, number, string, array, object, Items, no_items, item}
 use Rattle.serde_json.specs.Find.{get, as_number, as_u64, as_bool, as_str}
 
@@ -52,12 +52,7 @@ unfoldable pub optional_number_at : List ℕ → Data → Option (Option ℕ)
 optional_number_at name d = if_there None number_or_null (get name d)
 
 abbrev pub is_string : Data → Bool
-is_string null = false
-is_string (boolean b) = false
-is_string (number n) = false
-is_string (string s) = true
-is_string (array ds) = false
-is_string (object ms) = false
+is_string d = is_some (as_str d)
 
 abbrev pub are_strings : Items → Bool
 are_strings no_items = true

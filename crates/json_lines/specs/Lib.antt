@@ -1,9 +1,6 @@
-pub mod Data
 pub mod Fields
 pub mod InputRead
 pub mod Joined
 pub mod Json
 pub mod Lines
-pub mod Nodes
-pub mod Places
 pub mod Reading

@@ -7,7 +7,6 @@ ghost use Rattle.json_lines.specs.Json.{taken_line};
 ghost use Rattle.json_lines.specs.Reading.{read_all, Reads, IsOfSomeLine, IsOfLine};
 ghost use Rattle.json_lines.specs.declared.lines.InputFault.TheVariants.{Read, TooLong, OutOfMemory};
 
-use crate::line::Desk;
 use crate::lines::{CHUNK, InputFault, Lines};
 use crate::reading::{LineFault, MAX_INPUT, MAX_LINE, Stop, is_over};
 use crate::taking::{TakeJson, take_line};
@@ -52,11 +51,11 @@ fn is_marker(sought: bool, whole: bool, line: &[u8]) -> bool
 
 /// Takes a line of which all is there, and refuses another.
 fn take_whole<T: TakeJson>(
+    alloc: Global,
     value: &mut T,
     number: u64,
     line: &[u8],
     whole: bool,
-    desk: &mut Desk,
 ) -> Result<Result<(), LineFault<T::Cause>>, InputFault>
     requires { T.next value.old ≤ number }
     ensures exact { IfOk result
@@ -72,7 +71,7 @@ fn take_whole<T: TakeJson>(
             stop: Stop::Input(InputFault::TooLong),
         }));
     }
-    match take_line(value, number, line, desk) {
+    match take_line(alloc, value, number, line) {
         Ok(()) => Ok(Ok(())),
         Err(Stop::Line(cause)) => Ok(Err(LineFault {
             line: number,
@@ -213,7 +212,6 @@ impl Rest {
         ensures asked { AsksFor self.old R.given R.ends R.failures R.remaining reader.old reader.new result }
     {
         let mut line = Vec::new(alloc);
-        let mut desk = Desk::new(alloc);
         let mut read = Ok(());
         let mut number = 1;
         while !self.ended {
@@ -222,7 +220,7 @@ impl Rest {
                 return Ok((read, true));
             }
             if read.is_ok() {
-                read = take_whole(value, number, &line, whole, &mut desk)?;
+                read = take_whole(alloc, value, number, &line, whole)?;
                 number += 1;
             }
         }

@@ -1,13 +1,11 @@
 //! Lines of JSON out of any reader.
 //!
-//! [`read_lines`] hands each line of a [`Source`], as a [`JsonLine`], to a [`TakeJson`], up to the first line that is
-//! refused. A [`JsonRef`] is a value inside a line, and [`fields`] has the fields of an object by their types. The
-//! readers and writers are those of `devices`, whose names stand here too.
+//! [`read_lines`] hands each line of a [`Source`] to a [`TakeJson`], up to the first line that is refused. The readers
+//! and writers are those of `devices`, whose names stand here too.
 //!
-//! What a line is, is what `serde_json` reads: contracts see a line and a value in it as its `Data`, by `line_data`
-//! and `value_data`. The line itself is a flat list of nodes, which borrow its texts, and is made a tree only where
-//! [`JsonLine::value`] is asked for one. Where a reader's lines are handed on, the memory of the nodes serves one
-//! line after the other, and a line whose text tells the taker what it says is made no list of.
+//! A line is the `serde_json::Value` that its text is ([`read_value`]), and contracts see it as its `Data`; [`fields`]
+//! has the fields of an object by their types. A line whose text tells the taker what it says is not read as JSON. The
+//! value of another is let go before the next line.
 //!
 //! Callers may rely on this: what is read is `read_all` of the bytes that the reader gave, to its end or to the first
 //! fault with its line, also of a reader that fails. A refusal holds of every input that begins with these bytes. A
@@ -38,16 +36,12 @@ pub mod fields;
 mod joined;
 mod line;
 mod lines;
-mod numbers;
-mod ranges;
 mod reading;
-mod refs;
 mod taking;
 
 pub use devices::{Counted, Failing, Held, Sink, Source, Unsent, send};
 pub use joined::{Front, Rest, read_front};
-pub use line::JsonLine;
+pub use line::read_value;
 pub use lines::{CHUNK, InputFault, line_end};
 pub use reading::{LineFault, MAX_INPUT, MAX_LINE, Stop, read_lines};
-pub use refs::{JsonItems, JsonRef};
 pub use taking::{LineCause, TakeJson, is_blank};

@@ -5,7 +5,6 @@ ghost use Rattle.json_lines.specs.InputRead.{LinesRead};
 ghost use Rattle.json_lines.specs.Json.{taken_line};
 ghost use Rattle.json_lines.specs.Reading.{cause_of, IsOfSomeLine};
 
-use crate::line::Desk;
 use crate::lines::{CHUNK, InputFault, Lines};
 use crate::taking::{LineCause, TakeJson, take_line};
 use devices::Source;
@@ -74,7 +73,6 @@ pub fn read_lines<R: Source, T: TakeJson>(
         }),
     };
     let mut line = Vec::new(alloc);
-    let mut desk = Desk::new(alloc);
     let mut room = MAX_INPUT;
     for number in 1..u64::MAX {
         let more = match lines.next(reader, room.min(MAX_LINE), &mut line) {
@@ -90,7 +88,7 @@ pub fn read_lines<R: Source, T: TakeJson>(
                 stop: Stop::Input(InputFault::TooLong),
             });
         }
-        if let Err(stop) = take_line(value, number, &line, &mut desk) {
+        if let Err(stop) = take_line(alloc, value, number, &line) {
             return Err(LineFault { line: number, stop });
         }
         if !more {

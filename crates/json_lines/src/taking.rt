@@ -4,15 +4,17 @@ ghost use Rattle.std.specs.Prelude.{◌≡◌, ◌+◌, ◌≤◌, ℕ, Bool, No
 ghost use Rattle.serde_json.specs.Data.{Data};
 ghost use Rattle.serde_json.specs.Read.{read};
 ghost use Rattle.refusals.specs.Refusals.{Gives};
-ghost use Rattle.json_lines.specs.Data.{line_data};
+ghost use Rattle.serde_json.specs.View.{view};
 ghost use Rattle.json_lines.specs.Json.{is_blank, is_blank_byte, of_json, taken_line};
 ghost use Rattle.json_lines.specs.Reading.{Refuses, stopped};
 ghost use Rattle.json_lines.specs.declared.lines.InputFault.{InputFault};
 
-use crate::line::{Desk, JsonLine};
+use crate::line::read_value;
 use crate::lines::InputFault;
 use crate::reading::Stop;
+use serde_json::Value;
 use simdutf8::basic::from_utf8;
+use std::alloc::Global;
 
 /// Why a line is refused: by what the input did, or by what the line says.
 pub trait LineCause: Drop {
@@ -54,10 +56,10 @@ pub trait TakeJson {
         ensures further { IfSome result (λ r. OnOk r (next self.new ≤ number + 1)) };
 
     /// Takes a line, of which `take_text` knew nothing. Whatever the answer, the next call is not made after a refusal.
-    fn take_value(&mut self, number: u64, line: &JsonLine<'_>) -> Result<(), Self::Cause>
+    fn take_value(&mut self, number: u64, line: &Value) -> Result<(), Self::Cause>
         requires { next self.old ≤ number }
         ensures answer { Gives Self.Cause.is_memory (λ _. self.new) result
-            (taken number self.old (line_data line.now)) }
+            (taken number self.old (view line.now)) }
         ensures further { OnOk result (next self.new ≤ number + 1) };
 }
 
@@ -91,10 +93,10 @@ fn stopped<C: LineCause>(answer: Result<(), C>) -> Result<(), Stop<C>>
 /// Takes a line without its newline.
 #[tactic(auto, unfolding(crate::specs::Json::json_line))]
 pub(crate) fn take_line<T: TakeJson>(
+    alloc: Global,
     taker: &mut T,
     number: u64,
     line: &[u8],
-    desk: &mut Desk,
 ) -> Result<(), Stop<T::Cause>>
     requires { T.next taker.old ≤ number }
     ensures ok { OnOk result (taken_line T.Cause.not_json T.taken number taker.old line.now ≡ Ok taker.new) }
@@ -110,8 +112,8 @@ pub(crate) fn take_line<T: TakeJson>(
     if let Some(answer) = taker.take_text(number, text) {
         return stopped(answer);
     }
-    match JsonLine::read_in(text, desk) {
-        Ok(Some(line)) => stopped(taker.take_value(number, &line)),
+    match read_value(alloc, text) {
+        Ok(Some(value)) => stopped(taker.take_value(number, &value)),
         Ok(None) => Err(Stop::Line(T::Cause::not_json())),
         Err(_) => Err(Stop::Input(InputFault::OutOfMemory)),
     }

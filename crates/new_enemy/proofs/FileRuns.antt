@@ -1,6 +1,7 @@
 -- What a run of a command says, from what its call answered.
 use Rattle.std.proofs.Common.{◌≡◌, ◌≢◌, ℕ, ◌+◌, ◌≤◌, List, [], ◌∷◌, ◌++◌, Option, Some, Result, Ok, Err, codes, refl, sym, ap, subst, ◌∙◌, arith}
-use Rattle.std.specs.Prelude.{IfErr}
+use Rattle.std.specs.Prelude.{IfErr, OnOk}
+use Rattle.trace_lines.specs.Values.{TraceValue}
 use Rattle.devices.specs.Devices.{moved_by, failures_of, stops_of}
 use Rattle.devices.specs.Given as given
 use Rattle.devices.specs.declared.counted.Counted.{Counted}
@@ -9,14 +10,16 @@ use Rattle.audit.specs.Audit.{Audits}
 use Rattle.audit.specs.Devices.{Reading, Writer, Writing, OfBoth, OfWhole, reads}
 use Rattle.audit.specs.Kinds.{IsOneOf}
 use Rattle.audit.specs.Kinds as kind
-use Rattle.audit.specs.MadeAudit.{AuditsMade, BreaksMade, WhateverIsMade}
+use Rattle.audit.specs.MadeAudit.{AuditsMade, BreaksMade, MissesNoWrongReply, WhateverIsMade}
 use Rattle.audit.specs.declared.plain.Verdict.{Verdict}
 use Rattle.audit.specs.declared.plain.Verdict.TheVariants.{Clean, Dirty}
 use Rattle.audit.specs.declared.plain.AuditFault.{AuditFault}
 use Rattle.audit.specs.declared.plain.AuditFault.TheVariants as faults
 use Rattle.audit.proofs.KindLemmas.{kinds-more, never_answered}
 use Rattle.findings.specs.EachEntry.{SpeaksOfEachEntry, TellsOfEachEntry}
+use Rattle.findings.specs.declared.finding.Finding.{Finding}
 use Rattle.findings.specs.Headline.{IsTraceRightAndFresh}
+use Rattle.findings.specs.WrongReplies.{HasOnlyWrongRepliesNamed, NamesOnlyWrongReplies}
 use Rattle.new_enemy.specs.Files.{OfFiles, file_failures, IsNoTrace, IsCleanAudit, IsDirtyAudit, IsCleanAuditMade, IsDirtyAuditMade}
 use Rattle.new_enemy.specs.Opened.{IsUnused, file_of}
 use Rattle.new_enemy.specs.Outcomes.{HasSucceeded, HasFoundDirty, HasRefused, HasReadNothing}
@@ -108,24 +111,38 @@ module _ {F : Type 0} (left : Counted F → Option (List ℕ)) (a0 : Counted F) 
         (λ w. OfWhole (reads moved_by stops_of failures_of left a0 (file_of x))
         (λ a. AuditsMade a out.before.taken out.after.taken w)) is h.of_trace.told)
 
-    each_made : (v : Verdict) → answer ≡ Ok v → WhateverIsMade SpeaksOfEachEntry (moved_by (file_of x))
-    each_made v is =
-        (whole a0 (file_of x) (WhateverIsMade SpeaksOfEachEntry) unused
+    -- what holds of the findings on any evidence that is made
+    whatever : (P : TraceValue → List Finding → Type 0) (v : Verdict) → answer ≡ Ok v
+        → OnOk answer (OfWhole (reads moved_by stops_of failures_of left a0 (file_of x)) (WhateverIsMade P))
+        → WhateverIsMade P (moved_by (file_of x))
+    whatever P v is holds =
+        (whole a0 (file_of x) (WhateverIsMade P) unused
         (answer_of answer v
-        (λ _. OfWhole (reads moved_by stops_of failures_of left a0 (file_of x)) (WhateverIsMade SpeaksOfEachEntry)) is
-        h.entries)).1
+        (λ _. OfWhole (reads moved_by stops_of failures_of left a0 (file_of x)) (WhateverIsMade P)) is holds)).1
 
     clean_made : s ≡ 0 → IsCleanAuditMade (file_of x) out.before.taken out.after.taken
     clean_made zero =
         let is : answer ≡ Ok Clean = of_clean answer s st zero in
-        let all = made_by Clean is in
-        (all.0, all.1, each_made Clean is, (whole a0 (file_of x) IsTraceRightAndFresh unused (h.headline is)).1)
+        let all = made_by Clean is in (
+          all.0,
+          all.1,
+          whatever HasOnlyWrongRepliesNamed Clean is h.wrong_replies,
+          whatever SpeaksOfEachEntry Clean is h.entries,
+          whatever MissesNoWrongReply Clean is h.complete,
+          (whole a0 (file_of x) IsTraceRightAndFresh unused (h.headline is)).1,
+        )
 
     dirty_made : s ≡ 1 → IsDirtyAuditMade (file_of x) out.before.taken out.after.taken
     dirty_made one =
         let is : answer ≡ Ok Dirty = of_dirty answer s st one in
-        let all = made_by Dirty is in
-        (all.0, all.1, each_made Dirty is, tt)
+        let all = made_by Dirty is in (
+          all.0,
+          all.1,
+          whatever HasOnlyWrongRepliesNamed Dirty is h.wrong_replies,
+          whatever SpeaksOfEachEntry Dirty is h.entries,
+          whatever MissesNoWrongReply Dirty is h.complete,
+          tt,
+        )
 
     -- of an audit by evidence that is made
     pub runs_audit_made : IfErr answer (IsOneOf (kind.trace ∷ kind.write ∷ kind.memory ∷ kind.limits ∷ []))
@@ -160,21 +177,34 @@ module _ {F : Type 0} (left : Counted F → Option (List ℕ)) (a0 : Counted F) 
     audited_by v is = of_files (λ a b. Audits a b out.before.taken out.after.taken v)
         (answer_of answer v (λ w. OfBoth trace evidence (λ a b. Audits a b out.before.taken out.after.taken w)) is h.audits)
 
-    each_entry : (v : Verdict) → answer ≡ Ok v → TellsOfEachEntry (moved_by (file_of x)) (moved_by (file_of y))
-    each_entry v is = (of_files TellsOfEachEntry
-        (answer_of answer v (λ _. OfBoth trace evidence TellsOfEachEntry) is h.entries)).2
+    -- what holds of them whatever the verdict
+    told_of : (P : List ℕ → List ℕ → Type 0) (v : Verdict) → answer ≡ Ok v → OnOk answer (OfBoth trace evidence P)
+        → P (moved_by (file_of x)) (moved_by (file_of y))
+    told_of P v is holds = (of_files P (answer_of answer v (λ _. OfBoth trace evidence P) is holds)).2
 
     clean_audit : s ≡ 0 → IsCleanAudit (file_of x) (file_of y) out.before.taken out.after.taken
     clean_audit zero =
         let is : answer ≡ Ok Clean = of_clean answer s st zero in
-        let all = audited_by Clean is in
-        (all.0, all.1, all.2, each_entry Clean is, (whole a0 (file_of x) IsTraceRightAndFresh unused (h.headline is)).1)
+        let all = audited_by Clean is in (
+          all.0,
+          all.1,
+          all.2,
+          told_of NamesOnlyWrongReplies Clean is h.wrong_replies,
+          told_of TellsOfEachEntry Clean is h.entries,
+          (whole a0 (file_of x) IsTraceRightAndFresh unused (h.headline is)).1,
+        )
 
     dirty_audit : s ≡ 1 → IsDirtyAudit (file_of x) (file_of y) out.before.taken out.after.taken
     dirty_audit one =
         let is : answer ≡ Ok Dirty = of_dirty answer s st one in
-        let all = audited_by Dirty is in
-        (all.0, all.1, all.2, each_entry Dirty is, tt)
+        let all = audited_by Dirty is in (
+          all.0,
+          all.1,
+          all.2,
+          told_of NamesOnlyWrongReplies Dirty is h.wrong_replies,
+          told_of TellsOfEachEntry Dirty is h.entries,
+          tt,
+        )
 
     -- of an audit by evidence that is read
     pub runs_audit : IfErr answer

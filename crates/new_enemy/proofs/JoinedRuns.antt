@@ -13,6 +13,7 @@ use Rattle.audit.specs.declared.plain.AuditFault.TheVariants as faults
 use Rattle.audit.specs.declared.plain.Verdict.{Verdict}
 use Rattle.audit.specs.declared.plain.Verdict.TheVariants.{Clean, Dirty}
 use Rattle.findings.specs.EachEntry.{TellsOfEachEntry}
+use Rattle.findings.specs.WrongReplies.{NamesOnlyWrongReplies}
 use Rattle.new_enemy.specs.Run.{IsStatus, IsStatusOf, SayNoAudit, IsRefused}
 use Rattle.new_enemy.specs.Runs.{RunsJoined, IsCleanJoined, IsDirtyJoined}
 use Rattle.new_enemy.proofs.DeviceStatuses.{unwritten_by}
@@ -108,6 +109,7 @@ module _ (input : Reading) (out : Writing) (s : ℕ) where
       let is : answer ≡ Ok Clean = of_clean answer s st zero in (
         answer_of answer Clean (λ v. OfBothParts input (λ a b. Audits a b out.before.taken out.after.taken v)) is
             h.audits,
+        answer_of answer Clean (λ v. OfBothParts input NamesOnlyWrongReplies) is h.wrong_replies,
         answer_of answer Clean (λ v. OfBothParts input TellsOfEachEntry) is h.entries,
         h.headline is,
       ))
@@ -115,5 +117,6 @@ module _ (input : Reading) (out : Writing) (s : ℕ) where
       let is : answer ≡ Ok Dirty = of_dirty answer s st one in (
         answer_of answer Dirty (λ v. OfBothParts input (λ a b. Audits a b out.before.taken out.after.taken v)) is
             h.audits,
+        answer_of answer Dirty (λ v. OfBothParts input NamesOnlyWrongReplies) is h.wrong_replies,
         answer_of answer Dirty (λ v. OfBothParts input TellsOfEachEntry) is h.entries,
       )) h

@@ -24,8 +24,8 @@ module _ {F : Type 0} {J J' : Type 0} (old new : List ℕ) where
   of_joined (ran.Shown text) joined h = h
   of_joined ran.Nothing joined h = h
 
-  dirty_joined : (r : Ran F) → (J → J') → HasFoundDirty J old new r → HasFoundDirty J' old new r
-  dirty_joined ran.Joined joined h = joined h
+  pub dirty_joined : (r : Ran F) → (r ≡ ran.Joined → J → J') → HasFoundDirty J old new r → HasFoundDirty J' old new r
+  dirty_joined ran.Joined joined h = joined refl h
   dirty_joined (ran.Audited t e) joined h = h
   dirty_joined (ran.AuditedAlone t) joined h = h
   dirty_joined _ joined h = h
@@ -69,7 +69,7 @@ module _ {F : Type 0} (r : Reader) where
       let new = out.after.taken in
       record {
         clean = λ zero. of_joined old new run (λ is none. absurd none) (h.clean zero);
-        dirty = λ one. dirty_joined old new run (λ none. absurd none) (h.dirty one);
+        dirty = λ one. dirty_joined old new run (λ is none. absurd none) (h.dirty one);
         flushed = h.devices.flushed;
         refused = λ two. refused_joined old new run (λ none. absurd none) (h.refused two);
         used = h.used;

@@ -6,9 +6,10 @@ use Rattle.tuple_text.specs.Tuples.{TupleValue}
 use Rattle.audit.specs.Audit.{Audits}
 use Rattle.findings.specs.EachEntry.{SpeaksOfEachEntry, TellsOfEachEntry}
 use Rattle.findings.specs.Headline.{IsTraceRightAndFresh}
+use Rattle.findings.specs.WrongReplies.{HasOnlyWrongRepliesNamed, NamesOnlyWrongReplies}
 use Rattle.audit.specs.History.{TellsHistory}
 use Rattle.audit.specs.Made.{MakesRecords}
-use Rattle.audit.specs.MadeAudit.{AuditsMade, WhateverIsMade}
+use Rattle.audit.specs.MadeAudit.{AuditsMade, MissesNoWrongReply, WhateverIsMade}
 use Rattle.audit.specs.declared.plain.Verdict.{Verdict}
 use Rattle.audit.specs.declared.plain.Verdict.TheVariants.{Clean, Dirty}
 use Rattle.new_enemy.specs.Opened.{file_of}
@@ -17,12 +18,14 @@ use Rattle.new_enemy.specs.declared.run.Ran.{Ran}
 use Rattle.new_enemy.specs.declared.run.Ran.TheVariants as ran
 
 -- All that the two files gave, to their ends, is a trace and evidence for it, and what a writer took is the report on
--- them, with this verdict; and of each entry by itself, what is wrong with it is told on its line.
+-- them, with this verdict; a reply that a finding calls wrong is wrong; and of each entry by itself, what is wrong with
+-- it is told on its line.
 abbrev pub IsAudit : {F : Type 0} → Verdict → (List ℕ → Type 0) → Counted F → Counted F → List ℕ → List ℕ → Type 0
 IsAudit v OfTrace trace evidence old new =
     (stops_of trace ≡ 1) × (stops_of evidence ≡ 1)
-    × Audits (moved_by trace) (moved_by evidence) old new v × TellsOfEachEntry (moved_by trace) (moved_by evidence)
-    × OfTrace (moved_by trace)
+    × Audits (moved_by trace) (moved_by evidence) old new v
+    × NamesOnlyWrongReplies (moved_by trace) (moved_by evidence)
+    × TellsOfEachEntry (moved_by trace) (moved_by evidence) × OfTrace (moved_by trace)
 
 -- and the trace is right and fresh
 abbrev pub IsCleanAudit : {F : Type 0} → Counted F → Counted F → List ℕ → List ℕ → Type 0
@@ -32,11 +35,13 @@ abbrev pub IsDirtyAudit : {F : Type 0} → Counted F → Counted F → List ℕ 
 IsDirtyAudit trace evidence old new = IsAudit Dirty (λ a. ⊤) trace evidence old new
 
 -- All that the file gave, to its end, is a trace, and what a writer took is the report on it and on evidence that was
--- made for it, with this verdict; and of each entry by itself, what is wrong with it is told on its line.
+-- made for it, with this verdict; a reply that a finding calls wrong is wrong; of each entry by itself, what is wrong
+-- with it is told on its line; and a wrong reply that is not called so is that of an entry out of reach, and has an F7.
 abbrev pub IsAuditMade : {F : Type 0} → Verdict → (List ℕ → Type 0) → Counted F → List ℕ → List ℕ → Type 0
 IsAuditMade v OfTrace trace old new =
     (stops_of trace ≡ 1) × AuditsMade (moved_by trace) old new v
-    × WhateverIsMade SpeaksOfEachEntry (moved_by trace) × OfTrace (moved_by trace)
+    × WhateverIsMade HasOnlyWrongRepliesNamed (moved_by trace) × WhateverIsMade SpeaksOfEachEntry (moved_by trace)
+    × WhateverIsMade MissesNoWrongReply (moved_by trace) × OfTrace (moved_by trace)
 
 -- and the trace is right and fresh
 abbrev pub IsCleanAuditMade : {F : Type 0} → Counted F → List ℕ → List ℕ → Type 0

@@ -12,6 +12,7 @@ use Rattle.evidence_check.specs.declared.cause.EvidenceFault.{EvidenceFault}
 use Rattle.audit.specs.Audit.{Audits}
 use Rattle.findings.specs.EachEntry.{TellsOfEachEntry}
 use Rattle.findings.specs.Headline.{IsTraceRightAndFresh}
+use Rattle.findings.specs.WrongReplies.{NamesOnlyWrongReplies}
 use Rattle.audit.specs.Joined.{HasNoParts, OfParts}
 use Rattle.audit.specs.declared.plain.Verdict.{Verdict}
 use Rattle.audit.specs.declared.plain.Verdict.TheVariants.{Clean, Dirty}
@@ -62,11 +63,13 @@ abbrev pub OfEveryInput : {R : Type 0} → Counted R → (List ℕ → Type 0) �
 OfEveryInput input P = (rest : List ℕ) → (0 < stops_of input → rest ≡ []) → P (moved_by input ++ rest)
 
 -- All that was read, to its end, is a trace and evidence for it. All that was written is the report on them, with
--- this verdict, and a flush was asked for; and of each entry by itself, what is wrong with it is told on its line.
+-- this verdict, and a flush was asked for; a reply that a finding calls wrong is wrong; and of each entry by itself,
+-- what is wrong with it is told on its line.
 abbrev pub IsRun : {R W : Type 0} → Verdict → (List ℕ → Type 0) → Counted R → Counted W → Type 0
 IsRun v OfTrace input out =
     (stops_of input ≡ 1) × (flushes_of out ≡ 1)
-    × OfParts (λ a b. Audits a b [] (moved_by out) v × TellsOfEachEntry a b × OfTrace a) (moved_by input)
+    × OfParts (λ a b. Audits a b [] (moved_by out) v × NamesOnlyWrongReplies a b × TellsOfEachEntry a b × OfTrace a)
+    (moved_by input)
 
 -- and the trace is right and fresh
 abbrev pub IsCleanRun : {R W : Type 0} → Counted R → Counted W → Type 0

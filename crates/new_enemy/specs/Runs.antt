@@ -9,6 +9,7 @@ use Rattle.audit.specs.Joined.{OfBothParts}
 use Rattle.audit.specs.declared.plain.Verdict.TheVariants.{Clean, Dirty}
 use Rattle.findings.specs.EachEntry.{TellsOfEachEntry}
 use Rattle.findings.specs.Headline.{IsTraceRightAndFresh}
+use Rattle.findings.specs.WrongReplies.{NamesOnlyWrongReplies}
 use Rattle.new_enemy.specs.Files.{OfFiles, file_failures}
 use Rattle.new_enemy.specs.Outcomes.{HasSucceeded, HasFoundDirty, HasRefused, HasReadNothing, SaysOfDevices}
 use Rattle.new_enemy.specs.Run.{IsRefused}
@@ -19,12 +20,14 @@ use Rattle.new_enemy.specs.declared.run.Ran.TheVariants as ran
 -- the report on all of joined input went out, its verdict is clean, and the trace is right and fresh
 abbrev pub IsCleanJoined : Reading → Writing → Type 0
 IsCleanJoined input out =
-    OfBothParts input (λ a b. Audits a b out.before.taken out.after.taken Clean) × OfBothParts input TellsOfEachEntry
+    OfBothParts input (λ a b. Audits a b out.before.taken out.after.taken Clean)
+    × OfBothParts input NamesOnlyWrongReplies × OfBothParts input TellsOfEachEntry
     × OfBothParts input (λ a b. IsTraceRightAndFresh a)
 
 abbrev pub IsDirtyJoined : Reading → Writing → Type 0
 IsDirtyJoined input out =
-    OfBothParts input (λ a b. Audits a b out.before.taken out.after.taken Dirty) × OfBothParts input TellsOfEachEntry
+    OfBothParts input (λ a b. Audits a b out.before.taken out.after.taken Dirty)
+    × OfBothParts input NamesOnlyWrongReplies × OfBothParts input TellsOfEachEntry
 
 -- The status of a run that audits joined input.
 pub record RunsJoined (input : Reading) (out : Writing) (status : ℕ) : Type 0 where

@@ -1,6 +1,5 @@
 //! A trace as what its lines say by themselves, put in line by line.
 
-use json::Scratch;
 use json_lines::{InputFault, LineCause, Stop, is_blank};
 use line_blocks::{PutTold, TellLine};
 use simdutf8::basic::from_utf8;
@@ -20,7 +19,7 @@ impl TellLine for TraceLines {
 
     type Cause = Cause;
 
-    type Scratch = Scratch;
+    type Scratch = ();
 
     // What lines say is put in meanwhile, which takes one worker about as long as telling it takes the others
     // together: so there are many blocks.
@@ -34,14 +33,12 @@ impl TellLine for TraceLines {
 
     ghost suits = { λ _ _. ⊤ };
 
-    fn scratch(&self, alloc: Global) -> Scratch {
-        Scratch::new(alloc)
-    }
+    fn scratch(&self, _alloc: Global) {}
 
     fn tell(
         &self,
         alloc: Global,
-        scratch: &mut Scratch,
+        _scratch: &mut (),
         line: &[u8],
     ) -> Result<Result<Option<TraceLine>, Cause>, AllocError> {
         if is_blank(line) {
@@ -50,7 +47,7 @@ impl TellLine for TraceLines {
         let Ok(text) = from_utf8(line) else {
             return Ok(Err(Cause::NotJson));
         };
-        match TraceLine::read(alloc, text, scratch) {
+        match TraceLine::read(alloc, text) {
             Ok(said) => Ok(Ok(Some(said))),
             Err(cause) if cause.is_memory() => Err(AllocError),
             Err(cause) => Ok(Err(cause)),

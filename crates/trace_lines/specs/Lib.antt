@@ -6,7 +6,6 @@ pub mod Issued
 pub mod Kept
 pub mod KeptEntries
 pub mod LineCode
-pub mod LineFields
 pub mod LineValues
 pub mod LineViews
 pub mod Placed

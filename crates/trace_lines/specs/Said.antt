@@ -1,10 +1,7 @@
 -- What the fields of a check or a commit say, each of its shape.
 use Rattle.std.specs.Prelude.{ℕ, length, Option, None, Some, Result, Ok, Err, option_map}
-use Rattle.serde_json.specs.Data.{Items}
 use Rattle.refusals.specs.Refusals.{◌>>=◌}
-use Rattle.version_chains.specs.Commits.{Commit}
-use Rattle.trace_lines.specs.Causes.{needed}
-use Rattle.trace_lines.specs.Texts.{goal_of, token_of, tuples_of}
+use Rattle.trace_lines.specs.Texts.{goal_of, token_of}
 use Rattle.trace_lines.specs.Traces.{with_entry}
 use Rattle.trace_lines.specs.Values.{EntryValue, TraceValue}
 use Rattle.trace_lines.specs.declared.cause.Cause.{Cause}
@@ -31,13 +28,3 @@ entry_said kind n before (Some s) =
 -- what line n that says this makes of a trace
 abbrev pub said_line : EntryKind → ℕ → TraceValue → Said → Result TraceValue Cause
 said_line kind n t s = entry_said kind n (length t.commits) (Some s) >>= with_entry t
-
--- the commit that these say
-abbrev pub commit_said : Option ℕ → Option Items → Option Items → Result Commit Cause
-commit_said at add remove = do
-  n ← needed at
-  added ← needed add
-  removed ← needed remove
-  adds ← tuples_of added
-  removes ← tuples_of removed
-  Ok (record { at = n; adds = adds; removes = removes })

@@ -4,7 +4,6 @@ ghost use Rattle.std.specs.Prelude.{◌≡◌, ◌+◌, ◌≤◌, Some, None, I
 ghost use Rattle.std.specs.Option.{ForSome};
 ghost use Rattle.serde_json.specs.Read.{read};
 ghost use Rattle.serde_json.specs.View.{view};
-ghost use Rattle.json_lines.specs.Data.{value_data, line_data};
 ghost use Rattle.json_lines.specs.Json.{of_json};
 ghost use Rattle.tuple_text.specs.Refs.{set_value};
 ghost use Rattle.tuple_text.specs.TupleRefs.{tuple_values};
@@ -39,9 +38,8 @@ use crate::trace::Trace;
 use crate::versions::{Versions, version_of};
 use crate::written::{check_written, commit_written};
 use edge_checks::{EdgeIndex, Sample, is_of_relation};
-use json::Scratch;
 use json_lines::fields::{optional_number_at, text_at};
-use json_lines::{JsonLine, JsonRef, TakeJson};
+use json_lines::{TakeJson, read_value};
 use namespaces::{Rules, RulesFault};
 use serde_json::Value;
 use std::alloc::Global;
@@ -232,17 +230,16 @@ impl TraceBuilder {
 
     /// Takes a line that declares a namespace.
     #[tactic(auto, unfolding(crate::specs::Traces::declaration_line))]
-    fn take_declaration(&mut self, line: u64, json: &JsonLine<'_>) -> Result<(), Cause>
+    fn take_declaration(&mut self, line: u64, value: &Value) -> Result<(), Cause>
         requires { next_line self.old ≤ line }
-        ensures { Gives (λ _. self.new) result (declaration_line line self.old (line_data json.now)) }
+        ensures { Gives (λ _. self.new) result (declaration_line line self.old (view value.now)) }
     {
-        let Some(at) = optional_number_at(&json.root(), "at") else {
+        let Some(at) = optional_number_at(value, "at") else {
             return Err(Cause::Namespace(RulesFault::Shape));
         };
-        let value = json.value(self.alloc)?;
         match at {
-            Some(at) => self.take_change(line, at, &value),
-            None => self.take_namespace(&value),
+            Some(at) => self.take_change(line, at, value),
+            None => self.take_namespace(value),
         }
     }
 
@@ -309,9 +306,9 @@ impl TraceBuilder {
     }
 
     /// Takes a line that commits changes.
-    fn take_commit(&mut self, line: u64, value: &JsonRef<'_, '_>) -> Result<(), Cause>
+    fn take_commit(&mut self, line: u64, value: &Value) -> Result<(), Cause>
         requires { next_line self.old ≤ line }
-        ensures { Gives (λ _. self.new) result (commit_line line self.old (value_data value.now)) }
+        ensures { Gives (λ _. self.new) result (commit_line line self.old (view value.now)) }
     {
         let commit = commit_of(self.alloc, value)?;
         self.append_commit(line, &commit)
@@ -367,14 +364,9 @@ impl TraceBuilder {
     }
 
     /// Takes a line that records a check.
-    fn take_entry(
-        &mut self,
-        kind: EntryKind,
-        line: u64,
-        value: &JsonRef<'_, '_>,
-    ) -> Result<(), Cause>
+    fn take_entry(&mut self, kind: EntryKind, line: u64, value: &Value) -> Result<(), Cause>
         requires { next_line self.old ≤ line }
-        ensures { Gives (λ _. self.new) result (entry_line kind line self.old (value_data value.now)) }
+        ensures { Gives (λ _. self.new) result (entry_line kind line self.old (view value.now)) }
     {
         match entry_of(kind, line, self.commit_lines.len(), value) {
             Ok(entry) => self.take_recorded(&entry),
@@ -480,21 +472,20 @@ impl TraceBuilder {
     }
 
     #[tactic(auto, unfolding(crate::specs::Traces::value_line))]
-    fn take(&mut self, line: u64, json: &JsonLine<'_>) -> Result<(), Cause>
+    fn take(&mut self, line: u64, value: &Value) -> Result<(), Cause>
         requires { next_line self.old ≤ line }
-        ensures { Gives (λ _. self.new) result (value_line line self.old (line_data json.now)) }
+        ensures { Gives (λ _. self.new) result (value_line line self.old (view value.now)) }
     {
-        let value = json.root();
-        match text_at(&value, "kind") {
+        match text_at(value, "kind") {
             Some(kind) => {
                 if kind == "namespace" {
-                    self.take_declaration(line, json)
+                    self.take_declaration(line, value)
                 } else if kind == "commit" {
-                    self.take_commit(line, &value)
+                    self.take_commit(line, value)
                 } else if kind == "content" {
-                    self.take_entry(EntryKind::Content, line, &value)
+                    self.take_entry(EntryKind::Content, line, value)
                 } else if kind == "check" {
-                    self.take_entry(EntryKind::Check, line, &value)
+                    self.take_entry(EntryKind::Check, line, value)
                 } else {
                     Err(Cause::Kind)
                 }
@@ -508,9 +499,8 @@ impl TraceBuilder {
         requires { next_line self.old ≤ line }
         ensures { Gives (λ _. self.new) result (put_line line self.old (declares text.now)) }
     {
-        let mut scratch = Scratch::new(self.alloc);
-        match JsonLine::read(self.alloc, text, &mut scratch)? {
-            Some(json) => self.take_declaration(line, &json),
+        match read_value(self.alloc, text)? {
+            Some(value) => self.take_declaration(line, &value),
             None => Err(Cause::NotJson),
         }
     }
@@ -567,7 +557,7 @@ impl TakeJson for TraceBuilder {
         self.take_written(number, text)
     }
 
-    fn take_value(&mut self, number: u64, line: &JsonLine<'_>) -> Result<(), Cause> {
+    fn take_value(&mut self, number: u64, line: &Value) -> Result<(), Cause> {
         self.take(number, line)
     }
 }

@@ -1,16 +1,17 @@
 //! The texts in a line of a trace.
 
-ghost use Rattle.std.specs.Prelude.{◌≡◌, option_map, option_copied};
-ghost use Rattle.json_lines.specs.Data.{value_data, items_data};
+ghost use Rattle.std.specs.Prelude.{◌≡◌, option_map, codes};
+ghost use Rattle.serde_json.specs.Find.{get};
+ghost use Rattle.serde_json.specs.View.{view, items_view};
 ghost use Rattle.tuple_text.specs.FactRefs.{fact_value};
 ghost use Rattle.tuple_text.specs.TupleRefs.{tuple_value, tuple_values};
 ghost use Rattle.trace_lines.specs.Causes.{Gives};
-ghost use Rattle.trace_lines.specs.Texts.{tuple_of_text, tuples_of, goal_of, token_of, is_label, label_in, fits_reply, version_in};
+ghost use Rattle.trace_lines.specs.Texts.{tuple_of_text, tuples_of, goal_of, token_of, is_label, label_in, fits_reply, version_at};
 
 use crate::cause::Cause;
 use crate::entry::EntryKind;
-use json_lines::fields::optional_text_of;
-use json_lines::{JsonItems, JsonRef};
+use json_lines::fields::optional_text_at;
+use serde_json::Value;
 use std::alloc::Global;
 use tuple_text::{FactRef, TupleRef, read_fact, read_tuple};
 use zookie::Zookie;
@@ -28,15 +29,11 @@ fn tuple_of_text(text: Option<&str>) -> Result<TupleRef<'_>, Cause>
 }
 
 /// The tuples of a list of texts.
-pub(crate) fn tuples_of<'a>(
-    alloc: Global,
-    items: JsonItems<'_, 'a>,
-) -> Result<Vec<TupleRef<'a>>, Cause>
-    ensures { Gives (λ v. tuple_values v.items) result (tuples_of (items_data items.entry)) }
+pub(crate) fn tuples_of<'a>(alloc: Global, items: &'a [Value]) -> Result<Vec<TupleRef<'a>>, Cause>
+    ensures { Gives (λ v. tuple_values v.items) result (tuples_of (items_view items.now)) }
 {
-    let mut rest = items;
     let mut tuples = Vec::new(alloc);
-    while let Some(item) = rest.next() {
+    for item in items {
         tuples.push(tuple_of_text(item.as_str())?)?;
     }
     Ok(tuples)
@@ -71,13 +68,12 @@ pub(crate) fn is_label(text: &str) -> bool
     1 <= text.len() && text.len() <= 128
 }
 
-/// The label that a field is, where there is one; None where it is of another shape.
+/// The label in a line, where there is one; None where it is of another shape.
 #[tactic(auto, unfolding(crate::specs::Texts::label_in))]
-fn label_in<'a>(field: Option<&JsonRef<'_, 'a>>) -> Option<Option<&'a str>>
-    ensures { option_map (option_map (λ s. s.now)) result
-        ≡ label_in (option_map value_data (option_copied field.entry)) }
+fn label_of<'a>(value: &'a Value) -> Option<Option<&'a str>>
+    ensures { option_map (option_map (λ s. s.now)) result ≡ label_in (get (codes "version") (view value.now)) }
 {
-    match optional_text_of(field) {
+    match optional_text_at(value, "version") {
         None => None,
         Some(None) => Some(None),
         Some(Some(text)) => if is_label(text) {
@@ -97,18 +93,16 @@ pub(crate) fn fits_reply(kind: EntryKind, reply: bool, label: Option<&str>) -> b
     }
 }
 
-/// The label that the field for it is in a line of this kind with this reply, where there is one; None where it is of
-/// another shape.
+/// The label in a line of this kind with this reply, where there is one; None where it is of another shape.
 #[tactic(auto, unfolding(crate::specs::Texts::version_in))]
-pub(crate) fn version_in<'a>(
+pub(crate) fn version_at<'a>(
     kind: EntryKind,
     reply: bool,
-    field: Option<&JsonRef<'_, 'a>>,
+    value: &'a Value,
 ) -> Option<Option<&'a str>>
-    ensures { option_map (option_map (λ s. s.now)) result
-        ≡ version_in kind reply (option_map value_data (option_copied field.entry)) }
+    ensures { option_map (option_map (λ s. s.now)) result ≡ version_at kind reply (view value.now) }
 {
-    let label = label_in(field)?;
+    let label = label_of(value)?;
     if fits_reply(kind, reply, label) {
         Some(label)
     } else {

@@ -2,7 +2,7 @@
 
 ghost use Rattle.std.specs.Prelude.{◌≡◌, IfSome, Ok};
 ghost use Rattle.serde_json.specs.Read.{read};
-ghost use Rattle.json_lines.specs.Data.{value_data};
+ghost use Rattle.serde_json.specs.View.{view};
 ghost use Rattle.json_lines.specs.Json.{of_json};
 ghost use Rattle.trace_lines.specs.Causes.{Gives};
 ghost use Rattle.trace_lines.specs.LineValues.{commits, entry_in, entry_told, line_said};
@@ -16,9 +16,9 @@ use crate::entries::OwnedEntry;
 use crate::entry::EntryKind;
 use crate::owned::OwnedCommit;
 use crate::written::{check_written, commit_written};
-use json::Scratch;
 use json_lines::fields::text_at;
-use json_lines::{JsonLine, JsonRef};
+use json_lines::read_value;
+use serde_json::Value;
 use std::alloc::Global;
 use std::marker::Model;
 
@@ -52,8 +52,8 @@ impl Model for TraceLine {
 }
 
 /// What a line of this value says that records a check.
-fn entry_in(alloc: Global, kind: EntryKind, value: &JsonRef<'_, '_>) -> Result<Said, Cause>
-    ensures { Gives said_value result (entry_in kind (value_data value.now)) }
+fn entry_in(alloc: Global, kind: EntryKind, value: &Value) -> Result<Said, Cause>
+    ensures { Gives said_value result (entry_in kind (view value.now)) }
 {
     match entry_of(kind, 0, 0, value) {
         Ok(entry) => Ok(Said::Records(OwnedEntry::of(alloc, &entry)?)),
@@ -63,8 +63,8 @@ fn entry_in(alloc: Global, kind: EntryKind, value: &JsonRef<'_, '_>) -> Result<S
 
 /// What a line of this text and value says.
 #[tactic(auto, unfolding(crate::specs::LineValues::line_said))]
-fn said_in(alloc: Global, text: &str, value: &JsonRef<'_, '_>) -> Result<Said, Cause>
-    ensures { Gives said_value result (line_said text.now (value_data value.now)) }
+fn said_in(alloc: Global, text: &str, value: &Value) -> Result<Said, Cause>
+    ensures { Gives said_value result (line_said text.now (view value.now)) }
 {
     match text_at(value, "kind") {
         Some(kind) => {
@@ -116,16 +116,16 @@ fn written_in(alloc: Global, text: &str) -> Option<Result<Said, Cause>>
 }
 
 impl TraceLine {
-    /// What a line says. The scratch serves one line after the other.
-    pub fn read(alloc: Global, text: &str, scratch: &mut Scratch) -> Result<TraceLine, Cause>
+    /// What a line says.
+    pub fn read(alloc: Global, text: &str) -> Result<TraceLine, Cause>
         ensures { Gives (λ l. l) result (of_json NotJson (line_said text.now) (read text.now)) }
     {
         if let Some(said) = written_in(alloc, text) {
             return Ok(TraceLine { said: said? });
         }
-        match JsonLine::read(alloc, text, scratch)? {
-            Some(json) => Ok(TraceLine {
-                said: said_in(alloc, text, &json.root())?,
+        match read_value(alloc, text)? {
+            Some(value) => Ok(TraceLine {
+                said: said_in(alloc, text, &value)?,
             }),
             None => Err(Cause::NotJson),
         }

@@ -1,11 +1,11 @@
 use Rattle.std.proofs.Common.{◌≡◌, Err, Some, option_map, sym, ap, ◌∙◌}
 use Rattle.serde_json.specs.Read.{read}
-use Rattle.json_lines.specs.Data.{line_data}
+use Rattle.serde_json.specs.View.{view}
 use Rattle.json_lines.specs.Json.{of_json, taken_line}
 use Rattle.json_lines.proofs.JsonLines.{of_a_text, of_a_value, of_no_value, of_no_blank, stopped_ok, stopped_refused}
 use Rattle.json_lines.proofs.taking.take_line.Given.{Over}
 use Rattle.json_lines.proofs.taking.take_line.Goals as goal
-use Rattle.json_lines.proofs.taking.take_line.Goals.{After-stopped, Joined-line}
+use Rattle.json_lines.proofs.taking.take_line.Goals.{After-stopped, Joined-value}
 
 pub returns-in_default-clause-refused : goal.returns-in_default-clause-refused
 returns-in_default-clause-refused g c =
@@ -30,13 +30,13 @@ pub returns-in-Some-clause-refused : goal.returns-in-Some-clause-refused
 returns-in-Some-clause-refused g c = rw c.stopped.ensures (stopped_refused g.T.Cause.LineCause.is_memory _ c.in-Some.answer _ _ c.in-Some.ensures.answer (by_text g c))
 
 -- or what its value makes
-by_value : (g : Over) (c : Joined-line g) → taken_line g.T.Cause.LineCause.not_json g.T.TakeJson.taken c.args.number c.args.taker.now c.args.line.now
-    ≡ g.T.TakeJson.taken c.args.number c.args.taker.now (line_data c.in-Ok-Some.line)
+by_value : (g : Over) (c : Joined-value g) → taken_line g.T.Cause.LineCause.not_json g.T.TakeJson.taken c.args.number c.args.taker.now c.args.line.now
+    ≡ g.T.TakeJson.taken c.args.number c.args.taker.now (view c.in-Ok-Some.value)
 by_value g c =
-    let is : read c.args.line.now ≡ Some (line_data c.in-Ok-Some.line) =
-    ap read (sym c.in-Ok.ensures.0) ∙ sym c.in-Ok-Some.ensures ∙ ap (option_map line_data) c.in-Ok-Some.field-0-is in
+    let is : read c.args.line.now ≡ Some (view c.in-Ok-Some.value) =
+    ap read (sym c.in-Ok.ensures.0) ∙ sym c.in-Ok-Some.ensures ∙ ap (option_map view) c.in-Ok-Some.field-0-is in
     of_no_blank g.T.Cause.LineCause.not_json g.T.TakeJson.taken c.args.number c.args.taker.now c.args.line.now (sym c.is_blank.ensures ∙ c.if-is_blank.false)
-    ∙ of_a_value g.T.Cause.LineCause.not_json (g.T.TakeJson.taken c.args.number c.args.taker.now) c.args.line.now (line_data c.in-Ok-Some.line) c.in-Ok.ensures.1 is
+    ∙ of_a_value g.T.Cause.LineCause.not_json (g.T.TakeJson.taken c.args.number c.args.taker.now) c.args.line.now (view c.in-Ok-Some.value) c.in-Ok.ensures.1 is
 
 pub returns-in-Ok-Some-clause-ok : goal.returns-in-Ok-Some-clause-ok
 returns-in-Ok-Some-clause-ok g c =

@@ -1,20 +1,34 @@
-use Rattle.std.proofs.Common.{◌≡◌, List, [], ◌∷◌, ◌++◌, Ok, sym, ap, ◌∙◌}
+use Rattle.std.proofs.Common.{rules, [], ◌∷◌, refl, sym, ap, ◌∙◌, append_assoc}
 use Rattle.std.proofs.lemmas.List.{map-append}
-use Rattle.serde_json.specs.Data.{Data, Items, item}
 use Rattle.serde_json.specs.Find.{as_str}
 use Rattle.tuple_text.specs.TupleRefs.{tuple_value, tuple_values}
-use Rattle.tuple_text.specs.Tuples.{TupleValue}
-use Rattle.json_lines.specs.Data.{value_data, items_data}
+use Rattle.trace_lines.specs.Causes.{is_memory}
 use Rattle.trace_lines.specs.Texts.{tuple_of_text, tuples_of}
-use Rattle.refusals.proofs.Fronts.{with_front, regroup}
+use Rattle.json_lines.proofs.ItemLoops.{ReadsEach, read_to_first, read_to_next, read_fails, all_read}
 use Rattle.trace_lines.proofs.texts.tuples_of.Goals as goal
+
+each_is_read : ReadsEach (λ d. tuple_of_text (as_str d)) (λ t ts. t ∷ ts) tuples_of
+each_is_read = record {
+  none = refl;
+  some = λ d ds. refl;
+  in_front = λ t front rest. sym (append_assoc front (t ∷ []) rest);
+}
+
+pub loop-item-init : goal.loop-item-init
+loop-item-init c = rw c.new-tuples.ensures.items (read_to_first _ _ tuples_of each_is_read c.args.items.now)
 
 pub loop-item-preserved : goal.loop-item-preserved
 loop-item-preserved c =
-    let tuples = tuple_values c.loop-item.tuples.items in
     let pushed = ap tuple_values c.in_ok-push.ensures.items ∙ map-append tuple_value c.loop-item.tuples.items (c.in_ok-tuple_of_text.field-0 ∷ []) in
-    next_tuple tuples (tuple_values c.push.new.self.items) (tuple_value c.in_ok-tuple_of_text.field-0) (value_data c.in-Some.item) (items_data c.next.new.self) (ap tuple_of_text (sym c.as_str.ensures) ∙ c.in_ok-tuple_of_text.ensures) pushed
-    ∙ ap (λ ds. with_front tuples (tuples_of ds)) (sym c.in-Some.ensures) ∙ c.loop-item.invariant
-  where
-    next_tuple : (front gs : List TupleValue) (t : TupleValue) (d : Data) (ds : Items) → tuple_of_text (as_str d) ≡ Ok t → gs ≡ front ++ t ∷ [] → with_front gs (tuples_of ds) ≡ with_front front (tuples_of (item d ds))
-    next_tuple front gs t d ds is e = rw is (regroup front gs t (tuples_of ds) e)
+    read_to_next _ _ tuples_of each_is_read c.args.items.now c.loop-item.item-index c.item-item.result (tuple_values c.loop-item.tuples.items)
+    c.loop-item-test.true c.item-item.is c.loop-item.invariant (tuple_value c.in_ok-tuple_of_text.field-0) (tuple_values c.push.new.self.items)
+    (ap tuple_of_text (sym c.as_str.ensures) ∙ c.in_ok-tuple_of_text.ensures) pushed
+
+pub returns-in_err-tuple_of_text : goal.returns-in_err-tuple_of_text
+returns-in_err-tuple_of_text c =
+    let told = read_fails _ _ tuples_of each_is_read c.args.items.now c.loop-item.item-index c.item-item.result (tuple_values c.loop-item.tuples.items)
+    c.loop-item-test.true c.item-item.is c.loop-item.invariant is_memory c.in_err-tuple_of_text.field-0.0 (rw (← c.as_str.ensures) c.in_err-tuple_of_text.ensures) in
+    search rules
+
+pub returns : goal.returns
+returns c = all_read _ _ tuples_of each_is_read c.args.items.now _ _ c.loop-item-test.false c.loop-item.invariant
